@@ -3,3 +3,4 @@ pub mod Files
 pub mod Memory
 pub mod Shelf
 pub mod SizeTable
+pub mod Case

@@ -1,6 +1,7 @@
 //! What the program `countygroups` does with its words, its files and its output.
 #![tactic(auto)]
 
+mod case;
 mod memory;
 mod shelf;
 mod sink;
