@@ -21,10 +21,10 @@ use Rattle.std.proofs.lemmas.List.Sums.{fold-append}
 tied_same : (x y : ℕ) → is_eq (nat_cmp x y) ≡ true → x ≡ y
 tied_same x y tied = by (nat_cmp x y) refl tied
   where
-  by : (r : Ordering) → r ≡ nat_cmp x y → is_eq r ≡ true → x ≡ y
-  by Less is t = cc
-  by Equal is t = ranked x y Equal is
-  by Greater is t = cc
+    by : (r : Ordering) → r ≡ nat_cmp x y → is_eq r ≡ true → x ≡ y
+    by Less is t = cc
+    by Equal is t = ranked x y Equal is
+    by Greater is t = cc
 
 same_test : {X : Type 0} (b : Bool) (x y z : X) → cond b x z ≡ cond b x (cond b y z)
 same_test true x y z = refl
@@ -40,16 +40,16 @@ pub people_of-insert_entry : (n k v : ℕ) (es : List (ℕ × ℕ)) → people_o
 people_of-insert_entry n k v [] = refl
 people_of-insert_entry n k v (e ∷ es) = by (people_of-insert_entry n k v es) (nat_cmp k e.0) refl
   where
-  by : people_of n (insert_entry nat_cmp es k v) ≡ cond (is_eq (nat_cmp n k)) (Some v) (people_of n es) → (r : Ordering) → r ≡ nat_cmp k e.0
-      → people_of n (match_ordering r ((k, v) ∷ e ∷ es) ((e.0, v) ∷ es) (e ∷ insert_entry nat_cmp es k v)) ≡ cond (is_eq (nat_cmp n k)) (Some v) (people_of n (e ∷ es))
-  by ih Less is = refl
-  by ih Equal is =
-      let same : k ≡ e.0 = ranked k e.0 Equal is in
-      subst (λ (q : ℕ). cond (is_eq (nat_cmp n e.0)) (Some v) (people_of n es) ≡ cond (is_eq (nat_cmp n q)) (Some v) (people_of n (e ∷ es))) (sym same) (same_test (is_eq (nat_cmp n e.0)) (Some v) (Some e.1) (people_of n es))
-  by ih Greater is =
-      let above : e.0 < k = ranked k e.0 Greater is in
-      let apart : is_eq (nat_cmp n e.0) ≡ true → is_eq (nat_cmp n k) ≡ true → ⊥ = λ (f : is_eq (nat_cmp n e.0) ≡ true) (g : is_eq (nat_cmp n k) ≡ true). let a : n ≡ e.0 = tied_same n e.0 f in let b : n ≡ k = tied_same n k g in omega arith in
-      ap (λ p. cond (is_eq (nat_cmp n e.0)) (Some e.1) p) ih ∙ apart_tests (is_eq (nat_cmp n e.0)) (is_eq (nat_cmp n k)) (Some v) (Some e.1) (people_of n es) apart
+    by : people_of n (insert_entry nat_cmp es k v) ≡ cond (is_eq (nat_cmp n k)) (Some v) (people_of n es) → (r : Ordering) → r ≡ nat_cmp k e.0
+        → people_of n (match_ordering r ((k, v) ∷ e ∷ es) ((e.0, v) ∷ es) (e ∷ insert_entry nat_cmp es k v)) ≡ cond (is_eq (nat_cmp n k)) (Some v) (people_of n (e ∷ es))
+    by ih Less is = refl
+    by ih Equal is =
+        let same : k ≡ e.0 = ranked k e.0 Equal is in
+        subst (λ (q : ℕ). cond (is_eq (nat_cmp n e.0)) (Some v) (people_of n es) ≡ cond (is_eq (nat_cmp n q)) (Some v) (people_of n (e ∷ es))) (sym same) (same_test (is_eq (nat_cmp n e.0)) (Some v) (Some e.1) (people_of n es))
+    by ih Greater is =
+        let above : e.0 < k = ranked k e.0 Greater is in
+        let apart : is_eq (nat_cmp n e.0) ≡ true → is_eq (nat_cmp n k) ≡ true → ⊥ = λ (f : is_eq (nat_cmp n e.0) ≡ true) (g : is_eq (nat_cmp n k) ≡ true). let a : n ≡ e.0 = tied_same n e.0 f in let b : n ≡ k = tied_same n k g in omega arith in
+        ap (λ p. cond (is_eq (nat_cmp n e.0)) (Some e.1) p) ih ∙ apart_tests (is_eq (nat_cmp n e.0)) (is_eq (nat_cmp n k)) (Some v) (Some e.1) (people_of n es) apart
 
 -- ---- the entries by number have the numbers of all entries
 some_test : (b : Bool) (v : ℕ) (p : Option ℕ) (h : Bool) → (is_some (cond b (Some v) p) || h) ≡ (is_some p || (b || h))
@@ -102,9 +102,9 @@ module _ (read : List ℕ → Given) (double : Kind) (file : File) (fault : Opti
   choose : (number : ℕ) (more entries : List (ℕ × ℕ)) (ls : List Line) (later : Option (Kind × ℕ)) (b d : Bool) → b ≡ d
       → collect_from read double file more ls fault ≡ unless_fault file later fault entries
       → (elim (if b then Err double else Ok more) as (λ _. Result (List (ℕ × ℕ)) Pl94Fault) [
-          | Ok more ↦ collect_from read double file more ls fault
-          | Err kind ↦ Err (record { kind = kind; file = file; line = number })
-        ]) ≡ unless_fault file (at_line number (if d then Some double else None) later) fault entries
+        | Ok more ↦ collect_from read double file more ls fault
+        | Err kind ↦ Err (record { kind = kind; file = file; line = number })
+      ]) ≡ unless_fault file (at_line number (if d then Some double else None) later) fault entries
   choose number more entries ls later true true same rest = refl
   choose number more entries ls later true false same rest = cc
   choose number more entries ls later false true same rest = cc
@@ -112,25 +112,25 @@ module _ (read : List ℕ → Given) (double : Kind) (file : File) (fault : Opti
 
   after_line : (before : List Line) (l : Line) (ls : List Line) → After (before ++ l ∷ []) ls → (g : Given) → read l.bytes ≡ g
       → (elim (with_given double (by_number (entries_on read before)) g) as (λ _. Result (List (ℕ × ℕ)) Pl94Fault) [
-          | Ok more ↦ collect_from read double file more ls fault
-          | Err kind ↦ Err (record { kind = kind; file = file; line = l.number })
-        ]) ≡ unless_fault file (at_line l.number (line_fault double (entries_on read before) g) (first_fault read double (before ++ l ∷ []) ls)) fault (by_number (entries_on read (before ++ l ∷ ls)))
+        | Ok more ↦ collect_from read double file more ls fault
+        | Err kind ↦ Err (record { kind = kind; file = file; line = l.number })
+      ]) ≡ unless_fault file (at_line l.number (line_fault double (entries_on read before) g) (first_fault read double (before ++ l ∷ []) ls)) fault (by_number (entries_on read (before ++ l ∷ ls)))
   after_line before l ls ih (Err kind) is = refl
   after_line before l ls ih (Ok None) is =
       let same : entries_on read (before ++ l ∷ []) ≡ entries_on read before =
-          entries_push before l ∙ ap (λ (g : Given). entries_on read before ++ cons_option (entry_of g) []) is ∙ append-nil (entries_on read before) in
+      entries_push before l ∙ ap (λ (g : Given). entries_on read before ++ cons_option (entry_of g) []) is ∙ append-nil (entries_on read before) in
       ap (λ (es : List (ℕ × ℕ)). collect_from read double file (by_number es) ls fault) (sym same)
       ∙ ih
       ∙ ap (λ (b : List Line). unless_fault file (first_fault read double (before ++ l ∷ []) ls) fault (by_number (entries_on read b))) (append_assoc before (l ∷ []) ls)
   after_line before l ls ih (Ok (Some e)) is =
       let pushed : entries_on read (before ++ l ∷ []) ≡ entries_on read before ++ e ∷ [] =
-          entries_push before l ∙ ap (λ (g : Given). entries_on read before ++ cons_option (entry_of g) []) is in
+      entries_push before l ∙ ap (λ (g : Given). entries_on read before ++ cons_option (entry_of g) []) is in
       let placed : by_number (entries_on read (before ++ l ∷ [])) ≡ insert_entry nat_cmp (by_number (entries_on read before)) e.0 e.1 =
-          ap by_number pushed ∙ fold-append (λ (p : List (ℕ × ℕ)) (f : ℕ × ℕ). insert_entry nat_cmp p f.0 f.1) [] (entries_on read before) (e ∷ []) in
+      ap by_number pushed ∙ fold-append (λ (p : List (ℕ × ℕ)) (f : ℕ × ℕ). insert_entry nat_cmp p f.0 f.1) [] (entries_on read before) (e ∷ []) in
       choose l.number _ _ ls _ _ _ (is_placed e.0 (entries_on read before)) (
-          ap (λ (es : List (ℕ × ℕ)). collect_from read double file es ls fault) (sym placed)
-          ∙ ih
-          ∙ ap (λ (b : List Line). unless_fault file (first_fault read double (before ++ l ∷ []) ls) fault (by_number (entries_on read b))) (append_assoc before (l ∷ []) ls))
+      ap (λ (es : List (ℕ × ℕ)). collect_from read double file es ls fault) (sym placed)
+      ∙ ih
+      ∙ ap (λ (b : List Line). unless_fault file (first_fault read double (before ++ l ∷ []) ls) fault (by_number (entries_on read b))) (append_assoc before (l ∷ []) ls))
 
   pub collected_after : (before ls : List Line) → After before ls
   collected_after before [] = after_nil fault before

@@ -4,6 +4,7 @@ use Rattle.std.specs.List.{list_any, filter_map}
 use Rattle.std.specs.Map.{lookup}
 use Rattle.std.specs.Ordering.{nat_cmp}
 use Rattle.std.specs.BTreeMap.{is_at, insert_entry}
+use Rattle.field_lines.specs.Fault.{line_of_fault}
 use Rattle.field_lines.specs.Cut.{Line, Cut, cut}
 use Rattle.field_lines.specs.declared.fault.LineFault.{LineFault}
 use Rattle.pl94_counties.specs.declared.fault.Kind.{Kind}
@@ -71,7 +72,7 @@ by_number entries = fold (λ placed e. insert_entry nat_cmp placed e.0 e.1) [] e
 
 -- the fault of a text whose cut ends in a fault
 abbrev pub cut_fault : File → LineFault → Pl94Fault
-cut_fault file fault = record { kind = Lower fault; file = file; line = 0 }
+cut_fault file fault = record { kind = Lower fault; file = file; line = line_of_fault fault }
 
 -- the entries, unless a line is at fault, or the cut after all its lines
 abbrev pub unless_fault : File → Option (Kind × ℕ) → Option LineFault → List (ℕ × ℕ) → Result (List (ℕ × ℕ)) Pl94Fault

@@ -1,4 +1,4 @@
-ghost use Rattle.std.specs.Prelude.{◌≡◌, ◌≤◌, IfOk, map, All};
+ghost use Rattle.std.specs.Prelude.{◌≡◌, ◌≤◌, Ok, Some, IfOk, map, All};
 ghost use Rattle.std.specs.List.Sorted.{IsStrictlyIncreasing};
 ghost use Rattle.pl94_counties.specs.Gives.{Gives};
 ghost use Rattle.pl94_counties.specs.Geo.{county_on};
@@ -14,8 +14,23 @@ use field_lines::Lines;
 use std::alloc::{AllocError, Global};
 use std::collections::BTreeMap;
 
-/// Adds the county on a line of geo, if it is a county line of the state, to those of the lines before.
-fn add_county(
+/// Puts a county beside those of the lines before.
+fn put_county(
+    found: &mut BTreeMap<CountyCode, u32>,
+    code: CountyCode,
+    people: u32,
+) -> Result<(), Kind>
+    ensures { Adds DoubleCounty found.old.entries (Ok (Some (code, people))) result found.new.entries }
+{
+    match found.insert(code, people) {
+        Ok(None) => Ok(()),
+        Ok(Some(_)) => Err(Kind::DoubleCounty),
+        Err(_) => Err(Kind::Memory),
+    }
+}
+
+/// Adds what a line of geo gives to the counties of the lines before.
+fn add_line(
     found: &mut BTreeMap<CountyCode, u32>,
     state: u8,
     records: &BTreeMap<u32, u32>,
@@ -24,13 +39,9 @@ fn add_county(
     requires { state ≤ 99 }
     ensures { Adds DoubleCounty found.old.entries (county_on state records.now.entries line.now) result found.new.entries }
 {
-    let Some((code, people)) = county_in(state, records, line)? else {
-        return Ok(());
-    };
-    match found.insert(code, people) {
-        Ok(None) => Ok(()),
-        Ok(Some(_)) => Err(Kind::DoubleCounty),
-        Err(_) => Err(Kind::Memory),
+    match county_in(state, records, line)? {
+        Some((code, people)) => put_county(found, code, people),
+        None => Ok(()),
     }
 }
 
@@ -50,7 +61,7 @@ fn join(
         .next_line()
         .map_err(|fault| Pl94Fault::of_cut(fault, File::Geo))?
     {
-        add_county(&mut found, state, records, line).map_err(|kind| Pl94Fault {
+        add_line(&mut found, state, records, line).map_err(|kind| Pl94Fault {
             kind,
             file: File::Geo,
             line: line_number,
