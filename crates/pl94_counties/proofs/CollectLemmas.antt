@@ -18,7 +18,7 @@ use Rattle.std.proofs.lemmas.List.Elements.{filter_map-append}
 use Rattle.std.proofs.lemmas.List.Sums.{fold-append}
 
 -- ---- what is found after an entry is put in its place
-tied_same : (x y : ℕ) → is_eq (nat_cmp x y) ≡ true → x ≡ y
+pub tied_same : (x y : ℕ) → is_eq (nat_cmp x y) ≡ true → x ≡ y
 tied_same x y tied = by (nat_cmp x y) refl tied
   where
     by : (r : Ordering) → r ≡ nat_cmp x y → is_eq r ≡ true → x ≡ y
@@ -62,7 +62,7 @@ or_false : (b : Bool) → b ≡ (b || false)
 or_false true = refl
 or_false false = refl
 
-tied_is : (x y : ℕ) → is_eq (nat_cmp x y) ≡ (x == y)
+pub tied_is : (x y : ℕ) → is_eq (nat_cmp x y) ≡ (x == y)
 tied_is x y = unsigned_tied x y
 
 placed_after : (n : ℕ) (placed es : List (ℕ × ℕ)) → is_some (people_of n (fold (λ p e. insert_entry nat_cmp p e.0 e.1) placed es)) ≡ (is_some (people_of n placed) || has_number n es)

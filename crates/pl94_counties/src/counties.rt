@@ -4,6 +4,8 @@ ghost use Rattle.pl94_counties.specs.Gives.{Gives};
 ghost use Rattle.pl94_counties.specs.Geo.{county_on};
 ghost use Rattle.pl94_counties.specs.Numbered.{Adds};
 ghost use Rattle.pl94_counties.specs.declared.fault.Kind.TheVariants.{DoubleCounty};
+ghost use Rattle.field_lines.specs.Cut.{cut};
+ghost use Rattle.pl94_counties.specs.Joined.{IsJoined, IsListed};
 ghost use Rattle.pl94_counties.specs.Counties.{found_list, listed, county_list};
 
 use crate::fault::{File, Kind, Pl94Fault};
@@ -94,6 +96,8 @@ pub fn read_counties(
     requires { state ≤ 99 }
     ensures value { Gives (λ v. v.items) result (county_list geo.now segment1.now state) }
     ensures ascending { IfOk result (λ v. IsStrictlyIncreasing (map (λ c. c.code) v.items)) }
+    ensures from_lines { IfOk result (λ v. All (IsJoined (cut geo.now).lines (cut segment1.now).lines state) v.items) }
+    ensures each_line { IfOk result (λ v. All (IsListed (cut segment1.now).lines state v.items) (cut geo.now).lines) }
 {
     let records = read_records(alloc, segment1)?;
     let found = join(alloc, geo, state, &records)?;
@@ -104,9 +108,10 @@ pub fn read_counties(
             line: 0,
         });
     }
-    list(alloc, &found).map_err(|_| Pl94Fault {
+    let counties = list(alloc, &found).map_err(|_| Pl94Fault {
         kind: Kind::Memory,
         file: File::Geo,
         line: 0,
-    })
+    })?;
+    Ok(counties)
 }
