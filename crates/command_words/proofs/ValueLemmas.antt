@@ -27,6 +27,7 @@ use Rattle.clap.proofs.WalkLemmas.{both}
 use Rattle.clap.proofs.SimpleLemmas.{is_false}
 use Rattle.clap.proofs.ValueTestLemmas.{accepts-Accepts}
 use Rattle.command_words.specs.Options.{HasValue}
+use Rattle.command_words.proofs.KeyLemmas.{each_by_own_key, keys_differ, none_passes, same_by_key, same_bytes}
 use Rattle.command_words.proofs.WalkLemmas.{IsFoundIn, neither, settle_keeps, walk_keeps}
 
 -- ---- rows
@@ -72,69 +73,6 @@ found_row p (x ∷ xs) e = go (p x) e (λ f. found_row p xs f)
     go : (b : Bool) → (b || list_any p xs) ≡ true → (list_any p xs ≡ true → (r : Row) × (find p xs ≡ Some r)) → (r : Row) × (cond b (Some x) (find p xs) ≡ Some r)
     go true f rest = (x, refl)
     go false f rest = rest f
-
--- ---- rules
-
--- no two rules have one id
-abbrev pub ids_differ : List Rule → Bool
-ids_differ [] = true
-ids_differ (a ∷ rest) = not (list_any (λ b. bytes_eq b.id a.id) rest) && ids_differ rest
-
-rule_found : (p : Rule → Bool) (xs : List Rule) (a : Rule) → find p xs ≡ Some a → list_any p xs ≡ true
-rule_found p [] a e = cc
-rule_found p (x ∷ xs) a e = go (p x) e (λ f. rule_found p xs a f)
-  where
-    go : (b : Bool) → cond b (Some x) (find p xs) ≡ Some a → (find p xs ≡ Some a → list_any p xs ≡ true) → (b || list_any p xs) ≡ true
-    go true f rest = refl
-    go false f rest = rest f
-
-same_bytes : (xs : List ℕ) → bytes_eq xs xs ≡ true
-same_bytes xs = (bytes_eq-Decides xs xs).1 refl
-
--- a rule that differs from the first is found behind it
-later : (x : Rule) (xs : List Rule) (a : Rule) → ids_differ (x ∷ xs) ≡ true → arg_by_id xs a.id ≡ Some a → arg_by_id (x ∷ xs) a.id ≡ Some a
-later x xs a differ own = go (bytes_eq x.id a.id) refl
-  where
-    go : (b : Bool) → bytes_eq x.id a.id ≡ b → cond b (Some x) (arg_by_id xs a.id) ≡ Some a
-    go false is = own
-    go true is =
-        let id : a.id ≡ x.id = sym ((bytes_eq-Decides x.id a.id).0 is) in
-        let again : list_any (λ (b : Rule). bytes_eq b.id x.id) xs ≡ true =
-        rule_found (λ (b : Rule). bytes_eq b.id x.id) xs a (ap (λ (t : Text). arg_by_id xs t) (sym id) ∙ own) in
-        let bad : false ≡ true = ap not (sym again) ∙ (both _ _ differ).0 in
-        absurd (true≢false (sym bad))
-
-first_found : (x : Rule) (xs : List Rule) → arg_by_id (x ∷ xs) x.id ≡ Some x
-first_found x xs = ap (λ (t : Bool). cond t (Some x) (arg_by_id xs x.id)) (same_bytes x.id)
-
--- each rule is the one of its id
-by_own_id : (xs : List Rule) (p : Rule → Bool) (a : Rule) → ids_differ xs ≡ true → find p xs ≡ Some a → arg_by_id xs a.id ≡ Some a
-by_own_id [] p a differ e = cc
-by_own_id (x ∷ xs) p a differ e = go (p x) e (λ f. by_own_id xs p a (both _ _ differ).1 f)
-  where
-    go : (b : Bool) → cond b (Some x) (find p xs) ≡ Some a → (find p xs ≡ Some a → arg_by_id xs a.id ≡ Some a) → arg_by_id (x ∷ xs) a.id ≡ Some a
-    go true f rest =
-        let same : x ≡ a = cc in
-        subst (λ (y : Rule). arg_by_id (x ∷ xs) y.id ≡ Some y) same (first_found x xs)
-    go false f rest = later x xs a differ (rest f)
-
-each_by_own_id : (xs : List Rule) → ids_differ xs ≡ true → All (λ a. arg_by_id xs a.id ≡ Some a) xs
-each_by_own_id [] differ k d lt = absurd (omega arith)
-each_by_own_id (x ∷ xs) differ zero d lt = first_found x xs
-each_by_own_id (x ∷ xs) differ (suc k) d lt = later x xs _ differ (each_by_own_id xs (both _ _ differ).1 k d (omega arith))
-
--- a test that no rule passes, at a rule that a search finds
-none_passes : (p q : Rule → Bool) (xs : List Rule) (a : Rule) → list_any p xs ≡ false → find q xs ≡ Some a → p a ≡ false
-none_passes p q [] a none e = cc
-none_passes p q (x ∷ xs) a none e = go (p x) refl none (q x) e (λ n f. none_passes p q xs a n f)
-  where
-    go : (b : Bool) → p x ≡ b → (b || list_any p xs) ≡ false → (t : Bool) → cond t (Some x) (find q xs) ≡ Some a
-        → (list_any p xs ≡ false → find q xs ≡ Some a → p a ≡ false) → p a ≡ false
-    go true is n t f rest = absurd (true≢false n)
-    go false is n true f rest =
-        let same : x ≡ a = cc in
-        subst (λ (y : Rule). p y ≡ false) same is
-    go false is n false f rest = rest n f
 
 -- ---- what the rows hold of one option
 
@@ -211,13 +149,11 @@ module _ (a : Rule) where
 
 -- ---- one option of a list of rules
 
-module _ (rules : List Rule) (a : Rule) (differ : ids_differ rules ≡ true) (there : arg_by_id rules a.id ≡ Some a)
+module _ (rules : List Rule) (a : Rule) (differ : keys_differ (λ (b : Rule). b.id) rules ≡ true) (there : arg_by_id rules a.id ≡ Some a)
     (set : action_of a ≡ action.Set) (wants : nat_lt 0 (unwrap_or_range a.range).start_inclusive ≡ true) where
   only : (b : Rule) → IsFoundIn rules b → bytes_eq b.id a.id ≡ true → a ≡ b
   only b found same =
-      let id : b.id ≡ a.id = (bytes_eq-Decides b.id a.id).0 same in
-      let one : Some a ≡ Some b = sym there ∙ (ap (arg_by_id rules) (sym id) ∙ by_own_id rules found.0 b differ found.1) in
-      cc
+      same_by_key (λ (x : Rule). x.id) rules found.0 a b differ there found.1 ((bytes_eq-Decides b.id a.id).0 same)
 
   given_values : (again : Bool) (values : List Text) (rows : List Row) → use_fault again a values rows ≡ [] → All (FillsOwn a) rows
       → All (FillsOwn a) (used_as action.Set a.id (reading_by a) (values_or_missing a values) rows)
@@ -395,7 +331,7 @@ given_too true true is e = refl
 given_too true false is e = absurd (true≢false e)
 given_too false g is e = absurd (true≢false (sym is))
 
-module _ (s : Shape) (words : List Text) (a : Rule) (e : level_fault s [] nothing_held words false [] ≡ []) (differ : ids_differ s.rules ≡ true) (asked : IsAsked s.rules a) where
+module _ (s : Shape) (words : List Text) (a : Rule) (e : level_fault s [] nothing_held words false [] ≡ []) (differ : keys_differ (λ (b : Rule). b.id) s.rules ≡ true) (asked : IsAsked s.rules a) where
   end : Held
   end = (walk s.rules [] nothing_held words).held
 
@@ -409,7 +345,7 @@ module _ (s : Shape) (words : List Text) (a : Rule) (e : level_fault s [] nothin
       let fills = use_fills s.rules a differ asked.there asked.set asked.wants again in
       let of_words = walk_keeps s [] (All (FillsOwn a)) fills (walk_from nothing_held) words walked_well.0 (All-nil (FillsOwn a)) in
       let of_pending = settle_keeps s.rules again (All (FillsOwn a)) fills end settled_well.0 of_words in
-      let each : All (IsFoundIn s.rules) s.rules = λ k d lt. (_, each_by_own_id s.rules differ k d lt) in
+      let each : All (IsFoundIn s.rules) s.rules = λ k d lt. (_, each_by_own_key (λ (b : Rule). b.id) s.rules differ k d lt) in
       (defaults_fill s.rules a differ asked.there asked.set asked.wants s.rules (settled s.rules end).rows each filled_well.0 of_pending, filled_well.1)
 
   required_given : a.required ≡ true → is_given a.id (rows_after s.rules [] words) ≡ true
