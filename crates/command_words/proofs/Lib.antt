@@ -1,3 +1,4 @@
 pub mod KeyLemmas
 pub mod WalkLemmas
 pub mod ValueLemmas
+pub mod EnteredLemmas
