@@ -2,3 +2,4 @@ pub mod KeyLemmas
 pub mod WalkLemmas
 pub mod ValueLemmas
 pub mod EnteredLemmas
+pub mod CommandLemmas

@@ -1,11 +1,9 @@
-//! The words of the command line.
+//! The words of the command line of `countygroups`, by `clap`.
 #![tactic(auto)]
 
-/// A stand-in.
-pub fn one() -> u8
-    ensures { result ≡ 1 }
-{
-    1
-}
+mod command;
+mod end;
+mod words;
 
-ghost use Rattle.std.specs.Prelude.{◌≡◌};
+pub use end::WordsEnd;
+pub use words::{CommandWords, ProblemWords, parse};
