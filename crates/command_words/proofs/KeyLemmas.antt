@@ -2,6 +2,7 @@
 use Rattle.std.proofs.Common.{◌≡◌, ◌∙◌, ◌&&◌, ◌||◌, ◌<◌, not, ℕ, Bool, cond, true, false, zero, suc, refl, sym, ap, subst, arith, List, [], ◌∷◌, length, Option, Some, None, true≢false}
 use Rattle.std.specs.List.{All, find, list_any}
 use Rattle.std.specs.Str.{bytes_eq}
+use Rattle.std.proofs.lemmas.List.Elements.{All-head, All-tail}
 use Rattle.std.proofs.lemmas.Slice.Eq.{bytes_eq-Decides}
 use Rattle.clap.specs.Walk.{Text}
 use Rattle.clap.proofs.WalkLemmas.{both}
@@ -81,3 +82,23 @@ module _ {X : Type 0} (key : X → Text) where
       let one : Some a ≡ Some b = sym there ∙ (ap (by_key key xs) (sym same) ∙ by_own_key xs p b differ found) in
       cc
 
+
+-- the element that a search finds
+pub find-All : {X : Type 0} (P : X → Type 0) (p : X → Bool) (xs : List X) (x : X) → All P xs → find p xs ≡ Some x → (p x ≡ true) × P x
+find-All P p [] x all e = cc
+find-All {X} P p (y ∷ ys) x all e = go (p y) refl e (λ f. find-All P p ys x (All-tail P y ys all) f)
+  where
+    go : (b : Bool) → p y ≡ b → cond b (Some y) (find p ys) ≡ Some x → (find p ys ≡ Some x → (p x ≡ true) × P x) → (p x ≡ true) × P x
+    go true is f rest =
+        let same : y ≡ x = cc in
+        (subst (λ (z : X). p z ≡ true) same is, subst P same (All-head P y ys all))
+    go false is f rest = rest f
+
+-- a test that some element passes finds one
+pub found_any : {X : Type 0} (p : X → Bool) (xs : List X) → list_any p xs ≡ true → (x : X) × (find p xs ≡ Some x)
+found_any p [] e = absurd (true≢false (sym e))
+found_any {X} p (x ∷ xs) e = go (p x) e (λ f. found_any p xs f)
+  where
+    go : (b : Bool) → (b || list_any p xs) ≡ true → (list_any p xs ≡ true → (y : X) × (find p xs ≡ Some y)) → (y : X) × (cond b (Some x) (find p xs) ≡ Some y)
+    go true f rest = (x, refl)
+    go false f rest = rest f

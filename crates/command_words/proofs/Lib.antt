@@ -3,3 +3,4 @@ pub mod WalkLemmas
 pub mod ValueLemmas
 pub mod EnteredLemmas
 pub mod CommandLemmas
+pub mod CountygroupsLemmas

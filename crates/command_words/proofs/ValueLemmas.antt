@@ -1,8 +1,8 @@
 -- A level of a parse that has no fault leaves a value of each option that is required or has a
 -- default.
-use Rattle.std.proofs.Common.{◌≡◌, ◌⊎◌, ◌∙◌, ◌&&◌, ◌||◌, ◌++◌, ◌<◌, ◌+◌, ◌==◌, not, ℕ, Bool, cond, true, false, zero, suc, refl, sym, ap, subst, inl, inr, arith, List, [], ◌∷◌, length, length-append, min, Option, Some, None, is_some, nat_lt, true≢false}
+use Rattle.std.proofs.Common.{map, ◌≡◌, ◌⊎◌, ◌∙◌, ◌&&◌, ◌||◌, ◌++◌, ◌<◌, ◌+◌, ◌==◌, not, ℕ, Bool, cond, true, false, zero, suc, refl, sym, ap, subst, inl, inr, arith, List, [], ◌∷◌, length, length-append, min, Option, Some, None, is_some, nat_lt, true≢false}
 use Rattle.std.specs.Prelude.{option_and_then, option_map, slice_get}
-use Rattle.std.specs.List.{All, find, fold, list_any}
+use Rattle.std.specs.List.{All, find, fold, list_any, slice_index_or}
 use Rattle.std.specs.Option.{option_map_or}
 use Rattle.std.specs.Str.{bytes_eq}
 use Rattle.std.proofs.lemmas.Bool.{ne_eqb}
@@ -17,7 +17,7 @@ use Rattle.clap.specs.Takes.{is_given}
 use Rattle.clap.specs.ValueTests.{accepts}
 use Rattle.clap.specs.declared.error.kind.ErrorKind.{ErrorKind}
 use Rattle.clap.specs.Walk.{Held, Names, Row, Rule, Text, action_of, arg_by_id, at_row, count_of, counted, default_rows, finished, first_of, has_row, is_empty, more_values, most_values, new_count, nothing_held, one_of, reading_by, row_text, rows_after, settled, stronger, used, used_as, values_or_missing, walk, walk_from, with_count, with_default, with_values, without}
-use Rattle.clap.specs.Simple.{Shape}
+use Rattle.clap.specs.Simple.{Shape, filled}
 use Rattle.clap.specs.declared.builder.action.ArgAction.{ArgAction}
 use Rattle.clap.specs.declared.builder.action.ArgAction.TheVariants as action
 use Rattle.clap.specs.declared.builder.value_parser.Reading.{Reading}
@@ -26,8 +26,8 @@ use Rattle.clap.specs.declared.parser.matches.ValueSource.TheVariants.{CommandLi
 use Rattle.clap.proofs.WalkLemmas.{both}
 use Rattle.clap.proofs.SimpleLemmas.{is_false}
 use Rattle.clap.proofs.ValueTestLemmas.{accepts-Accepts}
-use Rattle.command_words.specs.Options.{HasValue}
-use Rattle.command_words.proofs.KeyLemmas.{each_by_own_key, keys_differ, none_passes, same_by_key, same_bytes}
+use Rattle.command_words.specs.Options.{HasValue, HasValues, always_has_value, is_set}
+use Rattle.command_words.proofs.KeyLemmas.{each_by_own_key, find-All, found_any, keys_differ, none_passes, same_by_key, same_bytes}
 use Rattle.command_words.proofs.WalkLemmas.{IsFoundIn, neither, settle_keeps, walk_keeps}
 
 -- ---- rows
@@ -44,17 +44,6 @@ module _ (Q : Row → Type 0) where
       go true e rest = All-append Q (change r) rs (step r e (All-head Q r rs all)) (All-tail Q r rs all)
       go false e rest = All-cons Q r (at_row id change missing rs) (All-head Q r rs all) rest
 
-  -- the row that a search finds
-  pub find-All : (p : Row → Bool) (rows : List Row) (r : Row) → All Q rows → find p rows ≡ Some r → (p r ≡ true) × Q r
-  find-All p [] r all e = cc
-  find-All p (x ∷ xs) r all e = go (p x) refl e (λ f. find-All p xs r (All-tail Q x xs all) f)
-    where
-      go : (b : Bool) → p x ≡ b → cond b (Some x) (find p xs) ≡ Some r → (find p xs ≡ Some r → (p r ≡ true) × Q r) → (p r ≡ true) × Q r
-      go true is f rest =
-          let same : x ≡ r = cc in
-          (subst (λ (y : Row). p y ≡ true) same is, subst Q same (All-head Q x xs all))
-      go false is f rest = rest f
-
 -- where no row has the id, the new row joins at the end
 at_row-missing : (id : Text) (change : Row → List Row) (missing rows : List Row) → has_row id rows ≡ false → at_row id change missing rows ≡ rows ++ missing
 at_row-missing id change missing [] e = refl
@@ -64,15 +53,6 @@ at_row-missing id change missing (r ∷ rs) e = go (bytes_eq r.id id) e (λ f. a
         → cond b (change r ++ rs) (r ∷ at_row id change missing rs) ≡ r ∷ (rs ++ missing)
     go true f rest = absurd (true≢false f)
     go false f rest = ap (λ xs. r ∷ xs) (rest f)
-
--- a test that some row passes finds one
-found_row : (p : Row → Bool) (rows : List Row) → list_any p rows ≡ true → (r : Row) × (find p rows ≡ Some r)
-found_row p [] e = absurd (true≢false (sym e))
-found_row p (x ∷ xs) e = go (p x) e (λ f. found_row p xs f)
-  where
-    go : (b : Bool) → (b || list_any p xs) ≡ true → (list_any p xs ≡ true → (r : Row) × (find p xs ≡ Some r)) → (r : Row) × (cond b (Some x) (find p xs) ≡ Some r)
-    go true f rest = (x, refl)
-    go false f rest = rest f
 
 -- ---- what the rows hold of one option
 
@@ -298,7 +278,7 @@ read_row rows a r (v ∷ vs) found f is = record {
 -- an option whose rows are filled, where the words give it or it has a default
 has_value : (rows : List Row) (a : Rule) → All (FillsOwn a) rows → (is_given a.id rows ≡ true) ⊎ (has_row a.id rows ≡ true) → HasValue rows a
 has_value rows a all (inr some) =
-    let found = found_row (λ (r : Row). bytes_eq r.id a.id) rows some in
+    let found = found_any (λ (r : Row). bytes_eq r.id a.id) rows some in
     let own = find-All (FillsOwn a) (λ (r : Row). bytes_eq r.id a.id) rows found.0 all found.1 in
     read_row rows a found.0 found.0.values found.1 (own.1 own.0) refl
 has_value rows a all (inl given) = go (find (λ (r : Row). bytes_eq r.id a.id) rows) refl given
@@ -315,12 +295,16 @@ no_check false true a e = cc
 no_check false false true e = cc
 no_check false false false e = refl
 
--- what each option of a list of rules asks: a value of its own, and one of the words or a default
-pub record IsAsked (rules : List Rule) (a : Rule) : Type 0 where
-  pub there : arg_by_id rules a.id ≡ Some a
-  pub set : action_of a ≡ action.Set
-  pub wants : nat_lt 0 (unwrap_or_range a.range).start_inclusive ≡ true
-  pub asked : (a.required || not (is_empty a.defaults)) ≡ true
+is_set-Set : (x : ArgAction) → is_set x ≡ true → x ≡ action.Set
+is_set-Set action.Set e = refl
+is_set-Set action.Append e = absurd (true≢false (sym e))
+is_set-Set action.SetTrue e = absurd (true≢false (sym e))
+is_set-Set action.SetFalse e = absurd (true≢false (sym e))
+is_set-Set action.Count e = absurd (true≢false (sym e))
+is_set-Set action.Help e = absurd (true≢false (sym e))
+is_set-Set action.HelpShort e = absurd (true≢false (sym e))
+is_set-Set action.HelpLong e = absurd (true≢false (sym e))
+is_set-Set action.Version e = absurd (true≢false (sym e))
 
 leaf_wants : (negates missing : Bool) → (not (negates && false) && missing) ≡ false → missing ≡ false
 leaf_wants true missing e = e
@@ -331,7 +315,14 @@ given_too true true is e = refl
 given_too true false is e = absurd (true≢false e)
 given_too false g is e = absurd (true≢false (sym is))
 
-module _ (s : Shape) (words : List Text) (a : Rule) (e : level_fault s [] nothing_held words false [] ≡ []) (differ : keys_differ (λ (b : Rule). b.id) s.rules ≡ true) (asked : IsAsked s.rules a) where
+module _ (s : Shape) (words : List Text) (a : Rule) (e : level_fault s [] nothing_held words false [] ≡ []) (differ : keys_differ (λ (b : Rule). b.id) s.rules ≡ true)
+    (there : arg_by_id s.rules a.id ≡ Some a) (has : always_has_value a ≡ true) where
+  takes_one : (action_of a ≡ action.Set) × (nat_lt 0 (unwrap_or_range a.range).start_inclusive ≡ true) × ((a.required || not (is_empty a.defaults)) ≡ true)
+  takes_one =
+      let outer = both _ _ has in
+      let inner = both _ _ outer.1 in
+      (is_set-Set (action_of a) outer.0, inner.0, inner.1)
+
   end : Held
   end = (walk s.rules [] nothing_held words).held
 
@@ -342,24 +333,37 @@ module _ (s : Shape) (words : List Text) (a : Rule) (e : level_fault s [] nothin
       let walked_well = neither (walk_fault s [] (walk_from nothing_held) words) _ e in
       let settled_well = neither (settle_fault s.rules again end) _ walked_well.1 in
       let filled_well = neither (defaults_fault (settled s.rules end).rows s.rules) _ settled_well.1 in
-      let fills = use_fills s.rules a differ asked.there asked.set asked.wants again in
+      let fills = use_fills s.rules a differ there takes_one.0 takes_one.1 again in
       let of_words = walk_keeps s [] (All (FillsOwn a)) fills (walk_from nothing_held) words walked_well.0 (All-nil (FillsOwn a)) in
       let of_pending = settle_keeps s.rules again (All (FillsOwn a)) fills end settled_well.0 of_words in
       let each : All (IsFoundIn s.rules) s.rules = λ k d lt. (_, each_by_own_key (λ (b : Rule). b.id) s.rules differ k d lt) in
-      (defaults_fill s.rules a differ asked.there asked.set asked.wants s.rules (settled s.rules end).rows each filled_well.0 of_pending, filled_well.1)
+      (defaults_fill s.rules a differ there takes_one.0 takes_one.1 s.rules (settled s.rules end).rows each filled_well.0 of_pending, filled_well.1)
 
   required_given : a.required ≡ true → is_given a.id (rows_after s.rules [] words) ≡ true
   required_given is =
       let rows = rows_after s.rules [] words in
       let missing : list_any (λ (x : Rule). x.required && not (is_given x.id rows)) s.rules ≡ false =
       leaf_wants s.subcommand_negates_reqs _ (no_check _ _ _ rows_filled.1) in
-      given_too a.required (is_given a.id rows) is (none_passes (λ (x : Rule). x.required && not (is_given x.id rows)) _ s.rules a missing asked.there)
+      given_too a.required (is_given a.id rows) is (none_passes (λ (x : Rule). x.required && not (is_given x.id rows)) _ s.rules a missing there)
 
   -- a level without a fault, below which none stands, has a value of each such option
   pub level_value : HasValue (rows_after s.rules [] words) a
-  level_value = has_value (rows_after s.rules [] words) a rows_filled.0 (go a.required refl asked.asked)
+  level_value = has_value (rows_after s.rules [] words) a rows_filled.0 (go a.required refl takes_one.2)
     where
       go : (b : Bool) → a.required ≡ b → (b || not (is_empty a.defaults)) ≡ true
           → (is_given a.id (rows_after s.rules [] words) ≡ true) ⊎ (has_row a.id (rows_after s.rules [] words) ≡ true)
       go true is f = inl (required_given is)
-      go false is f = inr (rows_made a (is_false (is_empty a.defaults) f) s.rules (settled s.rules (walk s.rules [] nothing_held words).held).rows asked.there)
+      go false is f = inr (rows_made a (is_false (is_empty a.defaults) f) s.rules (settled s.rules (walk s.rules [] nothing_held words).held).rows there)
+
+in_front : (P : Rule → Type 0) (options rest : List Rule) → All P (map filled options ++ rest) → All (λ option. P (filled option)) options
+in_front P [] rest all = All-nil (λ option. P (filled option))
+in_front P (x ∷ xs) rest all = All-cons (λ option. P (filled option)) x xs (All-head P _ _ all) (in_front P xs rest (All-tail P _ _ all))
+
+-- so it has the values of the options that clap completes in its first places
+pub level_values : (s : Shape) (words : List Text) (options rest : List Rule) → level_fault s [] nothing_held words false [] ≡ [] → keys_differ (λ (b : Rule). b.id) s.rules ≡ true
+    → s.rules ≡ map filled options ++ rest → HasValues options (rows_after s.rules [] words)
+level_values s words options rest e differ is =
+    let rows = rows_after s.rules [] words in
+    let each : All (λ a. always_has_value a ≡ true → HasValue rows a) s.rules =
+    λ k d lt. level_value s words (slice_index_or s.rules k d) e differ (each_by_own_key (λ (b : Rule). b.id) s.rules differ k d lt) in
+    in_front (λ a. always_has_value a ≡ true → HasValue rows a) options rest (subst (All (λ a. always_has_value a ≡ true → HasValue rows a)) is each)

@@ -33,6 +33,10 @@ problem_options = required (text_option (codes "geo")) ∷ required (text_option
 abbrev pub subcommand : Text → List Rule → Shape
 subcommand name options = record (new_shape name) { rules = options }
 
+-- the subcommands of the program
+abbrev pub subcommands : List Shape
+subcommands = subcommand (codes "size") problem_options ∷ []
+
 -- the program, which has no option of its own and requires a subcommand
 unfoldable pub countygroups : App
 countygroups = record {
@@ -42,7 +46,7 @@ countygroups = record {
     disable_help_subcommand = true;
     subcommand_required = true;
   };
-  subs = subcommand (codes "size") problem_options ∷ [];
+  subs = subcommands;
 }
 
 -- `new` is `old` with these options added in turn

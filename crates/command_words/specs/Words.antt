@@ -1,12 +1,12 @@
 -- What the words of the command line say.
 use Rattle.std.specs.Prelude.{◌≡◌, ◌≢◌, ◌≤◌, ⊤, ℕ, Bool, true, false, List, Option, Some, codes, pos}
 use Rattle.std.specs.Option.{IsSomeAnd}
-use Rattle.std.specs.Str.Parse.{IsNumeral, signed_digits_value, without_leading_sign}
 use Rattle.clap.specs.Words.{IsAmong, Kinds, Row, Text, fault_of, first_of, subcommand_of, takes}
 use Rattle.clap.specs.Takes.{is_given}
 use Rattle.clap.specs.declared.error.kind.ErrorKind.{ErrorKind}
 use Rattle.clap.specs.declared.error.kind.ErrorKind.TheVariants.{DisplayHelp}
 use Rattle.command_words.specs.Command.{countygroups}
+use Rattle.command_words.specs.Options.{Spells}
 use Rattle.command_words.specs.declared.words.CommandWords.{CommandWords}
 use Rattle.command_words.specs.declared.words.CommandWords.TheVariants.{Size}
 use Rattle.command_words.specs.declared.words.ProblemWords.{ProblemWords}
@@ -24,10 +24,6 @@ takes_words words = takes countygroups words
 -- the faults that clap finds first in the words, of which help is one
 unfoldable pub faults_of : List Text → Kinds
 faults_of words = fault_of countygroups words
-
--- the text writes the number in decimal digits, after a sign or none
-abbrev pub Spells : Text → ℕ → Type 0
-Spells text n = IsNumeral 10 (without_leading_sign text) × (signed_digits_value 10 text ≡ pos n)
 
 -- the value of the option writes the number
 abbrev pub GivesNumber : Text → List Row → ℕ → Type 0
