@@ -4,3 +4,4 @@ pub mod ValueLemmas
 pub mod EnteredLemmas
 pub mod CommandLemmas
 pub mod CountygroupsLemmas
+pub mod NumberLemmas
