@@ -5,3 +5,4 @@ pub mod EnteredLemmas
 pub mod CommandLemmas
 pub mod CountygroupsLemmas
 pub mod NumberLemmas
+pub mod ReadLemmas

@@ -4,7 +4,7 @@ use Rattle.std.specs.Option.{IsSomeAnd}
 use Rattle.clap.specs.Words.{IsAmong, Kinds, Row, Text, fault_of, first_of, subcommand_of, takes}
 use Rattle.clap.specs.Takes.{is_given}
 use Rattle.clap.specs.declared.error.kind.ErrorKind.{ErrorKind}
-use Rattle.clap.specs.declared.error.kind.ErrorKind.TheVariants.{DisplayHelp}
+use Rattle.clap.specs.declared.error.kind.ErrorKind.TheVariants.{DisplayHelp, OutOfMemory}
 use Rattle.command_words.specs.Command.{countygroups}
 use Rattle.command_words.specs.Options.{Spells}
 use Rattle.command_words.specs.declared.words.CommandWords.{CommandWords}
@@ -46,6 +46,12 @@ SaysCommand p (Size problem) = (p.0 ≡ codes "size") × SaysProblem p.1 problem
 -- the words mean the command
 abbrev pub Means : List Text → CommandWords → Type 0
 Means words command = IsSomeAnd (subcommand_in words) (λ p. SaysCommand p command)
+
+-- an error of this kind ends in help, usage or memory, and any in memory
+abbrev pub EndsAs : ErrorKind → WordsEnd → Type 0
+EndsAs kind (Help text) = kind ≡ DisplayHelp
+EndsAs kind (Usage text) = (kind ≢ DisplayHelp) × (kind ≢ OutOfMemory)
+EndsAs kind Memory = ⊤
 
 -- what a parse that has these faults may end in: help where help was asked for, usage for any
 -- other, and memory

@@ -1,6 +1,9 @@
 //! How a parse of the words ends where it gives no command.
-ghost use Rattle.std.specs.Prelude.{◌≡◌};
+ghost use Rattle.clap.specs.Words.{kind_of};
+ghost use Rattle.command_words.specs.Words.{EndsAs};
 
+use clap::error::ErrorKind;
+use std::alloc::Global;
 use thiserror::Error;
 
 /// Why the words gave no command. The texts are `clap`'s.
@@ -15,4 +18,20 @@ pub enum WordsEnd {
     /// Memory ran out; the program exits with 5.
     #[error("out of memory")]
     Memory,
+}
+
+impl WordsEnd {
+    /// The end of a parse that gave this error.
+    pub(crate) fn of_error(alloc: Global, error: &clap::Error) -> WordsEnd
+        ensures { EndsAs (kind_of error.now) result }
+    {
+        let Ok(text) = error.to_string(alloc) else {
+            return WordsEnd::Memory;
+        };
+        match error.kind() {
+            ErrorKind::OutOfMemory => WordsEnd::Memory,
+            ErrorKind::DisplayHelp => WordsEnd::Help(text),
+            _ => WordsEnd::Usage(text),
+        }
+    }
 }
