@@ -66,6 +66,7 @@ pub(crate) fn program<'a>(alloc: Global) -> Result<Command<'a>, AllocError>
     let size = Command::new(alloc, "size").about("Prints how many seats each county's people suit");
     let size = with_problem_options(alloc, size)?;
     let program = Command::new(alloc, "countygroups")
+        .bin_name("countygroups")?
         .about("Groups North Carolina's counties for legislative districts")
         .no_binary_name(true)
         .disable_help_subcommand(true)

@@ -10,7 +10,7 @@ unfolding countygroups
 returns c =
     let size : app_of c.in_ok-size.size ≡ fold with_rule (new_app (codes "size")) problem_options =
     c.in_ok-size.ensures.app ∙ ap (λ (a : App). fold with_rule a problem_options) (ap app_of_fields c.about-size.ensures ∙ c.new.ensures.app) in
-    let named : app_of c.about.result ≡ new_app (codes "countygroups") = ap app_of_fields c.about.ensures ∙ c.new-2.ensures.app in
+    let named : app_of c.about.result ≡ new_app (codes "countygroups") = ap app_of_fields c.about.ensures ∙ (ap app_of_fields c.in_ok-bin_name.ensures.0 ∙ c.new-2.ensures.app) in
     let bare : app_of c.no_binary_name.result ≡ on_top (λ s. record s { no_binary_name = true }) (app_of c.about.result) = ap app_of_fields c.no_binary_name.ensures in
     let quiet : app_of c.disable_help_subcommand.result ≡ on_top (λ s. record s { disable_help_subcommand = true }) (app_of c.no_binary_name.result) =
     ap app_of_fields c.disable_help_subcommand.ensures in
