@@ -1,6 +1,6 @@
 use Rattle.std.proofs.Common.{◌≡◌, rules, All, List, subst, sym}
 use Rattle.field_lines.specs.Cut.{cut}
-use Rattle.county_problem.specs.declared.code.County.{County}
+use Rattle.county_problem.specs.declared.county.County.{County}
 use Rattle.pl94_counties.specs.Counties.{listed}
 use Rattle.pl94_counties.specs.Joined.{IsJoined, IsListed}
 use Rattle.pl94_counties.proofs.LawLemmas.{from_lines, each_line}
