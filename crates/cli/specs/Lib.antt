@@ -1,6 +1,10 @@
 pub mod Digits
+pub mod Answer
+pub mod Answers
 pub mod Files
 pub mod Memory
 pub mod Shelf
 pub mod SizeTable
+pub mod Refusals
 pub mod Case
+pub mod Run

@@ -1,10 +1,13 @@
 //! What the program `countygroups` does with its words, its files and its output.
 #![tactic(auto)]
 
+mod answer;
 mod case;
 mod memory;
+mod refusal;
 mod shelf;
 mod sink;
+mod size;
 mod table;
 mod text;
 
