@@ -8,3 +8,5 @@ pub mod SizeTable
 pub mod Refusals
 pub mod Case
 pub mod Run
+pub mod Delivery
+pub mod CaseRun

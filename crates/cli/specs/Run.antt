@@ -1,5 +1,5 @@
 -- What a run answers.
-use Rattle.std.specs.Prelude.{◌≡◌, ◌⊎◌, ℕ, true, List, [], Option, Some, None, Result, Ok, Err}
+use Rattle.std.specs.Prelude.{◌≡◌, ◌⊎◌, ◌≤◌, ℕ, true, List, [], Option, Some, None, Result, Ok, Err}
 use Rattle.county_problem.specs.declared.county.County.{County}
 use Rattle.county_problem.specs.declared.fault.ProblemFault.{ProblemFault}
 use Rattle.county_problem.specs.ProblemValue.{ProblemValue}
@@ -64,3 +64,7 @@ abbrev pub IsRunAnswer : Option Files → ℕ → List (List ℕ) → Answered �
 IsRunAnswer files failures words a =
     ((command : CommandWords) × Means words command × (faults_of words ≡ []) × CommandRun files failures command a)
     ⊎ ((end : WordsEnd) × EndsBy (faults_of words) end × (takes_words words ≡ true → end ≡ Memory) × IsEndAnswer end a)
+
+-- the command's state has two digits
+abbrev pub HasState : CommandWords → Type 0
+HasState (Size words) = words.state ≤ 99

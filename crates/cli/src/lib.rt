@@ -3,6 +3,7 @@
 
 mod answer;
 mod case;
+mod command;
 mod memory;
 mod refusal;
 mod shelf;
@@ -11,6 +12,8 @@ mod size;
 mod table;
 mod text;
 
+pub use case::{MAX_CASE, run_case};
+pub use command::run;
 pub use memory::{MemoryFile, MemoryShelf};
 pub use shelf::{MAX_FILE, Shelf, ShelfFault};
 pub use sink::{Sink, SinkFault, Writing};
