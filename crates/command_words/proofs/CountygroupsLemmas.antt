@@ -20,6 +20,7 @@ use Rattle.command_words.specs.Options.{HasCommand, HasValues}
 use Rattle.command_words.specs.Words.{EndsAs, EndsBy, faults_of, subcommand_in, takes_words}
 use Rattle.command_words.specs.declared.end.WordsEnd.{WordsEnd}
 use Rattle.command_words.specs.declared.end.WordsEnd.TheVariants.{Help, Memory, Usage}
+use Rattle.command_words.proofs.HelpLemmas.{IsClear, clear_faults}
 use Rattle.command_words.proofs.KeyLemmas.{find-All, keys_differ}
 use Rattle.command_words.proofs.ValueLemmas.{level_values}
 use Rattle.command_words.proofs.EnteredLemmas.{EntersWell, enters_well}
@@ -66,10 +67,29 @@ module _ (c : Command) (is : app_of c ≡ countygroups) (words : List Text) wher
   unfolding faults_of
   faults_in r h = fails_as r _ _ (ap (λ (a : App). fault_of a words) is) (h (ap is_simple_and_free is ∙ is_free_command))
 
--- an error that has one of the faults ends as it should
-pub ends_by : (kinds : Kinds) (k : ErrorKind) (end : WordsEnd) → (k ≡ OutOfMemory) ⊎ IsAmong k kinds → EndsAs k end → EndsBy kinds end
-ends_by kinds k (Help text) (inl e) h = let bad : OutOfMemory ≡ DisplayHelp = sym e ∙ h in cc
-ends_by kinds k (Help text) (inr among) h = subst (λ (x : ErrorKind). IsAmong x kinds) h among
-ends_by kinds k (Usage text) (inl e) h = absurd (h.1 e)
-ends_by kinds k (Usage text) (inr among) h = (k, among, h.0)
-ends_by kinds k Memory fits h = tt
+no_help_above : (built countygroups).top.disable_help_subcommand ≡ true
+unfolding countygroups
+no_help_above = refl
+
+no_help_below : All (λ s. s.disable_help_subcommand ≡ true) (built countygroups).subs
+unfolding countygroups
+no_help_below = All-cons (λ (s : Shape). s.disable_help_subcommand ≡ true) _ [] refl (All-nil (λ (s : Shape). s.disable_help_subcommand ≡ true))
+
+help_alone : (words : List Text) → IsClear (faults_of words)
+unfolding faults_of
+help_alone words = clear_faults countygroups words no_help_above no_help_below
+
+-- an error of one of the faults ends as it should
+pub ends_by : (words : List Text) (k : ErrorKind) (end : WordsEnd) → (k ≡ OutOfMemory) ⊎ IsAmong k (faults_of words) → EndsAs k end → EndsBy (faults_of words) end
+ends_by words k (Help text) (inl e) h = let bad : OutOfMemory ≡ DisplayHelp = sym e ∙ h in cc
+ends_by words k (Help text) (inr among) h = (help_alone words).alone (subst (λ (x : ErrorKind). IsAmong x (faults_of words)) h among)
+ends_by words k (Usage text) (inl e) h = absurd (h.1 e)
+ends_by words k (Usage text) (inr among) h = (
+  λ none. absurd (subst (IsAmong k) none among),
+  λ help. other (subst (IsAmong k) help among),
+)
+  where
+    other : (k ≡ DisplayHelp) ⊎ ⊥ → ⊥
+    other (inl e) = h.0 e
+    other (inr e) = e
+ends_by words k Memory fits h = tt
