@@ -82,7 +82,6 @@ module _ {X : Type 0} (key : X → Text) where
       let one : Some a ≡ Some b = sym there ∙ (ap (by_key key xs) (sym same) ∙ by_own_key xs p b differ found) in
       cc
 
-
 -- the element that a search finds
 pub find-All : {X : Type 0} (P : X → Type 0) (p : X → Bool) (xs : List X) (x : X) → All P xs → find p xs ≡ Some x → (p x ≡ true) × P x
 find-All P p [] x all e = cc

@@ -170,11 +170,11 @@ module _ (rules : List Rule) (a : Rule) (differ : keys_differ (λ (b : Rule). b.
       go false other = other_values a b.id other (reading_by b) DefaultValue (v ∷ vs) rows all
       go true same = subst (All (FillsOwn a)) (sym (at_row-missing b.id (more_values DefaultValue (v ∷ vs)) _ rows none))
           (All-append (FillsOwn a) rows _ all (All-cons (FillsOwn a) _ [] (λ own. record {
-          some = omega arith;
-          passed = subst (λ (y : Rule). values_fault y (v ∷ vs) ≡ []) (sym (only b found same)) passed;
-          reading = ap reading_by (sym (only b found same));
-          default = λ e. sym is ∙ ap (λ (y : Rule). y.defaults) (sym (only b found same));
-        }) (All-nil (FillsOwn a))))
+            some = omega arith;
+            passed = subst (λ (y : Rule). values_fault y (v ∷ vs) ≡ []) (sym (only b found same)) passed;
+            reading = ap reading_by (sym (only b found same));
+            default = λ e. sym is ∙ ap (λ (y : Rule). y.defaults) (sym (only b found same));
+          }) (All-nil (FillsOwn a))))
 
   default_fills : (rows : List Row) (b : Rule) → IsFoundIn rules b → default_fault rows b ≡ [] → All (FillsOwn a) rows → All (FillsOwn a) (with_default rows b)
   default_fills rows b found e all = go (has_row b.id rows) refl e
