@@ -1,29 +1,28 @@
 -- The words that the command `countygroups` takes have the values of the options of a subcommand.
-use Rattle.std.proofs.Common.{◌≡◌, ◌⊎◌, ◌∙◌, true, false, refl, sym, ap, subst, inl, inr, List, [], ◌∷◌, codes, Result, IfErr, IfOk}
+use Rattle.std.proofs.Common.{◌≡◌, ◌⊎◌, ◌∙◌, true, false, refl, sym, ap, subst, inl, inr, List, [], ◌∷◌, Result, IfErr, IfOk}
 use Rattle.std.proofs.lemmas.Result.{IfErr-weaker, IfOk-weaker}
 use Rattle.std.specs.List.{All}
 use Rattle.std.specs.Option.{IsSomeAnd}
 use Rattle.std.proofs.lemmas.List.Elements.{All-cons, All-nil}
-use Rattle.clap.specs.Words.{App, FailsBy, HasMatchesOf, IsAmong, Kinds, app_of, kind_of, subcommand_rows_of, takes}
+use Rattle.clap.specs.Words.{App, FailsBy, HasMatchesOf, IsAmong, app_of, kind_of, subcommand_rows_of, takes}
 use Rattle.clap.specs.declared.builder.command.Command.{Command}
 use Rattle.clap.specs.declared.error.Error.{Error}
 use Rattle.clap.specs.declared.error.kind.ErrorKind.{ErrorKind}
 use Rattle.clap.specs.declared.error.kind.ErrorKind.TheVariants.{DisplayHelp, OutOfMemory}
 use Rattle.clap.specs.declared.parser.matches.ArgMatches.{ArgMatches}
 use Rattle.clap.proofs.FaultLemmas.{fails_as}
-use Rattle.clap.specs.Walk.{Rule, Text, nothing_held, rows_after}
+use Rattle.clap.specs.Walk.{Text, nothing_held}
 use Rattle.clap.specs.Simple.{Shape, built, filled, help_rule, is_simple, rows_at, subcommand_of}
 use Rattle.clap.specs.Faults.{fault_of, is_simple_and_free, level_fault}
-use Rattle.clap.proofs.OnLiterals.{clap_on_literals}
-use Rattle.command_words.specs.Command.{countygroups, problem_options, subcommands}
-use Rattle.command_words.specs.Options.{HasCommand, HasValues}
+use Rattle.command_words.specs.Command.{countygroups, problem_options}
+use Rattle.command_words.specs.Options.{HasCommand}
 use Rattle.command_words.specs.Words.{EndsAs, EndsBy, faults_of, subcommand_in, takes_words}
 use Rattle.command_words.specs.declared.end.WordsEnd.{WordsEnd}
 use Rattle.command_words.specs.declared.end.WordsEnd.TheVariants.{Help, Memory, Usage}
 use Rattle.command_words.proofs.HelpLemmas.{IsClear, clear_faults}
-use Rattle.command_words.proofs.KeyLemmas.{find-All, keys_differ}
+use Rattle.command_words.proofs.KeyLemmas.{find-All}
 use Rattle.command_words.proofs.ValueLemmas.{level_values}
-use Rattle.command_words.proofs.EnteredLemmas.{EntersWell, enters_well}
+use Rattle.command_words.proofs.EnteredLemmas.{enters_well}
 
 pub is_simple_command : is_simple countygroups ≡ true
 unfolding countygroups

@@ -1,4 +1,4 @@
-use Rattle.std.proofs.Common.{rules, codes}
+use Rattle.std.proofs.Common.{codes}
 use Rattle.command_words.specs.Command.{of_number, required, text_option, with_default}
 use Rattle.command_words.proofs.CommandLemmas.{has_none_more, has_one_more}
 use Rattle.command_words.proofs.command.with_problem_options.Goals as goal
