@@ -1,7 +1,6 @@
 -- The rules of a command that is built up, and what clap makes of them.
-use Rattle.std.proofs.Common.{◌≡◌, ◌∙◌, ◌||◌, Bool, true, false, refl, sym, ap, List, [], ◌∷◌, ◌++◌}
+use Rattle.std.proofs.Common.{◌≡◌, ◌∙◌, ◌||◌, Bool, true, false, refl, ap, List, [], ◌∷◌, ◌++◌}
 use Rattle.std.specs.Prelude.{fold}
-use Rattle.std.specs.List.{list_any}
 use Rattle.clap.specs.Words.{AddsArg, App, Rule, app_of, rule_of, with_rule}
 use Rattle.clap.specs.declared.builder.arg.Arg.{Arg}
 use Rattle.clap.specs.declared.builder.command.Command.{Command}

@@ -1,13 +1,12 @@
 -- A parse without a fault of a command that requires a subcommand enters one, without a fault.
 use Rattle.std.proofs.Common.{◌≡◌, ◌∙◌, ◌&&◌, not, Bool, true, false, refl, sym, ap, List, [], Option, Some, None, is_some, true≢false}
 use Rattle.std.specs.List.{find}
-use Rattle.std.specs.Prelude.{option_and_then, option_map}
+use Rattle.std.specs.Prelude.{option_map}
 use Rattle.std.specs.Option.{option_map_or}
 use Rattle.clap.specs.Walk.{Text, answers_to, nothing_held, walk, walk_from}
 use Rattle.clap.specs.Simple.{App, Shape, argument_words, built, entered, label_of, names_of, rows_at, subcommand_of}
-use Rattle.clap.specs.Kinds.{Kinds, check_kinds, or_else}
-use Rattle.clap.specs.Faults.{check_fault, defaults_fault, entered_fault, fault_of, level_fault, settle_fault, walk_fault}
-use Rattle.clap.proofs.SimpleLemmas.{is_false}
+use Rattle.clap.specs.Kinds.{check_kinds}
+use Rattle.clap.specs.Faults.{entered_fault, fault_of, level_fault, settle_fault, walk_fault}
 use Rattle.command_words.proofs.WalkLemmas.{neither}
 
 -- the words enter a subcommand, at which they have no fault

@@ -1,5 +1,5 @@
 -- Lists whose elements have keys of their own.
-use Rattle.std.proofs.Common.{◌≡◌, ◌∙◌, ◌&&◌, ◌||◌, ◌<◌, not, ℕ, Bool, cond, true, false, zero, suc, refl, sym, ap, subst, arith, List, [], ◌∷◌, length, Option, Some, None, true≢false}
+use Rattle.std.proofs.Common.{◌≡◌, ◌∙◌, ◌&&◌, ◌||◌, not, ℕ, Bool, cond, true, false, zero, suc, refl, sym, ap, subst, arith, List, [], ◌∷◌, Option, Some, true≢false}
 use Rattle.std.specs.List.{All, find, list_any}
 use Rattle.std.specs.Str.{bytes_eq}
 use Rattle.std.proofs.lemmas.List.Elements.{All-head, All-tail}
@@ -81,7 +81,6 @@ module _ {X : Type 0} (key : X → Text) where
   same_by_key xs p a b differ there found same =
       let one : Some a ≡ Some b = sym there ∙ (ap (by_key key xs) (sym same) ∙ by_own_key xs p b differ found) in
       cc
-
 
 -- the element that a search finds
 pub find-All : {X : Type 0} (P : X → Type 0) (p : X → Bool) (xs : List X) (x : X) → All P xs → find p xs ≡ Some x → (p x ≡ true) × P x

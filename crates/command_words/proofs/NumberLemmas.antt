@@ -1,6 +1,6 @@
 -- A number that an option's range lets through is the number that its text writes.
-use Rattle.std.proofs.Common.{◌≡◌, ◌∙◌, ◌<◌, ◌≤◌, ◌+◌, ◌^◌, ◌==◌, ℕ, ℤ, Bool, cond, true, false, zero, suc, refl, sym, ap, subst, arith, List, [], ◌∷◌, drop, Option, Some, None, Result, Ok, Err}
-use Rattle.std.specs.Prelude.{pos, negsuc, unwrap_or, ◌≤ℤ◌}
+use Rattle.std.proofs.Common.{◌≡◌, ◌∙◌, ◌<◌, ◌≤◌, ◌^◌, ◌==◌, ℕ, Bool, cond, true, false, zero, suc, refl, sym, ap, subst, arith, List, [], ◌∷◌, drop, Option, Some, None, Result, Ok}
+use Rattle.std.specs.Prelude.{pos, unwrap_or, ◌≤ℤ◌}
 use Rattle.std.specs.Str.Parse.{IsNumeral, ParsesUnsigned, digits_value, signed_digits_value, starts_with_minus, without_leading_plus, without_leading_sign}
 use Rattle.std.proofs.Math.IntN.{neg_ℤ}
 use Rattle.std.proofs.lemmas.Bool.{ne_eqb}
@@ -8,7 +8,7 @@ use Rattle.std.proofs.lemmas.Int.{ints}
 use Rattle.std.proofs.lemmas.Str.Parse.{digit_from_value}
 use Rattle.clap.specs.Lexer.{without_minus}
 use Rattle.clap.specs.Matches.{ReadsOne}
-use Rattle.clap.specs.Values.{IsSignedIn, IsUnsignedIn}
+use Rattle.clap.specs.Values.{IsSignedIn}
 use Rattle.clap.proofs.CallerReads.{signed_reads}
 use Rattle.command_words.specs.Options.{Spells}
 

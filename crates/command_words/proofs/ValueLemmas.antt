@@ -1,6 +1,6 @@
 -- A level of a parse that has no fault leaves a value of each option that is required or has a
 -- default.
-use Rattle.std.proofs.Common.{map, ◌≡◌, ◌⊎◌, ◌∙◌, ◌&&◌, ◌||◌, ◌++◌, ◌<◌, ◌+◌, ◌==◌, not, ℕ, Bool, cond, true, false, zero, suc, refl, sym, ap, subst, inl, inr, arith, List, [], ◌∷◌, length, length-append, min, Option, Some, None, is_some, nat_lt, true≢false}
+use Rattle.std.proofs.Common.{map, ◌≡◌, ◌⊎◌, ◌∙◌, ◌&&◌, ◌||◌, ◌++◌, ◌<◌, ◌+◌, not, ℕ, Bool, cond, true, false, refl, sym, ap, subst, inl, inr, arith, List, [], ◌∷◌, length, length-append, min, Option, Some, None, nat_lt, true≢false}
 use Rattle.std.specs.Prelude.{option_and_then, option_map, slice_get}
 use Rattle.std.specs.List.{All, find, fold, list_any, slice_index_or}
 use Rattle.std.specs.Option.{option_map_or}
@@ -10,13 +10,13 @@ use Rattle.std.proofs.lemmas.Slice.Eq.{bytes_eq-Decides}
 use Rattle.std.proofs.lemmas.List.Elements.{All-append, All-cons, All-head, All-nil, All-tail}
 use Rattle.std.proofs.lemmas.List.Folds.{list_any-append}
 use Rattle.clap.specs.Facts.{explicit_source, parser_of_value, unwrap_or_range}
-use Rattle.clap.specs.Values.{Accepts, read_as}
-use Rattle.clap.specs.Kinds.{Kinds, check_kinds, or_else, range_kinds, request_kinds, value_kinds, values_kinds}
+use Rattle.clap.specs.Values.{read_as}
+use Rattle.clap.specs.Kinds.{check_kinds, range_kinds, request_kinds, value_kinds, values_kinds}
 use Rattle.clap.specs.Faults.{action_fault, check_fault, default_fault, defaults_fault, given_default_fault, level_fault, repeat_fault, settle_fault, use_fault, values_fault, walk_fault}
 use Rattle.clap.specs.Takes.{is_given}
 use Rattle.clap.specs.ValueTests.{accepts}
 use Rattle.clap.specs.declared.error.kind.ErrorKind.{ErrorKind}
-use Rattle.clap.specs.Walk.{Held, Names, Row, Rule, Text, action_of, arg_by_id, at_row, count_of, counted, default_rows, finished, first_of, has_row, is_empty, more_values, most_values, new_count, nothing_held, one_of, reading_by, row_text, rows_after, settled, stronger, used, used_as, values_or_missing, walk, walk_from, with_count, with_default, with_values, without}
+use Rattle.clap.specs.Walk.{Held, Row, Rule, Text, action_of, arg_by_id, at_row, count_of, default_rows, has_row, is_empty, more_values, most_values, new_count, nothing_held, reading_by, row_text, rows_after, settled, stronger, used, used_as, values_or_missing, walk, walk_from, with_count, with_default, with_values, without}
 use Rattle.clap.specs.Simple.{Shape, filled}
 use Rattle.clap.specs.declared.builder.action.ArgAction.{ArgAction}
 use Rattle.clap.specs.declared.builder.action.ArgAction.TheVariants as action
@@ -170,11 +170,11 @@ module _ (rules : List Rule) (a : Rule) (differ : keys_differ (λ (b : Rule). b.
       go false other = other_values a b.id other (reading_by b) DefaultValue (v ∷ vs) rows all
       go true same = subst (All (FillsOwn a)) (sym (at_row-missing b.id (more_values DefaultValue (v ∷ vs)) _ rows none))
           (All-append (FillsOwn a) rows _ all (All-cons (FillsOwn a) _ [] (λ own. record {
-          some = omega arith;
-          passed = subst (λ (y : Rule). values_fault y (v ∷ vs) ≡ []) (sym (only b found same)) passed;
-          reading = ap reading_by (sym (only b found same));
-          default = λ e. sym is ∙ ap (λ (y : Rule). y.defaults) (sym (only b found same));
-        }) (All-nil (FillsOwn a))))
+            some = omega arith;
+            passed = subst (λ (y : Rule). values_fault y (v ∷ vs) ≡ []) (sym (only b found same)) passed;
+            reading = ap reading_by (sym (only b found same));
+            default = λ e. sym is ∙ ap (λ (y : Rule). y.defaults) (sym (only b found same));
+          }) (All-nil (FillsOwn a))))
 
   default_fills : (rows : List Row) (b : Rule) → IsFoundIn rules b → default_fault rows b ≡ [] → All (FillsOwn a) rows → All (FillsOwn a) (with_default rows b)
   default_fills rows b found e all = go (has_row b.id rows) refl e

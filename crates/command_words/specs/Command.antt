@@ -1,5 +1,5 @@
 -- The command `countygroups`, as clap reads it.
-use Rattle.std.specs.Prelude.{◌≡◌, ℕ, Bool, true, false, fold, List, [], ◌∷◌, Some, codes, pos}
+use Rattle.std.specs.Prelude.{◌≡◌, ℕ, true, false, fold, List, [], ◌∷◌, Some, codes, pos}
 use Rattle.clap.specs.Words.{App, Rule, Shape, Text, app_of, new_rule, with_rule}
 use Rattle.clap.specs.Simple.{new_shape}
 use Rattle.clap.specs.declared.builder.action.ArgAction.TheVariants.{Set}

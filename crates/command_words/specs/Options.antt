@@ -1,11 +1,11 @@
 -- What the values of a subcommand's options are, where the words are taken.
-use Rattle.std.specs.Prelude.{◌≡◌, ◌&&◌, ◌||◌, ◌≤◌, not, ℕ, Bool, true, false, Some, List, Option, find, pos, slice_get, nat_lt}
+use Rattle.std.specs.Prelude.{◌≡◌, ◌&&◌, ◌||◌, not, ℕ, Bool, true, false, Some, List, find, pos, slice_get, nat_lt}
 use Rattle.std.specs.List.{All}
 use Rattle.std.specs.Option.{IsSomeAnd}
 use Rattle.std.specs.Str.{bytes_eq}
 use Rattle.std.specs.Str.Parse.{IsNumeral, signed_digits_value, without_leading_sign}
 use Rattle.clap.specs.Facts.{parser_of_value, unwrap_or_range}
-use Rattle.clap.specs.Simple.{Shape, filled}
+use Rattle.clap.specs.Simple.{filled}
 use Rattle.clap.specs.Takes.{is_given}
 use Rattle.clap.specs.Values.{Accepts, read_as}
 use Rattle.clap.specs.Walk.{Row, Rule, Text, action_of, first_of, is_empty, one_of, reading_by}

@@ -1,7 +1,7 @@
 -- What the words of the command line say.
-use Rattle.std.specs.Prelude.{◌≡◌, ◌≢◌, ◌≤◌, ⊤, ℕ, Bool, true, false, List, Option, Some, codes, pos}
+use Rattle.std.specs.Prelude.{◌≡◌, ◌≢◌, ◌≤◌, ⊤, ℕ, Bool, false, [], ◌∷◌, List, Option, Some, codes}
 use Rattle.std.specs.Option.{IsSomeAnd}
-use Rattle.clap.specs.Words.{IsAmong, Kinds, Row, Text, fault_of, first_of, subcommand_of, takes}
+use Rattle.clap.specs.Words.{Kinds, Row, Text, fault_of, first_of, subcommand_of, takes}
 use Rattle.clap.specs.Takes.{is_given}
 use Rattle.clap.specs.declared.error.kind.ErrorKind.{ErrorKind}
 use Rattle.clap.specs.declared.error.kind.ErrorKind.TheVariants.{DisplayHelp, OutOfMemory}
@@ -53,9 +53,9 @@ EndsAs kind (Help text) = kind ≡ DisplayHelp
 EndsAs kind (Usage text) = (kind ≢ DisplayHelp) × (kind ≢ OutOfMemory)
 EndsAs kind Memory = ⊤
 
--- what a parse that has these faults may end in: help where help was asked for, usage for any
--- other, and memory
+-- words with these faults end in help where help is the first, in usage at any other, and any
+-- words may end in memory
 abbrev pub EndsBy : Kinds → WordsEnd → Type 0
-EndsBy kinds (Help text) = IsAmong DisplayHelp kinds
-EndsBy kinds (Usage text) = (k : ErrorKind) × IsAmong k kinds × (k ≢ DisplayHelp)
-EndsBy kinds Memory = ⊤
+EndsBy faults (Help text) = faults ≡ DisplayHelp ∷ []
+EndsBy faults (Usage text) = (faults ≢ []) × (faults ≢ DisplayHelp ∷ [])
+EndsBy faults Memory = ⊤

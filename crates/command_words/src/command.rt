@@ -7,12 +7,7 @@ use clap::{Arg, ArgAction, Command, value_parser};
 use std::alloc::{AllocError, Global};
 
 /// An option `--name VALUE`.
-fn text_option<'a>(
-    alloc: Global,
-    name: &'a str,
-    value_name: &'a str,
-    help: &'a str,
-) -> Arg<'a>
+fn text_option<'a>(alloc: Global, name: &'a str, value_name: &'a str, help: &'a str) -> Arg<'a>
     ensures rule { rule_of result ≡ text_option name.entry.now }
     ensures local { result.global ≡ false }
 {
@@ -21,6 +16,14 @@ fn text_option<'a>(
         .action(ArgAction::Set)
         .value_name(value_name)
         .help(help)
+}
+
+/// A required option `--name FILE`.
+fn file_option<'a>(alloc: Global, name: &'a str, help: &'a str) -> Arg<'a>
+    ensures rule { rule_of result ≡ required (text_option name.entry.now) }
+    ensures local { result.global ≡ false }
+{
+    text_option(alloc, name, "FILE", help).required(true)
 }
 
 /// `--chamber SEATS`, from 1 to 1000.
@@ -44,18 +47,15 @@ fn state_option<'a>(alloc: Global) -> Arg<'a>
 }
 
 /// The command with the options that each subcommand has.
-fn with_problem_options<'a>(
-    alloc: Global,
-    command: Command<'a>,
-) -> Result<Command<'a>, AllocError>
+fn with_problem_options<'a>(alloc: Global, command: Command<'a>) -> Result<Command<'a>, AllocError>
     ensures { IfOk result (HasMore command.entry problem_options) }
 {
-    let geo = text_option(alloc, "geo", "FILE", "The PL 94-171 geographic header")
-        .required(true);
-    let segment = text_option(alloc, "segment", "FILE", "The PL 94-171 data segment 1")
-        .required(true);
+    let geo = file_option(alloc, "geo", "The PL 94-171 geographic header");
+    let segment = file_option(alloc, "segment", "The PL 94-171 data segment 1");
     let command = command.arg(geo)?.arg(segment)?;
-    let command = command.arg(chamber_option(alloc))?.arg(state_option(alloc))?;
+    let command = command
+        .arg(chamber_option(alloc))?
+        .arg(state_option(alloc))?;
     Ok(command)
 }
 

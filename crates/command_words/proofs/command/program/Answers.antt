@@ -1,8 +1,8 @@
 use Rattle.std.proofs.Common.{◌≡◌, ◌∙◌, ap, ap₂, codes, true, rules}
 use Rattle.std.specs.Prelude.{fold}
-use Rattle.clap.specs.Words.{App, Shape, app_of, new_app, shape_of, with_rule, with_subcommand}
+use Rattle.clap.specs.Words.{App, app_of, new_app, with_rule, with_subcommand}
 use Rattle.clap.specs.Simple.{app_of_fields, on_top}
-use Rattle.command_words.specs.Command.{countygroups, problem_options, subcommand}
+use Rattle.command_words.specs.Command.{countygroups, problem_options}
 use Rattle.command_words.proofs.command.program.Goals as goal
 
 pub returns : goal.returns

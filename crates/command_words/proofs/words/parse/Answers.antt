@@ -9,4 +9,4 @@ pub command_words-requires : goal.command_words-requires
 command_words-requires c = subst (λ o. IsSomeAnd o HasCommand) (sym c.in-Ok.ensures.found) (has_command (texts c.args.words.now) c.in-Ok.ensures.faults)
 
 pub returns-in-Err-clause-ends : goal.returns-in-Err-clause-ends
-returns-in-Err-clause-ends c = ends_by _ _ c.of_error.result c.in-Err.ensures.faults c.of_error.ensures
+returns-in-Err-clause-ends c = ends_by (texts c.args.words.now) _ c.of_error.result c.in-Err.ensures.faults c.of_error.ensures

@@ -1,10 +1,9 @@
-use Rattle.std.proofs.Common.{◌≡◌, ◌∙◌, ◌≤◌, ℕ, Some, arith, refl, sym, ap, subst, codes, lit<, true, List, [], Result, false}
+use Rattle.std.proofs.Common.{◌≡◌, ℕ, refl, codes, lit<, List, [], Result}
 use Rattle.std.specs.Prelude.{pos}
 use Rattle.std.specs.declared.num.ParseIntError.{ParseIntError}
 use Rattle.std.specs.Str.Parse.{ExplainsUnsignedError, HasUnsignedDigitsIfOk, ParsesUnsigned}
-use Rattle.clap.specs.Words.{Row, Rule, found_of, new_rule, rows_of}
+use Rattle.clap.specs.Words.{found_of, new_rule, rows_of}
 use Rattle.clap.specs.Simple.{filled}
-use Rattle.clap.specs.Takes.{is_given}
 use Rattle.clap.specs.declared.parser.matches.ArgMatches.{ArgMatches}
 use Rattle.command_words.specs.Command.{of_number, problem_options, required, text_option, with_default}
 use Rattle.command_words.specs.Options.{HasValue, HasValues, Spells}
