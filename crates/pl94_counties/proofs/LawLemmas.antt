@@ -78,9 +78,9 @@ always_record line is = never_nothing (field 5 line) (field 6 line) is
 pub stands_once : (text : List ℕ) (records : List (ℕ × ℕ)) → record_list text ≡ Ok records → (n p : ℕ) → people_of n records ≡ Some p → StandsOnce (cut text).lines n p
 stands_once text records is n p there =
     let found = one_line record_on DoubleRecord Segment1 (cut text).fault records (λ (l : Line). has_logrecno n l.bytes) n
-        (λ (l : Line) (nothing : record_on l.bytes ≡ Ok None). absurd (always_record l.bytes nothing))
-        (λ (l : Line) (e : ℕ × ℕ) (gives : record_on l.bytes ≡ Ok (Some e)). ap (λ (o : Option ℕ). option_map_or (λ k. n == k) o false) (record_line l.bytes e.0 e.1 gives).number_is)
-        p (cut text).lines [] (collected record_on DoubleRecord Segment1 text ∙ is) there refl in
+    (λ (l : Line) (nothing : record_on l.bytes ≡ Ok None). absurd (always_record l.bytes nothing))
+    (λ (l : Line) (e : ℕ × ℕ) (gives : record_on l.bytes ≡ Ok (Some e)). ap (λ (o : Option ℕ). option_map_or (λ k. n == k) o false) (record_line l.bytes e.0 e.1 gives).number_is)
+    p (cut text).lines [] (collected record_on DoubleRecord Segment1 text ∙ is) there refl in
     record { line = found.0; only = found.1; is_record = record_line found.0.bytes n p found.2 }
 
 -- ---- county lines
@@ -136,9 +136,9 @@ county_line_choose state records line code people g has false taken is = cc
 
 county_line_by : (state : ℕ) (records : List (ℕ × ℕ)) (line : List ℕ) (code people : ℕ) (o : Option GeoFields) → geo_fields line ≡ o
     → (elim o as (λ _. Given) [
-        | Some g ↦ if is_line_of (codes "050") state g then joined state records g else Ok None
-        | None ↦ Err TooFewFields
-      ]) ≡ Ok (Some (code, people)) → IsCountyWith state records line code people
+      | Some g ↦ if is_line_of (codes "050") state g then joined state records g else Ok None
+      | None ↦ Err TooFewFields
+    ]) ≡ Ok (Some (code, people)) → IsCountyWith state records line code people
 county_line_by state records line code people None has is = cc
 county_line_by state records line code people (Some g) has is = county_line_choose state records line code people g has (is_line_of (codes "050") state g) refl is
 
@@ -202,11 +202,11 @@ module _ (geo segment1 : List ℕ) (state : ℕ) (records found : List (ℕ × �
   joined_entry : (code people : ℕ) → people_of code found ≡ Some people → IsJoined (cut geo).lines (cut segment1).lines state (county_of code people)
   joined_entry code people there =
       let one = one_line (county_on state records) DoubleCounty Geo (cut geo).fault found (λ (l : Line). gives code (county_on state records l.bytes)) code
-          (λ (l : Line) (nothing : county_on state records l.bytes ≡ Ok None). ap (λ (g : Given). gives code g) nothing)
-          (λ (l : Line) (e : ℕ × ℕ) (is : county_on state records l.bytes ≡ Ok (Some e)). ap (λ (g : Given). gives code g) is)
-          people (cut geo).lines [] (collected (county_on state records) DoubleCounty Geo geo ∙ geo_is) there refl in
+      (λ (l : Line) (nothing : county_on state records l.bytes ≡ Ok None). ap (λ (g : Given). gives code g) nothing)
+      (λ (l : Line) (e : ℕ × ℕ) (is : county_on state records l.bytes ≡ Ok (Some e)). ap (λ (g : Given). gives code g) is)
+      people (cut geo).lines [] (collected (county_on state records) DoubleCounty Geo geo ∙ geo_is) there refl in
       let stands : Contains (cut geo).lines one.0 = contains_filter (λ (l : Line). gives code (county_on state records l.bytes)) (cut geo).lines one.0
-          (subst (λ (ls : List Line). Contains ls one.0) (sym one.1) (contains_head one.0 [])) in
+      (subst (λ (ls : List Line). Contains ls one.0) (sym one.1) (contains_head one.0 [])) in
       let of = county_line state records one.0.bytes code people one.2 in
       record { line = one.0; number = of.0; stands = stands; of_county = of.1; of_record = stands_once segment1 records segment_is of.0 people of.2 }
 

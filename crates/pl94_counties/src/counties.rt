@@ -115,3 +115,6 @@ pub fn read_counties(
     })?;
     Ok(counties)
 }
+
+#[cfg(test)]
+mod tests;

@@ -10,10 +10,10 @@ pub returns-clause-from_lines : goal.returns-clause-from_lines
 returns-clause-from_lines c =
     let items : c.in_ok-counties.counties.items ≡ listed c.in_ok-found.found.entries = search rules in
     subst (λ (cs : List County). All (IsJoined (cut c.args.geo.now).lines (cut c.args.segment1.now).lines c.args.state) cs) (sym items)
-        (from_lines c.args.geo.now c.args.segment1.now c.args.state c.in_ok-records.records.entries c.in_ok-found.found.entries c.in_ok-records.ensures c.in_ok-found.ensures c.list.ensures.ascending)
+    (from_lines c.args.geo.now c.args.segment1.now c.args.state c.in_ok-records.records.entries c.in_ok-found.found.entries c.in_ok-records.ensures c.in_ok-found.ensures c.list.ensures.ascending)
 
 pub returns-clause-each_line : goal.returns-clause-each_line
 returns-clause-each_line c =
     let items : c.in_ok-counties.counties.items ≡ listed c.in_ok-found.found.entries = search rules in
     subst (λ (cs : List County). All (IsListed (cut c.args.segment1.now).lines c.args.state cs) (cut c.args.geo.now).lines) (sym items)
-        (each_line c.args.geo.now c.args.segment1.now c.args.state c.in_ok-records.records.entries c.in_ok-found.found.entries c.in_ok-records.ensures c.in_ok-found.ensures)
+    (each_line c.args.geo.now c.args.segment1.now c.args.state c.in_ok-records.records.entries c.in_ok-found.found.entries c.in_ok-records.ensures c.in_ok-found.ensures)
