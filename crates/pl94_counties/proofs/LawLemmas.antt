@@ -1,9 +1,8 @@
 -- The law of the county list, from its definition.
-use Rattle.std.proofs.Common.{◌≡◌, ℕ, ◌<◌, ◌==◌, ◌&&◌, ◌⊎◌, inl, inr, cond, filter, Bool, true, false, List, [], ◌∷◌, length, map, Option, Some, None, Result, Ok, Err, All, Contains, get_or, codes, if◌then◌else◌, refl, sym, ap, ◌∙◌, subst, arith}
-use Rattle.std.specs.List.{slice_get}
-use Rattle.std.specs.List.Sorted.{IsStrictlyIncreasing, IsStrictlySortedBy}
+use Rattle.std.proofs.Common.{◌≡◌, ℕ, ◌<◌, ◌==◌, ◌&&◌, inl, inr, cond, filter, Bool, true, false, List, [], ◌∷◌, length, map, Option, Some, None, Ok, Err, All, Contains, get_or, codes, if◌then◌else◌, refl, sym, ap, ◌∙◌, subst}
+use Rattle.std.specs.List.Sorted.{IsStrictlyIncreasing}
 use Rattle.std.specs.Str.{bytes_eq}
-use Rattle.std.specs.Ordering.{nat_cmp, is_eq, eq_by_cmp}
+use Rattle.std.specs.Ordering.{nat_cmp, is_eq}
 use Rattle.std.specs.Option.{ok_or, option_and_then, option_map_or}
 use Rattle.std.specs.Cmp.{nat_cmp_total, eq_by_cmp_equiv}
 use Rattle.std.proofs.lemmas.Slice.Eq.{bytes_eq-Decides}
@@ -25,7 +24,7 @@ use Rattle.pl94_counties.specs.Counties.{found_list, listed}
 use Rattle.pl94_counties.specs.Joined.{IsRecordLine, has_logrecno, StandsOnce, IsCountyLine, IsJoined, IsListed}
 use Rattle.pl94_counties.proofs.CollectLemmas.{collected, tied_same}
 use Rattle.pl94_counties.proofs.ListLemmas.{codes_listed}
-use Rattle.pl94_counties.proofs.TraceLemmas.{Collects, one_line, given_by_line, contains_head, contains_tail, contains_cases}
+use Rattle.pl94_counties.proofs.TraceLemmas.{one_line, given_by_line, contains_head, contains_tail, contains_cases}
 
 -- a county of a code and its people
 abbrev county_of : ℕ → ℕ → County
