@@ -86,7 +86,21 @@ fn list(alloc: Global, found: &BTreeMap<CountyCode, u32>) -> Result<Vec<County>,
         .collect(alloc)
 }
 
-/// The counties of a state by code, from the texts of its geographic header and of segment 1.
+/// The counties of a state by code, with their people, from two files of the 2020 Census
+/// Redistricting Data (Public Law 94-171): the geographic header and segment 1. Both are cut texts
+/// (`Lines` of `field_lines`), and a line is cut into fields at each pipe.
+///
+/// A county line of geo has SUMLEV (field 3) `050`, GEOCOMP (field 5) `00` and STATE (field 13) equal
+/// to the state's two digits, byte by byte. Its code is STATE and then COUNTY (field 15, three
+/// digits). Its people are P0010001 (field 6) of the line of segment 1 that has its LOGRECNO (field 8
+/// of geo, field 5 of segment 1), compared as a number. Every other line of geo is skipped once it has
+/// fifteen fields. That two lines of geo share a LOGRECNO isn't tested.
+///
+/// # Errors
+///
+/// Segment 1 is read whole, and then geo. The first line at fault answers, on it the first of the
+/// kinds in the order of `Kind`; a line that can't be read (`Lower`) answers after the lines before
+/// it. `NoCounties` comes only where no line is at fault, and `Memory` in the place of any fault.
 pub fn read_counties(
     alloc: Global,
     geo: &[u8],
