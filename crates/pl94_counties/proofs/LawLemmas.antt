@@ -31,7 +31,7 @@ abbrev county_of : ℕ → ℕ → County
 county_of code people = record { code = code; people = people }
 
 -- ---- records
-abbrev record_in_fields : Option (List ℕ) → Option (List ℕ) → Given
+abbrev pub record_in_fields : Option (List ℕ) → Option (List ℕ) → Given
 record_in_fields a b = do
   x ← ok_or a TooFewFields
   y ← ok_or b TooFewFields
@@ -39,7 +39,7 @@ record_in_fields a b = do
   people ← ok_or (small_number y) BadNumber
   Ok (Some (number, people))
 
-abbrev record_of_numbers : Option ℕ → Option ℕ → Given
+abbrev pub record_of_numbers : Option ℕ → Option ℕ → Given
 record_of_numbers m q = do
   number ← ok_or m BadNumber
   people ← ok_or q BadNumber
@@ -91,14 +91,14 @@ both_true : (s t : Bool) → s ≡ true → t ≡ true → (s && t) ≡ true
 both_true true t f g = g
 both_true false t f g = cc
 
-abbrev joined_of : List (ℕ × ℕ) → Option ℕ → Option ℕ → Given
+abbrev pub joined_of : List (ℕ × ℕ) → Option ℕ → Option ℕ → Given
 joined_of records k m = do
   code ← ok_or k BadCode
   number ← ok_or m BadNumber
   people ← ok_or (people_of number records) NoRecord
   Ok (Some (code, people))
 
-abbrev with_people : ℕ → Option ℕ → Given
+abbrev pub with_people : ℕ → Option ℕ → Given
 with_people code q = do
   people ← ok_or q NoRecord
   Ok (Some (code, people))

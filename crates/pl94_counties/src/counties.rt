@@ -1,4 +1,4 @@
-ghost use Rattle.std.specs.Prelude.{◌≡◌, ◌≤◌, Ok, Some, IfOk, map, All};
+ghost use Rattle.std.specs.Prelude.{◌≡◌, ◌≤◌, Ok, Some, IfOk, IfErr, map, All};
 ghost use Rattle.std.specs.List.Sorted.{IsStrictlyIncreasing};
 ghost use Rattle.pl94_counties.specs.Gives.{Gives};
 ghost use Rattle.pl94_counties.specs.Geo.{county_on};
@@ -6,6 +6,7 @@ ghost use Rattle.pl94_counties.specs.Numbered.{Adds};
 ghost use Rattle.pl94_counties.specs.declared.fault.Kind.TheVariants.{DoubleCounty};
 ghost use Rattle.field_lines.specs.Cut.{cut};
 ghost use Rattle.pl94_counties.specs.Joined.{IsJoined, IsListed};
+ghost use Rattle.pl94_counties.specs.OfText.{IsOfText};
 ghost use Rattle.pl94_counties.specs.Counties.{found_list, listed, county_list};
 
 use crate::fault::{File, Kind, Pl94Fault};
@@ -109,6 +110,7 @@ pub fn read_counties(
 ) -> Result<Vec<County>, Pl94Fault>
     requires { state ≤ 99 }
     ensures value { Gives (λ v. v.items) result (county_list geo.now segment1.now state) }
+    ensures of_text { IfErr result (λ f. IsOfText f.kind) }
     ensures ascending { IfOk result (λ v. IsStrictlyIncreasing (map (λ c. c.code) v.items)) }
     ensures from_lines { IfOk result (λ v. All (IsJoined (cut geo.now).lines (cut segment1.now).lines state) v.items) }
     ensures each_line { IfOk result (λ v. All (IsListed (cut segment1.now).lines state v.items) (cut geo.now).lines) }
