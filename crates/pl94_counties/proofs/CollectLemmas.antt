@@ -5,9 +5,8 @@ use Rattle.std.specs.declared.cmp.Ordering.TheVariants.{Less, Equal, Greater}
 use Rattle.std.specs.Ordering.{nat_cmp, is_eq, match_ordering}
 use Rattle.std.specs.Cmp.{ranked, unsigned_tied}
 use Rattle.std.specs.List.{cons_option}
-use Rattle.std.specs.Map.{lookup}
-use Rattle.std.specs.BTreeMap.{is_at, insert_entry}
-use Rattle.field_lines.specs.Cut.{Line, Cut, cut}
+use Rattle.std.specs.BTreeMap.{insert_entry}
+use Rattle.field_lines.specs.Cut.{Line, cut}
 use Rattle.field_lines.specs.declared.fault.LineFault.{LineFault}
 use Rattle.pl94_counties.specs.declared.fault.Kind.{Kind}
 use Rattle.pl94_counties.specs.declared.fault.File.{File}

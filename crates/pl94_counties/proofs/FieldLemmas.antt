@@ -1,5 +1,5 @@
 -- Fields that are taken one after the other.
-use Rattle.std.proofs.Common.{◌≡◌, ℕ, ◌+◌, List, [], ◌∷◌, length, drop, suc, zero, Option, Some, None, OnSome, refl, sym, ap, ◌∙◌, subst, zero-add, arith}
+use Rattle.std.proofs.Common.{◌≡◌, ℕ, ◌+◌, List, [], ◌∷◌, length, drop, suc, zero, Option, Some, None, OnSome, refl, sym, ap, ◌∙◌, zero-add, arith}
 use Rattle.std.proofs.Math.Seq.{drop-nil}
 use Rattle.std.specs.List.{slice_get}
 use Rattle.pl94_counties.specs.Fields.{field, geo_fields}

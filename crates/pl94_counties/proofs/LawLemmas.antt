@@ -1,9 +1,8 @@
 -- The law of the county list, from its definition.
-use Rattle.std.proofs.Common.{◌≡◌, ℕ, ◌<◌, ◌==◌, ◌&&◌, ◌⊎◌, inl, inr, cond, filter, Bool, true, false, List, [], ◌∷◌, length, map, Option, Some, None, Result, Ok, Err, All, Contains, get_or, codes, if◌then◌else◌, refl, sym, ap, ◌∙◌, subst, arith}
-use Rattle.std.specs.List.{slice_get}
-use Rattle.std.specs.List.Sorted.{IsStrictlyIncreasing, IsStrictlySortedBy}
+use Rattle.std.proofs.Common.{◌≡◌, ℕ, ◌<◌, ◌==◌, ◌&&◌, inl, inr, cond, filter, Bool, true, false, List, [], ◌∷◌, length, map, Option, Some, None, Ok, Err, All, Contains, get_or, codes, if◌then◌else◌, refl, sym, ap, ◌∙◌, subst}
+use Rattle.std.specs.List.Sorted.{IsStrictlyIncreasing}
 use Rattle.std.specs.Str.{bytes_eq}
-use Rattle.std.specs.Ordering.{nat_cmp, is_eq, eq_by_cmp}
+use Rattle.std.specs.Ordering.{nat_cmp, is_eq}
 use Rattle.std.specs.Option.{ok_or, option_and_then, option_map_or}
 use Rattle.std.specs.Cmp.{nat_cmp_total, eq_by_cmp_equiv}
 use Rattle.std.proofs.lemmas.Slice.Eq.{bytes_eq-Decides}
@@ -25,14 +24,14 @@ use Rattle.pl94_counties.specs.Counties.{found_list, listed}
 use Rattle.pl94_counties.specs.Joined.{IsRecordLine, has_logrecno, StandsOnce, IsCountyLine, IsJoined, IsListed}
 use Rattle.pl94_counties.proofs.CollectLemmas.{collected, tied_same}
 use Rattle.pl94_counties.proofs.ListLemmas.{codes_listed}
-use Rattle.pl94_counties.proofs.TraceLemmas.{Collects, one_line, given_by_line, contains_head, contains_tail, contains_cases}
+use Rattle.pl94_counties.proofs.TraceLemmas.{one_line, given_by_line, contains_head, contains_tail, contains_cases}
 
 -- a county of a code and its people
 abbrev county_of : ℕ → ℕ → County
 county_of code people = record { code = code; people = people }
 
 -- ---- records
-abbrev record_in_fields : Option (List ℕ) → Option (List ℕ) → Given
+abbrev pub record_in_fields : Option (List ℕ) → Option (List ℕ) → Given
 record_in_fields a b = do
   x ← ok_or a TooFewFields
   y ← ok_or b TooFewFields
@@ -40,7 +39,7 @@ record_in_fields a b = do
   people ← ok_or (small_number y) BadNumber
   Ok (Some (number, people))
 
-abbrev record_of_numbers : Option ℕ → Option ℕ → Given
+abbrev pub record_of_numbers : Option ℕ → Option ℕ → Given
 record_of_numbers m q = do
   number ← ok_or m BadNumber
   people ← ok_or q BadNumber
@@ -78,9 +77,9 @@ always_record line is = never_nothing (field 5 line) (field 6 line) is
 pub stands_once : (text : List ℕ) (records : List (ℕ × ℕ)) → record_list text ≡ Ok records → (n p : ℕ) → people_of n records ≡ Some p → StandsOnce (cut text).lines n p
 stands_once text records is n p there =
     let found = one_line record_on DoubleRecord Segment1 (cut text).fault records (λ (l : Line). has_logrecno n l.bytes) n
-        (λ (l : Line) (nothing : record_on l.bytes ≡ Ok None). absurd (always_record l.bytes nothing))
-        (λ (l : Line) (e : ℕ × ℕ) (gives : record_on l.bytes ≡ Ok (Some e)). ap (λ (o : Option ℕ). option_map_or (λ k. n == k) o false) (record_line l.bytes e.0 e.1 gives).number_is)
-        p (cut text).lines [] (collected record_on DoubleRecord Segment1 text ∙ is) there refl in
+    (λ (l : Line) (nothing : record_on l.bytes ≡ Ok None). absurd (always_record l.bytes nothing))
+    (λ (l : Line) (e : ℕ × ℕ) (gives : record_on l.bytes ≡ Ok (Some e)). ap (λ (o : Option ℕ). option_map_or (λ k. n == k) o false) (record_line l.bytes e.0 e.1 gives).number_is)
+    p (cut text).lines [] (collected record_on DoubleRecord Segment1 text ∙ is) there refl in
     record { line = found.0; only = found.1; is_record = record_line found.0.bytes n p found.2 }
 
 -- ---- county lines
@@ -92,14 +91,14 @@ both_true : (s t : Bool) → s ≡ true → t ≡ true → (s && t) ≡ true
 both_true true t f g = g
 both_true false t f g = cc
 
-abbrev joined_of : List (ℕ × ℕ) → Option ℕ → Option ℕ → Given
+abbrev pub joined_of : List (ℕ × ℕ) → Option ℕ → Option ℕ → Given
 joined_of records k m = do
   code ← ok_or k BadCode
   number ← ok_or m BadNumber
   people ← ok_or (people_of number records) NoRecord
   Ok (Some (code, people))
 
-abbrev with_people : ℕ → Option ℕ → Given
+abbrev pub with_people : ℕ → Option ℕ → Given
 with_people code q = do
   people ← ok_or q NoRecord
   Ok (Some (code, people))
@@ -136,9 +135,9 @@ county_line_choose state records line code people g has false taken is = cc
 
 county_line_by : (state : ℕ) (records : List (ℕ × ℕ)) (line : List ℕ) (code people : ℕ) (o : Option GeoFields) → geo_fields line ≡ o
     → (elim o as (λ _. Given) [
-        | Some g ↦ if is_line_of (codes "050") state g then joined state records g else Ok None
-        | None ↦ Err TooFewFields
-      ]) ≡ Ok (Some (code, people)) → IsCountyWith state records line code people
+      | Some g ↦ if is_line_of (codes "050") state g then joined state records g else Ok None
+      | None ↦ Err TooFewFields
+    ]) ≡ Ok (Some (code, people)) → IsCountyWith state records line code people
 county_line_by state records line code people None has is = cc
 county_line_by state records line code people (Some g) has is = county_line_choose state records line code people g has (is_line_of (codes "050") state g) refl is
 
@@ -202,11 +201,11 @@ module _ (geo segment1 : List ℕ) (state : ℕ) (records found : List (ℕ × �
   joined_entry : (code people : ℕ) → people_of code found ≡ Some people → IsJoined (cut geo).lines (cut segment1).lines state (county_of code people)
   joined_entry code people there =
       let one = one_line (county_on state records) DoubleCounty Geo (cut geo).fault found (λ (l : Line). gives code (county_on state records l.bytes)) code
-          (λ (l : Line) (nothing : county_on state records l.bytes ≡ Ok None). ap (λ (g : Given). gives code g) nothing)
-          (λ (l : Line) (e : ℕ × ℕ) (is : county_on state records l.bytes ≡ Ok (Some e)). ap (λ (g : Given). gives code g) is)
-          people (cut geo).lines [] (collected (county_on state records) DoubleCounty Geo geo ∙ geo_is) there refl in
+      (λ (l : Line) (nothing : county_on state records l.bytes ≡ Ok None). ap (λ (g : Given). gives code g) nothing)
+      (λ (l : Line) (e : ℕ × ℕ) (is : county_on state records l.bytes ≡ Ok (Some e)). ap (λ (g : Given). gives code g) is)
+      people (cut geo).lines [] (collected (county_on state records) DoubleCounty Geo geo ∙ geo_is) there refl in
       let stands : Contains (cut geo).lines one.0 = contains_filter (λ (l : Line). gives code (county_on state records l.bytes)) (cut geo).lines one.0
-          (subst (λ (ls : List Line). Contains ls one.0) (sym one.1) (contains_head one.0 [])) in
+      (subst (λ (ls : List Line). Contains ls one.0) (sym one.1) (contains_head one.0 [])) in
       let of = county_line state records one.0.bytes code people one.2 in
       record { line = one.0; number = of.0; stands = stands; of_county = of.1; of_record = stands_once segment1 records segment_is of.0 people of.2 }
 

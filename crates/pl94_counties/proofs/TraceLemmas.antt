@@ -1,5 +1,5 @@
 -- Entries that were collected, traced back to their lines.
-use Rattle.std.proofs.Common.{◌≡◌, ℕ, zero, suc, ◌+◌, ◌==◌, ◌<◌, ◌⊎◌, inl, inr, Bool, true, false, cond, List, [], ◌∷◌, length, Option, Some, None, Result, Ok, Err, is_some, Contains, filter, get_or, if◌then◌else◌, refl, sym, ap, ◌∙◌, subst, eq-eqb, arith}
+use Rattle.std.proofs.Common.{◌≡◌, ℕ, zero, suc, ◌==◌, ◌<◌, ◌⊎◌, inl, inr, Bool, true, false, cond, List, [], ◌∷◌, length, Option, Some, None, Result, Ok, Err, is_some, Contains, filter, get_or, if◌then◌else◌, refl, sym, ap, ◌∙◌, subst, eq-eqb, arith}
 use Rattle.std.specs.Ordering.{nat_cmp, is_eq}
 use Rattle.std.specs.BTreeMap.{insert_entry}
 use Rattle.field_lines.specs.Cut.{Line}
@@ -23,9 +23,9 @@ contains_nil x c = let lt : c.0 < 0 = c.1 in omega arith
 pub contains_cases : {X : Type 0} (y : X) (xs : List X) (x : X) → Contains (y ∷ xs) x → (y ≡ x) ⊎ Contains xs x
 contains_cases {X} y xs x c = by c.0 c.1 c.2
   where
-  by : (k : ℕ) → k < length (y ∷ xs) → get_or (y ∷ xs) k x ≡ x → (y ≡ x) ⊎ Contains xs x
-  by zero lt is = inl is
-  by (suc k) lt is = let below : suc k < suc (length xs) = lt in let within : k < length xs = omega arith in inr (k, within, is)
+    by : (k : ℕ) → k < length (y ∷ xs) → get_or (y ∷ xs) k x ≡ x → (y ≡ x) ⊎ Contains xs x
+    by zero lt is = inl is
+    by (suc k) lt is = let below : suc k < suc (length xs) = lt in let within : k < length xs = omega arith in inr (k, within, is)
 
 module _ (read : List ℕ → Given) (double : Kind) (file : File) (fault : Option LineFault) (all : List (ℕ × ℕ)) where
   -- the entries before, and what is left of the lines, give all the entries
@@ -39,17 +39,17 @@ module _ (read : List ℕ → Given) (double : Kind) (file : File) (fault : Opti
 
   new_entry : (placed : List (ℕ × ℕ)) (l : Line) (ls : List Line) (e : ℕ × ℕ) (o : Option ℕ) → read l.bytes ≡ Ok (Some e) → people_of e.0 placed ≡ o
       → (elim (if is_some o then Err double else Ok (insert_entry nat_cmp placed e.0 e.1)) as (λ _. Result (List (ℕ × ℕ)) Pl94Fault) [
-          | Ok more ↦ collect_from read double file more ls fault
-          | Err kind ↦ Err (record { kind = kind; file = file; line = l.number })
-        ]) ≡ Ok all → Steps placed l ls
+        | Ok more ↦ collect_from read double file more ls fault
+        | Err kind ↦ Err (record { kind = kind; file = file; line = l.number })
+      ]) ≡ Ok all → Steps placed l ls
   new_entry placed l ls e None is absent rest = inr (e, is, absent, rest)
   new_entry placed l ls e (Some p) is there rest = cc
 
   stepped_by : (placed : List (ℕ × ℕ)) (l : Line) (ls : List Line) (g : Given) → read l.bytes ≡ g
       → (elim (with_given double placed g) as (λ _. Result (List (ℕ × ℕ)) Pl94Fault) [
-          | Ok more ↦ collect_from read double file more ls fault
-          | Err kind ↦ Err (record { kind = kind; file = file; line = l.number })
-        ]) ≡ Ok all → Steps placed l ls
+        | Ok more ↦ collect_from read double file more ls fault
+        | Err kind ↦ Err (record { kind = kind; file = file; line = l.number })
+      ]) ≡ Ok all → Steps placed l ls
   stepped_by placed l ls (Err kind) is rest = cc
   stepped_by placed l ls (Ok None) is rest = inl (is, rest)
   stepped_by placed l ls (Ok (Some e)) is rest = new_entry placed l ls e (people_of e.0 placed) is refl rest
@@ -94,9 +94,9 @@ module _ (read : List ℕ → Given) (double : Kind) (file : File) (fault : Opti
   given_by_line (l ∷ ls) placed line is stands = elim (contains_cases l ls line stands) as (λ _. IsGiven line) [
     | inl same ↦ subst IsGiven same (given_first placed l ls (stepped placed l ls is))
     | inr later ↦ elim (stepped placed l ls is) as (λ _. IsGiven line) [
-        | inl s ↦ given_by_line ls placed line s.1 later
-        | inr s ↦ given_by_line ls (insert_entry nat_cmp placed s.0.0 s.0.1) line s.3 later
-      ]
+      | inl s ↦ given_by_line ls placed line s.1 later
+      | inr s ↦ given_by_line ls (insert_entry nat_cmp placed s.0.0 s.0.1) line s.3 later
+    ]
   ]
 
   -- a number among the entries is not that of one that is absent

@@ -5,7 +5,7 @@ use Rattle.std.specs.Map.{lookup}
 use Rattle.std.specs.Ordering.{nat_cmp}
 use Rattle.std.specs.BTreeMap.{is_at, insert_entry}
 use Rattle.field_lines.specs.Fault.{line_of_fault}
-use Rattle.field_lines.specs.Cut.{Line, Cut, cut}
+use Rattle.field_lines.specs.Cut.{Line, cut}
 use Rattle.field_lines.specs.declared.fault.LineFault.{LineFault}
 use Rattle.pl94_counties.specs.declared.fault.Kind.{Kind}
 use Rattle.pl94_counties.specs.declared.fault.Kind.TheVariants.{Lower, Memory}

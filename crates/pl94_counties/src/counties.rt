@@ -1,4 +1,4 @@
-ghost use Rattle.std.specs.Prelude.{◌≡◌, ◌≤◌, Ok, Some, IfOk, map, All};
+ghost use Rattle.std.specs.Prelude.{◌≡◌, ◌≤◌, Ok, Some, IfOk, IfErr, map, All};
 ghost use Rattle.std.specs.List.Sorted.{IsStrictlyIncreasing};
 ghost use Rattle.pl94_counties.specs.Gives.{Gives};
 ghost use Rattle.pl94_counties.specs.Geo.{county_on};
@@ -6,6 +6,7 @@ ghost use Rattle.pl94_counties.specs.Numbered.{Adds};
 ghost use Rattle.pl94_counties.specs.declared.fault.Kind.TheVariants.{DoubleCounty};
 ghost use Rattle.field_lines.specs.Cut.{cut};
 ghost use Rattle.pl94_counties.specs.Joined.{IsJoined, IsListed};
+ghost use Rattle.pl94_counties.specs.OfText.{IsOfText};
 ghost use Rattle.pl94_counties.specs.Counties.{found_list, listed, county_list};
 
 use crate::fault::{File, Kind, Pl94Fault};
@@ -86,7 +87,21 @@ fn list(alloc: Global, found: &BTreeMap<CountyCode, u32>) -> Result<Vec<County>,
         .collect(alloc)
 }
 
-/// The counties of a state by code, from the texts of its geographic header and of segment 1.
+/// The counties of a state by code, with their people, from two files of the 2020 Census
+/// Redistricting Data (Public Law 94-171): the geographic header and segment 1. Both are cut texts
+/// (`Lines` of `field_lines`), and a line is cut into fields at each pipe.
+///
+/// A county line of geo has SUMLEV (field 3) `050`, GEOCOMP (field 5) `00` and STATE (field 13) equal
+/// to the state's two digits, byte by byte. Its code is STATE and then COUNTY (field 15, three
+/// digits). Its people are P0010001 (field 6) of the line of segment 1 that has its LOGRECNO (field 8
+/// of geo, field 5 of segment 1), compared as a number. Every other line of geo is skipped once it has
+/// fifteen fields. That two lines of geo share a LOGRECNO isn't tested.
+///
+/// # Errors
+///
+/// Segment 1 is read whole, and then geo. The first line at fault answers, on it the first of the
+/// kinds in the order of `Kind`; a line that can't be read (`Lower`) answers after the lines before
+/// it. `NoCounties` comes only where no line is at fault, and `Memory` in the place of any fault.
 pub fn read_counties(
     alloc: Global,
     geo: &[u8],
@@ -95,6 +110,7 @@ pub fn read_counties(
 ) -> Result<Vec<County>, Pl94Fault>
     requires { state ≤ 99 }
     ensures value { Gives (λ v. v.items) result (county_list geo.now segment1.now state) }
+    ensures of_text { IfErr result (λ f. IsOfText f.kind) }
     ensures ascending { IfOk result (λ v. IsStrictlyIncreasing (map (λ c. c.code) v.items)) }
     ensures from_lines { IfOk result (λ v. All (IsJoined (cut geo.now).lines (cut segment1.now).lines state) v.items) }
     ensures each_line { IfOk result (λ v. All (IsListed (cut segment1.now).lines state v.items) (cut geo.now).lines) }
@@ -115,3 +131,6 @@ pub fn read_counties(
     })?;
     Ok(counties)
 }
+
+#[cfg(test)]
+mod tests;

@@ -1,4 +1,4 @@
-use Rattle.std.proofs.Common.{◌≡◌, ℕ, List, drop, Some, None, option_map, ap, sym, ◌∙◌}
+use Rattle.std.proofs.Common.{◌≡◌, ℕ, List, drop, option_map, ap, sym, ◌∙◌}
 use Rattle.std.specs.List.{slice_get}
 use Rattle.field_lines.specs.Fields.{fields_of}
 use Rattle.pl94_counties.specs.Fields.{fields_shown}
