@@ -4,6 +4,7 @@
 mod answer;
 mod case;
 mod command;
+mod device;
 mod memory;
 mod refusal;
 mod shelf;
@@ -14,7 +15,11 @@ mod text;
 
 pub use case::{MAX_CASE, run_case};
 pub use command::run;
+pub use device::FileShelf;
 pub use memory::{MemoryFile, MemoryShelf};
 pub use shelf::{MAX_FILE, Shelf, ShelfFault};
 pub use sink::{Sink, SinkFault, Writing};
 pub use table::size_table;
+
+#[cfg(test)]
+mod tests;
