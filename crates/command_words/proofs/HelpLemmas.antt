@@ -1,7 +1,7 @@
 -- Where no subcommand `help` stands, help is a fault alone.
 use Rattle.std.proofs.Common.{◌≡◌, ◌⊎◌, ◌&&◌, ◌||◌, ◌==◌, not, ℕ, Bool, cond, true, false, zero, suc, refl, sym, ap, inl, inr, List, [], ◌∷◌, length, drop, min, ◌+◌, Option, Some, None, codes, is_some, nat_lt}
 use Rattle.std.specs.Prelude.{encode_utf8, slice_get}
-use Rattle.std.specs.List.{All, find, list_all, list_any}
+use Rattle.std.specs.List.{find, list_all, list_any}
 use Rattle.std.specs.Option.{option_map_or}
 use Rattle.std.specs.Str.{bytes_eq, chars}
 use Rattle.clap.specs.Lexer.{long_of, short_of}

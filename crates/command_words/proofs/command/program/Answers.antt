@@ -1,8 +1,7 @@
-use Rattle.std.proofs.Common.{◌≡◌, ◌∙◌, ap, ap₂, codes, true, rules}
-use Rattle.std.specs.Prelude.{fold}
-use Rattle.clap.specs.Words.{App, app_of, new_app, with_rule, with_subcommand}
+use Rattle.std.proofs.Common.{◌≡◌, ◌∙◌, ap, codes, true}
+use Rattle.clap.specs.Words.{app_of, new_app}
 use Rattle.clap.specs.Simple.{app_of_fields, on_top}
-use Rattle.command_words.specs.Command.{countygroups, problem_options}
+use Rattle.command_words.specs.Command.{countygroups}
 use Rattle.command_words.proofs.CommandLemmas.{has_one_subcommand_more}
 use Rattle.command_words.proofs.command.program.Goals as goal
 
