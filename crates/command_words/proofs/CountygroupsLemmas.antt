@@ -1,9 +1,8 @@
 -- The words that the command `countygroups` takes have the values of the options of a subcommand.
 use Rattle.std.proofs.Common.{◌≡◌, ◌⊎◌, ◌∙◌, true, false, refl, sym, ap, subst, inl, inr, List, [], ◌∷◌, Result, IfErr, IfOk}
 use Rattle.std.proofs.lemmas.Result.{IfErr-weaker, IfOk-weaker}
-use Rattle.std.specs.List.{All}
+use Rattle.std.specs.List.{AllByRecursion}
 use Rattle.std.specs.Option.{IsSomeAnd}
-use Rattle.std.proofs.lemmas.List.Elements.{All-cons, All-nil}
 use Rattle.clap.specs.Words.{App, FailsBy, HasMatchesOf, IsAmong, app_of, kind_of, subcommand_rows_of, takes}
 use Rattle.clap.specs.declared.builder.command.Command.{Command}
 use Rattle.clap.specs.declared.error.Error.{Error}
@@ -19,8 +18,8 @@ use Rattle.command_words.specs.Options.{HasCommand}
 use Rattle.command_words.specs.Words.{EndsAs, EndsBy, faults_of, subcommand_in, takes_words}
 use Rattle.command_words.specs.declared.end.WordsEnd.{WordsEnd}
 use Rattle.command_words.specs.declared.end.WordsEnd.TheVariants.{Help, Memory, Usage}
-use Rattle.command_words.proofs.HelpLemmas.{IsClear, clear_faults}
-use Rattle.command_words.proofs.KeyLemmas.{find-All}
+use Rattle.command_words.proofs.HelpLemmas.{IsClear, clear_faults, has_no_help}
+use Rattle.command_words.proofs.KeyLemmas.{All-from_recursion, find-All}
 use Rattle.command_words.proofs.ValueLemmas.{level_values}
 use Rattle.command_words.proofs.EnteredLemmas.{enters_well}
 
@@ -39,16 +38,16 @@ needs_subcommand = refl
 abbrev HasItsCommand : Shape → Type 0
 HasItsCommand s = (rest : List Text) → level_fault s [] nothing_held rest false [] ≡ [] → HasCommand (rows_at s rest)
 
-each_has_command : All HasItsCommand (built countygroups).subs
+each_has_command : AllByRecursion HasItsCommand (built countygroups).subs
 unfolding countygroups
-each_has_command = All-cons HasItsCommand _ [] (λ rest e. level_values _ rest problem_options (filled help_rule ∷ []) e refl refl) (All-nil HasItsCommand)
+each_has_command = (λ rest e. level_values _ rest problem_options (filled help_rule ∷ []) e refl refl, tt)
 
 -- words without a fault name a subcommand, with the values of its options
 pub has_command : (words : List Text) → faults_of words ≡ [] → IsSomeAnd (subcommand_in words) HasCommand
 unfolding faults_of subcommand_in
 has_command words none =
     let entered = enters_well countygroups words needs_subcommand none in
-    let own = (find-All HasItsCommand entered.test (built countygroups).subs entered.shape each_has_command entered.own).1 in
+    let own = (find-All HasItsCommand entered.test (built countygroups).subs entered.shape (All-from_recursion HasItsCommand _ each_has_command) entered.own).1 in
     subst (λ o. IsSomeAnd o HasCommand) (sym entered.is) (own entered.rest entered.sound)
 
 module _ (c : Command) (is : app_of c ≡ countygroups) (words : List Text) where
@@ -66,17 +65,13 @@ module _ (c : Command) (is : app_of c ≡ countygroups) (words : List Text) wher
   unfolding faults_of
   faults_in r h = fails_as r _ _ (ap (λ (a : App). fault_of a words) is) (h (ap is_simple_and_free is ∙ is_free_command))
 
-no_help_above : (built countygroups).top.disable_help_subcommand ≡ true
+no_help : has_no_help (built countygroups) ≡ true
 unfolding countygroups
-no_help_above = refl
-
-no_help_below : All (λ s. s.disable_help_subcommand ≡ true) (built countygroups).subs
-unfolding countygroups
-no_help_below = All-cons (λ (s : Shape). s.disable_help_subcommand ≡ true) _ [] refl (All-nil (λ (s : Shape). s.disable_help_subcommand ≡ true))
+no_help = refl
 
 help_alone : (words : List Text) → IsClear (faults_of words)
 unfolding faults_of
-help_alone words = clear_faults countygroups words no_help_above no_help_below
+help_alone words = clear_faults countygroups words no_help
 
 -- an error of one of the faults ends as it should
 pub ends_by : (words : List Text) (k : ErrorKind) (end : WordsEnd) → (k ≡ OutOfMemory) ⊎ IsAmong k (faults_of words) → EndsAs k end → EndsBy (faults_of words) end

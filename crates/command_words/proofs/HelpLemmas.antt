@@ -1,7 +1,7 @@
 -- Where no subcommand `help` stands, help is a fault alone.
 use Rattle.std.proofs.Common.{◌≡◌, ◌⊎◌, ◌&&◌, ◌||◌, ◌==◌, not, ℕ, Bool, cond, true, false, zero, suc, refl, sym, ap, inl, inr, List, [], ◌∷◌, length, drop, min, ◌+◌, Option, Some, None, codes, is_some, nat_lt}
 use Rattle.std.specs.Prelude.{encode_utf8, slice_get}
-use Rattle.std.specs.List.{All, find, list_any}
+use Rattle.std.specs.List.{find, list_all, list_any}
 use Rattle.std.specs.Option.{option_map_or}
 use Rattle.std.specs.Str.{bytes_eq, chars}
 use Rattle.clap.specs.Lexer.{long_of, short_of}
@@ -19,7 +19,8 @@ use Rattle.clap.specs.declared.builder.action.ArgAction.TheVariants as action
 use Rattle.clap.specs.declared.builder.value_parser.ValueParser.{ValueParser}
 use Rattle.clap.specs.declared.error.kind.ErrorKind.{ErrorKind}
 use Rattle.clap.specs.declared.error.kind.ErrorKind.TheVariants as kind
-use Rattle.command_words.proofs.KeyLemmas.{find-All}
+use Rattle.clap.proofs.WalkLemmas.{both}
+use Rattle.command_words.proofs.KeyLemmas.{found_too}
 
 -- help is no fault beside another
 pub record IsClear (kinds : Kinds) : Type 0 where
@@ -192,14 +193,18 @@ module _ (s : Shape) (no_help : s.disable_help_subcommand ≡ true) (names : Nam
       clear_then _ _ (clear_walk (walk_from h) words) (clear_then _ _ f (clear_then _ _ (clear_settle s.rules s.args_override_self end)
       (clear_then _ _ (clear_defaults (settled s.rules end).rows s.rules) (clear_checked rows has))))
 
--- the faults of words at a command with no subcommand `help`
-pub clear_faults : (a : App) (words : List Text) → (built a).top.disable_help_subcommand ≡ true → All (λ s. s.disable_help_subcommand ≡ true) (built a).subs → IsClear (fault_of a words)
-clear_faults a words top subs = clear_level (built a).top top (names_of (built a)) nothing_held (argument_words a words) _ _ (below _)
+-- no `help` stands among the subcommands
+abbrev pub has_no_help : App → Bool
+has_no_help a = a.top.disable_help_subcommand && list_all (λ s. s.disable_help_subcommand) a.subs
+
+-- the faults of words at such a command
+pub clear_faults : (a : App) (words : List Text) → has_no_help (built a) ≡ true → IsClear (fault_of a words)
+clear_faults a words none = clear_level (built a).top (both _ _ none).0 (names_of (built a)) nothing_held (argument_words a words) _ _ (below _)
   where
     sub : (p : Text × List Text) (o : Option Shape) → find (λ s. answers_to p.0 (label_of s)) (built a).subs ≡ o
         → IsClear (option_map_or (λ s. level_fault s [] nothing_held p.1 false []) o [])
     sub p None is = clear_none
-    sub p (Some s) is = clear_level s (find-All (λ x. x.disable_help_subcommand ≡ true) _ (built a).subs s subs is).1 [] nothing_held p.1 false [] clear_none
+    sub p (Some s) is = clear_level s (found_too (λ x. x.disable_help_subcommand) _ (built a).subs s (both _ _ none).1 is) [] nothing_held p.1 false [] clear_none
 
     below : (stop : Option (Text × List Text)) → IsClear (entered_fault (built a) stop)
     below None = clear_none

@@ -1,8 +1,8 @@
 -- Lists whose elements have keys of their own.
 use Rattle.std.proofs.Common.{◌≡◌, ◌∙◌, ◌&&◌, ◌||◌, not, ℕ, Bool, cond, true, false, zero, suc, refl, sym, ap, subst, arith, List, [], ◌∷◌, Option, Some, true≢false}
-use Rattle.std.specs.List.{All, find, list_any}
+use Rattle.std.specs.List.{All, AllByRecursion, find, list_all, list_any}
 use Rattle.std.specs.Str.{bytes_eq}
-use Rattle.std.proofs.lemmas.List.Elements.{All-head, All-tail}
+use Rattle.std.proofs.lemmas.List.Elements.{All-cons, All-head, All-nil, All-tail}
 use Rattle.std.proofs.lemmas.Slice.Eq.{bytes_eq-Decides}
 use Rattle.clap.specs.Walk.{Text}
 use Rattle.clap.proofs.WalkLemmas.{both}
@@ -101,3 +101,18 @@ found_any {X} p (x ∷ xs) e = go (p x) e (λ f. found_any p xs f)
     go : (b : Bool) → (b || list_any p xs) ≡ true → (list_any p xs ≡ true → (y : X) × (find p xs ≡ Some y)) → (y : X) × (cond b (Some x) (find p xs) ≡ Some y)
     go true f rest = (x, refl)
     go false f rest = rest f
+
+-- a test that each element passes, at one that a search finds
+pub found_too : {X : Type 0} (p q : X → Bool) (xs : List X) (x : X) → list_all p xs ≡ true → find q xs ≡ Some x → p x ≡ true
+found_too p q [] x all e = cc
+found_too {X} p q (y ∷ ys) x all e = go (q y) e (λ f. found_too p q ys x (both _ _ all).1 f)
+  where
+    go : (b : Bool) → cond b (Some y) (find q ys) ≡ Some x → (find q ys ≡ Some x → p x ≡ true) → p x ≡ true
+    go true f rest =
+        let same : y ≡ x = cc in
+        subst (λ (z : X). p z ≡ true) same (both _ _ all).0
+    go false f rest = rest f
+
+pub All-from_recursion : {X : Type 0} (P : X → Type 0) (xs : List X) → AllByRecursion P xs → All P xs
+All-from_recursion P [] h = All-nil P
+All-from_recursion P (x ∷ xs) h = All-cons P x xs h.0 (All-from_recursion P xs h.1)

@@ -1,6 +1,6 @@
 -- The command `countygroups`, as clap reads it.
 use Rattle.std.specs.Prelude.{◌≡◌, ℕ, true, false, fold, List, [], ◌∷◌, Some, codes, pos}
-use Rattle.clap.specs.Words.{App, Rule, Shape, Text, app_of, new_rule, with_rule}
+use Rattle.clap.specs.Words.{App, Rule, Shape, Text, app_of, new_rule, shape_of, with_rule}
 use Rattle.clap.specs.Simple.{new_shape}
 use Rattle.clap.specs.declared.builder.action.ArgAction.TheVariants.{Set}
 use Rattle.clap.specs.declared.builder.command.Command.{Command}
@@ -53,3 +53,8 @@ countygroups = record {
 pub record HasMore (old : Command) (options : List Rule) (new : Command) : Type 0 where
   pub app : app_of new ≡ fold with_rule (app_of old) options
   pub local : (out-Command new).has_globals ≡ (out-Command old).has_globals
+
+-- the command is a subcommand of this shape, and none of its options is global
+pub record HasShape (command : Command) (like : Shape) : Type 0 where
+  pub shape : shape_of command ≡ like
+  pub local : (out-Command command).has_globals ≡ false

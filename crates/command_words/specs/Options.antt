@@ -31,9 +31,13 @@ abbrev pub always_has_value : Rule → Bool
 always_has_value option = is_set (action_of option) && (nat_lt 0 (unwrap_or_range option.range).start_inclusive
     && (option.required || not (is_empty option.defaults)))
 
--- the rows have a value of each of the options that always have one, as clap completes it
+-- the rows have the option's value, if it always has one, as clap completes it
+abbrev pub HasItsValue : List Row → Rule → Type 0
+HasItsValue rows option = always_has_value (filled option) ≡ true → HasValue rows (filled option)
+
+-- and of each of the options
 abbrev pub HasValues : List Rule → List Row → Type 0
-HasValues options rows = All (λ option. always_has_value (filled option) ≡ true → HasValue rows (filled option)) options
+HasValues options rows = All (HasItsValue rows) options
 
 -- the name is that of a subcommand, and the rows have the values of its options
 abbrev pub HasCommand : Text × List Row → Type 0

@@ -1,7 +1,7 @@
 //! The command `countygroups`, as `clap` parses it.
 ghost use Rattle.std.specs.Prelude.{◌≡◌, IfOk, codes, false};
 ghost use Rattle.clap.specs.Words.{app_of, rule_of};
-ghost use Rattle.command_words.specs.Command.{HasMore, countygroups, of_number, problem_options, required, text_option, with_default};
+ghost use Rattle.command_words.specs.Command.{HasMore, HasShape, countygroups, subcommand, of_number, problem_options, required, text_option, with_default};
 
 use clap::{Arg, ArgAction, Command, value_parser};
 use std::alloc::{AllocError, Global};
@@ -59,12 +59,20 @@ fn with_problem_options<'a>(alloc: Global, command: Command<'a>) -> Result<Comma
     Ok(command)
 }
 
+/// The subcommand `size`.
+fn size_command<'a>(alloc: Global) -> Result<Command<'a>, AllocError>
+    ensures { IfOk result (λ c. HasShape c (subcommand (codes "size") problem_options)) }
+{
+    let size = Command::new(alloc, "size").about("Prints how many seats each county's people suit");
+    let size = with_problem_options(alloc, size)?;
+    Ok(size)
+}
+
 /// The command of the whole program.
 pub(crate) fn program<'a>(alloc: Global) -> Result<Command<'a>, AllocError>
     ensures { IfOk result (λ c. app_of c ≡ countygroups) }
 {
-    let size = Command::new(alloc, "size").about("Prints how many seats each county's people suit");
-    let size = with_problem_options(alloc, size)?;
+    let size = size_command(alloc)?;
     let program = Command::new(alloc, "countygroups")
         .bin_name("countygroups")?
         .about("Groups North Carolina's counties for legislative districts")

@@ -46,14 +46,25 @@ fn problem_words<'a>(found: &ArgMatches<'a>) -> ProblemWords<'a>
     }
 }
 
+/// What the subcommand of this name says, by the values of its options.
+fn command_words<'a>(name: &str, found: &ArgMatches<'a>) -> CommandWords<'a>
+    requires { HasCommand (name.now, rows_of (found_of found.now)) }
+    ensures { SaysCommand (name.now, rows_of (found_of found.now)) result }
+{
+    match name {
+        "size" => CommandWords::Size(problem_words(found)),
+        _ => unreachable!(),
+    }
+}
+
 /// What the subcommand that was found says.
-fn command_words<'a>(matches: &ArgMatches<'a>) -> CommandWords<'a>
+fn command_in<'a>(matches: &ArgMatches<'a>) -> CommandWords<'a>
     requires { IsSomeAnd (subcommand_rows_of matches.now) HasCommand }
     ensures { IsSomeAnd (subcommand_rows_of matches.now) (λ p. SaysCommand p result) }
 {
     match matches.subcommand() {
-        Some(("size", found)) => CommandWords::Size(problem_words(found)),
-        _ => unreachable!(),
+        Some((name, found)) => command_words(name, found),
+        None => unreachable!(),
     }
 }
 
@@ -81,7 +92,7 @@ pub fn parse<'a>(alloc: Global, words: &'a [&'a str]) -> Result<CommandWords<'a>
     ensures ends { MatchResult result (λ _. faults_of (texts words.now) ≡ []) (EndsBy (faults_of (texts words.now))) }
 {
     match matches_in(alloc, words) {
-        Ok(matches) => Ok(command_words(&matches)),
+        Ok(matches) => Ok(command_in(&matches)),
         Err(error) => Err(WordsEnd::of_error(alloc, &error)),
     }
 }
