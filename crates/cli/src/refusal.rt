@@ -171,8 +171,10 @@ pub(crate) fn refuse_problem(alloc: Global, fault: ProblemFault) -> Result<Answe
     if fault == ProblemFault::Memory {
         return Answer::new(alloc, MEMORY, 5);
     }
-    let text = problem_text(alloc, fault)?;
-    Ok(Answer { text, status: 4 })
+    Ok(Answer {
+        text: problem_text(alloc, fault)?,
+        status: 4,
+    })
 }
 
 fn word_of_shelf_fault(fault: ShelfFault) -> &'static [u8]
