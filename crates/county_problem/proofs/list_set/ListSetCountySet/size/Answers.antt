@@ -1,0 +1,14 @@
+use Rattle.std.proofs.Common.{arith, ap, sym, subst}
+use Rattle.county_problem.specs.Sets.{member}
+use Rattle.county_problem.specs.CountySet.{IsSize}
+use Rattle.county_problem.proofs.RisingPlaces.{rising_size, rising_length}
+use Rattle.county_problem.proofs.list_set.ListSetCountySet.size.Goals as goal
+
+pub overflow_cast-result : goal.overflow_cast-result
+overflow_cast-result c = omega (arith, c.len.ensures, rising_length 0 c.args.self.now.places.items (omega arith) c.args.self.now.ascends)
+
+pub returns-clause-count : goal.returns-clause-count
+returns-clause-count c = λ n below. let e = rising_size c.args.self.now.places.items c.args.self.now.ascends n below in omega (arith, c.len.ensures, e)
+
+pub returns-clause-held : goal.returns-clause-held
+returns-clause-held c = omega (arith, c.len.ensures, rising_length 0 c.args.self.now.places.items (omega arith) c.args.self.now.ascends)
