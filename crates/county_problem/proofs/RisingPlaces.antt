@@ -1,5 +1,5 @@
 -- Lists of places that ascend strictly.
-use Rattle.std.proofs.Common.{◌≡◌, ℕ, zero, suc, ◌+◌, ◌≤◌, ◌<◌, Bool, true, false, cond, nat_lt, nat_le, ◌||◌, ◌&&◌, ◌==◌, List, [], ◌∷◌, ◌++◌, filter, length, get_or, take, drop, nat_cmp, append_assoc, append-nil, Result, Ok, Err, Option, Some, None, refl, sym, ap, ◌∙◌, subst, arith, ◌⊎◌, inl, inr, ⊎_elim}
+use Rattle.std.proofs.Common.{◌≡◌, ℕ, zero, suc, ◌+◌, ◌≤◌, ◌<◌, Bool, true, false, cond, nat_lt, nat_le, ◌||◌, ◌&&◌, ◌==◌, List, [], ◌∷◌, ◌++◌, filter, length, get_or, nat_cmp, append_assoc, Result, Ok, Err, refl, sym, ap, ◌∙◌, subst, arith}
 use Rattle.std.specs.List.{list_any, list_all, insert, slice_get}
 use Rattle.std.specs.List.Sorted.{IsBinarySearchResult, IsPartitionPoint}
 use Rattle.std.specs.Prelude.{is_ok, MatchResult}
@@ -13,7 +13,7 @@ use Rattle.county_problem.specs.Sets.{digit, often, member}
 use Rattle.county_problem.specs.CountySet.{IsNext, Meets, LiesWithin, IsSize, places_of}
 use Rattle.county_problem.specs.ListSet.{rising}
 use Rattle.county_problem.proofs.Sums.{total_alike, total_ones}
-use Rattle.county_problem.proofs.PlaceTests.{often_placed, often_unplaced}
+use Rattle.county_problem.proofs.PlaceSets.{often_in, often_out}
 
 and_parts : (a b : Bool) → (a && b) ≡ true → (a ≡ true) × (b ≡ true)
 and_parts true b e = (refl, e)
@@ -294,5 +294,5 @@ rising_size xs h n below = sym (total_ones xs) ∙ (total_alike (λ x. 1) xs (pl
     each c = rising_once 0 xs c h ∙ go (member xs c) refl
       where
         go : (b : Bool) → member xs c ≡ b → digit b ≡ often c (places_of n (member xs))
-        go true e = sym (often_placed n c (member xs) (below c e) ∙ ap digit e)
-        go false e = sym (often_unplaced n c (member xs) e)
+        go true e = sym (often_in n c (member xs) (below c e) e)
+        go false e = sym (often_out n c (member xs) e)

@@ -1,4 +1,4 @@
-use Rattle.std.proofs.Common.{◌≡◌, ◌∙◌, ◌<◌, ◌||◌, ℕ, tests, arith, ap, Bool}
+use Rattle.std.proofs.Common.{◌≡◌, ◌∙◌, ◌<◌, ◌||◌, tests, arith, ap, Bool}
 use Rattle.std.proofs.Math.Bool.{or_comm}
 use Rattle.county_problem.specs.Sets.{member}
 use Rattle.county_problem.proofs.RisingPlaces.{walk_step}

@@ -1,4 +1,4 @@
-use Rattle.std.proofs.Common.{◌∙◌, ap}
+use Rattle.std.proofs.Common.{◌∙◌}
 use Rattle.county_problem.proofs.RisingPlaces.{found}
 use Rattle.county_problem.proofs.list_set.stands.Goals as goal
 

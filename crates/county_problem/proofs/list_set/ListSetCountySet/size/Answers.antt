@@ -1,6 +1,4 @@
-use Rattle.std.proofs.Common.{arith, ap, sym, subst}
-use Rattle.county_problem.specs.Sets.{member}
-use Rattle.county_problem.specs.CountySet.{IsSize}
+use Rattle.std.proofs.Common.{arith}
 use Rattle.county_problem.proofs.RisingPlaces.{rising_size, rising_length}
 use Rattle.county_problem.proofs.list_set.ListSetCountySet.size.Goals as goal
 
