@@ -6,23 +6,16 @@ use crate::county_set::CountySet;
 use std::alloc::{AllocError, Global};
 use std::cmp::Ordering;
 
-/// A set of places below 65,536 as an ascending list. `has` takes a binary search, `union` one walk over
-/// both lists, and each of the other calls at most a walk over the one list with searches in the other.
+/// A set of places below 65,536 as an ascending list. `has` and `next` take a binary search, `union` one
+/// walk over both lists, `meets` and `within` a binary search in the other list for each place, and the
+/// calls that make a set a copy of the list.
 #[derive(Debug, Drop)]
 pub struct ListSet {
     places: Vec<u16>,
     ghost ascends: { rising 0 places.items ≡ true },
 }
 
-/// Whether a place stands in an ascending list.
-fn stands(places: &[u16], place: u16) -> bool
-    requires { rising 0 places.now ≡ true }
-    ensures { result ≡ member places.now place }
-{
-    places.binary_search(&place).is_ok()
-}
-
-/// The places of two ascending lists, ascending and each once.
+/// The places of two ascending lists, as one such list.
 fn merge(alloc: Global, left: &[u16], right: &[u16]) -> Result<Vec<u16>, AllocError>
     requires left { rising 0 left.now ≡ true }
     requires right { rising 0 right.now ≡ true }
@@ -101,7 +94,7 @@ impl CountySet for ListSet {
     }
 
     fn has(&self, place: u16) -> bool {
-        stands(&self.places, place)
+        self.places.binary_search(&place).is_ok()
     }
 
     fn meets(&self, other: &Self) -> bool {
@@ -127,3 +120,6 @@ impl CountySet for ListSet {
 
     ghost bounded = { λ s x e. rising_below s.places.items 0 x s.ascends e };
 }
+
+#[cfg(test)]
+mod tests;
