@@ -27,7 +27,7 @@ pub trait CountySet: Drop {
 
     /// This set's places and that one, which it may have already.
     fn with(&self, alloc: Global, place: u16) -> Result<Self, AllocError>
-        requires held { place < PLACES }
+        requires fits { place < PLACES }
         ensures places { IfOk result (λ s. (x : ℕ) → test s x ≡ (test self.now x || (x == place))) };
 
     /// The places of either set.
@@ -36,12 +36,12 @@ pub trait CountySet: Drop {
 
     /// This set's places but that one, which it may lack already.
     fn without(self, place: u16) -> Self
-        requires held { place < PLACES }
+        requires fits { place < PLACES }
         ensures places { (x : ℕ) → test result x ≡ (test self x && not (x == place)) };
 
     /// Whether the set has the place.
     fn has(&self, place: u16) -> bool
-        requires held { place < PLACES }
+        requires fits { place < PLACES }
         ensures test { result ≡ test self.now place };
 
     /// Whether the sets have a place in common.
@@ -55,12 +55,12 @@ pub trait CountySet: Drop {
     /// How many places the set has, at most `PLACES`.
     fn size(&self) -> u32
         ensures count { IsSize (test self.now) result }
-        ensures held { result ≤ PLACES };
+        ensures fits { result ≤ PLACES };
 
     /// The least place of the set at or above `from`, if there is one.
     fn next(&self, from: u32) -> Option<u16>
         ensures least { IsNext (test self.now) from result }
-        ensures held { IfSome result (λ place. place < PLACES) };
+        ensures fits { IfSome result (λ place. place < PLACES) };
 
     /// A set has only places that the form holds.
     ghost bounded: { (s : Self) (x : ℕ) → test s x ≡ true → x < PLACES };

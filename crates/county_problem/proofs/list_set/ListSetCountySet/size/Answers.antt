@@ -8,5 +8,5 @@ overflow_cast-result c = omega (arith, c.len.ensures, rising_length 0 c.args.sel
 pub returns-clause-count : goal.returns-clause-count
 returns-clause-count c = λ n below. let e = rising_size c.args.self.now.places.items c.args.self.now.ascends n below in omega (arith, c.len.ensures, e)
 
-pub returns-clause-held : goal.returns-clause-held
-returns-clause-held c = omega (arith, c.len.ensures, rising_length 0 c.args.self.now.places.items (omega arith) c.args.self.now.ascends)
+pub returns-clause-fits : goal.returns-clause-fits
+returns-clause-fits c = omega (arith, c.len.ensures, rising_length 0 c.args.self.now.places.items (omega arith) c.args.self.now.ascends)

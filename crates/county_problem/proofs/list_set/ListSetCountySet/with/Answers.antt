@@ -23,7 +23,7 @@ invariant_of-result c =
     let copied : c.extend_from_slice.new.self.items ≡ old = c.in_ok-extend_from_slice.ensures.items ∙ (ap (λ (z : List ℕ). z ++ c.deref-2.result.now) c.in_ok-places.ensures.items ∙ c.deref-2.ensures.value) in
     let items : c.insert.new.self.items ≡ insert old c.in-Err.at c.args.place = c.in_ok-insert.ensures.items ∙ ap (λ (z : List ℕ). insert z c.in-Err.at c.args.place) copied in
     let gap : IsBinarySearchResult (λ y. nat_cmp y c.args.place) old (Err c.in-Err.at) = subst (λ (z : List ℕ). IsBinarySearchResult (λ y. nat_cmp y c.args.place) z (Err c.in-Err.at)) c.deref.ensures.value c.in-Err.ensures.position in
-    record { ascends = subst (λ (z : List ℕ). rising 0 z ≡ true) (sym items) (rising_found old c.in-Err.at c.args.place gap c.requires.held c.args.self.now.ascends) }
+    record { ascends = subst (λ (z : List ℕ). rising 0 z ≡ true) (sym items) (rising_found old c.in-Err.at c.args.place gap c.requires.fits c.args.self.now.ascends) }
 
 pub returns : goal.returns
 returns c =
