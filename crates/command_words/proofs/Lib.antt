@@ -7,3 +7,4 @@ pub mod CommandLemmas
 pub mod CountygroupsLemmas
 pub mod NumberLemmas
 pub mod ReadLemmas
+mod ExampleLemmas

@@ -21,7 +21,7 @@ subcommand_in words = subcommand_of countygroups words
 unfoldable pub takes_words : List Text → Bool
 takes_words words = takes countygroups words
 
--- the faults that clap finds first in the words, of which help is one
+-- what stops clap first in the words: nothing, a call for help or a mistake
 unfoldable pub faults_of : List Text → Kinds
 faults_of words = fault_of countygroups words
 
@@ -47,15 +47,28 @@ SaysCommand p (Size problem) = (p.0 ≡ codes "size") × SaysProblem p.1 problem
 abbrev pub Means : List Text → CommandWords → Type 0
 Means words command = IsSomeAnd (subcommand_in words) (λ p. SaysCommand p command)
 
--- an error of this kind ends in help, usage or memory, and any in memory
+-- an error of help ends in help, one of memory in memory and any other in usage; since its text
+-- takes memory, any may end in memory
 abbrev pub EndsAs : ErrorKind → WordsEnd → Type 0
 EndsAs kind (Help text) = kind ≡ DisplayHelp
 EndsAs kind (Usage text) = (kind ≢ DisplayHelp) × (kind ≢ OutOfMemory)
 EndsAs kind Memory = ⊤
 
--- words with these faults end in help where help is the first, in usage at any other, and any
--- words may end in memory
+-- words with these faults end in help where help is asked for before anything is wrong, and else
+-- in usage; any words may end in memory
 abbrev pub EndsBy : Kinds → WordsEnd → Type 0
 EndsBy faults (Help text) = faults ≡ DisplayHelp ∷ []
 EndsBy faults (Usage text) = (faults ≢ []) × (faults ≢ DisplayHelp ∷ [])
 EndsBy faults Memory = ⊤
+
+-- help was asked for
+abbrev pub IsHelp : WordsEnd → Type 0
+IsHelp (Help text) = ⊤
+IsHelp (Usage text) = ⊥
+IsHelp Memory = ⊥
+
+-- the exit status of the program
+abbrev pub status_of : WordsEnd → ℕ
+status_of (Help text) = 0
+status_of (Usage text) = 2
+status_of Memory = 5

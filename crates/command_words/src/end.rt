@@ -1,6 +1,7 @@
 //! How a parse of the words ends where it gives no command.
+ghost use Rattle.std.specs.Prelude.{◌≡◌, ◌↔◌};
 ghost use Rattle.clap.specs.Words.{kind_of};
-ghost use Rattle.command_words.specs.Words.{EndsAs};
+ghost use Rattle.command_words.specs.Words.{EndsAs, IsHelp, status_of};
 
 use clap::error::ErrorKind;
 use std::alloc::Global;
@@ -21,6 +22,18 @@ pub enum WordsEnd {
 }
 
 impl WordsEnd {
+    /// The exit status of the program: 0 for help, 2 for usage and 5 for memory.
+    pub fn status(&self) -> u8
+        ensures value { result ≡ status_of self.now }
+        ensures success { (result ≡ 0) ↔ IsHelp self.now }
+    {
+        match self {
+            WordsEnd::Help(_) => 0,
+            WordsEnd::Usage(_) => 2,
+            WordsEnd::Memory => 5,
+        }
+    }
+
     /// The end of a parse that gave this error.
     pub(crate) fn of_error(alloc: Global, error: &clap::Error) -> WordsEnd
         ensures { EndsAs (kind_of error.now) result }

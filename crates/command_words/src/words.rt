@@ -80,7 +80,8 @@ fn matches_in<'a>(alloc: Global, words: &'a [&'a str]) -> Result<ArgMatches<'a>,
 
 /// The command that the words after the program's name say.
 ///
-/// Words that `clap` does not take end in `Help` where they ask for help, and else in `Usage`. `Memory` may come for any words.
+/// Words that `clap` does not take end in `Help` where they ask for help before anything is wrong,
+/// and else in `Usage`. `Memory` may come for any words.
 pub fn parse<'a>(alloc: Global, words: &'a [&'a str]) -> Result<CommandWords<'a>, WordsEnd>
     // The command is what the words mean.
     ensures said { IfOk result (Means (texts words.now)) }

@@ -5,147 +5,135 @@ use std::test::Fail;
 
 #[test]
 fn commands(rt: HostRuntime) -> Result<(), Fail> {
-    let alloc = rt.alloc();
     let house = ProblemWords {
-        geo: "ncgeo2020.pl",
-        segment: "nc000012020.pl",
+        geo: "geo.pl",
+        segment: "one.pl",
         chamber: 120,
         state: 37,
     };
-    let words = [
-        "size",
-        "--geo",
-        "ncgeo2020.pl",
-        "--segment",
-        "nc000012020.pl",
-        "--chamber",
-        "120",
+    let lines = [
+        ("size --geo geo.pl --segment one.pl --chamber 120", house),
+        (
+            "size --state 0 --chamber=1000 --segment=one.pl --geo geo.pl",
+            ProblemWords {
+                chamber: 1000,
+                state: 0,
+                ..house
+            },
+        ),
+        (
+            "size --geo= --segment one.pl --chamber +4 --state 99",
+            ProblemWords {
+                geo: "",
+                chamber: 4,
+                state: 99,
+                ..house
+            },
+        ),
     ];
-    assert_eq!(rt; parse(alloc, &words)?, CommandWords::Size(house));
-
-    let words = [
-        "size",
-        "--state",
-        "0",
-        "--chamber=1000",
-        "--segment=b",
-        "--geo",
-        "a",
-    ];
-    let other = ProblemWords {
-        geo: "a",
-        segment: "b",
-        chamber: 1000,
-        state: 0,
-    };
-    assert_eq!(rt; parse(alloc, &words)?, CommandWords::Size(other));
-
-    // An empty file name, and a number with a sign.
-    let words = [
-        "size",
-        "--geo=",
-        "--segment",
-        "b",
-        "--chamber",
-        "+4",
-        "--state",
-        "99",
-    ];
-    let signed = ProblemWords {
-        geo: "",
-        segment: "b",
-        chamber: 4,
-        state: 99,
-    };
-    assert_eq!(rt; parse(alloc, &words)?, CommandWords::Size(signed));
+    for (line, problem) in lines {
+        let words: Vec<&str> = line.split(' ').collect(rt.alloc())?;
+        let command = parse(rt.alloc(), words.as_slice())?;
+        assert_eq!(rt; command, CommandWords::Size(problem), "{line}");
+    }
     Ok(())
 }
 
 #[test]
-fn usage(rt: HostRuntime) {
-    let lines: [(&[&str], &str); 9] = [
-        (&[], "requires a subcommand"),
-        (&["sizes"], "unrecognized subcommand 'sizes'"),
-        (&["help"], "unrecognized subcommand 'help'"),
-        (
-            &["size", "--geo", "a", "--segment", "b"],
-            "--chamber <SEATS>",
-        ),
-        (
-            &["size", "--geo", "a", "--segment", "b", "--chamber", "0"],
-            "0 is not in 1..=1000",
-        ),
-        (
-            &["size", "--geo", "a", "--segment", "b", "--chamber", "1001"],
-            "1001 is not in 1..=1000",
-        ),
-        (
-            &[
-                "size",
-                "--geo",
-                "a",
-                "--segment",
-                "b",
-                "--chamber",
-                "4",
-                "--state",
-                "100",
-            ],
-            "100 is not in 0..=99",
-        ),
-        (
-            &["size", "--geo", "a", "--geo", "b"],
-            "'--geo <FILE>' cannot be used multiple times",
-        ),
-        (&["--version"], "unexpected argument '--version'"),
-    ];
-    for (words, said) in lines {
-        match parse(rt.alloc(), words) {
-            Err(WordsEnd::Usage(text)) => assert!(rt; text.contains(said), "{text}"),
-            other => panic!(rt; "{said}: {other:?}"),
+fn no_words(rt: HostRuntime) {
+    match parse(rt.alloc(), &[]) {
+        Err(WordsEnd::Usage(text)) => {
+            assert!(rt;
+                text.contains("'countygroups' requires a subcommand"),
+                "{text}"
+            );
         }
+        other => panic!(rt; "{other:?}"),
     }
 }
 
 #[test]
-fn help(rt: HostRuntime) {
-    let pages: [(&[&str], [&str; 4]); 3] = [
+fn usage(rt: HostRuntime) -> Result<(), Fail> {
+    let lines = [
+        ("sizes --geo a", "unrecognized subcommand 'sizes'"),
+        ("help", "unrecognized subcommand 'help'"),
+        ("--version", "unexpected argument '--version'"),
+        ("size --geo a --segment b", "--chamber <SEATS>"),
         (
-            &["--help"],
+            "size --geo a --segment b --chamber 0",
+            "0 is not in 1..=1000",
+        ),
+        (
+            "size --geo a --segment b --chamber 1001",
+            "1001 is not in 1..=1000",
+        ),
+        (
+            "size --geo a --segment b --chamber 4 --state 100",
+            "100 is not in 0..=99",
+        ),
+        (
+            "size --geo a --geo b",
+            "'--geo <FILE>' cannot be used multiple times",
+        ),
+    ];
+    for (line, said) in lines {
+        let words: Vec<&str> = line.split(' ').collect(rt.alloc())?;
+        match parse(rt.alloc(), words.as_slice()) {
+            Err(WordsEnd::Usage(text)) => assert!(rt; text.contains(said), "{text}"),
+            other => panic!(rt; "{line}: {other:?}"),
+        }
+    }
+    Ok(())
+}
+
+#[test]
+fn help(rt: HostRuntime) -> Result<(), Fail> {
+    let pages = [
+        (
+            "--help",
             [
                 "Usage: countygroups <COMMAND>",
-                "Commands:",
-                "size",
+                "Commands:\n  size",
                 "--help",
             ],
         ),
         (
-            &["size", "--help"],
+            "size --help",
             [
                 "Usage: countygroups size",
                 "--geo <FILE>",
                 "--segment <FILE>",
-                "--chamber <SEATS>",
             ],
         ),
         (
-            &["size", "-h"],
-            [
-                "Usage: countygroups size",
-                "--state <CODE>",
-                "[default: 37]",
-                "Print help",
-            ],
+            "size -h",
+            ["--chamber <SEATS>", "--state <CODE>", "[default: 37]"],
         ),
     ];
-    for (words, parts) in pages {
-        match parse(rt.alloc(), words) {
+    for (line, parts) in pages {
+        let words: Vec<&str> = line.split(' ').collect(rt.alloc())?;
+        match parse(rt.alloc(), words.as_slice()) {
             Err(WordsEnd::Help(text)) => {
                 for part in parts {
                     assert!(rt; text.contains(part), "{part} in {text}");
                 }
             }
-            other => panic!(rt; "{words:?}: {other:?}"),
+            other => panic!(rt; "{line}: {other:?}"),
         }
     }
+    Ok(())
+}
+
+#[test]
+fn statuses(rt: HostRuntime) {
+    let alloc = rt.alloc();
+    assert_eq!(rt;
+        parse(alloc, &["--help"]).err().map(|end| end.status()),
+        Some(0)
+    );
+    assert_eq!(rt;
+        parse(alloc, &["size"]).err().map(|end| end.status()),
+        Some(2)
+    );
+    assert_eq!(rt; WordsEnd::Memory.status(), 5);
 }
