@@ -16,7 +16,11 @@ fn all_words(rt: &HostRuntime) -> io::Result<Vec<String>> {
 
 /// Runs the words over the machine's files.
 fn run_words(rt: &HostRuntime, all: &[String], out: &mut impl Sink) -> io::Result<u8> {
-    let words: Vec<&str> = all.iter().skip(1).map(|word| word.as_str()).collect(rt.alloc())?;
+    let words: Vec<&str> = all
+        .iter()
+        .skip(1)
+        .map(|word| word.as_str())
+        .collect(rt.alloc())?;
     let mut shelf = FileShelf::new(rt);
     Ok(run(rt.alloc(), &words, &mut shelf, out))
 }
