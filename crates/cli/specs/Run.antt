@@ -1,5 +1,5 @@
 -- What a run answers.
-use Rattle.std.specs.Prelude.{◌≡◌, ◌⊎◌, ◌≤◌, ℕ, true, List, [], Option, Some, None, Result, Ok, Err}
+use Rattle.std.specs.Prelude.{◌≡◌, ◌⊎◌, ◌≤◌, ℕ, true, List, [], Option, Some, None, Result, Ok, Err, string_bytes}
 use Rattle.county_problem.specs.declared.county.County.{County}
 use Rattle.county_problem.specs.declared.fault.ProblemFault.{ProblemFault}
 use Rattle.county_problem.specs.ProblemValue.{ProblemValue}
@@ -54,8 +54,8 @@ CommandRun files failures (Size words) a = (a ≡ memory_answer) ⊎ SizeRun fil
 
 -- the words give no command: help ends with 0 and usage with 2, with clap's text
 abbrev pub IsEndAnswer : WordsEnd → Answered → Type 0
-IsEndAnswer (Help text) a = a.status ≡ 0
-IsEndAnswer (Usage text) a = a.status ≡ 2
+IsEndAnswer (Help text) a = a ≡ record { text = string_bytes text; status = 0 }
+IsEndAnswer (Usage text) a = a ≡ record { text = string_bytes text; status = 2 }
 IsEndAnswer Memory a = a ≡ memory_answer
 
 -- The answer to words: that of the command that they mean, or the end that they come to. Words that clap takes mean a command, so

@@ -3,7 +3,7 @@ ghost use Rattle.std.specs.Option.{option_or};
 ghost use Rattle.cli.specs.Files.{held, with_file};
 ghost use Rattle.cli.specs.Memory.{bytes_in, files_of, HasPlace};
 
-use crate::shelf::{Shelf, ShelfFault};
+use crate::shelf::{MAX_FILE, Shelf, ShelfFault};
 use std::alloc::{AllocError, Global};
 use std::marker::Model;
 
@@ -119,6 +119,7 @@ impl Shelf for MemoryShelf {
     fn load(&mut self, alloc: Global, name: &str) -> Result<Vec<u8>, ShelfFault> {
         match self.file(name) {
             None => Err(ShelfFault::Missing),
+            Some(file) if file.bytes.len() > MAX_FILE => Err(ShelfFault::TooLarge),
             Some(file) => Ok(Vec::from_slice(alloc, file.bytes.as_slice())?),
         }
     }

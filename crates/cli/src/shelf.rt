@@ -1,4 +1,4 @@
-ghost use Rattle.std.specs.Prelude.{◌≡◌, ℕ, ◌<◌, List, Option, IfSome, IsErrOf, OnOk, OnErr, option_map};
+ghost use Rattle.std.specs.Prelude.{◌≡◌, ℕ, ◌<◌, ◌≤◌, List, Option, IfOk, IsErrOf, OnOk, OnErr, option_map, vec_len};
 ghost use Rattle.cli.specs.Files.{File, Files, with_file, with_bytes};
 ghost use Rattle.cli.specs.Shelf.{IsLoad};
 ghost use Rattle.cli.specs.declared.shelf.ShelfFault.TheVariants.{Memory};
@@ -50,9 +50,10 @@ pub trait Shelf {
     /// # Errors
     ///
     /// `Missing` where there is none, or where the device failed and its count of failures is at its last
-    /// value; `TooLarge` only above 1,073,741,824 bytes; `Device` only where the count of failures rose in
-    /// this call; `Memory` where a growth was refused.
+    /// value; `TooLarge` only above 1,073,741,824 bytes, and no larger file is given; `Device` only where the
+    /// count of failures rose in this call; `Memory` where a growth was refused.
     fn load(&mut self, alloc: Global, name: &str) -> Result<Vec<u8>, ShelfFault>
+        ensures small { IfOk result (λ v. vec_len v ≤ 1073741824) }
         ensures loaded { IsLoad (λ v. v.items) (contents self.old) (failure_count self.old) name.now result }
         ensures same { contents self.new ≡ contents self.old }
         ensures kept { stored self.new ≡ stored self.old }
