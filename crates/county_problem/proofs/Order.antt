@@ -9,10 +9,10 @@ use Rattle.county_problem.proofs.Sizes.{below-le}
 abbrev pub SameUpTo : ℕ → (ℕ → ℕ) → (ℕ → ℕ) → Type 0
 SameUpTo n f g = (i : ℕ) → 1 ≤ i → i ≤ n → f i ≡ g i
 
-greater_irreflexive : (f : ℕ → ℕ) → IsGreater f f → ⊥
+pub greater_irreflexive : (f : ℕ → ℕ) → IsGreater f f → ⊥
 greater_irreflexive f h = omega (arith, h.more)
 
-greater_transitive : (f g h : ℕ → ℕ) → IsGreater f g → IsGreater g h → IsGreater f h
+pub greater_transitive : (f g h : ℕ → ℕ) → IsGreater f g → IsGreater g h → IsGreater f h
 greater_transitive f g h a b = ⊎_elim same (λ o. ⊎_elim first second o) (cases_order a.size b.size)
   where
     same : a.size ≡ b.size → IsGreater f h
