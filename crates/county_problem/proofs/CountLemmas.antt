@@ -1,12 +1,12 @@
 -- Counts of groups by size, as lists: their order, and one more group.
-use Rattle.std.proofs.Common.{◌≡◌, ◌≢◌, ℕ, zero, suc, ◌+◌, ◌-◌, ◌≤◌, ◌<◌, ◌==◌, ◌↔◌, Bool, true, false, List, [], ◌∷◌, ◌++◌, length, take, take_all, get_or, slice_set, refl, sym, ap, ◌∙◌, subst, arith, ◌⊎◌, inl, inr, ⊎_elim}
+use Rattle.std.proofs.Common.{◌≡◌, ◌≢◌, ℕ, zero, suc, ◌+◌, ◌-◌, ◌≤◌, ◌<◌, ◌==◌, ◌↔◌, Bool, true, false, List, [], ◌∷◌, ◌++◌, length, take, take_all, get_or, replicate, slice_set, refl, sym, ap, ◌∙◌, subst, arith, ◌⊎◌, inl, inr, ⊎_elim}
 use Rattle.std.proofs.Common.{Ordering, Less, Equal, Greater}
 use Rattle.std.proofs.lemmas.Bool.{eqb-true, eq-eqb}
 use Rattle.std.proofs.lemmas.List.{get_or-set_same, get_or-set_other}
-use Rattle.std.specs.List.{AllByRecursion, AppendsClonesOf}
 use Rattle.std.specs.Ordering.{MatchOrdering, nat_cmp, ordering_then}
 use Rattle.std.specs.Cmp.Lexicographic.{slice_cmp}
 use Rattle.std.proofs.lemmas.Cmp.{ranked}
+use Rattle.std.proofs.lemmas.Grind.{get_or_default_zero}
 use Rattle.county_problem.specs.Sets.{digit}
 use Rattle.county_problem.specs.Grouping.{IsGreater}
 use Rattle.county_problem.specs.CountList.{count_at, EndsInMore}
@@ -109,21 +109,23 @@ compared_lists xs ys o is e f = go o (subst (λ z. MatchOrdering z (IsGreater (c
       same = (λ k. absurd cc, λ k. absurd (not_same (count_at xs) (count_at ys) h (same_counts xs ys k)));
     }
 
+abbrev zeros : ℕ → List ℕ
+zeros k = replicate k 0
+
 -- zeros at the end count nothing
-only_zeros : (ys : List ℕ) → AllByRecursion (λ y. (y ≡ 0) ⊎ (y ≡ 0)) ys → (i : ℕ) → get_or ys i 0 ≡ 0
-only_zeros [] h i = refl
-only_zeros (y ∷ ys) h zero = ⊎_elim (λ e. e) (λ e. e) h.0
-only_zeros (y ∷ ys) h (suc i) = only_zeros ys h.1 i
+only_zeros : (k i : ℕ) → get_or (zeros k) i 0 ≡ 0
+only_zeros zero i = refl
+only_zeros (suc k) zero = refl
+only_zeros (suc k) (suc i) = only_zeros k i
 
-zeros_behind : (xs ys : List ℕ) → AllByRecursion (λ y. (y ≡ 0) ⊎ (y ≡ 0)) ys → (i : ℕ) → get_or (xs ++ ys) i 0 ≡ get_or xs i 0
-zeros_behind [] ys h i = only_zeros ys h i
-zeros_behind (x ∷ xs) ys h zero = refl
-zeros_behind (x ∷ xs) ys h (suc i) = zeros_behind xs ys h i
+zeros_behind : (xs : List ℕ) (k i : ℕ) → get_or (xs ++ zeros k) i 0 ≡ get_or xs i 0
+zeros_behind [] k i = only_zeros k i
+zeros_behind (x ∷ xs) k zero = refl
+zeros_behind (x ∷ xs) k (suc i) = zeros_behind xs k i
 
-pub widened : (old wide : List ℕ) (n : ℕ) → length old ≤ n → AppendsClonesOf (λ x y. y ≡ x) (take n old) wide 0 → (i : ℕ) → count_at wide i ≡ count_at old i
-widened old wide n short h zero = refl
-widened old wide n short h (suc i) =
-    ap (λ z. get_or z i 0) (h.1 ∙ ap (λ z. z ++ h.0) (take_all n old short)) ∙ zeros_behind old h.0 h.2 i
+pub widened : (old wide : List ℕ) (n k : ℕ) → length old ≤ n → wide ≡ take n old ++ zeros k → (i : ℕ) → count_at wide i ≡ count_at old i
+widened old wide n k short h zero = refl
+widened old wide n k short h (suc i) = ap (λ z. get_or z i 0) (h ∙ ap (λ z. z ++ zeros k) (take_all n old short)) ∙ zeros_behind old k i
 
 -- one more at a place
 bumped : (wide : List ℕ) (place value : ℕ) → place < length wide → value ≡ get_or wide place 0 → (i : ℕ) → count_at (slice_set wide place (value + 1)) i ≡ count_at wide i + digit (place + 1 == i)
@@ -145,6 +147,6 @@ bumped wide place value inside is (suc i) = go (place + 1 == suc i) refl
         other : i ≡ place → (place + 1 == suc i) ≡ false → ⊥
         other k f = let t = eq-eqb (place + 1) (suc i) (omega (arith, k)) in cc
 
-pub counted : (old wide : List ℕ) (size place value : ℕ) → place + 1 ≡ size → ((i : ℕ) → count_at wide i ≡ count_at old i) → place < length wide → value ≡ get_or wide place 0
+pub counted : (old wide : List ℕ) (size place value : ℕ) → place + 1 ≡ size → ((i : ℕ) → count_at wide i ≡ count_at old i) → place < length wide → value ≡ get_or wide place value
     → (i : ℕ) → count_at (slice_set wide place (value + 1)) i ≡ count_at old i + digit (size == i)
-counted old wide size place value at same inside is i = omega (arith, bumped wide place value inside is i, same i, ap (λ z. digit (z == i)) at)
+counted old wide size place value at same inside is i = omega (arith, bumped wide place value inside (is ∙ get_or_default_zero wide place value inside) i, same i, ap (λ z. digit (z == i)) at)
