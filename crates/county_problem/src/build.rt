@@ -223,3 +223,6 @@ impl Problem {
         })
     }
 }
+
+#[cfg(test)]
+mod tests;

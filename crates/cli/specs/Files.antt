@@ -1,0 +1,32 @@
+-- Files with names.
+use Rattle.std.specs.Prelude.{◌≡◌, ℕ, List, [], ◌∷◌, Option, Some, None, if◌then◌else◌}
+use Rattle.std.specs.Option.{option_or, option_map}
+use Rattle.std.specs.Str.{bytes_eq}
+
+-- a file: its name and its bytes
+pub record File : Type 0 where
+  pub name : List ℕ
+  pub bytes : List ℕ
+
+-- the bytes under each name
+abbrev pub Files : Type 0
+Files = List ℕ → Option (List ℕ)
+
+-- the bytes of a file of that name
+abbrev pub bytes_of : File → List ℕ → Option (List ℕ)
+bytes_of f name = if bytes_eq f.name name then Some f.bytes else None
+
+-- the bytes of the first file of each name
+abbrev pub held : List File → Files
+held [] name = None
+held (f ∷ fs) name = option_or (bytes_of f name) (held fs name)
+
+-- the files with one of that name: in the place of the file that had it, else last
+abbrev pub with_file : List File → List ℕ → List ℕ → List File
+with_file [] name bytes = record { name = name; bytes = bytes } ∷ []
+with_file (f ∷ fs) name bytes =
+    if bytes_eq f.name name then record { name = name; bytes = bytes } ∷ fs else f ∷ with_file fs name bytes
+
+-- the files under their names, one changed
+abbrev pub with_bytes : Files → List ℕ → List ℕ → Files
+with_bytes files name bytes other = if bytes_eq name other then Some bytes else files other

@@ -1,0 +1,5 @@
+pub mod Digits
+pub mod Files
+pub mod Memory
+pub mod Shelf
+pub mod SizeTable

@@ -1,0 +1,76 @@
+ghost use Rattle.std.specs.Prelude.{◌≡◌, ℕ, Bool, true, false, List, Option, OnOk};
+ghost use Rattle.std.specs.Io.KnownBytes.{Appends};
+ghost use Rattle.std.specs.Result.{is_err};
+
+use std::io::Write;
+use thiserror::Error;
+
+/// Bytes could not be written.
+#[derive(Clone, Copy, Debug, PartialEq, Eq, Error)]
+#[error("the output could not be written")]
+pub struct SinkFault;
+
+/// What bytes are written to, as standard output.
+pub trait Sink {
+    /// The bytes that it holds, where it tells them.
+    ghost contents: { Self → Option (List ℕ) };
+
+    /// Whether the last write answered an error.
+    ghost is_failed: { Self → Bool };
+
+    /// Writes all the bytes.
+    ///
+    /// # Errors
+    ///
+    /// `SinkFault` where they could not be written; how many went out is not said.
+    fn put(&mut self, bytes: &[u8]) -> Result<(), SinkFault>
+        ensures bytes { OnOk result (Appends (contents self.old) (contents self.new) bytes.now) }
+        ensures failed { is_failed self.new ≡ is_err result };
+
+    /// Whether the last write answered an error.
+    fn failed(&self) -> bool
+        ensures { result ≡ is_failed self.now };
+}
+
+/// A writer of std as a sink.
+#[derive(Drop)]
+pub struct Writing<W> {
+    writer: W,
+    failed: bool,
+}
+
+impl<W: Write> Writing<W> {
+    /// A sink that has not failed, with what the writer holds.
+    pub fn new(writer: W) -> Self
+        ensures contents { ⟦<Writing<W> as Sink>⟧.contents result ≡ W.contents writer }
+        ensures failed { ⟦<Writing<W> as Sink>⟧.is_failed result ≡ false }
+    {
+        Writing {
+            writer,
+            failed: false,
+        }
+    }
+}
+
+impl<W: Write> Sink for Writing<W> {
+    ghost contents = { λ s. W.contents s.writer };
+
+    ghost is_failed = { λ s. s.failed };
+
+    fn put(&mut self, bytes: &[u8]) -> Result<(), SinkFault> {
+        match self.writer.write_all(bytes) {
+            Ok(()) => {
+                self.failed = false;
+                Ok(())
+            }
+            Err(_) => {
+                self.failed = true;
+                Err(SinkFault)
+            }
+        }
+    }
+
+    fn failed(&self) -> bool {
+        self.failed
+    }
+}

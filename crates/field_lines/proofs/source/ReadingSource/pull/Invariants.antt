@@ -1,0 +1,8 @@
+use Rattle.std.specs.Io.KnownBytes.{Keeps}
+use Rattle.field_lines.proofs.source.ReadingSource.pull.Given as goal
+
+-- reads that were interrupted took nothing
+abbrev pub invariant-loop : goal.invariant-loop
+invariant-loop g l = record {
+  kept : Keeps (g.R.Read.remaining l.fn.self.reader) (g.R.Read.remaining l.self.reader);
+}

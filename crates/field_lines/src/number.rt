@@ -1,0 +1,111 @@
+ghost use Rattle.std.specs.Prelude.{◌≡◌, ◌<◌, ◌≤◌, ◌^◌, true, Some, IfSome, length};
+ghost use Rattle.std.specs.List.{list_all, slice_get};
+ghost use Rattle.std.specs.Char.{is_ascii_digit};
+ghost use Rattle.std.specs.Option.{option_map};
+ghost use Rattle.std.specs.Str.Parse.{digits_value};
+ghost use Rattle.field_lines.specs.Fields.{fields_of};
+ghost use Rattle.field_lines.specs.Number.{kept_in, number_in, digits_of};
+
+use crate::fields::Fields;
+
+/// The most that fifteen digits spell.
+const FIFTEEN_NINES: u64 = 999_999_999_999_999;
+
+/// Whether each byte is a digit.
+fn is_digits(field: &[u8]) -> bool
+    ensures { result ≡ list_all is_ascii_digit field.now }
+{
+    field.iter().all(|b| b.is_ascii_digit())
+}
+
+/// The value of digits, if it is no more than the greatest.
+fn value_of(digits: &[u8], greatest: u64) -> Option<u64>
+    requires all { list_all is_ascii_digit digits.now ≡ true }
+    requires fits { greatest ≤ 999999999999999 }
+    ensures { result ≡ kept_in 0 greatest (Some (digits_value 10 digits.now)) }
+{
+    let mut value: u64 = 0;
+    for digit in digits {
+        value = 10 * value + u64::from(*digit - b'0');
+        if value > greatest {
+            return None;
+        }
+    }
+    Some(value)
+}
+
+/// The number that a field spells, if it is no more than the greatest.
+fn number_up_to(field: &[u8], greatest: u64) -> Option<u64>
+    requires { greatest ≤ 999999999999999 }
+    ensures { result ≡ number_in 0 greatest field.now }
+{
+    if field.is_empty() || !is_digits(field) {
+        return None;
+    }
+    value_of(field, greatest)
+}
+
+/// The number that exactly `count` digits spell.
+fn digits(field: &[u8], count: usize) -> Option<u64>
+    requires { count ≤ 15 }
+    ensures value { result ≡ digits_of count field.now }
+    ensures small { IfSome result (λ n. n < 10 ^ count) }
+{
+    if field.len() != count {
+        return None;
+    }
+    number_up_to(field, FIFTEEN_NINES)
+}
+
+/// The number that a field spells in decimal, if it is from `least` to `greatest`: one or more
+/// ASCII digits, leading zeros allowed, and no other byte. `None` for any other field.
+pub fn number_in(field: &[u8], least: u32, greatest: u32) -> Option<u32>
+    ensures value { result ≡ number_in least greatest field.now }
+    ensures within { IfSome result (λ n. (least ≤ n) × (n ≤ greatest)) }
+{
+    let number = number_up_to(field, u64::from(greatest))? as u32;
+    if number < least {
+        return None;
+    }
+    Some(number)
+}
+
+/// The number that a field of exactly two ASCII digits spells. `None` for any other field.
+pub fn two_digits(field: &[u8]) -> Option<u8>
+    ensures value { result ≡ digits_of 2 field.now }
+    ensures small { IfSome result (λ n. n < 100) }
+{
+    Some(digits(field, 2)? as u8)
+}
+
+/// The number that a field of exactly three ASCII digits spells. `None` for any other field.
+pub fn three_digits(field: &[u8]) -> Option<u16>
+    ensures value { result ≡ digits_of 3 field.now }
+    ensures small { IfSome result (λ n. n < 1000) }
+{
+    Some(digits(field, 3)? as u16)
+}
+
+/// The number that a field of exactly five ASCII digits spells. `None` for any other field.
+pub fn five_digits(field: &[u8]) -> Option<u32>
+    ensures value { result ≡ digits_of 5 field.now }
+    ensures small { IfSome result (λ n. n < 100000) }
+{
+    Some(digits(field, 5)? as u32)
+}
+
+/// The number that a field of exactly fifteen ASCII digits spells. `None` for any other field.
+pub fn fifteen_digits(field: &[u8]) -> Option<u64>
+    ensures value { result ≡ digits_of 15 field.now }
+    ensures small { IfSome result (λ n. n < 1000000000000000) }
+{
+    digits(field, 15)
+}
+
+/// The field of a line at an index that counts from 0. `None` where the line has no more fields
+/// than `index`.
+pub fn field_at(line: &[u8], delimiter: u8, index: usize) -> Option<&[u8]>
+    ensures { option_map (λ s. s.now) result ≡ slice_get (fields_of delimiter line.now) index }
+{
+    Fields::new(line, delimiter).nth(index)
+}
