@@ -27,7 +27,7 @@ pub(crate) fn has_code(codes: &[CountyCode], code: CountyCode) -> bool
 }
 
 /// The first code that stood before.
-fn repeated_code(codes: &[CountyCode]) -> Option<CountyCode>
+pub(crate) fn repeated_code(codes: &[CountyCode]) -> Option<CountyCode>
     ensures { result ≡ first_repeated codes.now }
 {
     for (i, code) in codes.iter().enumerate() {
@@ -39,7 +39,7 @@ fn repeated_code(codes: &[CountyCode]) -> Option<CountyCode>
 }
 
 /// The first code that isn't listed.
-fn unlisted_code(listed: &[CountyCode], codes: &[CountyCode]) -> Option<CountyCode>
+pub(crate) fn unlisted_code(listed: &[CountyCode], codes: &[CountyCode]) -> Option<CountyCode>
     ensures { result ≡ first_unlisted listed.now codes.now }
 {
     for code in codes {
@@ -143,6 +143,7 @@ fn counties_left(
     requires { first_repeated (codes_of counties.now) ≡ None }
     ensures same { IfOk result (λ v. IsPermutation (filter (λ c. not (member taken.now c.code)) counties.now) v.items) }
     ensures by_code { IfOk result (λ v. IsStrictlyIncreasing (codes_of v.items)) }
+    ensures few { IfOk result (λ v. length v.items ≤ length counties.now) }
 {
     let mut left = Vec::new(alloc);
     for county in counties {
@@ -172,7 +173,7 @@ fn pairs_of(
 }
 
 /// The codes of the counties.
-fn listed_codes(alloc: Global, counties: &[County]) -> Result<Vec<CountyCode>, AllocError>
+pub(crate) fn listed_codes(alloc: Global, counties: &[County]) -> Result<Vec<CountyCode>, AllocError>
     ensures { IfOk result (λ v. v.items ≡ codes_of counties.now) }
 {
     counties.iter().map(|county| county.code).collect(alloc)
