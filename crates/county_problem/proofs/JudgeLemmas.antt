@@ -1,5 +1,5 @@
 -- What the tests of a grouping say: where none fails it is lawful, and where one fails it is not.
-use Rattle.std.proofs.Common.{◌≡◌, ◌≢◌, ℕ, zero, suc, ◌+◌, ◌≤◌, ◌<◌, ◌==◌, ◌↔◌, Bool, true, false, not, cond, ◌||◌, List, [], ◌∷◌, ◌++◌, length, map, take, drop, drop-cons, get_or, Option, Some, None, find, refl, sym, ap, ◌∙◌, subst, arith, ◌⊎◌, inl, inr, ⊎_elim, All, if◌then◌else◌}
+use Rattle.std.proofs.Common.{◌≡◌, ◌≢◌, ℕ, zero, suc, ◌+◌, ◌≤◌, ◌<◌, ◌==◌, ◌↔◌, Bool, true, false, not, cond, ◌||◌, List, [], ◌∷◌, ◌++◌, length, map, take, drop, drop-cons, take_all, get_or, Option, Some, None, find, refl, sym, ap, ◌∙◌, subst, arith, ◌⊎◌, inl, inr, ⊎_elim, All, if◌then◌else◌}
 use Rattle.std.proofs.lemmas.Bool.{eqb-true, eq-eqb, false≢true}
 use Rattle.std.proofs.lemmas.List.{take_more, take-append-drop, length-take}
 use Rattle.std.specs.List.{position_from, AllPairs, slice_index_or}
@@ -10,10 +10,10 @@ use Rattle.county_problem.specs.declared.grouping_fault.GroupingFault.{GroupingF
 use Rattle.county_problem.specs.declared.grouping_fault.GroupingFault.TheVariants.{EmptyGroup, UnknownCounty, Twice, Missing, NotConnected, OutOfWindow, SeatsTotal, Memory}
 use Rattle.county_problem.specs.Sets.{digit, total, often, stands, member, Inside}
 use Rattle.county_problem.specs.Problem.{Problem, Suits, people_of, Connected, IsProblem}
-use Rattle.county_problem.specs.Grouping.{Grouping, Lawful, sets_of, seats_of}
+use Rattle.county_problem.specs.Grouping.{Grouping, Lawful, sets_of, seats_of, counts}
 use Rattle.county_problem.specs.Building.{repeated_after, first_repeated, first_unlisted}
 use Rattle.county_problem.specs.Judging.{first_empty_group, in_group, first_unknown, codes_read, IsLeastMissing, IsFirstNot, NoneEmpty, AllKnown, NoneTwice, NoneMissing, AllConnected, AllSuit, IsFault}
-use Rattle.county_problem.proofs.Sums.{total-append, often_none, often_some}
+use Rattle.county_problem.proofs.Sums.{digit_one, total-append, often_none, often_some}
 use Rattle.county_problem.proofs.Elements.{Has, has_all, all_from_has, has_get, has_right, has_set}
 use Rattle.county_problem.proofs.Digits.{digit_true}
 use Rattle.county_problem.proofs.Sizes.{stands_some, often-le-stands}
@@ -188,11 +188,7 @@ fault_excludes p g (UnknownCounty n code) is other lawful =
     let r = unknown_some p.counties 1 g n code is.1 in
     omega (arith, stands_some code (sets_of g) r.0.codes (has_set g r.0 r.1) r.2, lawful.once code, ap digit r.3)
 fault_excludes p g (Twice code) is other lawful =
-    omega (arith, repeated_some [] (codes_read g) code is.1, often_read code g, lawful.once code, digit_small (member p.counties code))
-  where
-    digit_small : (b : Bool) → digit b ≤ 1
-    digit_small true = omega arith
-    digit_small false = omega arith
+    omega (arith, repeated_some [] (codes_read g) code is.1, often_read code g, lawful.once code, digit_one (member p.counties code))
 fault_excludes p g (Missing code) is other lawful =
     omega (arith, often_none code (codes_read g) is.1.missing, often_read code g, lawful.once code, ap digit is.1.listed)
 fault_excludes p g (NotConnected n) is other lawful =
@@ -257,3 +253,22 @@ pub least_missing : (p : Problem) (g : Grouping) (code : ℕ) → IsStrictlyIncr
 least_missing p g code rising some =
     let r = unlisted_some (codes_read g) p.counties code some in
     record { listed = r.0; missing = r.1; least = first_least (codes_read g) p.counties code (AllPairs-from_increasing p.counties rising) some }
+
+-- the group at an index
+pub has_at : (g : Grouping) (i : ℕ) (s : Group) → i < length g → s ≡ get_or g i s → Has g s
+has_at g i s inside is = subst (λ z. Has g z) (sym is) (has_get g i s inside)
+
+pub filled_at : (g : Grouping) (i : ℕ) (s : Group) → NoneEmpty g → i < length g → s ≡ get_or g i s → 1 ≤ length s.codes
+filled_at g i s none inside is = some_code s.codes (position_none (λ (t : Group). length t.codes == 0) 1 g none s (has_at g i s inside is))
+
+-- no size has more groups than there are
+pub counts_few : (g : Grouping) (i : ℕ) → counts (sets_of g) i ≤ length g
+counts_few [] i = omega arith
+counts_few (s ∷ ss) i = omega (arith, counts_few ss i, digit_one (length s.codes == i))
+
+pub small_groups : (p : Problem) (g : Grouping) (n : ℕ) → IsWhole p g → length p.counties ≤ n → All (λ s. length s.codes ≤ n) g
+small_groups p g n whole few = all_from_has (λ s. length s.codes ≤ n) g (λ s i. omega (arith, small_group p g whole s i))
+
+-- a fact of the groups up to an index past the end
+pub all_done : (P : Group → Type 0) (g : Grouping) (i : ℕ) → length g ≤ i → All P (take i g) → All P g
+all_done P g i past h = subst (λ z. All P z) (take_all i g past) h

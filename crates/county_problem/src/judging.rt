@@ -1,4 +1,4 @@
-ghost use Rattle.std.specs.Prelude.{◌≡◌, ◌≢◌, ℕ, ◌+◌, ◌<◌, ◌≤◌, ◌^◌, ◌↔◌, ◌==◌, true, length, All, Some, IsTrue, IfOk, IfErr, MatchResult, find};
+ghost use Rattle.std.specs.Prelude.{◌≡◌, ◌≢◌, ℕ, ◌+◌, ◌<◌, ◌≤◌, ◌^◌, ◌↔◌, ◌==◌, true, length, All, Some, IsTrue, IfOk, IfErr, OnOk, MatchResult, find};
 ghost use Rattle.std.specs.Option.{option_copied};
 ghost use Rattle.county_problem.specs.declared.grouping_fault.GroupingFault.TheVariants.{Memory};
 ghost use Rattle.county_problem.specs.Sets.{total, often, member};
@@ -55,7 +55,9 @@ fn read_codes(alloc: Global, groups: &[Group]) -> Result<Vec<CountyCode>, AllocE
 
 /// Tests that the groups have each county of the problem once, and no other code.
 fn check_codes(alloc: Global, problem: &Problem, groups: &[Group]) -> Result<(), GroupingFault>
-    ensures { MatchResult result (λ _. NoneMissing (problem_of problem.now) groups.now) (IsFault (problem_of problem.now) groups.now) }
+    ensures few { OnOk result (length groups.now ≤ 128) }
+    ensures small { OnOk result (All (λ s. length s.codes ≤ 128) groups.now) }
+    ensures test { MatchResult result (λ _. NoneMissing (problem_of problem.now) groups.now) (IsFault (problem_of problem.now) groups.now) }
 {
     if let Some(group) = empty_group(groups) {
         return Err(GroupingFault::EmptyGroup(group));
@@ -160,7 +162,8 @@ fn total_seats(groups: &[Group]) -> u64
 
 /// Tests that the people of every group suit its seats, and that the seats are those left.
 fn check_seats(problem: &Problem, groups: &[Group]) -> Result<(), GroupingFault>
-    requires { AllConnected (problem_of problem.now) groups.now }
+    requires few { length groups.now ≤ 128 }
+    requires connected { AllConnected (problem_of problem.now) groups.now }
     ensures { MatchResult
         result
         (λ _. AllSuit (problem_of problem.now) groups.now × (seats_of groups.now ≡ (problem_of problem.now).seats_left))
