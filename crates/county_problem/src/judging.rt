@@ -77,11 +77,7 @@ fn check_codes(alloc: Global, problem: &Problem, groups: &[Group]) -> Result<(),
 }
 
 /// Whether the counties are connected.
-fn is_connected(
-    alloc: Global,
-    problem: &Problem,
-    codes: &[CountyCode],
-) -> Result<bool, AllocError>
+fn is_connected(alloc: Global, problem: &Problem, codes: &[CountyCode]) -> Result<bool, AllocError>
     requires some { 1 ≤ length codes.now }
     requires once { (c : ℕ) → often c codes.now ≤ 1 }
     ensures { IfOk result (λ connected. IsTrue connected ↔ Connected (problem_of problem.now) codes.now) }
@@ -91,11 +87,7 @@ fn is_connected(
 }
 
 /// Tests that every group is connected.
-fn check_connected(
-    alloc: Global,
-    problem: &Problem,
-    groups: &[Group],
-) -> Result<(), GroupingFault>
+fn check_connected(alloc: Global, problem: &Problem, groups: &[Group]) -> Result<(), GroupingFault>
     requires { NoneMissing (problem_of problem.now) groups.now }
     ensures { MatchResult result (λ _. AllConnected (problem_of problem.now) groups.now) (IsFault (problem_of problem.now) groups.now) }
 {
@@ -212,3 +204,6 @@ pub fn judge(alloc: Global, problem: &Problem, grouping: &Grouping) -> Result<Co
     check_seats(problem, groups)?;
     Ok(tally(alloc, groups)?)
 }
+
+#[cfg(test)]
+mod tests;

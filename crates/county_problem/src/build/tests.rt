@@ -12,7 +12,10 @@ fn county(number: u32, people: u32) -> Option<County> {
 }
 
 fn codes(alloc: Global, numbers: &[u32]) -> Result<Vec<CountyCode>, AllocError> {
-    numbers.iter().filter_map(|n| CountyCode::new(*n)).collect(alloc)
+    numbers
+        .iter()
+        .filter_map(|n| CountyCode::new(*n))
+        .collect(alloc)
 }
 
 fn withdrawn(alloc: Global, seats: u16, numbers: &[u32]) -> Result<Withdrawn, AllocError> {
@@ -24,7 +27,10 @@ fn withdrawn(alloc: Global, seats: u16, numbers: &[u32]) -> Result<Withdrawn, Al
 
 /// Three counties of 100 people: 37001, 37003 and 37005, listed in another order.
 fn three(alloc: Global) -> Result<Vec<County>, AllocError> {
-    [5, 1, 3].iter().filter_map(|n| county(*n, 100)).collect(alloc)
+    [5, 1, 3]
+        .iter()
+        .filter_map(|n| county(*n, 100))
+        .collect(alloc)
 }
 
 fn pair(a: u32, b: u32) -> Option<(CountyCode, CountyCode)> {
@@ -92,12 +98,19 @@ fn a_problem_is_read_back(rt: HostRuntime) -> Result<(), Fail> {
         assert_eq!(rt; problem.total_people(), 300);
         assert_eq!(rt; problem.chamber(), 3);
         assert_eq!(rt; problem.seats_left(), 1);
-        let left: Vec<u32> = problem.counties().iter().map(|c| c.code.get()).collect(alloc)?;
+        let left: Vec<u32> = problem
+            .counties()
+            .iter()
+            .map(|c| c.code.get())
+            .collect(alloc)?;
         assert_eq!(rt; left.as_slice(), [37_001, 37_003].as_slice());
         assert_eq!(rt; problem.withdrawn().len(), 1);
         assert_eq!(rt; problem.withdrawn()[0].seats, 2);
         let set = problem.withdrawn()[0].copy()?;
-        assert_eq!(rt; set.codes.into_vec().as_slice(), codes(alloc, &[37_005])?.as_slice());
+        assert_eq!(rt;
+            set.codes.into_vec().as_slice(),
+            codes(alloc, &[37_005])?.as_slice()
+        );
         for (a, b, want) in [(1, 3, true), (3, 1, true), (3, 5, false), (1, 1, false)] {
             let (a, b) = pair(37_000 + a, 37_000 + b).ok_or("a pair")?;
             assert_eq!(rt; problem.adjacent(a, b), want, "{a} {b}");
@@ -116,7 +129,10 @@ fn limits(rt: HostRuntime) -> Result<(), Fail> {
         (&many[..], 1, ProblemFault::TooManyCounties),
         (&many[..0], 1, ProblemFault::NoPeople),
     ] {
-        assert_eq!(rt; Problem::build(alloc, counties, &[], &[], chamber).err(), Some(want));
+        assert_eq!(rt;
+            Problem::build(alloc, counties, &[], &[], chamber).err(),
+            Some(want)
+        );
     }
     let problem = Problem::build(alloc, &many[..128], &[], &[], 1000)?;
     assert_eq!(rt; problem.counties().len(), 128);
@@ -134,10 +150,22 @@ fn first_faults(rt: HostRuntime) -> Result<(), Fail> {
     for (seats, list, want) in [
         (0, [37_001].as_slice(), ProblemFault::EmptyWithdrawn(1)),
         (1, [].as_slice(), ProblemFault::EmptyWithdrawn(1)),
-        (9, [37_001, 51_001].as_slice(), ProblemFault::UnknownWithdrawn(other)),
-        (9, [37_001, 37_001].as_slice(), ProblemFault::WithdrawnTwice(first)),
+        (
+            9,
+            [37_001, 51_001].as_slice(),
+            ProblemFault::UnknownWithdrawn(other),
+        ),
+        (
+            9,
+            [37_001, 37_001].as_slice(),
+            ProblemFault::WithdrawnTwice(first),
+        ),
         (4, [37_001].as_slice(), ProblemFault::WithdrawnSeats),
-        (3, [37_001].as_slice(), ProblemFault::UnknownPair(first, other)),
+        (
+            3,
+            [37_001].as_slice(),
+            ProblemFault::UnknownPair(first, other),
+        ),
     ] {
         let mut sets = Vec::new(alloc);
         sets.push(withdrawn(alloc, seats, list)?)?;

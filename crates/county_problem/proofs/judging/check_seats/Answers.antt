@@ -21,7 +21,7 @@ returns-then-not-suits c =
     let p = problem_of c.args.problem.now in (
       c.requires.connected,
       first_not (λ (s : Group). Suits p (people_of p s.codes) s.seats) c.args.groups.now c.loop-i.i c.index-groups-i.result c.loop-i-test.true c.index-groups-i.is c.loop-i.invariant
-      (λ k. false≢true (sym c.if-not-suits.true ∙ c.suits.ensures.1 k)),
+          (λ k. false≢true (sym c.if-not-suits.true ∙ c.suits.ensures.1 k)),
     )
 
 pub loop-i-preserved : goal.loop-i-preserved
