@@ -1,2 +1,4 @@
 pub mod FileLemmas
 pub mod MemoryLemmas
+pub mod RunLemmas
+pub mod CaseLemmas

@@ -1,5 +1,12 @@
 pub mod Digits
+pub mod Answer
+pub mod Answers
 pub mod Files
 pub mod Memory
 pub mod Shelf
 pub mod SizeTable
+pub mod Refusals
+pub mod Case
+pub mod Run
+pub mod Delivery
+pub mod CaseRun

@@ -1,0 +1,6 @@
+-- An answer of the code as one of the definitions.
+use Rattle.cli.specs.declared.answer.Answer.{Answer}
+use Rattle.cli.specs.Answer.{Answered}
+
+abbrev pub answered : Answer → Answered
+answered a = record { text = a.text.items; status = a.status }

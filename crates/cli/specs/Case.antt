@@ -1,0 +1,55 @@
+-- A case: the words of a command and its files, in one text.
+use Rattle.std.specs.Prelude.{ℕ, ◌&&◌, ◌==◌, Bool, true, false, List, [], ◌∷◌, ◌++◌, Option, Some, None, codes, drop, length, reverse, if◌then◌else◌}
+use Rattle.std.specs.List.{starts_with, slice_split, list_all}
+use Rattle.std.specs.Prelude.{nat_eq}
+use Rattle.std.specs.Str.{is_utf8}
+use Rattle.field_lines.specs.Raw.{RawLine, raw_lines}
+use Rattle.cli.specs.Files.{File}
+
+-- a piece with its LF, if it has one
+abbrev pub whole_line : RawLine → List ℕ
+whole_line p = if p.ended then p.bytes ++ 10 ∷ [] else p.bytes
+
+-- the name that a line `file NAME` gives
+abbrev pub file_name : List ℕ → Option (List ℕ)
+file_name bytes = if starts_with nat_eq bytes (codes "file ") then Some (drop 5 bytes) else None
+
+-- the lines up to the next that names a file, and the files from there on
+pub record Parts : Type 0 where
+  pub lines : List ℕ
+  pub files : List File
+
+-- a line in front
+abbrev pub in_front : Option (List ℕ) → RawLine → Parts → Parts
+in_front None p parts = record { lines = whole_line p ++ parts.lines; files = parts.files }
+in_front (Some name) p parts = record { lines = []; files = record { name = name; bytes = parts.lines } ∷ parts.files }
+
+abbrev pub parts_of : List RawLine → Parts
+parts_of [] = record { lines = []; files = [] }
+parts_of (p ∷ ps) = in_front (file_name p.bytes) p (parts_of ps)
+
+-- the first line of a case, without its LF
+abbrev pub first_line : List RawLine → List ℕ
+first_line [] = []
+first_line (p ∷ ps) = p.bytes
+
+-- the files of a case: each line `file NAME` begins one, whose bytes are the lines up to the next; lines before the first are ignored
+abbrev pub case_files : List ℕ → List File
+case_files text = (parts_of (drop 1 (raw_lines text))).files
+
+-- the words of a case: its first line, cut at each blank
+abbrev pub case_words : List ℕ → List (List ℕ)
+case_words text = slice_split (λ b. b == 32) (first_line (raw_lines text))
+
+-- the files whose names are text
+abbrev pub are_named : List File → Bool
+are_named files = list_all (λ f. is_utf8 f.name) files
+
+-- the first line and the names of the files are text
+abbrev pub is_case : List ℕ → Bool
+is_case text = is_utf8 (first_line (raw_lines text)) && are_named (case_files text)
+
+-- a file that is being read, in front of the files that follow
+abbrev pub with_open : Option (List ℕ) → List ℕ → Parts → List File
+with_open None bytes parts = parts.files
+with_open (Some name) bytes parts = record { name = name; bytes = bytes ++ parts.lines } ∷ parts.files

@@ -1,0 +1,95 @@
+-- The lines of the program that stand in place of an answer.
+use Rattle.std.specs.Prelude.{ℕ, List, ◌++◌, codes, decimal}
+use Rattle.field_lines.specs.declared.fault.LineFault.{LineFault}
+use Rattle.field_lines.specs.declared.fault.LineFault.TheVariants as lines
+use Rattle.pl94_counties.specs.declared.fault.File.{File}
+use Rattle.pl94_counties.specs.declared.fault.File.TheVariants.{Geo, Segment1}
+use Rattle.pl94_counties.specs.declared.fault.Kind.{Kind}
+use Rattle.pl94_counties.specs.declared.fault.Kind.TheVariants as kinds
+use Rattle.pl94_counties.specs.declared.fault.Pl94Fault.{Pl94Fault}
+use Rattle.county_problem.specs.declared.fault.ProblemFault.{ProblemFault}
+use Rattle.county_problem.specs.declared.fault.ProblemFault.TheVariants as problem
+use Rattle.cli.specs.declared.shelf.ShelfFault.{ShelfFault}
+use Rattle.cli.specs.declared.shelf.ShelfFault.TheVariants as shelf
+use Rattle.cli.specs.Digits.{five_digits}
+use Rattle.cli.specs.Answer.{Answered, memory_answer}
+
+-- the word of a line fault
+abbrev pub line_fault_word : LineFault → List ℕ
+line_fault_word (lines.LineTooLong line) = codes "LineTooLong"
+line_fault_word lines.TooManyLines = codes "TooManyLines"
+line_fault_word (lines.ReadFault line) = codes "ReadFault"
+line_fault_word lines.Memory = codes "Memory"
+
+-- the word of a kind of fault in a PL 94-171 file: for a line fault, that fault's
+abbrev pub kind_word : Kind → List ℕ
+kind_word kinds.TooFewFields = codes "TooFewFields"
+kind_word kinds.BadCode = codes "BadCode"
+kind_word kinds.BadNumber = codes "BadNumber"
+kind_word kinds.DoubleRecord = codes "DoubleRecord"
+kind_word kinds.NoRecord = codes "NoRecord"
+kind_word kinds.DoubleCounty = codes "DoubleCounty"
+kind_word kinds.NoCounties = codes "NoCounties"
+kind_word (kinds.Lower fault) = line_fault_word fault
+kind_word kinds.Memory = codes "Memory"
+
+-- the line that is shown: 0 where the text has too many
+abbrev pub shown_line : Kind → ℕ → ℕ
+shown_line (kinds.Lower lines.TooManyLines) line = 0
+shown_line kind line = line
+
+abbrev pub file_word : File → List ℕ
+file_word Geo = codes "geo"
+file_word Segment1 = codes "segment1"
+
+-- `refused FILE KIND line L`
+unfoldable pub refused_line : List ℕ → List ℕ → ℕ → List ℕ
+refused_line file kind line = codes "refused " ++ file ++ codes " " ++ kind ++ codes " line " ++ decimal line ++ codes "\n"
+
+-- a fault of this kind, at this line of a PL 94-171 file
+abbrev pub file_answer : File → Kind → ℕ → Answered
+file_answer file kinds.Memory line = memory_answer
+file_answer file kind line = record { text = refused_line (file_word file) (kind_word kind) (shown_line kind line); status = 4 }
+
+abbrev pub pl94_answer : Pl94Fault → Answered
+pl94_answer fault = file_answer fault.file fault.kind fault.line
+
+-- a word after a blank
+abbrev pub after_blank : List ℕ → List ℕ
+after_blank word = codes " " ++ word
+
+-- what is refused of a problem, with its codes or its set
+abbrev pub problem_words : ProblemFault → List ℕ
+problem_words problem.SeatsOutOfRange = codes "SeatsOutOfRange"
+problem_words problem.TooManyCounties = codes "TooManyCounties"
+problem_words (problem.DoubleCounty code) = codes "DoubleCounty" ++ after_blank (five_digits code)
+problem_words problem.NoPeople = codes "NoPeople"
+problem_words (problem.EmptyWithdrawn set) = codes "EmptyWithdrawn" ++ after_blank (decimal set)
+problem_words (problem.UnknownWithdrawn code) = codes "UnknownWithdrawn" ++ after_blank (five_digits code)
+problem_words (problem.WithdrawnTwice code) = codes "WithdrawnTwice" ++ after_blank (five_digits code)
+problem_words problem.WithdrawnSeats = codes "WithdrawnSeats"
+problem_words (problem.UnknownPair a b) = codes "UnknownPair" ++ after_blank (five_digits a) ++ after_blank (five_digits b)
+problem_words problem.Memory = codes "Memory"
+
+-- `refused problem KIND` with its codes or its set
+unfoldable pub refused_problem : ProblemFault → List ℕ
+refused_problem fault = codes "refused problem " ++ problem_words fault ++ codes "\n"
+
+abbrev pub problem_answer : ProblemFault → Answered
+problem_answer problem.Memory = memory_answer
+problem_answer fault = record { text = refused_problem fault; status = 4 }
+
+abbrev pub shelf_word : ShelfFault → List ℕ
+shelf_word shelf.Missing = codes "Missing"
+shelf_word shelf.TooLarge = codes "TooLarge"
+shelf_word shelf.Device = codes "Device"
+shelf_word shelf.Memory = codes "Memory"
+
+-- `device NAME KIND`
+unfoldable pub device_line : List ℕ → List ℕ → List ℕ
+device_line name kind = codes "device " ++ name ++ codes " " ++ kind ++ codes "\n"
+
+-- a fault of the shelf under a name
+abbrev pub shelf_answer : List ℕ → ShelfFault → Answered
+shelf_answer name shelf.Memory = memory_answer
+shelf_answer name fault = record { text = device_line name (shelf_word fault); status = 5 }

@@ -1,0 +1,197 @@
+ghost use Rattle.std.specs.Prelude.{◌≡◌, ℕ, ◌++◌, ◌==◌, ◌&&◌, true, false, List, [], ◌∷◌, Option, Some, None, Result, Ok, Err, IfOk, OnOk, MatchOption, codes, drop, length, reverse, option_map, string_bytes, map};
+ghost use Rattle.std.specs.List.{slice_split, list_all};
+ghost use Rattle.std.specs.Str.{is_utf8};
+ghost use Rattle.field_lines.specs.Raw.{RawLine, raw_lines};
+ghost use Rattle.field_lines.specs.Piece.{raw_of};
+ghost use Rattle.cli.specs.Files.{File};
+ghost use Rattle.cli.specs.Memory.{files_of};
+ghost use Rattle.cli.specs.Case.{whole_line, file_name, first_line, case_files, is_case, are_named, with_open, parts_of};
+ghost use Rattle.field_lines.specs.declared.source.WholeFault.{WholeFault};
+ghost use Rattle.cli.specs.Answer.{Answered};
+ghost use Rattle.cli.specs.Answers.{answered};
+ghost use Rattle.cli.specs.Delivery.{texts};
+ghost use Rattle.cli.specs.CaseRun.{stored_text, WordsOver, IsCaseAnswer, IsWhole, IsReadAnswer, DeliversCase};
+
+use crate::answer::Answer;
+use crate::command::{deliver, words_answer};
+use crate::memory::{MemoryFile, MemoryShelf};
+use crate::refusal::MEMORY;
+use crate::sink::Sink;
+use field_lines::{Piece, RawLines, Source, WholeFault, read_whole};
+use std::alloc::{AllocError, Global};
+
+/// How many bytes a case may have.
+pub const MAX_CASE: usize = 16_777_216;
+
+/// Bytes as text, if they are.
+fn text_of(bytes: &[u8]) -> Option<&str>
+    ensures { MatchOption result (is_utf8 bytes.now ≡ false) (λ s. (s.now ≡ bytes.now) × (is_utf8 bytes.now ≡ true)) }
+{
+    match str::from_utf8(bytes) {
+        Ok(text) => Some(text),
+        Err(_) => None,
+    }
+}
+
+/// The name that a line `file NAME` gives.
+fn named_file(line: &[u8]) -> Option<&[u8]>
+    ensures { option_map (λ s. s.now) result ≡ file_name line.now }
+{
+    line.strip_prefix(b"file ")
+}
+
+/// Appends a piece with its LF.
+fn push_line(bytes: &mut Vec<u8>, piece: Piece<'_>) -> Result<(), AllocError>
+    ensures { OnOk result (bytes.new.items ≡ bytes.old.items ++ whole_line (raw_of piece.entry)) }
+{
+    bytes.extend_from_slice(piece.bytes)?;
+    if piece.ended {
+        bytes.push(b'\n')?;
+    }
+    Ok(())
+}
+
+/// Appends a file of the name, if there is one, with a copy of the bytes.
+fn push_file(
+    alloc: Global,
+    files: &mut Vec<MemoryFile>,
+    name: Option<&str>,
+    bytes: &[u8],
+) -> Result<(), AllocError>
+    ensures { OnOk result (files_of files.new.items ≡ files_of files.old.items ++ with_open (option_map (λ s. s.now) name.entry) bytes.now (parts_of [])) }
+{
+    if let Some(name) = name {
+        files.push(MemoryFile {
+            name: String::from_str(alloc, name)?,
+            bytes: Vec::from_slice(alloc, bytes)?,
+        })?;
+    }
+    Ok(())
+}
+
+/// The files of the pieces, if their names are text.
+fn files_in(alloc: Global, mut pieces: RawLines<'_>) -> Result<Option<Vec<MemoryFile>>, AllocError>
+    ensures { IfOk result (λ read. MatchOption
+        read
+        (are_named (parts_of pieces.entry).files ≡ false)
+        (λ v. (are_named (parts_of pieces.entry).files ≡ true) × (files_of v.items ≡ (parts_of pieces.entry).files))) }
+{
+    let mut files = Vec::new(alloc);
+    let mut open = None;
+    let mut bytes = Vec::new(alloc);
+    while let Some(piece) = pieces.next_piece() {
+        if let Some(name) = named_file(piece.bytes) {
+            push_file(alloc, &mut files, open, &bytes)?;
+            let Some(name) = text_of(name) else {
+                return Ok(None);
+            };
+            open = Some(name);
+            bytes.clear();
+        } else {
+            push_line(&mut bytes, piece)?;
+        }
+    }
+    push_file(alloc, &mut files, open, &bytes)?;
+    Ok(Some(files))
+}
+
+/// Appends the files that were stored.
+fn push_stored(out: &mut Vec<u8>, files: &[MemoryFile]) -> Result<(), AllocError>
+    ensures { OnOk result (out.new.items ≡ out.old.items ++ stored_text (files_of files.now)) }
+{
+    for file in files {
+        out.extend_from_slice(b"file ")?;
+        out.extend_from_slice(file.name.as_bytes())?;
+        out.extend_from_slice(b"\n")?;
+        out.extend_from_slice(&file.bytes)?;
+    }
+    Ok(())
+}
+
+/// The words of a line, cut at each blank.
+fn words_in<'a>(alloc: Global, line: &'a str) -> Result<Vec<&'a str>, AllocError>
+    ensures { IfOk result (λ v. texts v.items ≡ slice_split (λ b. b == 32) line.entry.now) }
+{
+    line.split(' ').collect(alloc)
+}
+
+/// The first line, without its LF, and what follows it.
+fn take_line<'a>(pieces: &mut RawLines<'a>) -> &'a [u8]
+    ensures line { result.now ≡ first_line pieces.old }
+    ensures rest { pieces.new ≡ drop 1 pieces.old }
+{
+    match pieces.next_piece() {
+        Some(piece) => piece.bytes,
+        None => &[],
+    }
+}
+
+/// The first line and the files of a case, if the line and the names are text.
+fn parts_in<'a>(
+    alloc: Global,
+    text: &'a [u8],
+) -> Result<Option<(&'a str, Vec<MemoryFile>)>, AllocError>
+    ensures { IfOk result (λ read. MatchOption
+        read
+        (is_case text.now ≡ false)
+        (λ r. (is_case text.now ≡ true) × (r.0.now ≡ first_line (raw_lines text.now)) × (files_of r.1.items ≡ case_files text.now))) }
+{
+    let mut pieces = RawLines::new(text);
+    let Some(line) = text_of(take_line(&mut pieces)) else {
+        return Ok(None);
+    };
+    match files_in(alloc, pieces)? {
+        Some(files) => Ok(Some((line, files))),
+        None => Ok(None),
+    }
+}
+
+/// The answer to a line of words over files, a later one in the place of an earlier one of its name, and the
+/// files that were stored after it.
+fn words_over_files(
+    alloc: Global,
+    line: &str,
+    mut files: Vec<MemoryFile>,
+) -> Result<Answer, AllocError>
+    ensures { IfOk result (λ a. WordsOver (reverse (files_of files.items)) (slice_split (λ b. b == 32) line.now) (answered a)) }
+{
+    files.reverse();
+    let mut shelf = MemoryShelf::new(alloc, files);
+    let words = words_in(alloc, line)?;
+    let mut answer = words_answer(alloc, &words, &mut shelf)?;
+    push_stored(&mut answer.text, shelf.stored_files())?;
+    Ok(answer)
+}
+
+/// The answer to the text of a case, if its first line and its files' names are text.
+fn case_answer(alloc: Global, text: &[u8]) -> Result<Option<Answer>, AllocError>
+    ensures { IfOk result (λ a. IsCaseAnswer text.now (option_map answered a)) }
+{
+    match parts_in(alloc, text)? {
+        Some((line, files)) => Ok(Some(words_over_files(alloc, line, files)?)),
+        None => Ok(None),
+    }
+}
+
+/// Reads a case, and runs its words over its files in memory; the files that were stored follow the answer.
+/// Where the first line or a file's name isn't UTF-8 nothing is written, and the status is 2. A case above
+/// 16,777,216 bytes is refused; a failed read is `device case Device`.
+pub fn run_case<R: Source, W: Sink>(alloc: Global, input: &mut R, out: &mut W) -> u8
+    requires { R.is_failed input.old ≡ false }
+    ensures { (read : Result (List ℕ) WholeFault)
+        × IsWhole (R.content input.old) (R.is_failed input.new) read
+        × (a : Option Answered)
+        × IsReadAnswer read a
+        × DeliversCase out.old out.new W.is_failed W.contents a result }
+{
+    match read_whole(alloc, input, MAX_CASE) {
+        Ok(text) => match case_answer(alloc, &text) {
+            Ok(Some(answer)) => deliver(out, &answer.text, answer.status),
+            Ok(None) => 2,
+            Err(AllocError) => deliver(out, MEMORY, 5),
+        },
+        Err(WholeFault::TooLarge) => deliver(out, b"refused case TooLarge line 0\n", 4),
+        Err(WholeFault::Failed) => deliver(out, b"device case Device\n", 5),
+        Err(WholeFault::Memory) => deliver(out, MEMORY, 5),
+    }
+}

@@ -1,0 +1,85 @@
+ghost use Rattle.std.specs.Prelude.{◌≡◌, ◌⊎◌, true, false, IfOk, OnOk, List, ℕ};
+ghost use Rattle.std.specs.Io.KnownBytes.{Appends};
+ghost use Rattle.cli.specs.Answer.{Answered, memory_answer};
+ghost use Rattle.cli.specs.Answers.{answered};
+ghost use Rattle.cli.specs.Run.{CommandRun, IsEndAnswer, IsRunAnswer, HasState};
+ghost use Rattle.cli.specs.Delivery.{Delivers, texts};
+
+use crate::answer::Answer;
+use crate::refusal::MEMORY;
+use crate::shelf::Shelf;
+use crate::sink::Sink;
+use crate::size::size;
+use command_words::{CommandWords, WordsEnd, parse};
+use std::alloc::{AllocError, Global};
+
+/// The answer of a command.
+fn command_answer<H: Shelf>(
+    alloc: Global,
+    command: CommandWords<'_>,
+    shelf: &mut H,
+) -> Result<Answer, AllocError>
+    requires { HasState command }
+    ensures answer { IfOk result (λ a. CommandRun (H.contents shelf.old) (H.failure_count shelf.old) command.entry (answered a)) }
+    ensures same { H.contents shelf.new ≡ H.contents shelf.old }
+    ensures kept { H.stored shelf.new ≡ H.stored shelf.old }
+{
+    match command {
+        CommandWords::Size(words) => size(alloc, words, shelf),
+    }
+}
+
+/// The answer to words that give no command.
+fn end_answer(alloc: Global, end: &WordsEnd) -> Result<Answer, AllocError>
+    ensures { IfOk result (λ a. IsEndAnswer end.now (answered a)) }
+{
+    match end {
+        WordsEnd::Help(text) => Answer::new(alloc, text.as_bytes(), 0),
+        WordsEnd::Usage(text) => Answer::new(alloc, text.as_bytes(), 2),
+        WordsEnd::Memory => Answer::new(alloc, MEMORY, 5),
+    }
+}
+
+/// The answer to the words, or that a growth was refused.
+pub(crate) fn words_answer<H: Shelf>(
+    alloc: Global,
+    words: &[&str],
+    shelf: &mut H,
+) -> Result<Answer, AllocError>
+    ensures answer { IfOk result (λ a. IsRunAnswer (H.contents shelf.old) (H.failure_count shelf.old) (texts words.now) (answered a)) }
+    ensures same { H.contents shelf.new ≡ H.contents shelf.old }
+    ensures kept { H.stored shelf.new ≡ H.stored shelf.old }
+{
+    match parse(alloc, words) {
+        Ok(command) => command_answer(alloc, command, shelf),
+        Err(end) => end_answer(alloc, &end),
+    }
+}
+
+/// Writes a text, and answers the status, or 5 where the writing failed.
+pub(crate) fn deliver<W: Sink>(out: &mut W, text: &[u8], status: u8) -> u8
+    ensures { Delivers (W.is_failed out.new) (W.contents out.old) (W.contents out.new) (record { text = text.now; status = status }) result }
+{
+    match out.put(text) {
+        Ok(()) => status,
+        Err(_) => 5,
+    }
+}
+
+/// Runs one command and answers the exit status. The words are those after the program's name. The answer
+/// is composed whole and then written.
+///
+/// Where the writing failed the status is 5, and how much went out is not said. Where memory was refused
+/// the line is `memory`, and the status 5.
+pub fn run<H: Shelf, W: Sink>(alloc: Global, words: &[&str], shelf: &mut H, out: &mut W) -> u8
+    ensures answer { (a : Answered)
+        × ((a ≡ memory_answer) ⊎ IsRunAnswer (H.contents shelf.old) (H.failure_count shelf.old) (texts words.now) a)
+        × Delivers (W.is_failed out.new) (W.contents out.old) (W.contents out.new) a result }
+    ensures same { H.contents shelf.new ≡ H.contents shelf.old }
+    ensures kept { H.stored shelf.new ≡ H.stored shelf.old }
+{
+    match words_answer(alloc, words, shelf) {
+        Ok(answer) => deliver(out, &answer.text, answer.status),
+        Err(AllocError) => deliver(out, MEMORY, 5),
+    }
+}

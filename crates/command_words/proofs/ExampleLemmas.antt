@@ -1,0 +1,46 @@
+-- What the definitions of `specs/Words.antt` say of words that are written out.
+use Rattle.std.proofs.Common.{◌≡◌, true, refl, List, [], ◌∷◌, ◌++◌, Some, codes, option_map}
+use Rattle.clap.specs.Words.{Text, first_of}
+use Rattle.clap.specs.declared.error.kind.ErrorKind.TheVariants as kind
+use Rattle.clap.proofs.OnLiterals.{clap_on_literals}
+use Rattle.command_words.specs.Command.{countygroups}
+use Rattle.command_words.specs.Words.{faults_of, subcommand_in, takes_words}
+
+abbrev files : List Text
+files = codes "size" ∷ codes "--geo" ∷ codes "a" ∷ codes "--segment=b" ∷ []
+
+taken : takes_words (files ++ codes "--chamber" ∷ codes "120" ∷ []) ≡ true
+unfolding clap_on_literals countygroups takes_words
+taken = refl
+
+signed : takes_words (files ++ codes "--chamber" ∷ codes "+4" ∷ codes "--state=0" ∷ []) ≡ true
+unfolding clap_on_literals countygroups takes_words
+signed = refl
+
+default_state : option_map (λ p. first_of (codes "state") p.1) (subcommand_in (files ++ codes "--chamber" ∷ codes "120" ∷ [])) ≡ Some (Some (codes "37"))
+unfolding clap_on_literals countygroups subcommand_in
+default_state = refl
+
+no_fault : faults_of (files ++ codes "--chamber" ∷ codes "120" ∷ []) ≡ []
+unfolding clap_on_literals countygroups faults_of
+no_fault = refl
+
+missing : faults_of files ≡ kind.MissingRequiredArgument ∷ []
+unfolding clap_on_literals countygroups faults_of
+missing = refl
+
+no_seats : faults_of (files ++ codes "--chamber" ∷ codes "0" ∷ []) ≡ kind.ValueValidation ∷ []
+unfolding clap_on_literals countygroups faults_of
+no_seats = refl
+
+no_words : faults_of [] ≡ kind.MissingSubcommand ∷ []
+unfolding clap_on_literals countygroups faults_of
+no_words = refl
+
+help : faults_of (codes "--help" ∷ []) ≡ kind.DisplayHelp ∷ []
+unfolding clap_on_literals countygroups faults_of
+help = refl
+
+help_of_size : faults_of (codes "size" ∷ codes "-h" ∷ []) ≡ kind.DisplayHelp ∷ []
+unfolding clap_on_literals countygroups faults_of
+help_of_size = refl

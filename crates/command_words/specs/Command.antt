@@ -1,0 +1,60 @@
+-- The command `countygroups`, as clap reads it.
+use Rattle.std.specs.Prelude.{◌≡◌, ℕ, true, false, fold, List, [], ◌∷◌, Some, codes, pos}
+use Rattle.clap.specs.Words.{App, Rule, Shape, Text, app_of, new_rule, shape_of, with_rule}
+use Rattle.clap.specs.Simple.{new_shape}
+use Rattle.clap.specs.declared.builder.action.ArgAction.TheVariants.{Set}
+use Rattle.clap.specs.declared.builder.command.Command.{Command}
+use Rattle.clap.specs.declared.builder.command.Command.TheViews.{out-Command}
+use Rattle.clap.specs.declared.builder.value_parser.ValueParser.TheVariants.{Signed}
+
+-- `--name VALUE`
+abbrev pub text_option : Text → Rule
+text_option name = record (new_rule name) { long = Some name; action = Some Set; value_names = 1 }
+
+-- the option, which must be given
+abbrev pub required : Rule → Rule
+required option = record option { required = true }
+
+-- the option, of a number from low to high
+abbrev pub of_number : ℕ → ℕ → Rule → Rule
+of_number low high option = record option { parser = Some (Signed (pos low) (pos high)) }
+
+-- the option, with the value that it has where it is not given
+abbrev pub with_default : Text → Rule → Rule
+with_default text option = record option { defaults = text ∷ [] }
+
+-- the options of each subcommand: the two files, the number of seats and the state
+abbrev pub problem_options : List Rule
+problem_options = required (text_option (codes "geo")) ∷ required (text_option (codes "segment"))
+    ∷ of_number 1 1000 (required (text_option (codes "chamber")))
+    ∷ with_default (codes "37") (of_number 0 99 (text_option (codes "state"))) ∷ []
+
+-- a subcommand with these options
+abbrev pub subcommand : Text → List Rule → Shape
+subcommand name options = record (new_shape name) { rules = options }
+
+-- the subcommands of the program
+abbrev pub subcommands : List Shape
+subcommands = subcommand (codes "size") problem_options ∷ []
+
+-- the program, which has no option of its own and requires a subcommand
+unfoldable pub countygroups : App
+countygroups = record {
+  top = record (new_shape (codes "countygroups")) {
+    is_leaf = false;
+    no_binary_name = true;
+    disable_help_subcommand = true;
+    subcommand_required = true;
+  };
+  subs = subcommands;
+}
+
+-- `new` is `old` with these options added in turn
+pub record HasMore (old : Command) (options : List Rule) (new : Command) : Type 0 where
+  pub app : app_of new ≡ fold with_rule (app_of old) options
+  pub local : (out-Command new).has_globals ≡ (out-Command old).has_globals
+
+-- the command is a subcommand of this shape, and none of its options is global
+pub record HasShape (command : Command) (like : Shape) : Type 0 where
+  pub shape : shape_of command ≡ like
+  pub local : (out-Command command).has_globals ≡ false

@@ -1,0 +1,102 @@
+//! The command that the words name.
+ghost use Rattle.std.specs.Prelude.{◌≡◌, [], IfErr, IfOk, MatchResult, true};
+ghost use Rattle.std.specs.Option.{IsSomeAnd};
+ghost use Rattle.clap.specs.Walk.{texts};
+ghost use Rattle.clap.specs.Words.{FailsBy, found_of, kind_of, rows_of, subcommand_rows_of};
+ghost use Rattle.command_words.specs.Command.{problem_options};
+ghost use Rattle.command_words.specs.Options.{HasCommand, HasValues};
+ghost use Rattle.command_words.specs.Words.{EndsBy, Means, SaysCommand, SaysProblem, faults_of, subcommand_in, takes_words};
+
+use crate::WordsEnd;
+use crate::command::program;
+use clap::error::ErrorKind;
+use clap::{ArgMatches, Error};
+use std::alloc::Global;
+
+/// The words of the command line: a subcommand, with the values of its options.
+#[derive(Clone, Copy, Debug, PartialEq, Eq)]
+pub enum CommandWords<'a> {
+    /// The size table.
+    Size(ProblemWords<'a>),
+}
+
+/// The options that each subcommand has.
+#[derive(Clone, Copy, Debug, PartialEq, Eq)]
+pub struct ProblemWords<'a> {
+    /// The name of the PL 94-171 geographic header.
+    pub geo: &'a str,
+    /// The name of the PL 94-171 data segment 1.
+    pub segment: &'a str,
+    /// The number of seats, from 1 to 1000.
+    pub chamber: u16,
+    /// The state's FIPS code, from 0 to 99; 37 where the words give none.
+    pub state: u8,
+}
+
+/// What the values of the options say that each subcommand has.
+fn problem_words<'a>(found: &ArgMatches<'a>) -> ProblemWords<'a>
+    requires { HasValues problem_options (rows_of (found_of found.now)) }
+    ensures { SaysProblem (rows_of (found_of found.now)) result }
+{
+    ProblemWords {
+        geo: found.get_str("geo").unwrap(),
+        segment: found.get_str("segment").unwrap(),
+        chamber: found.get_one::<u16>("chamber").unwrap(),
+        state: found.get_one::<u8>("state").unwrap(),
+    }
+}
+
+/// What the subcommand of this name says, by the values of its options.
+fn command_words<'a>(name: &str, found: &ArgMatches<'a>) -> CommandWords<'a>
+    requires { HasCommand (name.now, rows_of (found_of found.now)) }
+    ensures { SaysCommand (name.now, rows_of (found_of found.now)) result }
+{
+    match name {
+        "size" => CommandWords::Size(problem_words(found)),
+        _ => unreachable!(),
+    }
+}
+
+/// What the subcommand that was found says.
+fn command_in<'a>(matches: &ArgMatches<'a>) -> CommandWords<'a>
+    requires { IsSomeAnd (subcommand_rows_of matches.now) HasCommand }
+    ensures { IsSomeAnd (subcommand_rows_of matches.now) (λ p. SaysCommand p result) }
+{
+    match matches.subcommand() {
+        Some((name, found)) => command_words(name, found),
+        None => unreachable!(),
+    }
+}
+
+/// What `clap` finds in the words.
+fn matches_in<'a>(alloc: Global, words: &'a [&'a str]) -> Result<ArgMatches<'a>, Error>
+    ensures found { IfOk result (λ m. subcommand_rows_of m ≡ subcommand_in (texts words.now)) }
+    ensures taken { IfErr result (λ e. takes_words (texts words.now) ≡ true → kind_of e ≡ ErrorKind.OutOfMemory) }
+    ensures faults { FailsBy (faults_of (texts words.now)) result }
+{
+    let program = program(alloc)?;
+    program.try_get_matches_from(words)
+}
+
+/// The command that the words after the program's name say.
+///
+/// Words that `clap` does not take end in `Help` where they ask for help before anything is wrong,
+/// and else in `Usage`. `Memory` may come for any words.
+pub fn parse<'a>(alloc: Global, words: &'a [&'a str]) -> Result<CommandWords<'a>, WordsEnd>
+    // The command is what the words mean.
+    ensures said { IfOk result (Means (texts words.now)) }
+
+    // Words that `clap` takes end in no usage and no help.
+    ensures taken { IfErr result (λ end. takes_words (texts words.now) ≡ true → end ≡ WordsEnd.Memory) }
+
+    // A command comes only of words without a fault, and each end only of its faults.
+    ensures ends { MatchResult result (λ _. faults_of (texts words.now) ≡ []) (EndsBy (faults_of (texts words.now))) }
+{
+    match matches_in(alloc, words) {
+        Ok(matches) => Ok(command_in(&matches)),
+        Err(error) => Err(WordsEnd::of_error(alloc, &error)),
+    }
+}
+
+#[cfg(test)]
+mod tests;

@@ -1,0 +1,14 @@
+use Rattle.std.proofs.Common.{rules, tests}
+use Rattle.std.proofs.lemmas.Iterator.{YieldsList-from_slice}
+use Rattle.std.proofs.lemmas.Iterator.Search.{all_from_yields_List}
+use Rattle.county_problem.specs.Sets.{member}
+use Rattle.county_problem.proofs.RisingPlaces.{within_all}
+use Rattle.county_problem.proofs.list_set.ListSetCountySet.within.Goals as goal
+
+pub returns : goal.returns
+returns c =
+    let other = member c.args.other.now.places.items in
+    record {
+      each = within_all c.args.self.now.places.items other c.all.result
+          (all_from_yields_List other _ _ _ c.all.ensures.ran (YieldsList-from_slice c.args.self.now.places.items cc) (λ x b q k. search (rules, tests)));
+    }

@@ -1,0 +1,61 @@
+-- Fields that are taken one after the other.
+use Rattle.std.proofs.Common.{◌≡◌, ℕ, ◌+◌, List, [], ◌∷◌, length, drop, suc, zero, Option, Some, None, OnSome, refl, sym, ap, ◌∙◌, zero-add, arith}
+use Rattle.std.proofs.Math.Seq.{drop-nil}
+use Rattle.std.specs.List.{slice_get}
+use Rattle.pl94_counties.specs.Fields.{field, geo_fields}
+use Rattle.std.specs.Iterator.{YieldsFirstBy, Yields, SkipsThenYields}
+
+pub slice_get-drop : {X : Type 0} (n i : ℕ) (xs : List X) → slice_get (drop n xs) i ≡ slice_get xs (n + i)
+slice_get-drop zero i xs = ap (λ k. slice_get xs k) (sym (zero-add i))
+slice_get-drop (suc n) i [] = refl
+slice_get-drop (suc n) i (x ∷ xs) =
+    let next : suc (n + i) ≡ suc n + i = omega arith in
+    slice_get-drop n i xs ∙ ap (λ k. slice_get (x ∷ xs) k) next
+
+pub drop-drop : {X : Type 0} (n m : ℕ) (xs : List X) → drop n (drop m xs) ≡ drop (m + n) xs
+drop-drop n zero xs = ap (λ k. drop k xs) (sym (zero-add n))
+drop-drop n (suc m) [] = drop-nil n ∙ sym (drop-nil (suc m + n))
+drop-drop n (suc m) (x ∷ xs) =
+    let next : suc (m + n) ≡ suc m + n = omega arith in
+    drop-drop n m xs ∙ ap (λ k. drop k (x ∷ xs)) next
+
+-- after some items have come, what is left is without them
+pub left_after : {S A B : Type 0} (view : A → B) (rest : S → List B) (s : S) (xs : List A) (t : S) → Yields (YieldsFirstBy view rest) s xs t → rest t ≡ drop (length xs) (rest s)
+left_after view rest s [] t is = sym (ap rest is)
+left_after view rest s (x ∷ xs) t ran =
+    left_after view rest ran.0 xs t ran.2 ∙ ap (λ l. drop (suc (length xs)) l) (sym ran.1)
+
+-- and so after the item that comes after some others
+pub left_after_skip : {S A B : Type 0} (view : A → B) (rest : S → List B) (s : S) (n : ℕ) (r : Option A) (u : S) → SkipsThenYields (YieldsFirstBy view rest) s n r u → OnSome r (rest u ≡ drop (n + 1) (rest s))
+left_after_skip view rest s n None u ran = tt
+left_after_skip view rest s n (Some x) u ran =
+    let t = ran.1.0 in
+    let skipped = left_after view rest s ran.0 t ran.1.1 in
+    ap (λ l. drop 1 l) (sym ran.1.2 ∙ skipped) ∙ drop-drop 1 (length ran.0) (rest s) ∙ ap (λ k. drop (k + 1) (rest s)) ran.2
+
+-- what is left of fields after the third, the fifth, the eighth and the thirteenth, one after the other
+pub record LeftOf (fields after3 after5 after8 after13 : List (List ℕ)) : Type 0 where
+  pub third : after3 ≡ drop 3 fields
+  pub fifth : after5 ≡ drop 5 fields
+  pub eighth : after8 ≡ drop 8 fields
+  pub thirteenth : after13 ≡ drop 13 fields
+
+pub left_of : (fields after3 after5 after8 after13 : List (List ℕ)) → after3 ≡ drop 3 fields → after5 ≡ drop 2 after3 → after8 ≡ drop 3 after5 → after13 ≡ drop 5 after8 → LeftOf fields after3 after5 after8 after13
+left_of fields after3 after5 after8 after13 is3 is5 is8 is13 =
+    let fifth : after5 ≡ drop 5 fields = is5 ∙ ap (λ l. drop 2 l) is3 ∙ drop-drop 2 3 fields in
+    let eighth : after8 ≡ drop 8 fields = is8 ∙ ap (λ l. drop 3 l) fifth ∙ drop-drop 3 5 fields in
+    record { third = is3; fifth = fifth; eighth = eighth; thirteenth = is13 ∙ ap (λ l. drop 5 l) eighth ∙ drop-drop 5 8 fields }
+
+-- a field that was taken from what is left after n fields
+pub taken_from : (n i : ℕ) (fields left : List (List ℕ)) (o : Option (List ℕ)) → o ≡ slice_get left i → left ≡ drop n fields → slice_get fields (n + i) ≡ o
+taken_from n i fields left o taken is = sym (taken ∙ ap (λ l. slice_get l i) is ∙ slice_get-drop n i fields)
+
+-- ---- the fields of a line of geo
+pub geo_fields_from : (line a b n s k : _) → field 3 line ≡ Some a → field 5 line ≡ Some b → field 8 line ≡ Some n → field 13 line ≡ Some s → field 15 line ≡ Some k
+    → geo_fields line ≡ Some (record { level = a; component = b; record_number = n; of_state = s; county = k })
+unfolding geo_fields
+geo_fields_from line a b n s k e1 e2 e3 e4 e5 = rw (e1, e2, e3, e4, e5) refl
+
+pub geo_fields_few : (line a b n s : _) → field 3 line ≡ Some a → field 5 line ≡ Some b → field 8 line ≡ Some n → field 13 line ≡ Some s → field 15 line ≡ None → geo_fields line ≡ None
+unfolding geo_fields
+geo_fields_few line a b n s e1 e2 e3 e4 e5 = rw (e1, e2, e3, e4, e5) refl

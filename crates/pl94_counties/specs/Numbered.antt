@@ -1,0 +1,86 @@
+-- People by number, one number on a line: what the lines of a text give, and its first fault.
+use Rattle.std.specs.Prelude.{◌≡◌, ◌≢◌, ℕ, ◌==◌, Bool, List, [], ◌∷◌, ◌++◌, Option, Some, None, Result, Ok, Err, is_some, fold, if◌then◌else◌}
+use Rattle.std.specs.List.{list_any, filter_map}
+use Rattle.std.specs.Map.{lookup}
+use Rattle.std.specs.Ordering.{nat_cmp}
+use Rattle.std.specs.BTreeMap.{is_at, insert_entry}
+use Rattle.field_lines.specs.Fault.{line_of_fault}
+use Rattle.field_lines.specs.Cut.{Line, cut}
+use Rattle.field_lines.specs.declared.fault.LineFault.{LineFault}
+use Rattle.pl94_counties.specs.declared.fault.Kind.{Kind}
+use Rattle.pl94_counties.specs.declared.fault.Kind.TheVariants.{Lower, Memory}
+use Rattle.pl94_counties.specs.declared.fault.File.{File}
+use Rattle.pl94_counties.specs.declared.fault.Pl94Fault.{Pl94Fault}
+
+-- what one line gives: a number with its people, nothing, or what is wrong with the line
+abbrev pub Given : Type 0
+Given = Result (Option (ℕ × ℕ)) Kind
+
+-- a line that always has a number
+abbrev pub entry_given : Result (ℕ × ℕ) Kind → Given
+entry_given (Ok entry) = Ok (Some entry)
+entry_given (Err kind) = Err kind
+
+-- the number with its people, where the line gives them
+abbrev pub entry_of : Given → Option (ℕ × ℕ)
+entry_of (Ok entry) = entry
+entry_of (Err kind) = None
+
+-- what the lines give, in their order
+abbrev pub entries_on : (List ℕ → Given) → List Line → List (ℕ × ℕ)
+entries_on read lines = filter_map (λ l. entry_of (read l.bytes)) lines
+
+-- the people of a number among entries
+abbrev pub people_of : ℕ → List (ℕ × ℕ) → Option ℕ
+people_of number entries = lookup (is_at (nat_cmp number)) entries
+
+-- entries by number with what a further line gives, unless it is at fault after them
+abbrev pub with_given : Kind → List (ℕ × ℕ) → Given → Result (List (ℕ × ℕ)) Kind
+with_given double placed (Err kind) = Err kind
+with_given double placed (Ok None) = Ok placed
+with_given double placed (Ok (Some e)) = if is_some (people_of e.0 placed) then Err double else Ok (insert_entry nat_cmp placed e.0 e.1)
+
+-- a further line was added to entries, or is at fault after them, unless memory was refused
+abbrev pub Adds : Kind → List (ℕ × ℕ) → Given → Result (Unit {0}) Kind → List (ℕ × ℕ) → Type 0
+Adds double old given (Ok done) new = with_given double old given ≡ Ok new
+Adds double old given (Err kind) new = kind ≢ Memory → with_given double old given ≡ Err kind
+
+-- whether one of the entries has the number
+abbrev pub has_number : ℕ → List (ℕ × ℕ) → Bool
+has_number number entries = list_any (λ e. number == e.0) entries
+
+-- what is wrong with a line after the entries of the lines before it: a number among them is `double`
+abbrev pub line_fault : Kind → List (ℕ × ℕ) → Given → Option Kind
+line_fault double earlier (Err kind) = Some kind
+line_fault double earlier (Ok None) = None
+line_fault double earlier (Ok (Some e)) = if has_number e.0 earlier then Some double else None
+
+-- what is wrong with a line and its number, or else the later fault
+abbrev pub at_line : ℕ → Option Kind → Option (Kind × ℕ) → Option (Kind × ℕ)
+at_line number (Some kind) later = Some (kind, number)
+at_line number None later = later
+
+-- what is wrong with the first line at fault, and its number; `before` are the lines before the others
+abbrev pub first_fault : (List ℕ → Given) → Kind → List Line → List Line → Option (Kind × ℕ)
+first_fault read double before [] = None
+first_fault read double before (l ∷ ls) =
+    at_line l.number (line_fault double (entries_on read before) (read l.bytes)) (first_fault read double (before ++ l ∷ []) ls)
+
+-- the entries by number, each put in its place
+abbrev pub by_number : List (ℕ × ℕ) → List (ℕ × ℕ)
+by_number entries = fold (λ placed e. insert_entry nat_cmp placed e.0 e.1) [] entries
+
+-- the fault of a text whose cut ends in a fault
+abbrev pub cut_fault : File → LineFault → Pl94Fault
+cut_fault file fault = record { kind = Lower fault; file = file; line = line_of_fault fault }
+
+-- the entries, unless a line is at fault, or the cut after all its lines
+abbrev pub unless_fault : File → Option (Kind × ℕ) → Option LineFault → List (ℕ × ℕ) → Result (List (ℕ × ℕ)) Pl94Fault
+unless_fault file (Some f) fault entries = Err (record { kind = f.0; file = file; line = f.1 })
+unless_fault file None (Some fault) entries = Err (cut_fault file fault)
+unless_fault file None None entries = Ok entries
+
+-- the people by number of a whole text, or its first fault
+abbrev pub people_by_number : (List ℕ → Given) → Kind → File → List ℕ → Result (List (ℕ × ℕ)) Pl94Fault
+people_by_number read double file text =
+    unless_fault file (first_fault read double [] (cut text).lines) (cut text).fault (by_number (entries_on read (cut text).lines))

@@ -1,0 +1,16 @@
+ghost use Rattle.std.specs.Prelude.{◌≡◌, ◌+◌, OnSome, drop};
+ghost use Rattle.std.specs.List.{slice_get};
+ghost use Rattle.std.specs.Option.{option_map};
+
+use field_lines::Fields;
+
+/// What stands between two fields of a line.
+pub(crate) const DELIMITER: u8 = b'|';
+
+/// The field after `skipped` others.
+pub(crate) fn field_after<'a>(fields: &mut Fields<'a>, skipped: usize) -> Option<&'a [u8]>
+    ensures field { option_map (λ s. s.now) result ≡ slice_get fields.old skipped }
+    ensures rest { OnSome result (fields.new ≡ drop (skipped + 1) fields.old) }
+{
+    fields.nth(skipped)
+}
