@@ -1,8 +1,8 @@
 -- What the groups of a grouping are together.
 use Rattle.std.proofs.Common.{◌≡◌, ℕ, ◌≤◌, Bool, true, false, List, [], ◌∷◌, length, refl, arith}
 use Rattle.county_problem.specs.Sets.{digit, total, often, stands, member}
-use Rattle.county_problem.specs.Problem.{Problem, Suits, people_of, LawfulGroup, IsProblem}
-use Rattle.county_problem.specs.Grouping.{Grouping, Lawful, sets_of}
+use Rattle.county_problem.specs.Problem.{Problem, Suits, people_of, IsProblem}
+use Rattle.county_problem.specs.Grouping.{sets_of}
 use Rattle.county_problem.specs.AddUp.{WindowsAddUp, SizesAddUp, GroupsFit}
 use Rattle.county_problem.proofs.Sums.{total_within, total_ones, often_none, often_some}
 use Rattle.county_problem.proofs.Elements.{has_all}

@@ -1,11 +1,11 @@
 -- A set is connected exactly where the part around one of its counties is as large.
-use Rattle.std.proofs.Common.{◌≡◌, ℕ, ◌≤◌, ◌==◌, ◌↔◌, IsTrue, Bool, true, false, List, [], ◌∷◌, length, refl, sym, ap, ◌∙◌, arith}
+use Rattle.std.proofs.Common.{◌≡◌, ℕ, ◌≤◌, ◌==◌, ◌↔◌, IsTrue, Bool, true, false, List, length, refl, sym, ap, ◌∙◌, arith}
 use Rattle.std.proofs.lemmas.Bool.{eqb-true, eq-eqb, false≢true}
 use Rattle.county_problem.specs.Sets.{digit, often, member}
 use Rattle.county_problem.specs.Problem.{Problem, Connected}
 use Rattle.county_problem.specs.Parts.{IsPart}
 use Rattle.county_problem.proofs.Sums.{often_none, often_some, total_within, total_ones, total-take_out, take_out}
-use Rattle.county_problem.proofs.Alike.{Alike, connected_alike, length_alike, alike_from_same}
+use Rattle.county_problem.proofs.Alike.{connected_alike, length_alike, alike_from_same}
 use Rattle.county_problem.proofs.Fill.{whole, same_from}
 
 -- codes of a list, each once and as many as the list's, are all of it

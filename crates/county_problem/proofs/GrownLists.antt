@@ -1,9 +1,8 @@
 -- Connected lists that grow inside a region.
-use Rattle.std.proofs.Common.{◌≡◌, ℕ, ◌+◌, ◌≤◌, ◌<◌, Bool, true, false, ◌||◌, ◌&&◌, ◌==◌, List, [], ◌∷◌, ◌++◌, length, zero, suc, get_or, take, take_all, append_assoc, append-nil, refl, sym, ap, ◌∙◌, subst, arith, ◌⊎◌, inl, inr, ⊎_elim}
+use Rattle.std.proofs.Common.{◌≡◌, ℕ, ◌+◌, ◌≤◌, ◌<◌, Bool, true, false, ◌||◌, ◌==◌, List, [], ◌∷◌, ◌++◌, length, zero, suc, get_or, take, take_all, append_assoc, append-nil, refl, sym, ap, ◌∙◌, subst, arith, ◌⊎◌, inl, inr, ⊎_elim}
 use Rattle.std.proofs.lemmas.Bool.{eqb-true, eq-eqb, false≢true, or_right}
 use Rattle.std.proofs.lemmas.List.{take_more}
 use Rattle.county_problem.specs.Parts.{IsPart}
-use Rattle.std.specs.List.{list_any}
 use Rattle.county_problem.specs.ProblemValue.{ProblemValue}
 use Rattle.county_problem.specs.ProblemValue.{problem_of}
 use Rattle.county_problem.specs.Sets.{digit, often, member}

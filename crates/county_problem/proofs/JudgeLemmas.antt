@@ -1,5 +1,5 @@
 -- What the tests of a grouping say: where none fails it is lawful, and where one fails it is not.
-use Rattle.std.proofs.Common.{◌≡◌, ◌≢◌, ℕ, zero, suc, ◌+◌, ◌≤◌, ◌<◌, ◌==◌, ◌↔◌, Bool, true, false, not, cond, ◌||◌, List, [], ◌∷◌, ◌++◌, length, map, take, drop, drop-cons, take_all, get_or, Option, Some, None, find, refl, sym, ap, ◌∙◌, subst, arith, ◌⊎◌, inl, inr, ⊎_elim, All, if◌then◌else◌}
+use Rattle.std.proofs.Common.{◌≡◌, ◌≢◌, ℕ, suc, ◌+◌, ◌≤◌, ◌<◌, ◌==◌, Bool, true, false, not, cond, ◌||◌, List, [], ◌∷◌, ◌++◌, length, take, drop, drop-cons, take_all, get_or, Option, Some, None, refl, sym, ap, ◌∙◌, subst, arith, ◌⊎◌, inl, inr, ⊎_elim, All, if◌then◌else◌}
 use Rattle.std.proofs.lemmas.Bool.{eqb-true, eq-eqb, false≢true}
 use Rattle.std.proofs.lemmas.List.{take_more, take-append-drop, length-take}
 use Rattle.std.specs.List.{position_from, AllPairs, slice_index_or}
@@ -8,14 +8,13 @@ use Rattle.std.specs.List.Sorted.{IsStrictlyIncreasing}
 use Rattle.county_problem.specs.declared.group.Group.{Group}
 use Rattle.county_problem.specs.declared.grouping_fault.GroupingFault.{GroupingFault}
 use Rattle.county_problem.specs.declared.grouping_fault.GroupingFault.TheVariants.{EmptyGroup, UnknownCounty, Twice, Missing, NotConnected, OutOfWindow, SeatsTotal, Memory}
-use Rattle.county_problem.specs.Sets.{digit, total, often, stands, member, Inside}
+use Rattle.county_problem.specs.Sets.{digit, total, often, stands, member}
 use Rattle.county_problem.specs.Problem.{Problem, Suits, people_of, Connected, IsProblem}
 use Rattle.county_problem.specs.Grouping.{Grouping, Lawful, sets_of, seats_of, counts}
-use Rattle.county_problem.specs.Building.{repeated_after, first_repeated, first_unlisted}
-use Rattle.county_problem.specs.Judging.{first_empty_group, in_group, first_unknown, codes_read, IsLeastMissing, IsFirstNot, NoneEmpty, AllKnown, NoneTwice, NoneMissing, AllConnected, AllSuit, IsFault}
+use Rattle.county_problem.specs.Building.{repeated_after, first_unlisted}
+use Rattle.county_problem.specs.Judging.{in_group, first_unknown, codes_read, IsLeastMissing, IsFirstNot, NoneEmpty, NoneMissing, AllSuit, IsFault}
 use Rattle.county_problem.proofs.Sums.{digit_one, total-append, often_none, often_some}
 use Rattle.county_problem.proofs.Elements.{Has, has_all, all_from_has, has_get, has_right, has_set}
-use Rattle.county_problem.proofs.Digits.{digit_true}
 use Rattle.county_problem.proofs.Sizes.{stands_some, often-le-stands}
 use Rattle.county_problem.proofs.AddUp.{sizes, few_codes}
 use Rattle.county_problem.proofs.BuildLemmas.{repeated_none}

@@ -1,5 +1,5 @@
 -- The people of counties by their codes.
-use Rattle.std.proofs.Common.{◌≡◌, ℕ, ◌+◌, ◌≤◌, ◌==◌, Bool, true, false, cond, List, [], ◌∷◌, find, Some, None, Option, refl, sym, ap, ◌∙◌, arith, if◌then◌else◌}
+use Rattle.std.proofs.Common.{◌≡◌, ℕ, ◌+◌, ◌≤◌, ◌==◌, Bool, true, false, cond, List, [], ◌∷◌, find, Some, refl, sym, ap, arith}
 use Rattle.std.specs.Option.{option_map_or}
 use Rattle.std.proofs.lemmas.Bool.{eqb-true, eq-eqb}
 use Rattle.county_problem.specs.declared.county.County.{County}
@@ -7,7 +7,7 @@ use Rattle.county_problem.specs.Sets.{digit, total, often, member}
 use Rattle.county_problem.specs.ProblemValue.{ProblemValue, codes_of, people_at, problem_of}
 use Rattle.county_problem.specs.Problem.{people_of}
 use Rattle.county_problem.specs.Building.{people_in}
-use Rattle.county_problem.proofs.Sums.{total_within, total_same, total_add, often_none, often_some}
+use Rattle.county_problem.proofs.Sums.{total_within, often_none, often_some}
 
 -- a code that no county has has no people
 nobody : (counties : List County) (code : ℕ) → often code (codes_of counties) ≡ 0 → people_at counties code ≡ 0

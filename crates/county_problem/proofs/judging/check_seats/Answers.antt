@@ -1,4 +1,4 @@
-use Rattle.std.proofs.Common.{ℕ, List, ◌≤◌, ◌∙◌, sym, subst, arith}
+use Rattle.std.proofs.Common.{◌∙◌, sym, arith}
 use Rattle.std.proofs.lemmas.Bool.{false≢true}
 use Rattle.county_problem.specs.declared.group.Group.{Group}
 use Rattle.county_problem.specs.Problem.{Suits, people_of}

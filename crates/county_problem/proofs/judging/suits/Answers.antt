@@ -1,7 +1,6 @@
-use Rattle.std.proofs.Common.{◌≡◌, ◌≤◌, ◌∙◌, ap, arith}
+use Rattle.std.proofs.Common.{◌∙◌, ap, arith}
 use Rattle.county_problem.specs.Sets.{total}
-use Rattle.county_problem.specs.Problem.{people_of}
-use Rattle.county_problem.specs.ProblemValue.{problem_of, people_at}
+use Rattle.county_problem.specs.ProblemValue.{people_at}
 use Rattle.county_problem.specs.Building.{people_in}
 use Rattle.county_problem.proofs.PeopleLemmas.{group_within}
 use Rattle.county_problem.proofs.judging.suits.Goals as goal
