@@ -13,7 +13,7 @@ use Rattle.county_problem.specs.declared.county.County.{County}
 use Rattle.county_problem.specs.Sets.{digit, total, often, member}
 use Rattle.county_problem.specs.ProblemValue.{codes_of}
 use Rattle.county_problem.specs.Building.{repeated_after, first_repeated, people_in}
-use Rattle.county_problem.proofs.Sums.{total-append, often_none}
+use Rattle.county_problem.proofs.Sums.{total-append, total_ones, often_none}
 
 -- a code that doesn't stand before stands once more at most
 often_added : (before : List ℕ) (x c : ℕ) → member before x ≡ false → often c before ≤ 1 → often c (before ++ x ∷ []) ≤ 1
@@ -27,7 +27,7 @@ often_added before x c out h = go (x == c) refl
     go false e = rw (total-append (λ y. digit (y == c)) before (x ∷ []), e) (omega (arith, h))
 
 -- where no code is repeated, each stands once
-repeated_none : (before codes : List ℕ) → repeated_after before codes ≡ None → (c : ℕ) → often c before ≤ 1 → often c (before ++ codes) ≤ 1
+pub repeated_none : (before codes : List ℕ) → repeated_after before codes ≡ None → (c : ℕ) → often c before ≤ 1 → often c (before ++ codes) ≤ 1
 repeated_none before [] none c h = rw (total-append (λ y. digit (y == c)) before []) (omega (arith, h))
 repeated_none before (x ∷ xs) none c h = go (member before x) refl none (λ n k. repeated_none (before ++ x ∷ []) xs n c k)
   where
@@ -115,3 +115,9 @@ people_left p counties left same =
     let moved : people_in left ≡ people_in (filter p counties) =
     total_sum (λ c. c.people) left ∙ (sum_by-IsPermutation (λ c. c.people) (filter p counties) left same ∙ sym (total_sum (λ c. c.people) (filter p counties))) in
     omega (arith, moved, total_filter (λ (c : County). c.people) p counties)
+
+-- and are no more than all that are listed
+pub fewer_kept : (p : County → Bool) (counties left : List County) → IsPermutation (filter p counties) left → length left ≤ length counties
+fewer_kept p counties left same =
+    let moved = total_sum (λ c. 1) left ∙ (sum_by-IsPermutation (λ c. 1) (filter p counties) left same ∙ sym (total_sum (λ c. 1) (filter p counties))) in
+    omega (arith, moved, total_filter (λ (c : County). 1) p counties, total_ones left, total_ones counties)

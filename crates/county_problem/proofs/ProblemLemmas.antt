@@ -6,7 +6,7 @@ use Rattle.county_problem.specs.ProblemValue.{ProblemValue, problem_of, codes_of
 use Rattle.county_problem.proofs.RisingLemmas.{rising_once}
 
 -- adjacency has no direction
-symmetric : (pairs : List (ℕ × ℕ)) (x y : ℕ) → names_both pairs x y ≡ true → names_both pairs y x ≡ true
+pub symmetric : (pairs : List (ℕ × ℕ)) (x y : ℕ) → names_both pairs x y ≡ true → names_both pairs y x ≡ true
 symmetric [] x y h = h
 symmetric (q ∷ qs) x y h = go (q.0 == x && q.1 == y) (q.0 == y && q.1 == x) h (symmetric qs x y)
   where
