@@ -5,6 +5,7 @@ use crate::shelf::{MAX_FILE, Shelf, ShelfFault};
 use field_lines::{Reading, WholeFault, read_whole};
 use std::alloc::Global;
 use std::fs;
+use std::fs::OpenFile;
 use std::io::{Error, ErrorKind};
 use std::rt::Files;
 
@@ -21,6 +22,14 @@ impl<R: Files + AllocGlobal> FileShelf<R> {
         ensures { ⟦<FileShelf<R> as Shelf>⟧.failure_count result ≡ 0 }
     {
         FileShelf { rt, failures: 0 }
+    }
+}
+
+/// Whether the system says that the file is above the limit.
+fn is_too_large(file: &impl OpenFile) -> bool {
+    match file.metadata() {
+        Ok(metadata) => metadata.len() > MAX_FILE as u64,
+        Err(_) => false,
     }
 }
 
@@ -55,12 +64,15 @@ impl<R: Files + AllocGlobal> Shelf for FileShelf<R> {
 
     ghost failure_count = { λ s. s.failures };
 
-    /// A file is read up to its limit, and no further.
+    /// A file is read up to its limit and no further, and one that the system says is larger not at all.
     fn load(&mut self, alloc: Global, name: &str) -> Result<Vec<u8>, ShelfFault> {
         let file = match fs::open(&self.rt, name) {
             Ok(file) => file,
             Err(error) => return Err(fault_of(&error, &mut self.failures)),
         };
+        if is_too_large(&file) {
+            return Err(ShelfFault::TooLarge);
+        }
         match read_whole(alloc, &mut Reading::new(file), MAX_FILE) {
             Ok(bytes) => Ok(bytes),
             Err(WholeFault::TooLarge) => Err(ShelfFault::TooLarge),
