@@ -1,20 +1,16 @@
 -- What the steps of a run of a case give together.
-use Rattle.std.proofs.Common.{◌≡◌, ◌⊎◌, ◌∙◌, ◌++◌, ◌≤◌, ◌<◌, ◌==◌, ℕ, Bool, true, false, List, [], ◌∷◌, Option, Some, None, refl, sym, ap, subst, inl, inr, append-nil, map, option_map}
-use Rattle.std.specs.Prelude.{Result, Ok, Err, IfSome, reverse, length}
+use Rattle.std.proofs.Common.{◌≡◌, ◌∙◌, ◌++◌, ◌==◌, ℕ, true, List, [], ◌∷◌, Some, refl, sym, ap, subst, map}
+use Rattle.std.specs.Prelude.{reverse}
 use Rattle.std.specs.Option.{option_or}
 use Rattle.std.proofs.lemmas.List.{reverse-append, map_push}
-use Rattle.std.specs.Str.{bytes_eq}
 use mathlib.Core.Path.{fun_ext}
-use Rattle.field_lines.specs.declared.source.WholeFault.{WholeFault}
-use Rattle.field_lines.specs.declared.source.WholeFault.TheVariants.{TooLarge, Failed, Memory}
-use Rattle.cli.specs.Answer.{Answered, memory_answer}
+use Rattle.cli.specs.Answer.{Answered}
 use Rattle.cli.specs.Files.{File, Files, held}
 use Rattle.std.specs.List.{slice_split}
 use Rattle.field_lines.specs.Raw.{raw_lines}
 use Rattle.cli.specs.Case.{case_files, first_line, is_case}
 use Rattle.cli.specs.Run.{IsRunAnswer}
-use Rattle.cli.specs.Delivery.{Delivers}
-use Rattle.cli.specs.CaseRun.{IsWhole, IsReadAnswer, DeliversCase, WordsOver, followed_by, stored_text, IsCaseAnswer}
+use Rattle.cli.specs.CaseRun.{WordsOver, stored_text, IsCaseAnswer}
 use Rattle.cli.specs.Memory.{files_of}
 use Rattle.cli.specs.declared.memory.MemoryFile.{MemoryFile}
 
@@ -25,13 +21,13 @@ nothing_stored stored files none = fun_ext (λ name. rw none refl)
 -- an answer over such a shelf, with the files that were stored since
 pub words_over : (stored files : List File) (words : List (List ℕ)) (text after : List ℕ) (status : ℕ) (now : List File)
     → stored ≡ [] → Some now ≡ Some stored → after ≡ text ++ stored_text now
-    → IsRunAnswer (Some (λ name. option_or (held stored name) (held files name))) 0 words (record { text = text; status = status })
+    → IsRunAnswer (Some (λ name. option_or (held stored name) (held files name))) 0 0 words (record { text = text; status = status })
     → WordsOver files words (record { text = after; status = status })
 words_over stored files words text after status now none kept is answer =
     let same : now ≡ [] = some_same kept ∙ none in
     record {
       run = record { text = text; status = status };
-      answer = subst (λ (f : Files). IsRunAnswer (Some f) 0 words (record { text = text; status = status })) (nothing_stored stored files none) answer;
+      answer = subst (λ (f : Files). IsRunAnswer (Some f) 0 0 words (record { text = text; status = status })) (nothing_stored stored files none) answer;
       followed = ap (λ (t : List ℕ). record { text = t; status = status }) (is ∙ ap (λ (l : List File). text ++ stored_text l) same);
     }
   where

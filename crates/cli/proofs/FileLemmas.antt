@@ -1,11 +1,11 @@
 -- A file is put at its place.
-use Rattle.std.proofs.Common.{◌≡◌, ℕ, zero, suc, ◌+◌, ◌<◌, Bool, true, false, None, List, [], ◌∷◌, ◌++◌, length, take, drop, get_or, refl, ap, arith}
+use Rattle.std.proofs.Common.{◌≡◌, ℕ, zero, suc, ◌<◌, Bool, true, false, None, List, [], ◌∷◌, ◌++◌, length, take, drop, get_or, refl, ap, arith}
 use Rattle.std.specs.Prelude.{slice_set}
 use Rattle.std.specs.Str.{bytes_eq}
 use Rattle.std.specs.Option.{option_or}
 use Rattle.std.proofs.lemmas.Slice.Eq.{bytes_eq-Decides}
-use Rattle.std.proofs.Common.{sym, ◌∙◌, Option, Some, if◌then◌else◌}
-use Rattle.cli.specs.Files.{File, Files, held, bytes_of, with_file, with_bytes}
+use Rattle.std.proofs.Common.{sym, ◌∙◌, Some, if◌then◌else◌}
+use Rattle.cli.specs.Files.{File, held, with_file, with_bytes}
 
 module _ (name bytes : List ℕ) where
   -- past a file of another name

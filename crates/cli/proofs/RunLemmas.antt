@@ -1,5 +1,5 @@
 -- What the steps of a run give together.
-use Rattle.std.proofs.Common.{◌≡◌, ◌⊎◌, ℕ, List, Option, Some, None, inl, inr}
+use Rattle.std.proofs.Common.{◌≡◌, ◌⊎◌, ◌≤◌, le_refl, ℕ, List, Option, Some, None, inl, inr}
 use Rattle.std.specs.Prelude.{Result, Ok, Err, IfOk}
 use Rattle.pl94_counties.specs.Counties.{county_list}
 use Rattle.command_words.specs.declared.words.ProblemWords.{ProblemWords}
@@ -7,9 +7,9 @@ use Rattle.cli.specs.declared.shelf.ShelfFault.{ShelfFault}
 use Rattle.cli.specs.declared.shelf.ShelfFault.TheVariants.{Missing, TooLarge, Device, Memory}
 use Rattle.cli.specs.Answer.{Answered, memory_answer}
 use Rattle.cli.specs.Files.{Files}
-use Rattle.cli.specs.Shelf.{IsLoad}
+use Rattle.cli.specs.Shelf.{IsLoad, IsCounted}
 use Rattle.cli.specs.Refusals.{shelf_answer}
-use Rattle.cli.specs.Run.{Loaded, IsCountiesAnswer, SizeRun}
+use Rattle.cli.specs.Run.{IsCountiesAnswer, SizeRun}
 
 -- a claim on an answer, changed
 pub if_ok : {X E : Type 0} (P Q : X → Type 0) (r : Result X E) → ((x : X) → P x → Q x) → IfOk r P → IfOk r Q
@@ -35,41 +35,47 @@ memory_load : (files : Option Files) (failures : ℕ) (name : List ℕ) → IsLo
 memory_load None failures name = tt
 memory_load (Some files) failures name = tt
 
-module _ (files : Option Files) (failures : ℕ) (words : ProblemWords) (a : Answered) where
-  pub geo_missing : (fault : ShelfFault) → IsLoad {X = List ℕ} (λ bytes. bytes) files failures words.geo.now (Err fault) → a ≡ shelf_answer words.geo.now fault
-      → (a ≡ memory_answer) ⊎ SizeRun files failures words a
-  geo_missing fault loaded is = inr (record {
+module _ (files : Option Files) (before after : ℕ) (words : ProblemWords) (a : Answered) where
+  pub geo_missing : (fault : ShelfFault) → IsLoad {X = List ℕ} (λ bytes. bytes) files before words.geo.now (Err fault) → IsCounted {X = List ℕ} before after (Err fault) → a ≡ shelf_answer words.geo.now fault
+      → (a ≡ memory_answer) ⊎ SizeRun files before after words a
+  geo_missing fault loaded counted is = inr (record {
     geo = Err fault;
+    between = after;
     geo_loaded = loaded;
-    failures_then = 0;
+    geo_counted = counted;
     segment = Err Memory;
-    segment_loaded = memory_load files 0 words.segment.now;
+    segment_loaded = memory_load files after words.segment.now;
+    segment_counted = le_refl after;
     answer = is;
   })
 
-  module _ (geo : List ℕ) (geo_loaded : IsLoad (λ bytes. bytes) files failures words.geo.now (Ok geo)) (failures_then : ℕ) where
-    pub segment_missing : (fault : ShelfFault) → IsLoad {X = List ℕ} (λ bytes. bytes) files failures_then words.segment.now (Err fault) → a ≡ shelf_answer words.segment.now fault
-        → (a ≡ memory_answer) ⊎ SizeRun files failures words a
-    segment_missing fault loaded is = inr (record {
+  module _ (geo : List ℕ) (between : ℕ) (geo_loaded : IsLoad (λ bytes. bytes) files before words.geo.now (Ok geo)) (geo_counted : before ≤ between) where
+    pub segment_missing : (fault : ShelfFault) → IsLoad {X = List ℕ} (λ bytes. bytes) files between words.segment.now (Err fault) → IsCounted {X = List ℕ} between after (Err fault) → a ≡ shelf_answer words.segment.now fault
+        → (a ≡ memory_answer) ⊎ SizeRun files before after words a
+    segment_missing fault loaded counted is = inr (record {
       geo = Ok geo;
+      between = between;
       geo_loaded = geo_loaded;
-      failures_then = failures_then;
+      geo_counted = geo_counted;
       segment = Err fault;
       segment_loaded = loaded;
+      segment_counted = counted;
       answer = is;
     })
 
-    pub both_loaded : (segment : List ℕ) → IsLoad (λ bytes. bytes) files failures_then words.segment.now (Ok segment)
+    pub both_loaded : (segment : List ℕ) → IsLoad (λ bytes. bytes) files between words.segment.now (Ok segment) → between ≤ after
         → (a ≡ memory_answer) ⊎ IsCountiesAnswer (county_list geo segment words.state) words.chamber a
-        → (a ≡ memory_answer) ⊎ SizeRun files failures words a
-    both_loaded segment loaded is = elim is [
+        → (a ≡ memory_answer) ⊎ SizeRun files before after words a
+    both_loaded segment loaded counted is = elim is [
       | inl refused ↦ inl refused
       | inr answer ↦ inr (record {
         geo = Ok geo;
+        between = between;
         geo_loaded = geo_loaded;
-        failures_then = failures_then;
+        geo_counted = geo_counted;
         segment = Ok segment;
         segment_loaded = loaded;
+        segment_counted = counted;
         answer = answer;
       })
     ]

@@ -1,6 +1,7 @@
 -- What the program writes, and its exit status.
 use Rattle.std.specs.Prelude.{ℕ, List, codes}
 
+-- a text and an exit status
 pub record Answered : Type 0 where
   pub text : List ℕ
   pub status : ℕ

@@ -1,5 +1,5 @@
 -- A case: the words of a command and its files, in one text.
-use Rattle.std.specs.Prelude.{ℕ, ◌&&◌, ◌==◌, Bool, true, false, List, [], ◌∷◌, ◌++◌, Option, Some, None, codes, drop, length, reverse, if◌then◌else◌}
+use Rattle.std.specs.Prelude.{ℕ, ◌&&◌, ◌==◌, Bool, List, [], ◌∷◌, ◌++◌, Option, Some, None, codes, drop, if◌then◌else◌}
 use Rattle.std.specs.List.{starts_with, slice_split, list_all}
 use Rattle.std.specs.Prelude.{nat_eq}
 use Rattle.std.specs.Str.{is_utf8}
@@ -19,11 +19,12 @@ pub record Parts : Type 0 where
   pub lines : List ℕ
   pub files : List File
 
--- a line in front
+-- a line that names a file begins it; any other joins the lines that follow
 abbrev pub in_front : Option (List ℕ) → RawLine → Parts → Parts
 in_front None p parts = record { lines = whole_line p ++ parts.lines; files = parts.files }
 in_front (Some name) p parts = record { lines = []; files = record { name = name; bytes = parts.lines } ∷ parts.files }
 
+-- the lines of pieces, and their files
 abbrev pub parts_of : List RawLine → Parts
 parts_of [] = record { lines = []; files = [] }
 parts_of (p ∷ ps) = in_front (file_name p.bytes) p (parts_of ps)
@@ -49,7 +50,7 @@ are_named files = list_all (λ f. is_utf8 f.name) files
 abbrev pub is_case : List ℕ → Bool
 is_case text = is_utf8 (first_line (raw_lines text)) && are_named (case_files text)
 
--- a file that is being read, in front of the files that follow
+-- a file that is being read with the bytes so far, and the files after it
 abbrev pub with_open : Option (List ℕ) → List ℕ → Parts → List File
 with_open None bytes parts = parts.files
 with_open (Some name) bytes parts = record { name = name; bytes = bytes ++ parts.lines } ∷ parts.files

@@ -20,7 +20,7 @@ followed_by a stored = record { text = a.text ++ stored_text stored; status = a.
 -- the answer to words over files, followed by the files that were stored: no command stores one yet
 pub record WordsOver (files : List File) (words : List (List ℕ)) (a : Answered) : Type 0 where
   pub run : Answered
-  pub answer : IsRunAnswer (Some (held files)) 0 words run
+  pub answer : IsRunAnswer (Some (held files)) 0 0 words run
   pub followed : a ≡ followed_by run []
 
 -- the answer to the text of a case: none where its first line or a file's name isn't text; else that to its words over its files, of
@@ -31,10 +31,10 @@ IsCaseAnswer text (Some a) = (is_case text ≡ true) × WordsOver (reverse (case
 
 -- what came of reading a source of these bytes, where it tells them, that may fail in the end
 abbrev pub IsWhole : Option (List ℕ) → Bool → Result (List ℕ) WholeFault → Type 0
-IsWhole known failed (Ok text) = IfSome known (λ bytes. text ≡ bytes) × (length text ≤ 16777216)
-IsWhole known failed (Err TooLarge) = IfSome known (λ bytes. 16777216 < length bytes)
+IsWhole known failed (Ok text) = (failed ≡ false) × IfSome known (λ bytes. text ≡ bytes) × (length text ≤ 16777216)
+IsWhole known failed (Err TooLarge) = (failed ≡ false) × IfSome known (λ bytes. 16777216 < length bytes)
 IsWhole known failed (Err Failed) = failed ≡ true
-IsWhole known failed (Err Memory) = Unit {0}
+IsWhole known failed (Err Memory) = failed ≡ false
 
 -- the answer to what was read; a growth may be refused
 abbrev pub IsReadAnswer : Result (List ℕ) WholeFault → Option Answered → Type 0

@@ -38,6 +38,7 @@ abbrev pub shown_line : Kind → ℕ → ℕ
 shown_line (kinds.Lower lines.TooManyLines) line = 0
 shown_line kind line = line
 
+-- the word of a file
 abbrev pub file_word : File → List ℕ
 file_word Geo = codes "geo"
 file_word Segment1 = codes "segment1"
@@ -51,6 +52,7 @@ abbrev pub file_answer : File → Kind → ℕ → Answered
 file_answer file kinds.Memory line = memory_answer
 file_answer file kind line = record { text = refused_line (file_word file) (kind_word kind) (shown_line kind line); status = 4 }
 
+-- the answer to a fault of a PL 94-171 file
 abbrev pub pl94_answer : Pl94Fault → Answered
 pl94_answer fault = file_answer fault.file fault.kind fault.line
 
@@ -75,10 +77,12 @@ problem_words problem.Memory = codes "Memory"
 unfoldable pub refused_problem : ProblemFault → List ℕ
 refused_problem fault = codes "refused problem " ++ problem_words fault ++ codes "\n"
 
+-- the answer to a fault of the problem
 abbrev pub problem_answer : ProblemFault → Answered
 problem_answer problem.Memory = memory_answer
 problem_answer fault = record { text = refused_problem fault; status = 4 }
 
+-- the word of a fault of the shelf
 abbrev pub shelf_word : ShelfFault → List ℕ
 shelf_word shelf.Missing = codes "Missing"
 shelf_word shelf.TooLarge = codes "TooLarge"

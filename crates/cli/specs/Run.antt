@@ -15,7 +15,7 @@ use Rattle.command_words.specs.declared.end.WordsEnd.TheVariants.{Help, Usage, M
 use Rattle.cli.specs.declared.shelf.ShelfFault.{ShelfFault}
 use Rattle.cli.specs.Answer.{Answered, memory_answer}
 use Rattle.cli.specs.Files.{Files}
-use Rattle.cli.specs.Shelf.{IsLoad}
+use Rattle.cli.specs.Shelf.{IsLoad, IsCounted}
 use Rattle.cli.specs.SizeTable.{size_text}
 use Rattle.cli.specs.Refusals.{pl94_answer, problem_answer, shelf_answer}
 
@@ -39,18 +39,21 @@ IsSizeAnswer words (Err fault) segment a = a ≡ shelf_answer words.geo.now faul
 IsSizeAnswer words (Ok geo) (Err fault) a = a ≡ shelf_answer words.segment.now fault
 IsSizeAnswer words (Ok geo) (Ok segment) a = IsCountiesAnswer (county_list geo segment words.state) words.chamber a
 
--- a run of `size` over a shelf that has failed so often before: what it loaded, and the answer for that
-pub record SizeRun (files : Option Files) (failures : ℕ) (words : ProblemWords) (a : Answered) : Type 0 where
+-- a run of `size` over a shelf whose device failed so often before and after it: what the shelf answered to the two loads, and the
+-- answer for that
+pub record SizeRun (files : Option Files) (before after : ℕ) (words : ProblemWords) (a : Answered) : Type 0 where
   pub geo : Loaded
-  pub geo_loaded : IsLoad (λ bytes. bytes) files failures words.geo.now geo
-  pub failures_then : ℕ
+  pub between : ℕ
+  pub geo_loaded : IsLoad (λ bytes. bytes) files before words.geo.now geo
+  pub geo_counted : IsCounted before between geo
   pub segment : Loaded
-  pub segment_loaded : IsLoad (λ bytes. bytes) files failures_then words.segment.now segment
+  pub segment_loaded : IsLoad (λ bytes. bytes) files between words.segment.now segment
+  pub segment_counted : IsCounted between after segment
   pub answer : IsSizeAnswer words geo segment a
 
 -- a run of a command; a growth may be refused in any
-abbrev pub CommandRun : Option Files → ℕ → CommandWords → Answered → Type 0
-CommandRun files failures (Size words) a = (a ≡ memory_answer) ⊎ SizeRun files failures words a
+abbrev pub CommandRun : Option Files → ℕ → ℕ → CommandWords → Answered → Type 0
+CommandRun files before after (Size words) a = (a ≡ memory_answer) ⊎ SizeRun files before after words a
 
 -- the words give no command: help ends with 0 and usage with 2, with clap's text
 abbrev pub IsEndAnswer : WordsEnd → Answered → Type 0
@@ -60,9 +63,9 @@ IsEndAnswer Memory a = a ≡ memory_answer
 
 -- The answer to words: that of the command that they mean, or the end that they come to. Words that clap takes mean a command, so
 -- they end neither in help nor in usage.
-abbrev pub IsRunAnswer : Option Files → ℕ → List (List ℕ) → Answered → Type 0
-IsRunAnswer files failures words a =
-    ((command : CommandWords) × Means words command × (faults_of words ≡ []) × CommandRun files failures command a)
+abbrev pub IsRunAnswer : Option Files → ℕ → ℕ → List (List ℕ) → Answered → Type 0
+IsRunAnswer files before after words a =
+    ((command : CommandWords) × Means words command × (faults_of words ≡ []) × CommandRun files before after command a)
     ⊎ ((end : WordsEnd) × EndsBy (faults_of words) end × (takes_words words ≡ true → end ≡ Memory) × IsEndAnswer end a)
 
 -- the command's state has two digits

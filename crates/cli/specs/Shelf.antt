@@ -1,7 +1,5 @@
 -- Named files, as a shelf tells them.
-use Rattle.std.specs.Prelude.{◌≡◌, ◌<◌, ◌-◌, ◌^◌, ◌⊎◌, ℕ, List, [], ◌∷◌, length, Option, Some, None, Result, Ok, Err, if◌then◌else◌}
-use Rattle.std.specs.Option.{option_or}
-use Rattle.std.specs.Str.{bytes_eq}
+use Rattle.std.specs.Prelude.{◌≡◌, ◌<◌, ◌≤◌, ◌-◌, ◌^◌, ◌⊎◌, ℕ, List, length, Option, Some, None, Result, Ok, Err}
 use Rattle.cli.specs.declared.shelf.ShelfFault.{ShelfFault}
 use Rattle.cli.specs.declared.shelf.ShelfFault.TheVariants.{Missing, TooLarge, Device, Memory}
 use Rattle.cli.specs.Files.{Files}
@@ -19,3 +17,13 @@ Loads view files failures name (Err Memory) = Unit {0}
 abbrev pub IsLoad : {X : Type 0} → (X → List ℕ) → Option Files → ℕ → List ℕ → Result X ShelfFault → Type 0
 IsLoad view None failures name loaded = Unit {0}
 IsLoad view (Some files) failures name loaded = Loads view files failures name loaded
+
+-- the count of failures never falls, and rises at a fault of the device
+abbrev pub CountsFault : ℕ → ℕ → ShelfFault → Type 0
+CountsFault before after Device = before < after
+CountsFault before after fault = before ≤ after
+
+-- the same of a call's result
+abbrev pub IsCounted : {X : Type 0} → ℕ → ℕ → Result X ShelfFault → Type 0
+IsCounted before after (Ok x) = before ≤ after
+IsCounted before after (Err fault) = CountsFault before after fault

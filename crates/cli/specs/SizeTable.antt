@@ -1,5 +1,5 @@
 -- The text of a size table.
-use Rattle.std.specs.Prelude.{ℕ, ◌+◌, ◌/◌, ◌%◌, List, [], ◌∷◌, ◌++◌, Option, Some, None, codes, decimal, nat_le, if◌then◌else◌}
+use Rattle.std.specs.Prelude.{ℕ, List, ◌++◌, Option, Some, None, codes, decimal, nat_le, if◌then◌else◌}
 use Rattle.std.specs.List.{flat_map}
 use Rattle.county_problem.specs.ProblemValue.{ProblemValue, problem_of}
 use Rattle.county_problem.specs.SeatWindow.{seat_run, people_bounds}

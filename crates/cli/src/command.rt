@@ -20,7 +20,7 @@ fn command_answer<H: Shelf>(
     shelf: &mut H,
 ) -> Result<Answer, AllocError>
     requires { HasState command }
-    ensures answer { IfOk result (λ a. CommandRun (H.contents shelf.old) (H.failure_count shelf.old) command.entry (answered a)) }
+    ensures answer { IfOk result (λ a. CommandRun (H.contents shelf.old) (H.failure_count shelf.old) (H.failure_count shelf.new) command.entry (answered a)) }
     ensures same { H.contents shelf.new ≡ H.contents shelf.old }
     ensures kept { H.stored shelf.new ≡ H.stored shelf.old }
 {
@@ -46,7 +46,7 @@ pub(crate) fn words_answer<H: Shelf>(
     words: &[&str],
     shelf: &mut H,
 ) -> Result<Answer, AllocError>
-    ensures answer { IfOk result (λ a. IsRunAnswer (H.contents shelf.old) (H.failure_count shelf.old) (texts words.now) (answered a)) }
+    ensures answer { IfOk result (λ a. IsRunAnswer (H.contents shelf.old) (H.failure_count shelf.old) (H.failure_count shelf.new) (texts words.now) (answered a)) }
     ensures same { H.contents shelf.new ≡ H.contents shelf.old }
     ensures kept { H.stored shelf.new ≡ H.stored shelf.old }
 {
@@ -69,11 +69,12 @@ pub(crate) fn deliver<W: Sink>(out: &mut W, text: &[u8], status: u8) -> u8
 /// Runs one command and answers the exit status. The words are those after the program's name. The answer
 /// is composed whole and then written.
 ///
-/// Where the writing failed the status is 5, and how much went out is not said. Where memory was refused
-/// the line is `memory`, and the status 5.
+/// The status is 0 for an answer and for help, 2 for usage, 4 where the input was refused, 5 where a file
+/// could not be had or memory was refused (the line is then `memory`), and 5 where the writing failed: how
+/// much went out is then not said. Nothing is stored, and the files stay as they were.
 pub fn run<H: Shelf, W: Sink>(alloc: Global, words: &[&str], shelf: &mut H, out: &mut W) -> u8
     ensures answer { (a : Answered)
-        × ((a ≡ memory_answer) ⊎ IsRunAnswer (H.contents shelf.old) (H.failure_count shelf.old) (texts words.now) a)
+        × ((a ≡ memory_answer) ⊎ IsRunAnswer (H.contents shelf.old) (H.failure_count shelf.old) (H.failure_count shelf.new) (texts words.now) a)
         × Delivers (W.is_failed out.new) (W.contents out.old) (W.contents out.new) a result }
     ensures same { H.contents shelf.new ≡ H.contents shelf.old }
     ensures kept { H.stored shelf.new ≡ H.stored shelf.old }

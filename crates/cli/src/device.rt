@@ -1,5 +1,5 @@
-ghost use Rattle.std.specs.Prelude.{◌≡◌, ◌<◌, None};
-ghost use Rattle.cli.specs.declared.shelf.ShelfFault.TheVariants.{Device};
+ghost use Rattle.std.specs.Prelude.{◌≡◌, ◌<◌, ◌≤◌, None};
+ghost use Rattle.cli.specs.Shelf.{CountsFault};
 
 use crate::shelf::{MAX_FILE, Shelf, ShelfFault};
 use field_lines::{Reading, WholeFault, read_whole};
@@ -35,7 +35,7 @@ fn is_too_large(file: &impl OpenFile) -> bool {
 
 /// Counts a failure of the device. Where the count is at its last value it stays, and the fault is `Missing`.
 fn device_fault(failures: &mut u64) -> ShelfFault
-    ensures { result ≡ Device → failures.old < failures.new }
+    ensures { CountsFault failures.old failures.new result }
 {
     match failures.checked_add(1) {
         Some(more) => {
@@ -48,7 +48,7 @@ fn device_fault(failures: &mut u64) -> ShelfFault
 
 /// The fault that an error of the system is.
 fn fault_of(error: &Error, failures: &mut u64) -> ShelfFault
-    ensures { result ≡ Device → failures.old < failures.new }
+    ensures { CountsFault failures.old failures.new result }
 {
     match error.kind() {
         ErrorKind::NotFound => ShelfFault::Missing,

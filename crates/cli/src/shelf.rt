@@ -1,6 +1,6 @@
-ghost use Rattle.std.specs.Prelude.{◌≡◌, ℕ, ◌<◌, ◌≤◌, List, Option, IfOk, IsErrOf, OnOk, OnErr, option_map, vec_len};
+ghost use Rattle.std.specs.Prelude.{◌≡◌, ℕ, ◌<◌, ◌≤◌, List, Option, IfOk, OnOk, OnErr, option_map, vec_len};
 ghost use Rattle.cli.specs.Files.{File, Files, with_file, with_bytes};
-ghost use Rattle.cli.specs.Shelf.{IsLoad};
+ghost use Rattle.cli.specs.Shelf.{IsLoad, IsCounted};
 ghost use Rattle.cli.specs.declared.shelf.ShelfFault.TheVariants.{Memory};
 
 use std::alloc::{AllocError, Global};
@@ -49,27 +49,28 @@ pub trait Shelf {
     ///
     /// # Errors
     ///
-    /// `Missing` where there is none, or where the device failed and its count of failures is at its last
-    /// value; `TooLarge` only above 1,073,741,824 bytes, and no larger file is given; `Device` only where the
-    /// count of failures rose in this call; `Memory` where a growth was refused.
+    /// `Device` only where the count of failures rose in this call, which never falls. Where the shelf tells its
+    /// files, `Missing` only where there is none of the name, or where the device failed and its count is at its
+    /// last value; `TooLarge` only above 1,073,741,824 bytes. No larger file is ever given. `Memory` where a
+    /// growth was refused.
     fn load(&mut self, alloc: Global, name: &str) -> Result<Vec<u8>, ShelfFault>
         ensures small { IfOk result (λ v. vec_len v ≤ 1073741824) }
         ensures loaded { IsLoad (λ v. v.items) (contents self.old) (failure_count self.old) name.now result }
         ensures same { contents self.new ≡ contents self.old }
         ensures kept { stored self.new ≡ stored self.old }
-        ensures device { IsErrOf result ShelfFault.Device → failure_count self.old < failure_count self.new };
+        ensures counted { IsCounted (failure_count self.old) (failure_count self.new) result };
 
     /// Puts a file under a name, in the place of the one that was there.
     ///
     /// # Errors
     ///
-    /// As those of `load`; the files are then as before, where the shelf tells them.
+    /// `Device` only where the count of failures rose. The files are then as before, where the shelf tells them.
     fn store(&mut self, alloc: Global, name: &str, bytes: &[u8]) -> Result<(), ShelfFault>
         ensures put { OnOk result (contents self.new ≡ option_map (λ files. with_bytes files name.now bytes.now) (contents self.old)) }
         ensures listed { OnOk result (stored self.new ≡ option_map (λ files. with_file files name.now bytes.now) (stored self.old)) }
         ensures same { OnErr result (contents self.new ≡ contents self.old) }
         ensures kept { OnErr result (stored self.new ≡ stored self.old) }
-        ensures device { IsErrOf result ShelfFault.Device → failure_count self.old < failure_count self.new };
+        ensures counted { IsCounted (failure_count self.old) (failure_count self.new) result };
 
     /// How often the device has failed.
     fn failures(&self) -> u64

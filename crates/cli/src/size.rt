@@ -54,7 +54,7 @@ pub(crate) fn size<H: Shelf>(
     shelf: &mut H,
 ) -> Result<Answer, AllocError>
     requires { words.state ≤ 99 }
-    ensures answer { IfOk result (λ a. (answered a ≡ memory_answer) ⊎ SizeRun (H.contents shelf.old) (H.failure_count shelf.old) words.entry (answered a)) }
+    ensures answer { IfOk result (λ a. (answered a ≡ memory_answer) ⊎ SizeRun (H.contents shelf.old) (H.failure_count shelf.old) (H.failure_count shelf.new) words.entry (answered a)) }
     ensures same { H.contents shelf.new ≡ H.contents shelf.old }
     ensures kept { H.stored shelf.new ≡ H.stored shelf.old }
 {

@@ -1,6 +1,6 @@
 ghost use Rattle.std.specs.Prelude.{None};
 
-use crate::{MemoryShelf, Shelf, ShelfFault, Sink, Writing, run, run_case};
+use crate::{FileShelf, MemoryShelf, Shelf, ShelfFault, Sink, Writing, run, run_case};
 use field_lines::{Reading, Source};
 use std::alloc::Global;
 use std::io;
@@ -125,6 +125,69 @@ fn damaged_files(rt: HostRuntime) -> Result<(), Fail> {
         assert_eq!(rt; text.as_slice(), want.as_bytes(), "{new}");
     }
     Ok(())
+}
+
+/// A case of counties 37001, 37003, .. with these people.
+fn case_of(alloc: Global, chamber: u16, people: &[u32]) -> Result<String, Fail> {
+    let mut geo = String::new(alloc);
+    let mut segment = String::new(alloc);
+    for (i, people) in people.iter().enumerate() {
+        let line = format!(in alloc; "||050||00|||{i}||x|||37||{:03}\n", i.saturating_mul(2) | 1)?;
+        geo.push_str(line.as_str())?;
+        let line = format!(in alloc; "||||{i}|{people}\n")?;
+        segment.push_str(line.as_str())?;
+    }
+    Ok(format!(in alloc;
+        "size --geo geo --segment seg --chamber {chamber}\nfile geo\n{geo}file seg\n{segment}"
+    )?)
+}
+
+/// Windows of the 2020 chambers, a county of thirteen seats, two ways to seat thirty-nine, and a chamber
+/// with more seats than people.
+#[test]
+fn sizes(rt: HostRuntime) -> Result<(), Fail> {
+    let alloc = rt.alloc();
+    for (chamber, people, want) in [
+        (
+            120,
+            [1_129_410, 82_645, 82_646, 91_344, 91_345, 8_961_998].as_slice(),
+            "people 10439388\nchamber 120\ndistrict 82646 to 91344\n37001|1129410|13|13\n37003|82645|none\n37005|82646|1|1\n37007|91344|1|1\n37009|91345|none\n37011|8961998|99|108\n",
+        ),
+        (
+            50,
+            [10_439_388].as_slice(),
+            "people 10439388\nchamber 50\ndistrict 198349 to 219227\n37001|10439388|48|52\n",
+        ),
+        (
+            39,
+            [1950, 1950].as_slice(),
+            "people 3900\nchamber 39\ndistrict 95 to 105\n37001|1950|19|20\n37003|1950|19|20\n",
+        ),
+        (
+            1000,
+            [10].as_slice(),
+            "people 10\nchamber 1000\ndistrict none\n37001|10|953|1052\n",
+        ),
+    ] {
+        let case = case_of(alloc, chamber, people)?;
+        let (status, text) = outcome(alloc, case.as_bytes());
+        assert_eq!(rt; status, 0);
+        assert_eq!(rt; text.as_slice(), want.as_bytes(), "chamber {chamber}");
+    }
+    Ok(())
+}
+
+#[test]
+fn files_of_the_machine(rt: HostRuntime) {
+    let alloc = rt.alloc();
+    let mut shelf = FileShelf::new(&rt);
+    assert_eq!(rt;
+        shelf.load(alloc, "no such file").err(),
+        Some(ShelfFault::Missing)
+    );
+    assert_eq!(rt; shelf.failures(), 0);
+    assert_eq!(rt; shelf.load(alloc, ".").err(), Some(ShelfFault::Device));
+    assert_eq!(rt; shelf.failures(), 1);
 }
 
 /// Words that give no command: help ends with 0, all others with 2.

@@ -1,7 +1,6 @@
 use Rattle.std.proofs.Common.{◌≡◌, drop}
-use Rattle.std.specs.Option.{option_or}
 use Rattle.cli.specs.Files.{held}
-use Rattle.cli.specs.Memory.{bytes_in, files_of}
+use Rattle.cli.specs.Memory.{files_of}
 use Rattle.cli.proofs.memory.file_named.Given as goal
 
 abbrev pub invariant-loop-file : goal.invariant-loop-file

@@ -1,4 +1,4 @@
-use Rattle.std.proofs.Common.{◌≡◌, ◌∙◌, ◌<◌, sym, arith, rules, true, false, string_bytes}
+use Rattle.std.proofs.Common.{◌≡◌, ◌∙◌, sym, arith, rules, true, false, string_bytes}
 use Rattle.std.specs.Str.{bytes_eq}
 use Rattle.cli.proofs.MemoryLemmas.{place_passed, place_found}
 use Rattle.cli.proofs.memory.place_of.Goals as goal

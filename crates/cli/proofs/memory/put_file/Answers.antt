@@ -1,4 +1,4 @@
-use Rattle.std.proofs.Common.{◌≡◌, refl, rules, string_bytes}
+use Rattle.std.proofs.Common.{refl, rules}
 use Rattle.cli.proofs.MemoryLemmas.{put_at}
 use Rattle.cli.proofs.memory.put_file.Goals as goal
 

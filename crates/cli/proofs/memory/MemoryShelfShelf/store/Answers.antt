@@ -1,4 +1,4 @@
-use Rattle.std.proofs.Common.{◌≡◌, ◌∙◌, ap, sym, Some, rules}
+use Rattle.std.proofs.Common.{◌≡◌, ap, Some, rules}
 use Rattle.cli.specs.Files.{with_file, Files}
 use Rattle.cli.specs.Memory.{files_of}
 use Rattle.cli.proofs.MemoryLemmas.{told_after}
