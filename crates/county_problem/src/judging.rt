@@ -206,4 +206,6 @@ pub fn judge(alloc: Global, problem: &Problem, grouping: &Grouping) -> Result<Co
 }
 
 #[cfg(test)]
+mod senate;
+#[cfg(test)]
 mod tests;
