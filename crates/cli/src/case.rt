@@ -6,7 +6,7 @@ ghost use Rattle.field_lines.specs.Piece.{raw_of};
 ghost use Rattle.cli.specs.Files.{File};
 ghost use Rattle.cli.specs.Memory.{files_of};
 ghost use Rattle.cli.specs.Case.{whole_line, file_name, first_line, case_files, is_case, are_named, with_open, parts_of};
-ghost use Rattle.field_lines.specs.declared.source.WholeFault.{WholeFault};
+ghost use Rattle.cli.specs.declared.whole.WholeFault.{WholeFault};
 ghost use Rattle.cli.specs.Answer.{Answered};
 ghost use Rattle.cli.specs.Answers.{answered};
 ghost use Rattle.cli.specs.Delivery.{texts};
@@ -17,7 +17,8 @@ use crate::command::{deliver, words_answer};
 use crate::memory::{MemoryFile, MemoryShelf};
 use crate::refusal::MEMORY;
 use crate::sink::Sink;
-use field_lines::{Piece, RawLines, Source, WholeFault, read_whole};
+use crate::whole::{WholeFault, read_whole};
+use field_lines::{Piece, RawLines, Source};
 use std::alloc::{AllocError, Global};
 
 /// How many bytes a case may have.

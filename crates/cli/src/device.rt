@@ -2,7 +2,8 @@ ghost use Rattle.std.specs.Prelude.{◌≡◌, ◌<◌, ◌≤◌, None};
 ghost use Rattle.cli.specs.Shelf.{CountsFault};
 
 use crate::shelf::{MAX_FILE, Shelf, ShelfFault};
-use field_lines::{Reading, WholeFault, read_whole};
+use crate::whole::{WholeFault, read_whole};
+use field_lines::Reading;
 use std::alloc::Global;
 use std::fs;
 use std::fs::OpenFile;

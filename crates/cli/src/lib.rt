@@ -12,6 +12,7 @@ mod sink;
 mod size;
 mod table;
 mod text;
+mod whole;
 
 pub use case::{MAX_CASE, run_case};
 pub use command::run;
@@ -20,6 +21,7 @@ pub use memory::{MemoryFile, MemoryShelf};
 pub use shelf::{MAX_FILE, Shelf, ShelfFault};
 pub use sink::{Sink, SinkFault, Writing};
 pub use table::size_table;
+pub use whole::WholeFault;
 
 #[cfg(test)]
 mod tests;

@@ -1,5 +1,6 @@
 ghost use Rattle.std.specs.Prelude.{None};
 
+use crate::whole::{WholeFault, read_whole};
 use crate::{FileShelf, MemoryShelf, Shelf, ShelfFault, Sink, Writing, run, run_case};
 use field_lines::{Reading, Source};
 use std::alloc::Global;
@@ -460,5 +461,20 @@ fn failing_shelves(rt: HostRuntime) -> Result<(), Fail> {
         assert_eq!(rt; bytes.as_slice(), want.as_bytes());
         assert!(rt; shelf.failures() == u64::MAX || shelf.failures() == 1);
     }
+    Ok(())
+}
+
+#[test]
+fn a_source_read_whole(rt: HostRuntime) -> Result<(), Fail> {
+    let alloc = rt.alloc();
+    let text = b"A|37001|B|37003|12".as_slice();
+    assert_eq!(rt;
+        read_whole(alloc, &mut Reading::new(text), 18)?.as_slice(),
+        text
+    );
+    let above = read_whole(alloc, &mut Reading::new(text), 17).err();
+    assert_eq!(rt; above, Some(WholeFault::TooLarge));
+    let broken = read_whole(alloc, &mut Reading::new(Broken), 17).err();
+    assert_eq!(rt; broken, Some(WholeFault::Failed));
     Ok(())
 }

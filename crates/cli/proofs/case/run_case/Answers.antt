@@ -1,8 +1,8 @@
 use Rattle.std.proofs.lemmas.Bool.{false_from_ne_true}
 use Rattle.std.proofs.Common.{◌≡◌, false, ◌≤◌, ℕ, List, Some, None, ap, refl, inl, inr, rules, subst, length}
 use Rattle.std.specs.Prelude.{Ok, Err, codes}
-use Rattle.field_lines.specs.declared.source.WholeFault.{WholeFault}
-use Rattle.field_lines.specs.declared.source.WholeFault.TheVariants.{TooLarge, Failed, Memory}
+use Rattle.cli.specs.declared.whole.WholeFault.{WholeFault}
+use Rattle.cli.specs.declared.whole.WholeFault.TheVariants.{TooLarge, Failed, Memory}
 use Rattle.cli.specs.Answer.{Answered, memory_answer}
 use Rattle.cli.specs.Answers.{answered}
 use Rattle.cli.specs.Delivery.{Delivers}

@@ -34,7 +34,7 @@ returns-then-seats-from c =
     let p = problem_of c.args.problem.now in (
       (c.requires.connected, all_done (λ (s : Group). Suits p (people_of p s.codes) s.seats) c.args.groups.now c.loop-i.i (omega arith) c.loop-i.invariant),
       c.total_seats-seats.ensures,
-      c.seats_left-left.ensures,
+      c.seats_left-left.ensures.value,
       λ e. c.if-seats-from.true (e ∙ sym c.from.ensures),
     )
 
@@ -42,5 +42,5 @@ pub returns : goal.returns
 returns c =
     let p = problem_of c.args.problem.now in (
       (c.requires.connected, all_done (λ (s : Group). Suits p (people_of p s.codes) s.seats) c.args.groups.now c.loop-i.i (omega arith) c.loop-i.invariant),
-      sym c.total_seats-seats.ensures ∙ (c.if-seats-from.false ∙ (c.from.ensures ∙ c.seats_left-left.ensures)),
+      sym c.total_seats-seats.ensures ∙ (c.if-seats-from.false ∙ (c.from.ensures ∙ c.seats_left-left.ensures.value)),
     )
