@@ -58,16 +58,21 @@ fn gather<S: Source>(alloc: Global, source: &mut S) -> Result<Vec<u8>, Fail> {
 }
 
 /// The source gives the text, and tells no failure.
-fn assert_gives_text<S: Source>(rt: &impl Abort, alloc: Global, source: &mut S) {
+fn assert_gives_text<S: Source>(
+    rt: &impl Abort,
+    alloc: Global,
+    source: &mut S,
+) -> Result<(), Fail> {
     assert!(rt; !source.failed());
-    let bytes = gather(alloc, source).expect(rt, "the text is read");
+    let bytes = gather(alloc, source)?;
     assert_eq!(rt; bytes.as_slice(), TEXT);
     assert!(rt; !source.failed());
+    Ok(())
 }
 
 #[test]
 fn a_slice_is_a_source(rt: HostRuntime) -> Result<(), Fail> {
-    assert_gives_text(&rt, rt.alloc(), &mut Reading::new(TEXT));
+    assert_gives_text(&rt, rt.alloc(), &mut Reading::new(TEXT))?;
     let mut source = Reading::new(TEXT);
     let mut buffer = [0u8; 7];
     for want in [b"A|37001".as_slice(), b"|B|3700", b"3|12", b""] {
@@ -78,21 +83,22 @@ fn a_slice_is_a_source(rt: HostRuntime) -> Result<(), Fail> {
 }
 
 #[test]
-fn bytes_come_a_few_at_a_time(rt: HostRuntime) {
+fn bytes_come_a_few_at_a_time(rt: HostRuntime) -> Result<(), Fail> {
     for at_a_time in [1, 2, 7] {
         assert_gives_text(
             &rt,
             rt.alloc(),
             &mut Reading::new(Script::new(TEXT, at_a_time)),
-        );
+        )?;
     }
+    Ok(())
 }
 
 #[test]
-fn an_interrupted_read_is_tried_again(rt: HostRuntime) {
+fn an_interrupted_read_is_tried_again(rt: HostRuntime) -> Result<(), Fail> {
     let mut script = Script::new(TEXT, 7);
     script.interrupted = 999;
-    assert_gives_text(&rt, rt.alloc(), &mut Reading::new(script));
+    assert_gives_text(&rt, rt.alloc(), &mut Reading::new(script))?;
     let mut script = Script::new(TEXT, 7);
     script.interrupted = 1_000;
     let mut source = Reading::new(script);
@@ -100,6 +106,7 @@ fn an_interrupted_read_is_tried_again(rt: HostRuntime) {
     assert!(rt; source.failed());
     assert_eq!(rt; source.pull(&mut [0u8; 7]), Ok(7));
     assert!(rt; !source.failed());
+    Ok(())
 }
 
 #[test]
@@ -107,6 +114,8 @@ fn a_failed_read_is_no_end(rt: HostRuntime) {
     let mut script = Script::new(TEXT, 7);
     script.fails = true;
     let mut source = Reading::new(script);
-    assert!(rt; gather(rt.alloc(), &mut source).is_err());
+    for want in [Ok(7), Ok(7), Ok(4), Err(SourceFault)] {
+        assert_eq!(rt; source.pull(&mut [0u8; 7]), want);
+    }
     assert!(rt; source.failed());
 }
