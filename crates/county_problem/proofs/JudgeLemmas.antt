@@ -104,7 +104,7 @@ often_read c [] = refl
 often_read c (s ∷ ss) = omega (arith, total-append (λ x. digit (x == c)) s.codes (codes_read ss), often_read c ss)
 
 -- a repeated code stands twice
-repeated_some : (before codes : List ℕ) (c : ℕ) → repeated_after before codes ≡ Some c → 2 ≤ often c (before ++ codes)
+pub repeated_some : (before codes : List ℕ) (c : ℕ) → repeated_after before codes ≡ Some c → 2 ≤ often c (before ++ codes)
 repeated_some before [] c some = absurd cc
 repeated_some before (x ∷ xs) c some = go (member before x) refl some (repeated_some (before ++ x ∷ []) xs c)
   where

@@ -3,11 +3,10 @@ use Rattle.std.proofs.Common.{◌≡◌, ℕ, ◌+◌, ◌≤◌, ◌==◌, Bool
 use Rattle.std.specs.Option.{option_map_or}
 use Rattle.std.proofs.lemmas.Bool.{eqb-true, eq-eqb}
 use Rattle.county_problem.specs.declared.county.County.{County}
-use Rattle.county_problem.specs.Sets.{digit, total, often, member}
-use Rattle.county_problem.specs.ProblemValue.{ProblemValue, codes_of, people_at, problem_of}
-use Rattle.county_problem.specs.Problem.{people_of}
+use Rattle.county_problem.specs.Sets.{digit, total, often}
+use Rattle.county_problem.specs.ProblemValue.{codes_of, people_at}
 use Rattle.county_problem.specs.Building.{people_in}
-use Rattle.county_problem.proofs.Sums.{total_within, often_none, often_some}
+use Rattle.county_problem.proofs.Sums.{total_add}
 
 -- a code that no county has has no people
 nobody : (counties : List County) (code : ℕ) → often code (codes_of counties) ≡ 0 → people_at counties code ≡ 0
@@ -28,37 +27,29 @@ found_people (x ∷ xs) code once = go (x.code == code) refl (found_people xs co
     go true e next = omega (arith, nobody xs code (omega (arith, once code, ap digit e)))
     go false e next = omega (arith, next)
 
--- the people of all codes are those of all counties
-all_people : (counties : List County) → ((c : ℕ) → often c (codes_of counties) ≤ 1) → total (people_at counties) (codes_of counties) ≡ people_in counties
-all_people [] once = refl
-all_people (x ∷ xs) once =
-    omega (arith, head (x.code == x.code) (eq-eqb x.code x.code refl), rest, all_people xs (λ c. omega (arith, once c)))
+-- a county stands once among codes that stand once, so it adds its people at most once
+share : (n code : ℕ) (codes : List ℕ) → often code codes ≤ 1 → total (λ c. cond (code == c) n 0) codes ≤ n
+share n code [] single = omega arith
+share n code (x ∷ xs) single = go (code == x) refl (share n code xs (omega (arith, single)))
   where
-    absent : often x.code (codes_of xs) ≡ 0
-    absent = omega (arith, once x.code, ap digit (eq-eqb x.code x.code refl))
-
-    head : (b : Bool) → b ≡ true → cond b x.people 0 + people_at xs x.code ≡ x.people
-    head true e = omega (arith, nobody xs x.code absent)
-    head false e = absurd cc
-
-    others : (ys : List ℕ) → often x.code ys ≡ 0 → total (people_at (x ∷ xs)) ys ≡ total (people_at xs) ys
+    others : (ys : List ℕ) → often code ys ≡ 0 → total (λ c. cond (code == c) n 0) ys ≡ 0
     others [] none = refl
-    others (y ∷ ys) none = go (x.code == y) refl (others ys (omega (arith, none)))
+    others (y ∷ ys) none = next (code == y) refl (others ys (omega (arith, none)))
       where
-        go : (b : Bool) → (x.code == y) ≡ b → total (people_at (x ∷ xs)) ys ≡ total (people_at xs) ys → cond b x.people 0 + people_at xs y + total (people_at (x ∷ xs)) ys ≡ people_at xs y + total (people_at xs) ys
-        go true e next = absurd (omega (arith, none, ap digit (eq-eqb y x.code (sym (eqb-true x.code y e)))))
-        go false e next = omega (arith, next)
+        next : (b : Bool) → (code == y) ≡ b → total (λ c. cond (code == c) n 0) ys ≡ 0 → cond b n 0 + total (λ c. cond (code == c) n 0) ys ≡ 0
+        next true e rest = absurd (omega (arith, none, ap digit (eq-eqb y code (sym (eqb-true code y e)))))
+        next false e rest = omega (arith, rest)
 
-    rest : total (people_at (x ∷ xs)) (codes_of xs) ≡ total (people_at xs) (codes_of xs)
-    rest = others (codes_of xs) absent
+    go : (b : Bool) → (code == x) ≡ b → total (λ c. cond (code == c) n 0) xs ≤ n → cond b n 0 + total (λ c. cond (code == c) n 0) xs ≤ n
+    go true e rest = omega (arith, others xs (omega (arith, single, ap digit (eq-eqb x code (sym (eqb-true code x e))))))
+    go false e rest = omega (arith, rest)
 
--- counties of the problem, each once, have no more people than all of it
-pub group_within : (v : ProblemValue) (codes : List ℕ) → ((c : ℕ) → often c (codes_of v.counties) ≤ 1) → ((c : ℕ) → often c codes ≤ 1) → ((c : ℕ) → member codes c ≡ true → member (codes_of v.counties) c ≡ true) → people_of (problem_of v) codes ≤ people_in v.counties
-group_within v codes once single known = omega (arith, total_within (people_at v.counties) codes (codes_of v.counties) within, all_people v.counties once)
+-- codes that stand once have no more people than all counties
+pub people_within : (counties : List County) (codes : List ℕ) → ((c : ℕ) → often c codes ≤ 1) → total (people_at counties) codes ≤ people_in counties
+people_within [] codes single = nobody_there codes
   where
-    within : (c : ℕ) → often c codes ≤ often c (codes_of v.counties)
-    within c = go (member codes c) refl
-      where
-        go : (b : Bool) → member codes c ≡ b → often c codes ≤ often c (codes_of v.counties)
-        go true e = omega (arith, single c, often_some c (codes_of v.counties) (known c e))
-        go false e = omega (arith, often_none c codes e)
+    nobody_there : (ys : List ℕ) → total (people_at []) ys ≤ 0
+    nobody_there [] = omega arith
+    nobody_there (y ∷ ys) = omega (arith, nobody_there ys)
+people_within (x ∷ xs) codes single =
+    omega (arith, total_add (λ c. cond (x.code == c) x.people 0) (people_at xs) codes, share x.people x.code codes (single x.code), people_within xs codes single)

@@ -37,7 +37,7 @@ often_above (suc n) zero h = absurd (omega arith)
 often_above (suc n) (suc c) h = omega (arith, often_suc c (places_below n), often_above n c (omega arith), ap digit (ne_eqb zero (suc c) (λ e. omega arith)))
 
 -- how often a code stands among those that pass a test
-often_tested : (c : ℕ) (t : ℕ → Bool) (xs : List ℕ) → often c (filter t xs) ≡ cond (t c) (often c xs) 0
+pub often_tested : (c : ℕ) (t : ℕ → Bool) (xs : List ℕ) → often c (filter t xs) ≡ cond (t c) (often c xs) 0
 often_tested c t [] = go (t c)
   where
     go : (b : Bool) → often c [] ≡ cond b (often c []) 0

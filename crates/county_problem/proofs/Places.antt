@@ -22,7 +22,8 @@ at_tail : (x : ℕ) (xs places : List ℕ) → codes_at (x ∷ xs) (map suc plac
 at_tail x xs [] = refl
 at_tail x xs (i ∷ is) = ap (λ z. get_or xs i 0 ∷ z) (at_tail x xs is)
 
-filter_map_suc : (test : ℕ → Bool) (places : List ℕ) → filter test (map suc places) ≡ map suc (filter (λ i. test (suc i)) places)
+-- a test of the places after 0
+pub filter_map_suc : (test : ℕ → Bool) (places : List ℕ) → filter test (map suc places) ≡ map suc (filter (λ i. test (suc i)) places)
 filter_map_suc test [] = refl
 filter_map_suc test (i ∷ is) = go (test (suc i)) (filter_map_suc test is)
   where
@@ -31,14 +32,14 @@ filter_map_suc test (i ∷ is) = go (test (suc i)) (filter_map_suc test is)
     go false e = e
 
 -- two tests that agree on the members keep the same
-filter_members : (q r : ℕ → Bool) (xs : List ℕ) → ((c : ℕ) → Has xs c → q c ≡ r c) → filter q xs ≡ filter r xs
+pub filter_members : (q r : ℕ → Bool) (xs : List ℕ) → ((c : ℕ) → Has xs c → q c ≡ r c) → filter q xs ≡ filter r xs
 filter_members q r [] h = refl
 filter_members q r (x ∷ xs) h = go (q x) (r x) (h x (inl refl)) (filter_members q r xs (λ c i. h c (inr i)))
   where
     go : (a b : Bool) → a ≡ b → filter q xs ≡ filter r xs → cond a (x ∷ filter q xs) (filter q xs) ≡ cond b (x ∷ filter r xs) (filter r xs)
     go a b e k = ap (λ z. cond z (x ∷ filter q xs) (filter q xs)) e ∙ ap (λ z. cond b (x ∷ z) z) k
 
-has_member : (xs : List ℕ) (c : ℕ) → Has xs c → member xs c ≡ true
+pub has_member : (xs : List ℕ) (c : ℕ) → Has xs c → member xs c ≡ true
 has_member [] c h = absurd h
 has_member (x ∷ xs) c (inl e) = ap (λ z. z || member xs c) (eq-eqb x c e)
 has_member (x ∷ xs) c (inr h) = go (x == c) (has_member xs c h)
@@ -79,7 +80,7 @@ there (x ∷ xs) c m = go (x == c) refl m (there xs c)
     go true e o next = (omega arith, eqb-true x c e)
     go false e o next = let r = next o in (omega (arith, r.0), r.1)
 
-place_at : (order : List ℕ) → ((c : ℕ) → often c order ≤ 1) → (i : ℕ) → i < length order → place order (get_or order i 0) ≡ i
+pub place_at : (order : List ℕ) → ((c : ℕ) → often c order ≤ 1) → (i : ℕ) → i < length order → place order (get_or order i 0) ≡ i
 place_at [] once i l = absurd (omega arith)
 place_at (x ∷ xs) once zero l = ap (λ b. cond b 0 (suc (place xs x))) (eq-eqb x x refl)
 place_at (x ∷ xs) once (suc i) l =
