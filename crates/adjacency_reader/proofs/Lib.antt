@@ -1,0 +1,4 @@
+pub mod RowLemmas
+pub mod PairLemmas
+pub mod SetLemmas
+pub mod LinkLemmas

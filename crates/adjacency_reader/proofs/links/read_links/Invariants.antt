@@ -1,0 +1,11 @@
+use Rattle.std.proofs.Common.{◌≡◌, length}
+use Rattle.field_lines.proofs.ValueLemmas.{collect_values}
+use Rattle.adjacency_reader.specs.Faults.{line_fault, cut_fault}
+use Rattle.adjacency_reader.specs.Links.{link_on, link_list}
+use Rattle.adjacency_reader.proofs.links.read_links.Given as goal
+
+abbrev pub invariant-loop-links : goal.invariant-loop-links
+invariant-loop-links l = collect_values link_on line_fault cut_fault l.links.items l.lines.lines l.lines.fault ≡ link_list l.fn.bytes
+
+abbrev pub decreases-loop-links : goal.decreases-loop-links
+decreases-loop-links l = length l.lines.lines

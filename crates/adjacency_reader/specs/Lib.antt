@@ -1,0 +1,6 @@
+pub mod Faults
+pub mod Rows
+pub mod Pairs
+pub mod Links
+pub mod Withdrawn
+pub mod Adjacent

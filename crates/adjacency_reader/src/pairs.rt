@@ -1,0 +1,140 @@
+ghost use Rattle.std.specs.Prelude.{◌≡◌, ℕ, ◌&&◌, ◌||◌, nat_lt, IfOk, OnOk, filter};
+ghost use Rattle.std.specs.Ordering.{nat_cmp};
+ghost use Rattle.std.specs.List.Sorted.{IsStrictlySortedBy};
+ghost use Rattle.std.specs.BTreeSet.{contains};
+ghost use Rattle.county_problem.specs.Sets.{member};
+ghost use Rattle.county_problem.specs.ProblemValue.{names_both};
+ghost use Rattle.field_lines.specs.Values.{AnswersUnless};
+ghost use Rattle.adjacency_reader.specs.Faults.{IsMemory};
+ghost use Rattle.adjacency_reader.specs.Pairs.{by_codes, in_order, names, ArePairs, IsPairsAnswer};
+
+use crate::fault::{AdjacencyFault, Kind};
+use crate::rows::read_rows;
+use county_problem::CountyCode;
+use std::alloc::{AllocError, Global};
+use std::collections::BTreeSet;
+
+/// Two codes, the lesser first.
+pub(crate) fn in_order(a: CountyCode, b: CountyCode) -> (CountyCode, CountyCode)
+    ensures { result ≡ in_order a b }
+{
+    if a < b { (a, b) } else { (b, a) }
+}
+
+/// The codes as a set.
+fn code_set(alloc: Global, codes: &[CountyCode]) -> Result<BTreeSet<CountyCode>, AllocError>
+    ensures { IfOk result (λ s. (c : ℕ) → contains nat_cmp s c ≡ member codes.now c) }
+{
+    let mut set = BTreeSet::new(alloc);
+    for code in codes {
+        set.insert(*code)?;
+    }
+    Ok(set)
+}
+
+/// Whether both codes of a row are in the set.
+fn has_both(listed: &BTreeSet<CountyCode>, row: (CountyCode, CountyCode)) -> bool
+    ensures { result ≡ (contains nat_cmp listed.now row.0 && contains nat_cmp listed.now row.1) }
+{
+    listed.contains(&row.0) && listed.contains(&row.1)
+}
+
+/// The rows of two codes in the set.
+fn listed_rows(
+    alloc: Global,
+    listed: &BTreeSet<CountyCode>,
+    rows: &[(CountyCode, CountyCode)],
+) -> Result<Vec<(CountyCode, CountyCode)>, AllocError>
+    ensures { IfOk result (λ v. v.items ≡ filter (λ q. contains nat_cmp listed.now q.0 && contains nat_cmp listed.now q.1) rows.now) }
+{
+    let mut kept = Vec::new(alloc);
+    for row in rows {
+        if has_both(listed, *row) {
+            kept.push(*row)?;
+        }
+    }
+    Ok(kept)
+}
+
+/// Adds the pair of two different codes to the set, the lesser first. The same code twice adds nothing.
+pub(crate) fn add_pair(
+    pairs: &mut BTreeSet<(CountyCode, CountyCode)>,
+    a: CountyCode,
+    b: CountyCode,
+) -> Result<(), AllocError>
+    ensures { OnOk result ((x y : ℕ) → contains by_codes pairs.new (x, y) ≡ (nat_lt x y && names x y (a, b) || contains by_codes pairs.old (x, y))) }
+{
+    if a != b {
+        pairs.insert(in_order(a, b))?;
+    }
+    Ok(())
+}
+
+/// The pairs of two different codes that rows name in either order, the lesser code first.
+pub(crate) fn pair_set(
+    alloc: Global,
+    rows: &[(CountyCode, CountyCode)],
+) -> Result<BTreeSet<(CountyCode, CountyCode)>, AllocError>
+    ensures { IfOk result (λ s. (x y : ℕ) → contains by_codes s (x, y) ≡ (nat_lt x y && names_both rows.now x y)) }
+{
+    let mut pairs = BTreeSet::new(alloc);
+    for (a, b) in rows {
+        add_pair(&mut pairs, *a, *b)?;
+    }
+    Ok(pairs)
+}
+
+/// The pairs of a set, ascending.
+pub(crate) fn list(
+    alloc: Global,
+    pairs: &BTreeSet<(CountyCode, CountyCode)>,
+) -> Result<Vec<(CountyCode, CountyCode)>, AllocError>
+    ensures value { IfOk result (λ v. v.items ≡ pairs.now.keys) }
+    ensures ascending { IsStrictlySortedBy by_codes pairs.now.keys }
+{
+    pairs.iter().copied().collect(alloc)
+}
+
+/// The pairs of two listed counties that rows name.
+fn pairs_among(
+    alloc: Global,
+    counties: &[CountyCode],
+    rows: &[(CountyCode, CountyCode)],
+) -> Result<Vec<(CountyCode, CountyCode)>, AllocError>
+    ensures { IfOk result (λ v. ArePairs counties.now rows.now v.items) }
+{
+    let listed = code_set(alloc, counties)?;
+    let rows = listed_rows(alloc, &listed, rows)?;
+    let pairs = pair_set(alloc, &rows)?;
+    list(alloc, &pairs)
+}
+
+/// The pairs of listed counties that meet, by the Census Bureau's county adjacency file: the lesser code
+/// first, ascending, each once. The file is a cut text (`Lines` of `field_lines`), and a line is cut into
+/// fields at each pipe: field 2 is the county's GEOID, and field 4 its neighbour's. Either direction
+/// counts. A row of a county outside the list, or of a county beside itself, is ignored.
+///
+/// The first line that isn't blank is a header, and dropped, where its second field is missing or isn't
+/// five digits.
+///
+/// # Errors
+///
+/// The first line at fault answers, on it the first kind: `TooFewFields` where it has fewer than 4 fields,
+/// then `BadCode` where field 2 or field 4 isn't five digits, whatever counties it names. A line that can't
+/// be read (`Lower`) answers after the lines before it, and `Memory` in the place of any answer.
+pub fn read_pairs(
+    alloc: Global,
+    bytes: &[u8],
+    counties: &[CountyCode],
+) -> Result<Vec<(CountyCode, CountyCode)>, AdjacencyFault>
+    ensures pairs { AnswersUnless IsMemory (λ v. v.items) result (IsPairsAnswer bytes.now counties.now) }
+{
+    let rows = read_rows(alloc, bytes)?;
+    pairs_among(alloc, counties, &rows).map_err(|_| AdjacencyFault {
+        kind: Kind::Memory,
+        line: 0,
+    })
+}
+
+#[cfg(test)]
+mod tests;

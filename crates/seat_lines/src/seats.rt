@@ -1,0 +1,65 @@
+ghost use Rattle.std.specs.Prelude.{◌≡◌, length, drop};
+ghost use Rattle.field_lines.specs.Fields.{fields_of};
+ghost use Rattle.field_lines.specs.Number.{digits_of};
+ghost use Rattle.field_lines.specs.Values.{GivesUnless};
+ghost use Rattle.seat_lines.specs.SeatLine.{codes_on, seat_line};
+ghost use Rattle.seat_lines.specs.declared.fault.SeatLineFault.TheVariants.{Memory};
+
+use crate::fault::SeatLineFault;
+use county_problem::{Codes, CountyCode};
+use field_lines::{Fields, field_at, five_digits, number_in};
+use std::alloc::Global;
+
+/// What stands between two fields of a line.
+const DELIMITER: u8 = b'|';
+
+/// The county code that a field of exactly five ASCII digits spells. `None` for any other field.
+pub fn code_in(field: &[u8]) -> Option<CountyCode>
+    ensures { result ≡ digits_of 5 field.now }
+{
+    CountyCode::new(five_digits(field)?)
+}
+
+/// The codes of a line's fields from the second on.
+fn codes_in(alloc: Global, line: &[u8]) -> Result<Codes, SeatLineFault>
+    ensures { GivesUnless (λ f. f ≡ Memory) (λ c. c) result (codes_on (drop 1 (fields_of 124 line.now))) }
+{
+    let mut codes = Vec::new(alloc);
+    let mut fields = Fields::new(line, DELIMITER);
+    let _seats = fields.next();
+    while let Some(field) = fields.next() {
+        let code = code_in(field).ok_or(SeatLineFault::BadCode)?;
+        codes.push(code)?;
+    }
+    Ok(Codes::new(codes))
+}
+
+/// The seats and the county codes of a line that is cut into fields at each pipe: field 1 is a number of
+/// seats from `least` to `greatest` (one or more ASCII digits, leading zeros allowed), and each field from
+/// the second on is a code of exactly five digits.
+///
+/// # Errors
+///
+/// `TooFewFields` where the line has fewer than 2 fields; else `BadSeats` where field 1 isn't such a
+/// number; else `BadCode` where a later field isn't five digits. `Memory` in the place of `BadCode` or of
+/// an answer.
+#[tactic(auto, unfolding(crate::specs::SeatLine::seat_line))]
+pub fn seats_and_codes(
+    alloc: Global,
+    line: &[u8],
+    least: u16,
+    greatest: u16,
+) -> Result<(u16, Codes), SeatLineFault>
+    ensures { GivesUnless (λ f. f ≡ Memory) (λ r. (r.0, r.1)) result (seat_line least greatest line.now) }
+{
+    let seats = field_at(line, DELIMITER, 0).ok_or(SeatLineFault::TooFewFields)?;
+    field_at(line, DELIMITER, 1).ok_or(SeatLineFault::TooFewFields)?;
+    let seats = number_in(seats, u32::from(least), u32::from(greatest)).ok_or(
+        SeatLineFault::BadSeats,
+    )?;
+    let codes = codes_in(alloc, line)?;
+    Ok((seats as u16, codes))
+}
+
+#[cfg(test)]
+mod tests;
