@@ -1,0 +1,7 @@
+pub mod Digits
+pub mod SizeTable
+pub mod Report
+pub mod Outcomes
+pub mod GroupingText
+pub mod FaultWords
+pub mod GroupingLines

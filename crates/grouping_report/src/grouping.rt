@@ -1,0 +1,32 @@
+ghost use Rattle.std.specs.Prelude.{◌≡◌, ◌<◌, ◌≤◌, ◌++◌, All, Ok, OnOk, IfOk, codes};
+ghost use Rattle.grouping_report.specs.GroupingLines.{grouping_list};
+ghost use Rattle.grouping_report.specs.GroupingText.{group_fields, grouping_text as text_of, IsReadable};
+
+use crate::text::{push_codes, push_number};
+use county_problem::{Group, Grouping};
+use std::alloc::{AllocError, Global};
+
+/// Appends the line of a group.
+#[tactic(auto, unfolding(crate::specs::GroupingText::group_fields))]
+fn push_group(out: &mut Vec<u8>, group: &Group) -> Result<(), AllocError>
+    ensures text { OnOk result (out.new.items ≡ out.old.items ++ (group_fields group.now.seats group.now.codes ++ codes "\n")) }
+    ensures seats { OnOk result (group.now.seats < 65536) }
+    ensures codes { OnOk result (All (λ code. code ≤ 99999) group.now.codes) }
+{
+    push_number(out, u64::from(group.seats))?;
+    push_codes(out, b"|", group.codes.as_slice())?;
+    out.extend_from_slice(b"\n")
+}
+
+/// The text of a grouping: for each group a line of its seats and its codes, each code after a pipe. It fails
+/// only where a growth was refused.
+pub fn grouping_text(alloc: Global, grouping: &Grouping) -> Result<Vec<u8>, AllocError>
+    ensures text { IfOk result (λ v. v.items ≡ text_of grouping.now.groups.items) }
+    ensures back { IfOk result (λ v. IsReadable grouping.now.groups.items → grouping_list v.items ≡ Ok grouping.now.groups.items) }
+{
+    let mut out = Vec::new(alloc);
+    for group in &grouping.groups {
+        push_group(&mut out, group)?;
+    }
+    Ok(out)
+}

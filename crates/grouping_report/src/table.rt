@@ -1,0 +1,85 @@
+ghost use Rattle.std.specs.Prelude.{◌≡◌, ℕ, ◌++◌, OnOk, IfOk, decimal};
+ghost use Rattle.grouping_report.specs.SizeTable.{size_text, county_line, run_text, bounds_text, head_text};
+
+use crate::text::{push_code, push_number};
+use county_problem::{County, Problem};
+use std::alloc::{AllocError, Global};
+
+/// Appends the least and the greatest number of seats.
+fn push_run(out: &mut Vec<u8>, run: Option<(u16, u16)>) -> Result<(), AllocError>
+    ensures { OnOk result (out.new.items ≡ out.old.items ++ run_text run) }
+{
+    match run {
+        None => out.extend_from_slice(b"none"),
+        Some((least, greatest)) => {
+            push_number(out, u64::from(least))?;
+            out.extend_from_slice(b"|")?;
+            push_number(out, u64::from(greatest))
+        }
+    }
+}
+
+/// Appends the bounds of a district.
+fn push_bounds(out: &mut Vec<u8>, bounds: (u64, u64)) -> Result<(), AllocError>
+    ensures { OnOk result (out.new.items ≡ out.old.items ++ bounds_text bounds) }
+{
+    if bounds.0 <= bounds.1 {
+        push_number(out, bounds.0)?;
+        out.extend_from_slice(b" to ")?;
+        push_number(out, bounds.1)
+    } else {
+        out.extend_from_slice(b"none")
+    }
+}
+
+/// Appends the line of a county.
+#[tactic(auto, unfolding(crate::specs::SizeTable::county_line))]
+fn push_county(out: &mut Vec<u8>, county: County, run: Option<(u16, u16)>) -> Result<(), AllocError>
+    ensures { OnOk result (out.new.items ≡ out.old.items ++ county_line county.code county.people run) }
+{
+    push_code(out, county.code)?;
+    out.extend_from_slice(b"|")?;
+    push_number(out, u64::from(county.people))?;
+    out.extend_from_slice(b"|")?;
+    push_run(out, run)?;
+    out.extend_from_slice(b"\n")
+}
+
+/// Appends the first three lines.
+#[tactic(auto, unfolding(crate::specs::SizeTable::head_text))]
+fn push_head(
+    out: &mut Vec<u8>,
+    people: u64,
+    chamber: u16,
+    bounds: (u64, u64),
+) -> Result<(), AllocError>
+    ensures { OnOk result (out.new.items ≡ out.old.items ++ head_text people chamber bounds) }
+{
+    out.extend_from_slice(b"people ")?;
+    push_number(out, people)?;
+    out.extend_from_slice(b"\nchamber ")?;
+    push_number(out, u64::from(chamber))?;
+    out.extend_from_slice(b"\ndistrict ")?;
+    push_bounds(out, bounds)?;
+    out.extend_from_slice(b"\n")
+}
+
+/// The size table of a problem: its people, its chamber, the bounds of a district, and for each county by
+/// code its people and the least and the greatest number of seats that they suit, or `none`.
+#[tactic(auto, unfolding(crate::specs::SizeTable::size_text))]
+pub fn size_table(alloc: Global, problem: &Problem) -> Result<Vec<u8>, AllocError>
+    ensures { IfOk result (λ v. v.items ≡ size_text problem.now) }
+{
+    let mut out = Vec::new(alloc);
+    push_head(
+        &mut out,
+        problem.total_people(),
+        problem.chamber(),
+        problem.district_bounds(1),
+    )?;
+    for county in problem.counties() {
+        let run = problem.seats_range(u64::from(county.people));
+        push_county(&mut out, *county, run)?;
+    }
+    Ok(out)
+}

@@ -1,0 +1,54 @@
+//! Numbers and codes in the texts that are written.
+
+ghost use Rattle.std.specs.Prelude.{◌≡◌, ℕ, ◌≤◌, ◌++◌, All, OnOk, decimal};
+ghost use Rattle.grouping_report.specs.Digits.{five_digits, each_after};
+
+use county_problem::CountyCode;
+use itoa::Buffer;
+use std::alloc::AllocError;
+
+/// Appends a number in plain decimal. It fails only where a growth was refused.
+pub fn push_number(out: &mut Vec<u8>, number: u64) -> Result<(), AllocError>
+    ensures { OnOk result (out.new.items ≡ out.old.items ++ decimal number) }
+{
+    let mut buffer = Buffer::new();
+    out.extend_from_slice(buffer.format(number).as_bytes())
+}
+
+/// Appends the five digits of a number.
+fn push_five_digits(out: &mut Vec<u8>, number: u32) -> Result<(), AllocError>
+    requires { number ≤ 99999 }
+    ensures { OnOk result (out.new.items ≡ out.old.items ++ five_digits number) }
+{
+    let digits = [
+        b'0' + (number / 10_000) as u8,
+        b'0' + (number / 1_000 % 10) as u8,
+        b'0' + (number / 100 % 10) as u8,
+        b'0' + (number / 10 % 10) as u8,
+        b'0' + (number % 10) as u8,
+    ];
+    out.extend_from_slice(&digits)
+}
+
+/// Appends the five digits of a code. It fails only where a growth was refused.
+pub fn push_code(out: &mut Vec<u8>, code: CountyCode) -> Result<(), AllocError>
+    ensures { OnOk result (out.new.items ≡ out.old.items ++ five_digits code) }
+{
+    push_five_digits(out, code.get())
+}
+
+/// Appends codes, each after a mark.
+pub(crate) fn push_codes(
+    out: &mut Vec<u8>,
+    mark: &[u8],
+    codes: &[CountyCode],
+) -> Result<(), AllocError>
+    ensures text { OnOk result (out.new.items ≡ out.old.items ++ each_after mark.now codes.now) }
+    ensures small { OnOk result (All (λ code. code ≤ 99999) codes.now) }
+{
+    for code in codes {
+        out.extend_from_slice(mark)?;
+        push_five_digits(out, code.get())?;
+    }
+    Ok(())
+}
