@@ -13,7 +13,7 @@ use Rattle.clap.proofs.FaultLemmas.{fails_as}
 use Rattle.clap.specs.Walk.{Text, nothing_held}
 use Rattle.clap.specs.Simple.{Shape, built, filled, help_rule, is_simple, rows_at, subcommand_of}
 use Rattle.clap.specs.Faults.{fault_of, is_simple_and_free, level_fault}
-use Rattle.command_words.specs.Command.{countygroups, problem_options}
+use Rattle.command_words.specs.Command.{common_options, countygroups, judge_options}
 use Rattle.command_words.specs.Options.{HasCommand}
 use Rattle.command_words.specs.Words.{EndsAs, EndsBy, faults_of, subcommand_in, takes_words}
 use Rattle.command_words.specs.declared.end.WordsEnd.{WordsEnd}
@@ -40,7 +40,10 @@ HasItsCommand s = (rest : List Text) → level_fault s [] nothing_held rest fals
 
 each_has_command : AllByRecursion HasItsCommand (built countygroups).subs
 unfolding countygroups
-each_has_command = (λ rest e. level_values _ rest problem_options (filled help_rule ∷ []) e refl refl, tt)
+each_has_command = (
+  λ rest e. level_values _ rest common_options (filled help_rule ∷ []) e refl refl,
+  (λ rest e. level_values _ rest judge_options (filled help_rule ∷ []) e refl refl, tt),
+)
 
 -- words without a fault name a subcommand, with the values of its options
 pub has_command : (words : List Text) → faults_of words ≡ [] → IsSomeAnd (subcommand_in words) HasCommand

@@ -1,6 +1,7 @@
 -- What the definitions of `specs/Words.antt` say of words that are written out.
-use Rattle.std.proofs.Common.{◌≡◌, true, refl, List, [], ◌∷◌, ◌++◌, Some, codes, option_map}
+use Rattle.std.proofs.Common.{◌≡◌, true, false, refl, List, [], ◌∷◌, ◌++◌, Some, codes, option_map}
 use Rattle.clap.specs.Words.{Text, first_of}
+use Rattle.clap.specs.Takes.{is_given}
 use Rattle.clap.specs.declared.error.kind.ErrorKind.TheVariants as kind
 use Rattle.clap.proofs.OnLiterals.{clap_on_literals}
 use Rattle.command_words.specs.Command.{countygroups}
@@ -32,6 +33,18 @@ missing = refl
 no_seats : faults_of (files ++ codes "--chamber" ∷ codes "0" ∷ []) ≡ kind.ValueValidation ∷ []
 unfolding clap_on_literals countygroups faults_of
 no_seats = refl
+
+-- `judge` with and without the optional files
+abbrev judged : List Text
+judged = codes "judge" ∷ codes "--geo=a" ∷ codes "--segment=b" ∷ codes "--chamber=50" ∷ codes "--adjacency=c" ∷ codes "--grouping=d" ∷ []
+
+no_links : option_map (λ p. is_given (codes "links") p.1) (subcommand_in judged) ≡ Some false
+unfolding clap_on_literals countygroups subcommand_in
+no_links = refl
+
+links : option_map (λ p. first_of (codes "links") p.1) (subcommand_in (judged ++ codes "--links" ∷ codes "e" ∷ [])) ≡ Some (Some (codes "e"))
+unfolding clap_on_literals countygroups subcommand_in
+links = refl
 
 no_words : faults_of [] ≡ kind.MissingSubcommand ∷ []
 unfolding clap_on_literals countygroups faults_of

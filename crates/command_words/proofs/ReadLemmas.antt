@@ -1,5 +1,5 @@
 -- What the getters read of the options that have a value.
-use Rattle.std.proofs.Common.{◌++◌, ◌∷◌, [], ◌≡◌, ◌∙◌, ◌<◌, ◌≤◌, ◌^◌, ℕ, true, false, sym, ap, subst, List, Option, Some, Result, is_some}
+use Rattle.std.proofs.Common.{◌++◌, ◌∷◌, [], ◌≡◌, ◌⊎◌, ◌∙◌, ◌<◌, ◌≤◌, ◌^◌, ℕ, Bool, true, false, true≢false, refl, sym, ap, subst, inl, inr, List, Option, Some, None, Result, is_some}
 use Rattle.std.specs.Prelude.{option_map, pos, slice_get}
 use Rattle.std.proofs.lemmas.List.Elements.{All-cons, All-head, All-nil, All-tail}
 use Rattle.std.specs.Borrow.{Bor}
@@ -17,13 +17,34 @@ use Rattle.clap.specs.declared.builder.value_parser.ValueParser.TheVariants.{Sig
 use Rattle.clap.specs.declared.parser.matches.Found.{Found}
 use Rattle.clap.proofs.CallerLemmas.{some_of_text}
 use Rattle.clap.proofs.WalkLemmas.{first_value-rows, one_text-rows}
-use Rattle.command_words.specs.Options.{HasItsValue, HasValue, HasValues, Spells}
-use Rattle.command_words.specs.Words.{GivesNumber}
+use Rattle.command_words.specs.Options.{HasItsValue, HasNone, HasValue, HasValues, Spells, always_has_value}
+use Rattle.command_words.specs.Words.{GivesNumber, GivesText}
 use Rattle.command_words.proofs.NumberLemmas.{signed_spells, unsigned_spells}
 
 -- what `from_str` gives at an unsigned type of k bits
 abbrev pub Parses : ℕ → List ℕ → Result ℕ ParseIntError → Type 0
 Parses k text r = ParsesUnsigned k 10 text r × ExplainsUnsignedError 10 text r × HasUnsignedDigitsIfOk text r
+
+-- an option that is required or has a default has a value
+pub surely : (rows : List Row) (a : Rule) → always_has_value a ≡ true → HasValue rows a ⊎ HasNone rows a → HasValue rows a
+surely rows a always (inl h) = h
+surely rows a always (inr h) = absurd (true≢false (sym always ∙ h.optional))
+
+module _ (f : Found) (a : Rule) (bare : slice_get a.defaults 0 ≡ None) where
+  -- a value of an option without a default is one that the words give
+  given_value : HasValue (rows_of f) a → is_given a.id (rows_of f) ≡ true
+  given_value h = go (is_given a.id (rows_of f)) refl
+    where
+      go : (b : Bool) → is_given a.id (rows_of f) ≡ b → b ≡ true
+      go true is = refl
+      go false is = let bad : Some h.text ≡ None = sym (h.default is) ∙ bare in cc
+
+  -- `get_str` gives what the words give of it
+  pub text_given : HasValue (rows_of f) a ⊎ HasNone (rows_of f) a → (o : Option (Bor Text)) → option_map (λ s. s.now) o ≡ first_value f a.id → GivesText a.id (rows_of f) o
+  text_given (inl h) None is = let bad : None ≡ Some h.text = is ∙ (first_value-rows f a.id ∙ h.first) in cc
+  text_given (inl h) (Some s) is = (given_value h, sym (is ∙ first_value-rows f a.id))
+  text_given (inr h) None is = h.absent
+  text_given (inr h) (Some s) is = let bad : Some s.now ≡ None = is ∙ (first_value-rows f a.id ∙ h.none) in cc
 
 module _ (f : Found) (a : Rule) (h : HasValue (rows_of f) a) where
   -- `get_str` gives the option's value

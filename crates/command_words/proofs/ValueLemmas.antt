@@ -1,5 +1,5 @@
 -- A level of a parse that has no fault leaves a value of each option that is required or has a
--- default.
+-- default, and of another exactly where it is given.
 use Rattle.std.proofs.Common.{map, ◌≡◌, ◌⊎◌, ◌∙◌, ◌&&◌, ◌||◌, ◌++◌, ◌<◌, ◌+◌, not, ℕ, Bool, cond, true, false, refl, sym, ap, subst, inl, inr, arith, List, [], ◌∷◌, length, length-append, min, Option, Some, None, nat_lt, true≢false}
 use Rattle.std.specs.Prelude.{option_and_then, option_map, slice_get}
 use Rattle.std.specs.List.{All, find, fold, list_any, slice_index_or}
@@ -26,7 +26,7 @@ use Rattle.clap.specs.declared.parser.matches.ValueSource.TheVariants.{CommandLi
 use Rattle.clap.proofs.WalkLemmas.{both}
 use Rattle.clap.proofs.SimpleLemmas.{is_false}
 use Rattle.clap.proofs.ValueTestLemmas.{accepts-Accepts}
-use Rattle.command_words.specs.Options.{HasValue, HasValues, always_has_value, is_set}
+use Rattle.command_words.specs.Options.{HasNone, HasValue, HasValues, always_has_value, is_set, takes_value}
 use Rattle.command_words.proofs.KeyLemmas.{each_by_own_key, find-All, found_any, keys_differ, none_passes, same_by_key, same_bytes}
 use Rattle.command_words.proofs.WalkLemmas.{IsFoundIn, neither, settle_keeps, walk_keeps}
 
@@ -275,19 +275,22 @@ read_row rows a r (v ∷ vs) found f is = record {
   default = λ e. ap (λ (xs : List Text). slice_get xs 0) (sym (f.default (sym (ap (λ (o : Option Row). option_map_or (λ x. explicit_source x.source) o false) found) ∙ e)) ∙ is);
 }
 
--- an option whose rows are filled, where the words give it or it has a default
+-- an option whose rows are filled, at the row that it has
+own_value : (rows : List Row) (a : Rule) (r : Row) → All (FillsOwn a) rows → find (λ (x : Row). bytes_eq x.id a.id) rows ≡ Some r → HasValue rows a
+own_value rows a r all found =
+    let own = find-All (FillsOwn a) (λ (x : Row). bytes_eq x.id a.id) rows r all found in
+    read_row rows a r r.values found (own.1 own.0) refl
+
+-- where the words give it or it has a default, it has one
 has_value : (rows : List Row) (a : Rule) → All (FillsOwn a) rows → (is_given a.id rows ≡ true) ⊎ (has_row a.id rows ≡ true) → HasValue rows a
 has_value rows a all (inr some) =
     let found = found_any (λ (r : Row). bytes_eq r.id a.id) rows some in
-    let own = find-All (FillsOwn a) (λ (r : Row). bytes_eq r.id a.id) rows found.0 all found.1 in
-    read_row rows a found.0 found.0.values found.1 (own.1 own.0) refl
+    own_value rows a found.0 all found.1
 has_value rows a all (inl given) = go (find (λ (r : Row). bytes_eq r.id a.id) rows) refl given
   where
     go : (o : Option Row) → find (λ (r : Row). bytes_eq r.id a.id) rows ≡ o → option_map_or (λ (r : Row). explicit_source r.source) o false ≡ true → HasValue rows a
     go None is g = absurd (true≢false (sym g))
-    go (Some r) is g =
-        let own = find-All (FillsOwn a) (λ (x : Row). bytes_eq x.id a.id) rows r all is in
-        read_row rows a r r.values is (own.1 own.0) refl
+    go (Some r) is g = own_value rows a r all is
 
 no_check : (help subcommand argument : Bool) → check_kinds help subcommand argument ≡ [] → argument ≡ false
 no_check true s a e = cc
@@ -316,12 +319,11 @@ given_too true false is e = absurd (true≢false e)
 given_too false g is e = absurd (true≢false (sym is))
 
 module _ (s : Shape) (words : List Text) (a : Rule) (e : level_fault s [] nothing_held words false [] ≡ []) (differ : keys_differ (λ (b : Rule). b.id) s.rules ≡ true)
-    (there : arg_by_id s.rules a.id ≡ Some a) (has : always_has_value a ≡ true) where
-  takes_one : (action_of a ≡ action.Set) × (nat_lt 0 (unwrap_or_range a.range).start_inclusive ≡ true) × ((a.required || not (is_empty a.defaults)) ≡ true)
+    (there : arg_by_id s.rules a.id ≡ Some a) (takes : takes_value a ≡ true) where
+  takes_one : (action_of a ≡ action.Set) × (nat_lt 0 (unwrap_or_range a.range).start_inclusive ≡ true)
   takes_one =
-      let outer = both _ _ has in
-      let inner = both _ _ outer.1 in
-      (is_set-Set (action_of a) outer.0, inner.0, inner.1)
+      let parts = both _ _ takes in
+      (is_set-Set (action_of a) parts.0, parts.1)
 
   end : Held
   end = (walk s.rules [] nothing_held words).held
@@ -346,14 +348,27 @@ module _ (s : Shape) (words : List Text) (a : Rule) (e : level_fault s [] nothin
       leaf_wants s.subcommand_negates_reqs _ (no_check _ _ _ rows_filled.1) in
       given_too a.required (is_given a.id rows) is (none_passes (λ (x : Rule). x.required && not (is_given x.id rows)) _ s.rules a missing there)
 
-  -- a level without a fault, below which none stands, has a value of each such option
-  pub level_value : HasValue (rows_after s.rules [] words) a
-  level_value = has_value (rows_after s.rules [] words) a rows_filled.0 (go a.required refl takes_one.2)
+  always_value : always_has_value a ≡ true → HasValue (rows_after s.rules [] words) a
+  always_value has = has_value (rows_after s.rules [] words) a rows_filled.0 (go a.required refl has)
     where
       go : (b : Bool) → a.required ≡ b → (b || not (is_empty a.defaults)) ≡ true
           → (is_given a.id (rows_after s.rules [] words) ≡ true) ⊎ (has_row a.id (rows_after s.rules [] words) ≡ true)
       go true is f = inl (required_given is)
       go false is f = inr (rows_made a (is_false (is_empty a.defaults) f) s.rules (settled s.rules (walk s.rules [] nothing_held words).held).rows there)
+
+  -- a level without a fault, below which none stands, has a value of each such option, or rightly none
+  pub level_value : HasValue (rows_after s.rules [] words) a ⊎ HasNone (rows_after s.rules [] words) a
+  level_value = go (always_has_value a) refl (find (λ (r : Row). bytes_eq r.id a.id) (rows_after s.rules [] words)) refl
+    where
+      go : (b : Bool) → always_has_value a ≡ b → (o : Option Row) → find (λ (r : Row). bytes_eq r.id a.id) (rows_after s.rules [] words) ≡ o
+          → HasValue (rows_after s.rules [] words) a ⊎ HasNone (rows_after s.rules [] words) a
+      go true is o found = inl (always_value is)
+      go false is (Some r) found = inl (own_value (rows_after s.rules [] words) a r rows_filled.0 found)
+      go false is None found = inr (record {
+        optional = is;
+        absent = ap (λ (o : Option Row). option_map_or (λ x. explicit_source x.source) o false) found;
+        none = ap (option_and_then (λ (x : Row). slice_get x.values 0)) found;
+      })
 
 in_front : (P : Rule → Type 0) (options rest : List Rule) → All P (map filled options ++ rest) → All (λ option. P (filled option)) options
 in_front P [] rest all = All-nil (λ option. P (filled option))
@@ -364,6 +379,6 @@ pub level_values : (s : Shape) (words : List Text) (options rest : List Rule) �
     → s.rules ≡ map filled options ++ rest → HasValues options (rows_after s.rules [] words)
 level_values s words options rest e differ is =
     let rows = rows_after s.rules [] words in
-    let each : All (λ a. always_has_value a ≡ true → HasValue rows a) s.rules =
+    let each : All (λ a. takes_value a ≡ true → HasValue rows a ⊎ HasNone rows a) s.rules =
     λ k d lt. level_value s words (slice_index_or s.rules k d) e differ (each_by_own_key (λ (b : Rule). b.id) s.rules differ k d lt) in
-    in_front (λ a. always_has_value a ≡ true → HasValue rows a) options rest (subst (All (λ a. always_has_value a ≡ true → HasValue rows a)) is each)
+    in_front (λ a. takes_value a ≡ true → HasValue rows a ⊎ HasNone rows a) options rest (subst (All (λ a. takes_value a ≡ true → HasValue rows a ⊎ HasNone rows a)) is each)

@@ -1,6 +1,6 @@
 -- The command `countygroups`, as clap reads it.
-use Rattle.std.specs.Prelude.{◌≡◌, ℕ, true, false, fold, List, [], ◌∷◌, Some, codes, pos}
-use Rattle.clap.specs.Words.{App, Rule, Shape, Text, app_of, new_rule, shape_of, with_rule}
+use Rattle.std.specs.Prelude.{◌≡◌, ◌++◌, ℕ, true, false, fold, List, [], ◌∷◌, Some, codes, pos}
+use Rattle.clap.specs.Words.{App, Rule, Shape, Text, app_of, new_rule, shape_of, with_rule, with_subcommand}
 use Rattle.clap.specs.Simple.{new_shape}
 use Rattle.clap.specs.declared.builder.action.ArgAction.TheVariants.{Set}
 use Rattle.clap.specs.declared.builder.command.Command.{Command}
@@ -24,10 +24,20 @@ abbrev pub with_default : Text → Rule → Rule
 with_default text option = record option { defaults = text ∷ [] }
 
 -- the options of each subcommand: the two files, the number of seats and the state
-abbrev pub problem_options : List Rule
-problem_options = required (text_option (codes "geo")) ∷ required (text_option (codes "segment"))
+abbrev pub common_options : List Rule
+common_options = required (text_option (codes "geo")) ∷ required (text_option (codes "segment"))
     ∷ of_number 1 1000 (required (text_option (codes "chamber")))
     ∷ with_default (codes "37") (of_number 0 99 (text_option (codes "state"))) ∷ []
+
+-- the options that give a problem: those of each subcommand, the file of adjacency, and those of links and
+-- of withdrawn sets, which need not be given
+abbrev pub problem_options : List Rule
+problem_options = common_options ++ required (text_option (codes "adjacency")) ∷ text_option (codes "links")
+    ∷ text_option (codes "withdrawn") ∷ []
+
+-- the options of `judge`: those that give a problem, and the file of the grouping
+abbrev pub judge_options : List Rule
+judge_options = problem_options ++ required (text_option (codes "grouping")) ∷ []
 
 -- a subcommand with these options
 abbrev pub subcommand : Text → List Rule → Shape
@@ -35,19 +45,22 @@ subcommand name options = record (new_shape name) { rules = options }
 
 -- the subcommands of the program
 abbrev pub subcommands : List Shape
-subcommands = subcommand (codes "size") problem_options ∷ []
+subcommands = subcommand (codes "size") common_options ∷ subcommand (codes "judge") judge_options ∷ []
 
--- the program, which has no option of its own and requires a subcommand
-unfoldable pub countygroups : App
-countygroups = record {
+-- the program without its subcommands: it has no option of its own and requires a subcommand
+abbrev pub countygroups_alone : App
+countygroups_alone = record {
   top = record (new_shape (codes "countygroups")) {
-    is_leaf = false;
     no_binary_name = true;
     disable_help_subcommand = true;
     subcommand_required = true;
   };
-  subs = subcommands;
+  subs = [];
 }
+
+-- the program, with its subcommands in turn
+unfoldable pub countygroups : App
+countygroups = fold with_subcommand countygroups_alone subcommands
 
 -- `new` is `old` with these options added in turn
 pub record HasMore (old : Command) (options : List Rule) (new : Command) : Type 0 where

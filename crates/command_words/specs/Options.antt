@@ -1,5 +1,5 @@
 -- What the values of a subcommand's options are, where the words are taken.
-use Rattle.std.specs.Prelude.{◌≡◌, ◌&&◌, ◌||◌, not, ℕ, Bool, true, false, Some, List, find, pos, slice_get, nat_lt}
+use Rattle.std.specs.Prelude.{◌≡◌, ◌⊎◌, ◌&&◌, ◌||◌, not, ℕ, Bool, true, false, Some, None, List, find, pos, slice_get, nat_lt}
 use Rattle.std.specs.List.{All}
 use Rattle.std.specs.Option.{IsSomeAnd}
 use Rattle.std.specs.Str.{bytes_eq}
@@ -26,14 +26,23 @@ abbrev pub is_set : ArgAction → Bool
 is_set Set = true
 is_set _ = false
 
--- the option takes a value, and is required or has a default
-abbrev pub always_has_value : Rule → Bool
-always_has_value option = is_set (action_of option) && (nat_lt 0 (unwrap_or_range option.range).start_inclusive
-    && (option.required || not (is_empty option.defaults)))
+-- the option takes a value
+abbrev pub takes_value : Rule → Bool
+takes_value option = is_set (action_of option) && nat_lt 0 (unwrap_or_range option.range).start_inclusive
 
--- the rows have the option's value, if it always has one, as clap completes it
+-- the option has a value wherever clap takes the words: it is required or has a default
+abbrev pub always_has_value : Rule → Bool
+always_has_value option = option.required || not (is_empty option.defaults)
+
+-- the words don't give the option, which they need not, and the rows have no value of it
+pub record HasNone (rows : List Row) (option : Rule) : Type 0 where
+  pub optional : always_has_value option ≡ false
+  pub absent : is_given option.id rows ≡ false
+  pub none : first_of option.id rows ≡ None
+
+-- the rows have the option's value, as clap completes it, or rightly none, if it takes one
 abbrev pub HasItsValue : List Row → Rule → Type 0
-HasItsValue rows option = always_has_value (filled option) ≡ true → HasValue rows (filled option)
+HasItsValue rows option = takes_value (filled option) ≡ true → HasValue rows (filled option) ⊎ HasNone rows (filled option)
 
 -- and of each of the options
 abbrev pub HasValues : List Rule → List Row → Type 0

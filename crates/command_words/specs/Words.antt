@@ -1,5 +1,6 @@
 -- What the words of the command line say.
-use Rattle.std.specs.Prelude.{◌≡◌, ◌≢◌, ◌≤◌, ⊤, ℕ, Bool, false, [], ◌∷◌, List, Option, Some, codes}
+use Rattle.std.specs.Prelude.{◌≡◌, ◌≢◌, ◌≤◌, ⊤, ℕ, Bool, true, false, [], ◌∷◌, List, Option, Some, None, codes}
+use Rattle.std.specs.Borrow.{Bor}
 use Rattle.std.specs.Option.{IsSomeAnd}
 use Rattle.clap.specs.Words.{Kinds, Row, Text, fault_of, first_of, subcommand_of, takes}
 use Rattle.clap.specs.Takes.{is_given}
@@ -8,7 +9,9 @@ use Rattle.clap.specs.declared.error.kind.ErrorKind.TheVariants.{DisplayHelp, Ou
 use Rattle.command_words.specs.Command.{countygroups}
 use Rattle.command_words.specs.Options.{Spells}
 use Rattle.command_words.specs.declared.words.CommandWords.{CommandWords}
-use Rattle.command_words.specs.declared.words.CommandWords.TheVariants.{Size}
+use Rattle.command_words.specs.declared.words.CommandWords.TheVariants.{Judge, Size}
+use Rattle.command_words.specs.declared.words.CommonWords.{CommonWords}
+use Rattle.command_words.specs.declared.words.JudgeWords.{JudgeWords}
 use Rattle.command_words.specs.declared.words.ProblemWords.{ProblemWords}
 use Rattle.command_words.specs.declared.end.WordsEnd.{WordsEnd}
 use Rattle.command_words.specs.declared.end.WordsEnd.TheVariants.{Help, Usage, Memory}
@@ -29,19 +32,37 @@ faults_of words = fault_of countygroups words
 abbrev pub GivesNumber : Text → List Row → ℕ → Type 0
 GivesNumber name rows n = IsSomeAnd (first_of name rows) (λ text. Spells text n)
 
+-- the values of a subcommand's options say what those give that each subcommand has
+pub record SaysCommon (rows : List Row) (words : CommonWords) : Type 0 where
+  pub geo : first_of (codes "geo") rows ≡ Some words.geo.now
+  pub segment : first_of (codes "segment") rows ≡ Some words.segment.now
+  pub chamber : GivesNumber (codes "chamber") rows words.chamber
+  pub seats : (1 ≤ words.chamber) × (words.chamber ≤ 1000)
+  pub state : GivesNumber (codes "state") rows words.state
+  pub code : words.state ≤ 99
+  pub default : is_given (codes "state") rows ≡ false → words.state ≡ 37
+
+-- what the words give of an option that need not be given: its text, or none exactly where they don't give it
+abbrev pub GivesText : Text → List Row → Option (Bor Text) → Type 0
+GivesText name rows None = is_given name rows ≡ false
+GivesText name rows (Some text) = (is_given name rows ≡ true) × (first_of name rows ≡ Some text.now)
+
 -- the values of a subcommand's options say which problem is meant
-pub record SaysProblem (rows : List Row) (problem : ProblemWords) : Type 0 where
-  pub geo : first_of (codes "geo") rows ≡ Some problem.geo.now
-  pub segment : first_of (codes "segment") rows ≡ Some problem.segment.now
-  pub chamber : GivesNumber (codes "chamber") rows problem.chamber
-  pub seats : (1 ≤ problem.chamber) × (problem.chamber ≤ 1000)
-  pub state : GivesNumber (codes "state") rows problem.state
-  pub code : problem.state ≤ 99
-  pub default : is_given (codes "state") rows ≡ false → problem.state ≡ 37
+pub record SaysProblem (rows : List Row) (words : ProblemWords) : Type 0 where
+  pub common : SaysCommon rows words.common
+  pub adjacency : first_of (codes "adjacency") rows ≡ Some words.adjacency.now
+  pub links : GivesText (codes "links") rows words.links
+  pub withdrawn : GivesText (codes "withdrawn") rows words.withdrawn
+
+-- the values of the options of `judge` say which problem and which grouping are meant
+pub record SaysJudge (rows : List Row) (words : JudgeWords) : Type 0 where
+  pub problem : SaysProblem rows words.problem
+  pub grouping : first_of (codes "grouping") rows ≡ Some words.grouping.now
 
 -- a subcommand with the values of its options means the command
 abbrev pub SaysCommand : Text × List Row → CommandWords → Type 0
-SaysCommand p (Size problem) = (p.0 ≡ codes "size") × SaysProblem p.1 problem
+SaysCommand p (Size words) = (p.0 ≡ codes "size") × SaysCommon p.1 words
+SaysCommand p (Judge words) = (p.0 ≡ codes "judge") × SaysJudge p.1 words
 
 -- the words mean the command
 abbrev pub Means : List Text → CommandWords → Type 0

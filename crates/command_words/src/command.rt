@@ -1,7 +1,7 @@
 //! The command `countygroups`, as `clap` parses it.
 ghost use Rattle.std.specs.Prelude.{◌≡◌, IfOk, codes, false};
 ghost use Rattle.clap.specs.Words.{app_of, rule_of};
-ghost use Rattle.command_words.specs.Command.{HasMore, HasShape, countygroups, subcommand, of_number, problem_options, required, text_option, with_default};
+ghost use Rattle.command_words.specs.Command.{HasMore, HasShape, countygroups, countygroups_alone, subcommand, of_number, common_options, problem_options, judge_options, required, text_option, with_default};
 
 use clap::{Arg, ArgAction, Command, value_parser};
 use std::alloc::{AllocError, Global};
@@ -47,25 +47,58 @@ fn state_option<'a>(alloc: Global) -> Arg<'a>
 }
 
 /// The command with the options that each subcommand has.
+fn with_common_options<'a>(alloc: Global, command: Command<'a>) -> Result<Command<'a>, AllocError>
+    ensures { IfOk result (HasMore command.entry common_options) }
+{
+    let geo = file_option(alloc, "geo", "The PL 94-171 geographic header");
+    let command = command.arg(geo)?;
+    let segment = file_option(alloc, "segment", "The PL 94-171 data segment 1");
+    let command = command.arg(segment)?;
+    let command = command.arg(chamber_option(alloc))?;
+    command.arg(state_option(alloc))
+}
+
+/// The command with the options that give a problem.
 fn with_problem_options<'a>(alloc: Global, command: Command<'a>) -> Result<Command<'a>, AllocError>
     ensures { IfOk result (HasMore command.entry problem_options) }
 {
-    let geo = file_option(alloc, "geo", "The PL 94-171 geographic header");
-    let segment = file_option(alloc, "segment", "The PL 94-171 data segment 1");
-    let command = command.arg(geo)?.arg(segment)?;
-    let command = command
-        .arg(chamber_option(alloc))?
-        .arg(state_option(alloc))?;
-    Ok(command)
+    let command = with_common_options(alloc, command)?;
+    let adjacency = file_option(alloc, "adjacency", "The county adjacency file");
+    let command = command.arg(adjacency)?;
+    let links = text_option(alloc, "links", "FILE", "Pairs to add and to cut");
+    let command = command.arg(links)?;
+    let withdrawn = text_option(alloc, "withdrawn", "FILE", "The withdrawn sets");
+    command.arg(withdrawn)
 }
 
 /// The subcommand `size`.
 fn size_command<'a>(alloc: Global) -> Result<Command<'a>, AllocError>
-    ensures { IfOk result (λ c. HasShape c (subcommand (codes "size") problem_options)) }
+    ensures { IfOk result (λ c. HasShape c (subcommand (codes "size") common_options)) }
 {
     let size = Command::new(alloc, "size").about("Prints how many seats each county's people suit");
-    let size = with_problem_options(alloc, size)?;
-    Ok(size)
+    with_common_options(alloc, size)
+}
+
+/// The subcommand `judge`.
+fn judge_command<'a>(alloc: Global) -> Result<Command<'a>, AllocError>
+    ensures { IfOk result (λ c. HasShape c (subcommand (codes "judge") judge_options)) }
+{
+    let judge = Command::new(alloc, "judge").about("Judges whether a grouping is lawful");
+    let judge = with_problem_options(alloc, judge)?;
+    let grouping = file_option(alloc, "grouping", "The groups, each with its seats");
+    judge.arg(grouping)
+}
+
+/// The command of the program without its subcommands.
+fn program_alone<'a>(alloc: Global) -> Result<Command<'a>, AllocError>
+    ensures { IfOk result (λ c. app_of c ≡ countygroups_alone) }
+{
+    Command::new(alloc, "countygroups")
+        .about("Groups North Carolina's counties for legislative districts")
+        .no_binary_name(true)
+        .disable_help_subcommand(true)
+        .subcommand_required(true)
+        .bin_name("countygroups")
 }
 
 /// The command of the whole program.
@@ -73,12 +106,7 @@ pub(crate) fn program<'a>(alloc: Global) -> Result<Command<'a>, AllocError>
     ensures { IfOk result (λ c. app_of c ≡ countygroups) }
 {
     let size = size_command(alloc)?;
-    let program = Command::new(alloc, "countygroups")
-        .bin_name("countygroups")?
-        .about("Groups North Carolina's counties for legislative districts")
-        .no_binary_name(true)
-        .disable_help_subcommand(true)
-        .subcommand_required(true)
-        .subcommand(size)?;
-    Ok(program)
+    let program = program_alone(alloc)?.subcommand(size)?;
+    let judge = judge_command(alloc)?;
+    program.subcommand(judge)
 }

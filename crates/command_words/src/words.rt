@@ -3,9 +3,9 @@ ghost use Rattle.std.specs.Prelude.{◌≡◌, [], IfErr, IfOk, MatchResult, tru
 ghost use Rattle.std.specs.Option.{IsSomeAnd};
 ghost use Rattle.clap.specs.Walk.{texts};
 ghost use Rattle.clap.specs.Words.{FailsBy, found_of, kind_of, rows_of, subcommand_rows_of};
-ghost use Rattle.command_words.specs.Command.{problem_options};
+ghost use Rattle.command_words.specs.Command.{common_options, judge_options, problem_options};
 ghost use Rattle.command_words.specs.Options.{HasCommand, HasValues};
-ghost use Rattle.command_words.specs.Words.{EndsBy, Means, SaysCommand, SaysProblem, faults_of, subcommand_in, takes_words};
+ghost use Rattle.command_words.specs.Words.{EndsBy, Means, SaysCommand, SaysCommon, SaysJudge, SaysProblem, faults_of, subcommand_in, takes_words};
 
 use crate::WordsEnd;
 use crate::command::program;
@@ -17,12 +17,14 @@ use std::alloc::Global;
 #[derive(Clone, Copy, Debug, PartialEq, Eq)]
 pub enum CommandWords<'a> {
     /// The size table.
-    Size(ProblemWords<'a>),
+    Size(CommonWords<'a>),
+    /// The judge of a grouping.
+    Judge(JudgeWords<'a>),
 }
 
 /// The options that each subcommand has.
 #[derive(Clone, Copy, Debug, PartialEq, Eq)]
-pub struct ProblemWords<'a> {
+pub struct CommonWords<'a> {
     /// The name of the PL 94-171 geographic header.
     pub geo: &'a str,
     /// The name of the PL 94-171 data segment 1.
@@ -33,16 +35,62 @@ pub struct ProblemWords<'a> {
     pub state: u8,
 }
 
+/// The options that give a problem: those of each subcommand, and the files of adjacency, links and withdrawn sets.
+#[derive(Clone, Copy, Debug, PartialEq, Eq)]
+pub struct ProblemWords<'a> {
+    /// The options that each subcommand has.
+    pub common: CommonWords<'a>,
+    /// The name of the county adjacency file.
+    pub adjacency: &'a str,
+    /// The name of the file of links, where the words give one.
+    pub links: Option<&'a str>,
+    /// The name of the file of withdrawn sets, where the words give one.
+    pub withdrawn: Option<&'a str>,
+}
+
+/// The options of `judge`.
+#[derive(Clone, Copy, Debug, PartialEq, Eq)]
+pub struct JudgeWords<'a> {
+    /// The options that give the problem.
+    pub problem: ProblemWords<'a>,
+    /// The name of the file of the grouping.
+    pub grouping: &'a str,
+}
+
 /// What the values of the options say that each subcommand has.
+fn common_words<'a>(found: &ArgMatches<'a>) -> CommonWords<'a>
+    requires { HasValues common_options (rows_of (found_of found.now)) }
+    ensures { SaysCommon (rows_of (found_of found.now)) result }
+{
+    CommonWords {
+        geo: found.get_str("geo").unwrap(),
+        segment: found.get_str("segment").unwrap(),
+        chamber: found.get_one::<u16>("chamber").unwrap(),
+        state: found.get_one::<u8>("state").unwrap(),
+    }
+}
+
+/// What the values of the options say that give a problem.
 fn problem_words<'a>(found: &ArgMatches<'a>) -> ProblemWords<'a>
     requires { HasValues problem_options (rows_of (found_of found.now)) }
     ensures { SaysProblem (rows_of (found_of found.now)) result }
 {
     ProblemWords {
-        geo: found.get_str("geo").unwrap(),
-        segment: found.get_str("segment").unwrap(),
-        chamber: found.get_one::<u16>("chamber").unwrap(),
-        state: found.get_one::<u8>("state").unwrap(),
+        common: common_words(found),
+        adjacency: found.get_str("adjacency").unwrap(),
+        links: found.get_str("links"),
+        withdrawn: found.get_str("withdrawn"),
+    }
+}
+
+/// What the values of the options of `judge` say.
+fn judge_words<'a>(found: &ArgMatches<'a>) -> JudgeWords<'a>
+    requires { HasValues judge_options (rows_of (found_of found.now)) }
+    ensures { SaysJudge (rows_of (found_of found.now)) result }
+{
+    JudgeWords {
+        problem: problem_words(found),
+        grouping: found.get_str("grouping").unwrap(),
     }
 }
 
@@ -52,7 +100,8 @@ fn command_words<'a>(name: &str, found: &ArgMatches<'a>) -> CommandWords<'a>
     ensures { SaysCommand (name.now, rows_of (found_of found.now)) result }
 {
     match name {
-        "size" => CommandWords::Size(problem_words(found)),
+        "size" => CommandWords::Size(common_words(found)),
+        "judge" => CommandWords::Judge(judge_words(found)),
         _ => unreachable!(),
     }
 }

@@ -1,11 +1,11 @@
 //! Command lines, and what the program makes of them.
-use super::{CommandWords, ProblemWords, parse};
+use super::{CommandWords, CommonWords, JudgeWords, ProblemWords, parse};
 use crate::WordsEnd;
 use std::test::Fail;
 
 #[test]
 fn commands(rt: HostRuntime) -> Result<(), Fail> {
-    let house = ProblemWords {
+    let house = CommonWords {
         geo: "geo.pl",
         segment: "one.pl",
         chamber: 120,
@@ -15,7 +15,7 @@ fn commands(rt: HostRuntime) -> Result<(), Fail> {
         ("size --geo geo.pl --segment one.pl --chamber 120", house),
         (
             "size --state 0 --chamber=1000 --segment=one.pl --geo geo.pl",
-            ProblemWords {
+            CommonWords {
                 chamber: 1000,
                 state: 0,
                 ..house
@@ -23,7 +23,7 @@ fn commands(rt: HostRuntime) -> Result<(), Fail> {
         ),
         (
             "size --geo= --segment one.pl --chamber +4 --state 99",
-            ProblemWords {
+            CommonWords {
                 geo: "",
                 chamber: 4,
                 state: 99,
@@ -35,6 +35,52 @@ fn commands(rt: HostRuntime) -> Result<(), Fail> {
         let words: Vec<&str> = line.split(' ').collect(rt.alloc())?;
         let command = parse(rt.alloc(), words.as_slice())?;
         assert_eq!(rt; command, CommandWords::Size(problem), "{line}");
+    }
+    Ok(())
+}
+
+#[test]
+fn judge_commands(rt: HostRuntime) -> Result<(), Fail> {
+    let bare = ProblemWords {
+        common: CommonWords {
+            geo: "g",
+            segment: "s",
+            chamber: 50,
+            state: 37,
+        },
+        adjacency: "a",
+        links: None,
+        withdrawn: None,
+    };
+    let lines = [
+        (
+            "judge --geo g --segment s --chamber 50 --adjacency a --links l --withdrawn w --grouping p",
+            ProblemWords {
+                links: Some("l"),
+                withdrawn: Some("w"),
+                ..bare
+            },
+        ),
+        (
+            "judge --grouping p --adjacency=a --chamber 50 --segment s --geo g",
+            bare,
+        ),
+        (
+            "judge --withdrawn= --grouping p --adjacency a --geo g --segment s --chamber 50",
+            ProblemWords {
+                withdrawn: Some(""),
+                ..bare
+            },
+        ),
+    ];
+    for (line, problem) in lines {
+        let words: Vec<&str> = line.split(' ').collect(rt.alloc())?;
+        let command = parse(rt.alloc(), words.as_slice())?;
+        let judge = JudgeWords {
+            problem,
+            grouping: "p",
+        };
+        assert_eq!(rt; command, CommandWords::Judge(judge), "{line}");
     }
     Ok(())
 }
@@ -75,6 +121,15 @@ fn usage(rt: HostRuntime) -> Result<(), Fail> {
             "size --geo a --geo b",
             "'--geo <FILE>' cannot be used multiple times",
         ),
+        ("size --adjacency x", "unexpected argument '--adjacency'"),
+        (
+            "judge --geo a --segment b --chamber 4 --grouping p",
+            "--adjacency <FILE>",
+        ),
+        (
+            "judge --geo a --segment b --chamber 4 --adjacency x",
+            "--grouping <FILE>",
+        ),
     ];
     for (line, said) in lines {
         let words: Vec<&str> = line.split(' ').collect(rt.alloc())?;
@@ -108,6 +163,10 @@ fn help(rt: HostRuntime) -> Result<(), Fail> {
         (
             "size -h",
             ["--chamber <SEATS>", "--state <CODE>", "[default: 37]"],
+        ),
+        (
+            "judge --help",
+            ["--links <FILE>", "--withdrawn <FILE>", "--grouping <FILE>"],
         ),
     ];
     for (line, parts) in pages {

@@ -1,16 +1,14 @@
 use Rattle.std.proofs.Common.{codes}
-use Rattle.command_words.specs.Command.{of_number, required, text_option, with_default}
-use Rattle.command_words.proofs.CommandLemmas.{has_none_more, has_one_more}
+use Rattle.command_words.specs.Command.{required, text_option}
+use Rattle.command_words.proofs.CommandLemmas.{has_one_more, one_more_if_ok}
 use Rattle.command_words.proofs.command.with_problem_options.Goals as goal
 
 pub returns : goal.returns
 returns c =
     let old = c.args.command in
-    let geo = has_one_more old old c.in_ok-arg.field-0 c.file_option-geo.result _ (required (text_option (codes "geo"))) (has_none_more old)
-    c.in_ok-arg.ensures c.file_option-geo.ensures.rule c.file_option-geo.ensures.local in
-    let segment = has_one_more old c.in_ok-arg.field-0 c.in_ok-command.command c.file_option-segment.result _ (required (text_option (codes "segment"))) geo
-    c.in_ok-command.ensures c.file_option-segment.ensures.rule c.file_option-segment.ensures.local in
-    let chamber = has_one_more old c.in_ok-command.command c.in_ok-arg-2.field-0 c.chamber_option.result _ (of_number 1 1000 (required (text_option (codes "chamber")))) segment
-    c.in_ok-arg-2.ensures c.chamber_option.ensures.rule c.chamber_option.ensures.local in
-    has_one_more old c.in_ok-arg-2.field-0 c.in_ok-command-2.command c.state_option.result _ (with_default (codes "37") (of_number 0 99 (text_option (codes "state")))) chamber
-    c.in_ok-command-2.ensures c.state_option.ensures.rule c.state_option.ensures.local
+    let adjacency = has_one_more old c.in_ok-command.command c.in_ok-command-2.command c.file_option-adjacency.result _ (required (text_option (codes "adjacency"))) c.in_ok-command.ensures
+    c.in_ok-command-2.ensures c.file_option-adjacency.ensures.rule c.file_option-adjacency.ensures.local in
+    let links = has_one_more old c.in_ok-command-2.command c.in_ok-command-3.command c.text_option-links.result _ (text_option (codes "links")) adjacency
+    c.in_ok-command-3.ensures c.text_option-links.ensures.rule c.text_option-links.ensures.local in
+    one_more_if_ok old c.in_ok-command-3.command c.arg-3.result c.text_option-withdrawn.result _ (text_option (codes "withdrawn")) links
+    c.arg-3.ensures c.text_option-withdrawn.ensures.rule c.text_option-withdrawn.ensures.local

@@ -1,0 +1,23 @@
+use Rattle.std.proofs.Common.{◌∷◌, [], refl, codes, lit<}
+use Rattle.clap.specs.Words.{found_of, new_rule, rows_of}
+use Rattle.clap.specs.Simple.{filled}
+use Rattle.clap.specs.declared.parser.matches.ArgMatches.{ArgMatches}
+use Rattle.command_words.specs.Command.{judge_options, problem_options, required, text_option}
+use Rattle.command_words.specs.Options.{HasValue, HasValues}
+use Rattle.command_words.proofs.ReadLemmas.{front_values, surely, text_is, text_read}
+use Rattle.command_words.proofs.words.judge_words.Goals as goal
+
+grouping : (m : ArgMatches) → HasValues judge_options (rows_of (found_of m)) → HasValue (rows_of (found_of m)) (filled (required (text_option (codes "grouping"))))
+grouping m has = surely _ _ refl (has 7 (new_rule []) (lit< tt) refl)
+
+pub problem_words-requires : goal.problem_words-requires
+problem_words-requires c = front_values problem_options (required (text_option (codes "grouping")) ∷ []) _ c.requires
+
+pub unwrap-requires : goal.unwrap-requires
+unwrap-requires c = text_read (found_of c.args.found.now) _ (grouping c.args.found.now c.requires) c.get_str.result c.get_str.ensures
+
+pub returns : goal.returns
+returns c = record {
+  problem = c.problem_words.ensures;
+  grouping = text_is (found_of c.args.found.now) _ (grouping c.args.found.now c.requires) c.get_str.result c.unwrap.result c.get_str.ensures c.unwrap.ensures;
+}
