@@ -5,14 +5,14 @@ use Rattle.std.specs.Option.{option_or}
 use Rattle.std.proofs.lemmas.List.{reverse-append, map_push}
 use mathlib.Core.Path.{fun_ext}
 use Rattle.cli.specs.Answer.{Answered}
-use Rattle.cli.specs.Files.{File, Files, held}
+use Rattle.shelves.specs.Files.{File, Files, held}
 use Rattle.std.specs.List.{slice_split}
 use Rattle.field_lines.specs.Raw.{raw_lines}
 use Rattle.cli.specs.Case.{case_files, first_line, is_case}
 use Rattle.cli.specs.Run.{IsRunAnswer}
 use Rattle.cli.specs.CaseRun.{WordsOver, stored_text, IsCaseAnswer}
-use Rattle.cli.specs.Memory.{files_of}
-use Rattle.cli.specs.declared.memory.MemoryFile.{MemoryFile}
+use Rattle.shelves.specs.Memory.{files_of}
+use Rattle.shelves.specs.declared.memory.MemoryFile.{MemoryFile}
 
 -- a shelf in memory on which nothing was stored
 nothing_stored : (stored files : List File) → stored ≡ [] → (λ name. option_or (held stored name) (held files name)) ≡ held files

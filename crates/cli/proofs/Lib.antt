@@ -1,4 +1,2 @@
-pub mod FileLemmas
-pub mod MemoryLemmas
 pub mod RunLemmas
 pub mod CaseLemmas

@@ -1,7 +1,30 @@
--- An answer of the code as one of the definitions.
+-- Answers and refusals of the code as those of the definitions.
+use Rattle.std.specs.Prelude.{◌≡◌, ⊤, Result, Ok, Err}
 use Rattle.cli.specs.declared.answer.Answer.{Answer}
+use Rattle.cli.specs.declared.answer.Refusal.{Refusal}
+use Rattle.cli.specs.declared.answer.Refusal.TheVariants.{Shown, Memory}
 use Rattle.cli.specs.Answer.{Answered}
 
 -- the answer's text and status
-abbrev pub answered : Answer → Answered
-answered a = record { text = a.text.items; status = a.status }
+abbrev pub answer_of : Answer → Answered
+answer_of a = record { text = a.text.items; status = a.status }
+
+-- a refusal shows this answer, unless memory was refused
+abbrev pub Refuses : Answered → Refusal → Type 0
+Refuses want (Shown a) = answer_of a ≡ want
+Refuses want Memory = ⊤
+
+-- an answer is shown
+abbrev pub IsShown : Refusal → Type 0
+IsShown (Shown a) = ⊤
+IsShown Memory = ⊥
+
+-- P holds of the answer that is shown; of want of memory nothing is said
+abbrev pub Meets : Refusal → (Answered → Type 0) → Type 0
+Meets (Shown a) P = P (answer_of a)
+Meets Memory P = ⊤
+
+-- a call came to one of the ends that R takes, unless memory was refused
+abbrev pub Comes : {T X : Type 0} → (T → X) → Result T Refusal → (Result X Answered → Type 0) → Type 0
+Comes view (Ok value) R = R (Ok (view value))
+Comes view (Err refusal) R = Meets refusal (λ a. R (Err a))

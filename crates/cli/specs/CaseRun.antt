@@ -1,10 +1,10 @@
 -- What a run of a case answers.
 use Rattle.std.specs.Prelude.{◌≡◌, ◌⊎◌, ◌<◌, ◌≤◌, ◌++◌, ℕ, Bool, true, false, List, [], Option, Some, None, Result, Ok, Err, IfSome, length, reverse, codes}
 use Rattle.std.specs.List.{flat_map}
-use Rattle.cli.specs.declared.whole.WholeFault.{WholeFault}
-use Rattle.cli.specs.declared.whole.WholeFault.TheVariants.{TooLarge, Failed, Memory}
+use Rattle.shelves.specs.declared.whole.WholeFault.{WholeFault}
+use Rattle.shelves.specs.declared.whole.WholeFault.TheVariants.{TooLarge, Failed, Memory}
 use Rattle.cli.specs.Answer.{Answered, memory_answer}
-use Rattle.cli.specs.Files.{File, held}
+use Rattle.shelves.specs.Files.{File, held}
 use Rattle.cli.specs.Case.{case_files, case_words, is_case}
 use Rattle.cli.specs.Run.{IsRunAnswer}
 use Rattle.cli.specs.Delivery.{Delivers}

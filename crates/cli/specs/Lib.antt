@@ -1,11 +1,8 @@
-pub mod Digits
 pub mod Answer
 pub mod Answers
-pub mod Files
-pub mod Memory
-pub mod Shelf
-pub mod SizeTable
 pub mod Refusals
+pub mod Course
+pub mod ProblemCourse
 pub mod Case
 pub mod Run
 pub mod Delivery

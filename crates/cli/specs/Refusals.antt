@@ -3,15 +3,26 @@ use Rattle.std.specs.Prelude.{ℕ, List, ◌++◌, codes, decimal}
 use Rattle.field_lines.specs.declared.fault.LineFault.{LineFault}
 use Rattle.field_lines.specs.declared.fault.LineFault.TheVariants as lines
 use Rattle.pl94_counties.specs.declared.fault.File.{File}
-use Rattle.pl94_counties.specs.declared.fault.File.TheVariants.{Geo, Segment1}
+use Rattle.pl94_counties.specs.declared.fault.File.TheVariants as files
 use Rattle.pl94_counties.specs.declared.fault.Kind.{Kind}
 use Rattle.pl94_counties.specs.declared.fault.Kind.TheVariants as kinds
 use Rattle.pl94_counties.specs.declared.fault.Pl94Fault.{Pl94Fault}
+use Rattle.adjacency_reader.specs.declared.fault.Kind as adjacency
+use Rattle.adjacency_reader.specs.declared.fault.Kind.TheVariants as pairs
+use Rattle.adjacency_reader.specs.declared.fault.AdjacencyFault.{AdjacencyFault}
+use Rattle.grouping_report.specs.declared.grouping_fault.GroupingTextKind.{GroupingTextKind}
+use Rattle.grouping_report.specs.declared.grouping_fault.GroupingTextKind.TheVariants as groups
+use Rattle.grouping_report.specs.declared.grouping_fault.GroupingTextFault.{GroupingTextFault}
+use Rattle.grouping_report.specs.FaultWords.{grouping_fault_words}
+use Rattle.county_problem.specs.declared.grouping_fault.GroupingFault.{GroupingFault}
+use Rattle.county_problem.specs.declared.grouping_fault.GroupingFault.TheVariants as verdict
+use Rattle.cli.specs.declared.refusal.InputFile.{InputFile}
+use Rattle.cli.specs.declared.refusal.InputFile.TheVariants.{Geo, Segment1, Adjacency, Links, Withdrawn, Grouping}
 use Rattle.county_problem.specs.declared.fault.ProblemFault.{ProblemFault}
 use Rattle.county_problem.specs.declared.fault.ProblemFault.TheVariants as problem
-use Rattle.cli.specs.declared.shelf.ShelfFault.{ShelfFault}
-use Rattle.cli.specs.declared.shelf.ShelfFault.TheVariants as shelf
-use Rattle.cli.specs.Digits.{five_digits}
+use Rattle.shelves.specs.declared.shelf.ShelfFault.{ShelfFault}
+use Rattle.shelves.specs.declared.shelf.ShelfFault.TheVariants as shelf
+use Rattle.grouping_report.specs.Digits.{five_digits}
 use Rattle.cli.specs.Answer.{Answered, memory_answer}
 
 -- the word of a line fault
@@ -33,28 +44,100 @@ kind_word kinds.NoCounties = codes "NoCounties"
 kind_word (kinds.Lower fault) = line_fault_word fault
 kind_word kinds.Memory = codes "Memory"
 
--- the line that is shown: 0 where the text has too many
+-- the word of a kind of fault of a file of adjacency, links or withdrawn sets
+abbrev pub adjacency_word : adjacency.Kind → List ℕ
+adjacency_word pairs.TooFewFields = codes "TooFewFields"
+adjacency_word pairs.BadSign = codes "BadSign"
+adjacency_word pairs.BadSeats = codes "BadSeats"
+adjacency_word pairs.BadCode = codes "BadCode"
+adjacency_word (pairs.Lower fault) = line_fault_word fault
+adjacency_word pairs.Memory = codes "Memory"
+
+-- the word of a kind of fault of a grouping's file
+abbrev pub grouping_word : GroupingTextKind → List ℕ
+grouping_word groups.TooFewFields = codes "TooFewFields"
+grouping_word groups.BadSeats = codes "BadSeats"
+grouping_word groups.BadCode = codes "BadCode"
+grouping_word (groups.Lower fault) = line_fault_word fault
+grouping_word groups.Memory = codes "Memory"
+
+-- the line that is shown of a line fault: 0 where the text has too many
+abbrev pub cut_line : LineFault → ℕ → ℕ
+cut_line lines.TooManyLines line = 0
+cut_line fault line = line
+
+-- the line that is shown of a fault
 abbrev pub shown_line : Kind → ℕ → ℕ
-shown_line (kinds.Lower lines.TooManyLines) line = 0
+shown_line (kinds.Lower fault) line = cut_line fault line
 shown_line kind line = line
 
--- the word of a file
-abbrev pub file_word : File → List ℕ
+-- the same of a file of adjacency, links or withdrawn sets
+abbrev pub adjacency_line : adjacency.Kind → ℕ → ℕ
+adjacency_line (pairs.Lower fault) line = cut_line fault line
+adjacency_line kind line = line
+
+-- and of a grouping's file
+abbrev pub grouping_line : GroupingTextKind → ℕ → ℕ
+grouping_line (groups.Lower fault) line = cut_line fault line
+grouping_line kind line = line
+
+-- the word of an input file
+abbrev pub file_word : InputFile → List ℕ
 file_word Geo = codes "geo"
 file_word Segment1 = codes "segment1"
+file_word Adjacency = codes "adjacency"
+file_word Links = codes "links"
+file_word Withdrawn = codes "withdrawn"
+file_word Grouping = codes "grouping"
+
+-- the input file that a PL 94-171 file is
+abbrev pub input_of : File → InputFile
+input_of files.Geo = Geo
+input_of files.Segment1 = Segment1
 
 -- `refused FILE KIND line L`
 unfoldable pub refused_line : List ℕ → List ℕ → ℕ → List ℕ
 refused_line file kind line = codes "refused " ++ file ++ codes " " ++ kind ++ codes " line " ++ decimal line ++ codes "\n"
 
+-- an input file is refused for a fault at a line
+abbrev pub input_answer : InputFile → List ℕ → ℕ → Answered
+input_answer file word line = record { text = refused_line (file_word file) word line; status = 4 }
+
 -- a fault of this kind, at this line of a PL 94-171 file
-abbrev pub file_answer : File → Kind → ℕ → Answered
+abbrev pub file_answer : InputFile → Kind → ℕ → Answered
 file_answer file kinds.Memory line = memory_answer
-file_answer file kind line = record { text = refused_line (file_word file) (kind_word kind) (shown_line kind line); status = 4 }
+file_answer file kind line = input_answer file (kind_word kind) (shown_line kind line)
 
 -- the answer to a fault of a PL 94-171 file
 abbrev pub pl94_answer : Pl94Fault → Answered
-pl94_answer fault = file_answer fault.file fault.kind fault.line
+pl94_answer fault = file_answer (input_of fault.file) fault.kind fault.line
+
+-- a fault of this kind, at this line of a file of adjacency, links or withdrawn sets
+abbrev pub pairs_answer : InputFile → adjacency.Kind → ℕ → Answered
+pairs_answer file pairs.Memory line = memory_answer
+pairs_answer file kind line = input_answer file (adjacency_word kind) (adjacency_line kind line)
+
+-- the answer to a fault of a file of adjacency, links or withdrawn sets
+abbrev pub adjacency_answer : InputFile → AdjacencyFault → Answered
+adjacency_answer file fault = pairs_answer file fault.kind fault.line
+
+-- a fault of this kind, at this line of a grouping's file
+abbrev pub groups_answer : GroupingTextKind → ℕ → Answered
+groups_answer groups.Memory line = memory_answer
+groups_answer kind line = input_answer Grouping (grouping_word kind) (grouping_line kind line)
+
+-- the answer to a fault of a grouping's file
+abbrev pub grouping_answer : GroupingTextFault → Answered
+grouping_answer fault = groups_answer fault.kind fault.line
+
+-- `fault KIND` with its group, its county or its seats
+unfoldable pub fault_line : GroupingFault → List ℕ
+fault_line fault = codes "fault " ++ grouping_fault_words fault ++ codes "\n"
+
+-- the answer to a fault of a grouping
+abbrev pub verdict_answer : GroupingFault → Answered
+verdict_answer verdict.Memory = memory_answer
+verdict_answer fault = record { text = fault_line fault; status = 1 }
 
 -- a word after a blank
 abbrev pub after_blank : List ℕ → List ℕ

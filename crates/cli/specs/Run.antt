@@ -1,59 +1,53 @@
 -- What a run answers.
-use Rattle.std.specs.Prelude.{◌≡◌, ◌⊎◌, ◌≤◌, ℕ, true, List, [], Option, Some, None, Result, Ok, Err, string_bytes}
-use Rattle.county_problem.specs.declared.county.County.{County}
-use Rattle.county_problem.specs.declared.fault.ProblemFault.{ProblemFault}
-use Rattle.county_problem.specs.ProblemValue.{ProblemValue}
-use Rattle.county_problem.specs.Building.{IsProblemOf, problem_fault}
-use Rattle.pl94_counties.specs.declared.fault.Pl94Fault.{Pl94Fault}
-use Rattle.pl94_counties.specs.Counties.{county_list}
+use Rattle.std.specs.Prelude.{◌≡◌, ◌⊎◌, ◌≤◌, ℕ, true, List, [], Option, Result, Ok, Err, string_bytes}
+use Rattle.county_problem.specs.declared.grouping_fault.GroupingFault.{GroupingFault}
+use Rattle.county_problem.specs.ProblemValue.{ProblemValue, problem_of}
+use Rattle.county_problem.specs.Grouping.{Grouping, Lawful}
+use Rattle.county_problem.specs.Judging.{IsFault}
+use Rattle.grouping_report.specs.SizeTable.{size_text}
+use Rattle.grouping_report.specs.Report.{report_text}
 use Rattle.command_words.specs.Words.{Means, EndsBy, faults_of, takes_words}
 use Rattle.command_words.specs.declared.words.CommandWords.{CommandWords}
-use Rattle.command_words.specs.declared.words.CommandWords.TheVariants.{Size}
-use Rattle.command_words.specs.declared.words.ProblemWords.{ProblemWords}
+use Rattle.command_words.specs.declared.words.CommandWords.TheVariants.{Size, Judge}
+use Rattle.command_words.specs.declared.words.CommonWords.{CommonWords}
+use Rattle.command_words.specs.declared.words.JudgeWords.{JudgeWords}
 use Rattle.command_words.specs.declared.end.WordsEnd.{WordsEnd}
 use Rattle.command_words.specs.declared.end.WordsEnd.TheVariants.{Help, Usage, Memory}
-use Rattle.cli.specs.declared.shelf.ShelfFault.{ShelfFault}
+use Rattle.shelves.specs.Files.{Files}
 use Rattle.cli.specs.Answer.{Answered, memory_answer}
-use Rattle.cli.specs.Files.{Files}
-use Rattle.cli.specs.Shelf.{IsLoad, IsCounted}
-use Rattle.cli.specs.SizeTable.{size_text}
-use Rattle.cli.specs.Refusals.{pl94_answer, problem_answer, shelf_answer}
+use Rattle.cli.specs.Refusals.{verdict_answer}
+use Rattle.cli.specs.Course.{Course, ◌>>=◌, call_step, value_step, EndsIn}
+use Rattle.cli.specs.ProblemCourse.{counties_of, build_step, problem_in, grouping_of}
 
--- what a shelf answered to a load
-abbrev pub Loaded : Type 0
-Loaded = Result (List ℕ) ShelfFault
+-- an answer with exit status 0
+abbrev pub success : List ℕ → Answered
+success text = record { text = text; status = 0 }
 
--- the size table of the counties' problem, or its fault
-abbrev pub IsTableAnswer : Option ProblemFault → List County → ℕ → Answered → Type 0
-IsTableAnswer None counties chamber a = (v : ProblemValue) × IsProblemOf counties [] [] chamber v × (a ≡ record { text = size_text v; status = 0 })
-IsTableAnswer (Some fault) counties chamber a = a ≡ problem_answer fault
+-- `size`: the size table of the counties, without pairs and withdrawn sets
+abbrev pub size_course : Option Files → CommonWords → Course Answered
+size_course files words = counties_of files words >>= λ counties. build_step words.chamber counties [] [] >>= λ v. value_step (λ a. a ≡ success (size_text v))
 
--- the answer for the counties that the files list, or for their fault
-abbrev pub IsCountiesAnswer : Result (List County) Pl94Fault → ℕ → Answered → Type 0
-IsCountiesAnswer (Ok counties) chamber a = IsTableAnswer (problem_fault counties [] [] chamber) counties chamber a
-IsCountiesAnswer (Err fault) chamber a = a ≡ pl94_answer fault
+-- the report of a lawful grouping, or the fault of one that isn't
+abbrev pub IsJudged : ProblemValue → Grouping → Result Answered GroupingFault → Type 0
+IsJudged v g (Ok a) = Lawful (problem_of v) g × (a ≡ success (report_text v g))
+IsJudged v g (Err fault) = IsFault (problem_of v) g fault
 
--- the answer of `size` for what was loaded: geo, and then segment 1
-abbrev pub IsSizeAnswer : ProblemWords → Loaded → Loaded → Answered → Type 0
-IsSizeAnswer words (Err fault) segment a = a ≡ shelf_answer words.geo.now fault
-IsSizeAnswer words (Ok geo) (Err fault) a = a ≡ shelf_answer words.segment.now fault
-IsSizeAnswer words (Ok geo) (Ok segment) a = IsCountiesAnswer (county_list geo segment words.state) words.chamber a
+-- the step that judges a grouping
+abbrev pub judge_step : ProblemValue → Grouping → Course Answered
+judge_step v g = call_step verdict_answer (IsJudged v g)
 
--- a run of `size` over a shelf whose device failed so often before and after it: what the shelf answered to the two loads, and the
--- answer for that
-pub record SizeRun (files : Option Files) (before after : ℕ) (words : ProblemWords) (a : Answered) : Type 0 where
-  pub geo : Loaded
-  pub between : ℕ
-  pub geo_loaded : IsLoad (λ bytes. bytes) files before words.geo.now geo
-  pub geo_counted : IsCounted before between geo
-  pub segment : Loaded
-  pub segment_loaded : IsLoad (λ bytes. bytes) files between words.segment.now segment
-  pub segment_counted : IsCounted between after segment
-  pub answer : IsSizeAnswer words geo segment a
+-- `judge`: the problem is built before the grouping is loaded and read
+abbrev pub judge_course : Option Files → JudgeWords → Course Answered
+judge_course files words = problem_in files words.problem >>= λ v. grouping_of files words.grouping.now >>= judge_step v
 
--- a run of a command; a growth may be refused in any
+-- the steps of a command
+abbrev pub command_course : Option Files → CommandWords → Course Answered
+command_course files (Size words) = size_course files words
+command_course files (Judge words) = judge_course files words
+
+-- a run of a command over a shelf whose device failed so often before and after it; a growth may be refused in any
 abbrev pub CommandRun : Option Files → ℕ → ℕ → CommandWords → Answered → Type 0
-CommandRun files before after (Size words) a = (a ≡ memory_answer) ⊎ SizeRun files before after words a
+CommandRun files before after command a = (a ≡ memory_answer) ⊎ EndsIn (command_course files command) before after a
 
 -- the words give no command: help ends with 0 and usage with 2, with clap's text
 abbrev pub IsEndAnswer : WordsEnd → Answered → Type 0
@@ -71,3 +65,4 @@ IsRunAnswer files before after words a =
 -- the command's state has two digits
 abbrev pub HasState : CommandWords → Type 0
 HasState (Size words) = words.state ≤ 99
+HasState (Judge words) = words.problem.common.state ≤ 99

@@ -3,22 +3,20 @@ ghost use Rattle.std.specs.List.{slice_split, list_all};
 ghost use Rattle.std.specs.Str.{is_utf8};
 ghost use Rattle.field_lines.specs.Raw.{RawLine, raw_lines};
 ghost use Rattle.field_lines.specs.Piece.{raw_of};
-ghost use Rattle.cli.specs.Files.{File};
-ghost use Rattle.cli.specs.Memory.{files_of};
+ghost use Rattle.shelves.specs.Files.{File};
+ghost use Rattle.shelves.specs.Memory.{files_of};
 ghost use Rattle.cli.specs.Case.{whole_line, file_name, first_line, case_files, is_case, are_named, with_open, parts_of};
-ghost use Rattle.cli.specs.declared.whole.WholeFault.{WholeFault};
+ghost use Rattle.shelves.specs.declared.whole.WholeFault.{WholeFault};
 ghost use Rattle.cli.specs.Answer.{Answered};
-ghost use Rattle.cli.specs.Answers.{answered};
+ghost use Rattle.cli.specs.Answers.{answer_of};
 ghost use Rattle.cli.specs.Delivery.{texts};
 ghost use Rattle.cli.specs.CaseRun.{stored_text, WordsOver, IsCaseAnswer, IsWhole, IsReadAnswer, DeliversCase};
 
 use crate::answer::Answer;
 use crate::command::{deliver, words_answer};
-use crate::memory::{MemoryFile, MemoryShelf};
 use crate::refusal::MEMORY;
-use crate::sink::Sink;
-use crate::whole::{WholeFault, read_whole};
 use field_lines::{Piece, RawLines, Source};
+use shelves::{MemoryFile, MemoryShelf, Sink, WholeFault, read_whole};
 use std::alloc::{AllocError, Global};
 
 /// How many bytes a case may have.
@@ -154,7 +152,7 @@ fn words_over_files(
     line: &str,
     mut files: Vec<MemoryFile>,
 ) -> Result<Answer, AllocError>
-    ensures { IfOk result (λ a. WordsOver (reverse (files_of files.items)) (slice_split (λ b. b == 32) line.now) (answered a)) }
+    ensures { IfOk result (λ a. WordsOver (reverse (files_of files.items)) (slice_split (λ b. b == 32) line.now) (answer_of a)) }
 {
     files.reverse();
     let mut shelf = MemoryShelf::new(alloc, files);
@@ -166,7 +164,7 @@ fn words_over_files(
 
 /// The answer to the text of a case, if its first line and its files' names are text.
 fn case_answer(alloc: Global, text: &[u8]) -> Result<Option<Answer>, AllocError>
-    ensures { IfOk result (λ a. IsCaseAnswer text.now (option_map answered a)) }
+    ensures { IfOk result (λ a. IsCaseAnswer text.now (option_map answer_of a)) }
 {
     match parts_in(alloc, text)? {
         Some((line, files)) => Ok(Some(words_over_files(alloc, line, files)?)),

@@ -4,24 +4,18 @@
 mod answer;
 mod case;
 mod command;
-mod device;
-mod memory;
+mod files;
+mod judge;
+mod problem;
 mod refusal;
-mod shelf;
-mod sink;
 mod size;
-mod table;
-mod text;
-mod whole;
 
 pub use case::{MAX_CASE, run_case};
 pub use command::run;
-pub use device::FileShelf;
-pub use memory::{MemoryFile, MemoryShelf};
-pub use shelf::{MAX_FILE, Shelf, ShelfFault};
-pub use sink::{Sink, SinkFault, Writing};
-pub use table::size_table;
-pub use whole::WholeFault;
+pub use shelves::{
+    FileShelf, MAX_FILE, MemoryFile, MemoryShelf, Shelf, ShelfFault, Sink, SinkFault, WholeFault,
+    Writing,
+};
 
 #[cfg(test)]
 mod tests;

@@ -1,17 +1,23 @@
 //! The lines of the program that stand in place of an answer.
 
-ghost use Rattle.std.specs.Prelude.{◌≡◌, ℕ, ◌++◌, OnOk, IfOk, codes, decimal};
-ghost use Rattle.cli.specs.Answer.{memory_answer};
-ghost use Rattle.cli.specs.Answers.{answered};
-ghost use Rattle.cli.specs.Digits.{five_digits};
-ghost use Rattle.cli.specs.Refusals.{line_fault_word, kind_word, shown_line, file_word, refused_line, pl94_answer, after_blank, problem_words, refused_problem, problem_answer, shelf_word, device_line, shelf_answer};
+ghost use Rattle.std.specs.Prelude.{◌≡◌, ◌≢◌, ℕ, ◌++◌, OnOk, IfOk, codes, decimal};
+ghost use Rattle.pl94_counties.specs.declared.fault.Kind.TheVariants as kinds;
+ghost use Rattle.county_problem.specs.declared.fault.ProblemFault.TheVariants as problem;
+ghost use Rattle.cli.specs.Answers.{Refuses, IsShown};
+ghost use Rattle.grouping_report.specs.Digits.{five_digits};
+ghost use Rattle.adjacency_reader.specs.declared.fault.Kind.TheVariants as pairs;
+ghost use Rattle.grouping_report.specs.declared.grouping_fault.GroupingTextKind.TheVariants as groups;
+ghost use Rattle.cli.specs.Refusals.{line_fault_word, kind_word, adjacency_word, grouping_word, cut_line, file_word, input_of as input_file_of, refused_line, input_answer, pl94_answer, adjacency_answer, grouping_answer, fault_line, verdict_answer, after_blank, problem_words, refused_problem, problem_answer, shelf_word, device_line, shelf_answer};
 
-use crate::answer::Answer;
-use crate::shelf::ShelfFault;
-use crate::text::{push_code, push_number};
-use county_problem::{CountyCode, ProblemFault};
+use crate::answer::Refusal;
+use adjacency_reader::AdjacencyFault;
+use county_problem::{CountyCode, GroupingFault, ProblemFault};
 use field_lines::LineFault;
+use grouping_report::{
+    GroupingTextFault, GroupingTextKind, push_code, push_grouping_fault, push_number,
+};
 use pl94_counties::{File, Kind, Pl94Fault};
+use shelves::ShelfFault;
 use std::alloc::{AllocError, Global};
 
 /// The line where memory was refused.
@@ -44,21 +50,76 @@ fn word_of_kind(kind: Kind) -> &'static [u8]
     }
 }
 
-fn word_of_file(file: File) -> &'static [u8]
-    ensures { result.now ≡ file_word file }
+fn word_of_adjacency(kind: adjacency_reader::Kind) -> &'static [u8]
+    ensures { result.now ≡ adjacency_word kind }
 {
-    match file {
-        File::Geo => b"geo",
-        File::Segment1 => b"segment1",
+    match kind {
+        adjacency_reader::Kind::TooFewFields => b"TooFewFields",
+        adjacency_reader::Kind::BadSign => b"BadSign",
+        adjacency_reader::Kind::BadSeats => b"BadSeats",
+        adjacency_reader::Kind::BadCode => b"BadCode",
+        adjacency_reader::Kind::Lower(fault) => word_of_line_fault(fault),
+        adjacency_reader::Kind::Memory => b"Memory",
     }
 }
 
-/// The line that is shown: 0 where the text has too many.
-fn line_shown(kind: Kind, line: u32) -> u32
-    ensures { result ≡ shown_line kind line }
+fn word_of_grouping(kind: GroupingTextKind) -> &'static [u8]
+    ensures { result.now ≡ grouping_word kind }
 {
     match kind {
-        Kind::Lower(LineFault::TooManyLines) => 0,
+        GroupingTextKind::TooFewFields => b"TooFewFields",
+        GroupingTextKind::BadSeats => b"BadSeats",
+        GroupingTextKind::BadCode => b"BadCode",
+        GroupingTextKind::Lower(fault) => word_of_line_fault(fault),
+        GroupingTextKind::Memory => b"Memory",
+    }
+}
+
+/// An input file that is a cut text.
+#[derive(Clone, Copy, Debug, PartialEq, Eq)]
+pub(crate) enum InputFile {
+    /// The PL 94-171 geographic header.
+    Geo,
+    /// The PL 94-171 data segment 1.
+    Segment1,
+    /// The county adjacency file.
+    Adjacency,
+    /// Links over the adjacent pairs.
+    Links,
+    /// The withdrawn sets.
+    Withdrawn,
+    /// A grouping.
+    Grouping,
+}
+
+fn input_of(file: File) -> InputFile
+    ensures { result ≡ input_file_of file }
+{
+    match file {
+        File::Geo => InputFile::Geo,
+        File::Segment1 => InputFile::Segment1,
+    }
+}
+
+fn word_of_file(file: InputFile) -> &'static [u8]
+    ensures { result.now ≡ file_word file }
+{
+    match file {
+        InputFile::Geo => b"geo",
+        InputFile::Segment1 => b"segment1",
+        InputFile::Adjacency => b"adjacency",
+        InputFile::Links => b"links",
+        InputFile::Withdrawn => b"withdrawn",
+        InputFile::Grouping => b"grouping",
+    }
+}
+
+/// The line that is shown of a line fault: 0 where the text has too many.
+fn line_of_cut(fault: LineFault, line: u32) -> u32
+    ensures { result ≡ cut_line fault line }
+{
+    match fault {
+        LineFault::TooManyLines => 0,
         _ => line,
     }
 }
@@ -83,21 +144,72 @@ pub(crate) fn refused_text(
     Ok(out)
 }
 
-/// The answer to a fault of a PL 94-171 file.
-pub(crate) fn refuse_file(alloc: Global, fault: Pl94Fault) -> Result<Answer, AllocError>
-    ensures { IfOk result (λ a. answered a ≡ pl94_answer fault) }
+/// The refusal of an input file for a fault at a line.
+fn refuse_input(alloc: Global, file: InputFile, kind: &[u8], line: u32) -> Refusal
+    ensures { Refuses (input_answer file kind.now line) result }
 {
-    if fault.kind == Kind::Memory {
-        return Answer::new(alloc, MEMORY, 5);
+    Refusal::of_text(refused_text(alloc, word_of_file(file), kind, line), 4)
+}
+
+/// The refusal of a fault of a PL 94-171 file.
+pub(crate) fn refuse_file(alloc: Global, fault: Pl94Fault) -> Refusal
+    ensures answer { Refuses (pl94_answer fault) result }
+    ensures shown { IsShown result → fault.kind ≢ kinds.Memory }
+{
+    let line = match fault.kind {
+        Kind::Memory => return Refusal::Memory,
+        Kind::Lower(cut) => line_of_cut(cut, fault.line),
+        _ => fault.line,
+    };
+    refuse_input(alloc, input_of(fault.file), word_of_kind(fault.kind), line)
+}
+
+/// The refusal of a fault of a file of adjacency, links or withdrawn sets.
+pub(crate) fn refuse_adjacency(alloc: Global, file: InputFile, fault: AdjacencyFault) -> Refusal
+    ensures answer { Refuses (adjacency_answer file fault) result }
+    ensures shown { IsShown result → fault.kind ≢ pairs.Memory }
+{
+    let line = match fault.kind {
+        adjacency_reader::Kind::Memory => return Refusal::Memory,
+        adjacency_reader::Kind::Lower(cut) => line_of_cut(cut, fault.line),
+        _ => fault.line,
+    };
+    refuse_input(alloc, file, word_of_adjacency(fault.kind), line)
+}
+
+/// The refusal of a fault of a grouping's file.
+pub(crate) fn refuse_grouping(alloc: Global, fault: GroupingTextFault) -> Refusal
+    ensures answer { Refuses (grouping_answer fault) result }
+    ensures shown { IsShown result → fault.kind ≢ groups.Memory }
+{
+    let line = match fault.kind {
+        GroupingTextKind::Memory => return Refusal::Memory,
+        GroupingTextKind::Lower(cut) => line_of_cut(cut, fault.line),
+        _ => fault.line,
+    };
+    let kind = word_of_grouping(fault.kind);
+    refuse_input(alloc, InputFile::Grouping, kind, line)
+}
+
+/// `fault KIND` with its group, its county or its seats.
+#[tactic(auto, unfolding(crate::specs::Refusals::fault_line))]
+fn fault_text(alloc: Global, fault: GroupingFault) -> Result<Vec<u8>, AllocError>
+    ensures { IfOk result (λ v. v.items ≡ fault_line fault) }
+{
+    let mut out = Vec::from_slice(alloc, b"fault ")?;
+    push_grouping_fault(&mut out, fault)?;
+    out.extend_from_slice(b"\n")?;
+    Ok(out)
+}
+
+/// The answer to a fault of a grouping, with exit status 1.
+pub(crate) fn refuse_verdict(alloc: Global, fault: GroupingFault) -> Refusal
+    ensures { Refuses (verdict_answer fault) result }
+{
+    if fault == GroupingFault::Memory {
+        return Refusal::Memory;
     }
-    let line = line_shown(fault.kind, fault.line);
-    let text = refused_text(
-        alloc,
-        word_of_file(fault.file),
-        word_of_kind(fault.kind),
-        line,
-    )?;
-    Ok(Answer { text, status: 4 })
+    Refusal::of_text(fault_text(alloc, fault), 1)
 }
 
 /// Appends a blank and a code.
@@ -164,17 +276,15 @@ fn problem_text(alloc: Global, fault: ProblemFault) -> Result<Vec<u8>, AllocErro
     Ok(out)
 }
 
-/// The answer to a fault of a problem.
-pub(crate) fn refuse_problem(alloc: Global, fault: ProblemFault) -> Result<Answer, AllocError>
-    ensures { IfOk result (λ a. answered a ≡ problem_answer fault) }
+/// The refusal of a fault of a problem.
+pub(crate) fn refuse_problem(alloc: Global, fault: ProblemFault) -> Refusal
+    ensures answer { Refuses (problem_answer fault) result }
+    ensures shown { IsShown result → fault ≢ problem.Memory }
 {
     if fault == ProblemFault::Memory {
-        return Answer::new(alloc, MEMORY, 5);
+        return Refusal::Memory;
     }
-    Ok(Answer {
-        text: problem_text(alloc, fault)?,
-        status: 4,
-    })
+    Refusal::of_text(problem_text(alloc, fault), 4)
 }
 
 fn word_of_shelf_fault(fault: ShelfFault) -> &'static [u8]
@@ -201,17 +311,13 @@ pub(crate) fn device_text(alloc: Global, name: &[u8], kind: &[u8]) -> Result<Vec
     Ok(out)
 }
 
-/// The answer to a fault of the shelf under a name.
-pub(crate) fn refuse_load(
-    alloc: Global,
-    name: &str,
-    fault: ShelfFault,
-) -> Result<Answer, AllocError>
-    ensures { IfOk result (λ a. answered a ≡ shelf_answer name.now fault) }
+/// The refusal of a fault of the shelf under a name.
+pub(crate) fn refuse_load(alloc: Global, name: &str, fault: ShelfFault) -> Refusal
+    ensures { Refuses (shelf_answer name.now fault) result }
 {
     if fault == ShelfFault::Memory {
-        return Answer::new(alloc, MEMORY, 5);
+        return Refusal::Memory;
     }
-    let text = device_text(alloc, name.as_bytes(), word_of_shelf_fault(fault))?;
-    Ok(Answer { text, status: 5 })
+    let text = device_text(alloc, name.as_bytes(), word_of_shelf_fault(fault));
+    Refusal::of_text(text, 5)
 }

@@ -1,7 +1,6 @@
 ghost use Rattle.std.specs.Prelude.{None};
 
-use crate::whole::{WholeFault, read_whole};
-use crate::{FileShelf, MemoryShelf, Shelf, ShelfFault, Sink, Writing, run, run_case};
+use crate::{MemoryShelf, Shelf, ShelfFault, Sink, Writing, run, run_case};
 use field_lines::{Reading, Source};
 use std::alloc::Global;
 use std::io;
@@ -32,7 +31,7 @@ district 95 to 105
 ";
 
 /// The exit status and what was written.
-fn outcome(alloc: Global, case: &[u8]) -> (u8, Vec<u8>) {
+pub(crate) fn outcome(alloc: Global, case: &[u8]) -> (u8, Vec<u8>) {
     let mut bytes = Vec::new(alloc);
     let status = run_case(
         alloc,
@@ -128,8 +127,8 @@ fn damaged_files(rt: HostRuntime) -> Result<(), Fail> {
     Ok(())
 }
 
-/// A case of counties 37001, 37003, .. with these people.
-fn case_of(alloc: Global, chamber: u16, people: &[u32]) -> Result<String, Fail> {
+/// The files `geo` and `seg` of counties 37001, 37003, .. with these people.
+pub(crate) fn counties_with(alloc: Global, people: &[u32]) -> Result<String, Fail> {
     let mut geo = String::new(alloc);
     let mut segment = String::new(alloc);
     for (i, people) in people.iter().enumerate() {
@@ -138,9 +137,13 @@ fn case_of(alloc: Global, chamber: u16, people: &[u32]) -> Result<String, Fail> 
         let line = format!(in alloc; "||||{i}|{people}\n")?;
         segment.push_str(line.as_str())?;
     }
-    Ok(format!(in alloc;
-        "size --geo geo --segment seg --chamber {chamber}\nfile geo\n{geo}file seg\n{segment}"
-    )?)
+    Ok(format!(in alloc; "file geo\n{geo}file seg\n{segment}")?)
+}
+
+/// A case of counties 37001, 37003, .. with these people.
+fn case_of(alloc: Global, chamber: u16, people: &[u32]) -> Result<String, Fail> {
+    let files = counties_with(alloc, people)?;
+    Ok(format!(in alloc; "size --geo geo --segment seg --chamber {chamber}\n{files}")?)
 }
 
 /// Windows of the 2020 chambers, a county of thirteen seats, two ways to seat thirty-nine, and a chamber
@@ -178,19 +181,6 @@ fn sizes(rt: HostRuntime) -> Result<(), Fail> {
     Ok(())
 }
 
-#[test]
-fn files_of_the_machine(rt: HostRuntime) {
-    let alloc = rt.alloc();
-    let mut shelf = FileShelf::new(&rt);
-    assert_eq!(rt;
-        shelf.load(alloc, "no such file").err(),
-        Some(ShelfFault::Missing)
-    );
-    assert_eq!(rt; shelf.failures(), 0);
-    assert_eq!(rt; shelf.load(alloc, ".").err(), Some(ShelfFault::Device));
-    assert_eq!(rt; shelf.failures(), 1);
-}
-
 /// Words that give no command: help ends with 0, all others with 2.
 #[test]
 fn words_without_a_command(rt: HostRuntime) -> Result<(), Fail> {
@@ -200,7 +190,12 @@ fn words_without_a_command(rt: HostRuntime) -> Result<(), Fail> {
         ("size --help", 0, "--chamber"),
         ("", 2, "subcommand"),
         ("sizes", 2, "sizes"),
-        ("judge --geo geo --segment seg --chamber 4", 2, "judge"),
+        (
+            "judge --geo geo --segment seg --chamber 4",
+            2,
+            "--adjacency",
+        ),
+        ("judge --help", 0, "--withdrawn"),
         ("size --geo geo --chamber 4", 2, "--segment"),
         ("size  --geo geo --segment seg --chamber 4", 2, "usage"),
         ("size --geo geo --segment seg --chamber 0", 2, "0"),
@@ -374,26 +369,6 @@ fn too_large_a_case(rt: HostRuntime) {
     );
 }
 
-#[test]
-fn a_shelf_in_memory(rt: HostRuntime) -> Result<(), Fail> {
-    let alloc = rt.alloc();
-    let mut shelf = MemoryShelf::new(alloc, Vec::new(alloc));
-    assert_eq!(rt; shelf.load(alloc, "a").err(), Some(ShelfFault::Missing));
-    for (name, bytes) in [("a", "1"), ("b", "2"), ("a", "3")] {
-        shelf.store(alloc, name, bytes.as_bytes())?;
-    }
-    assert_eq!(rt; shelf.load(alloc, "a")?.as_slice(), b"3".as_slice());
-    assert_eq!(rt; shelf.load(alloc, "b")?.as_slice(), b"2".as_slice());
-    assert_eq!(rt; shelf.failures(), 0);
-    let names: Vec<&str> = shelf
-        .stored_files()
-        .iter()
-        .map(|f| f.name.as_str())
-        .collect(alloc)?;
-    assert_eq!(rt; names.as_slice(), ["a", "b"].as_slice());
-    Ok(())
-}
-
 /// A shelf whose loads fail from the nth on, and whose count of failures begins anywhere.
 #[derive(Drop)]
 struct Failing {
@@ -437,44 +412,63 @@ impl Shelf for Failing {
     }
 }
 
+/// A shelf that holds some files and whose loads fail from the nth on.
+fn failing_at(
+    alloc: Global,
+    names: &[&str],
+    fails_at: u32,
+    failures: u64,
+) -> Result<Failing, Fail> {
+    let mut files = MemoryShelf::new(alloc, Vec::new(alloc));
+    for name in names {
+        files.store(alloc, name, b"")?;
+    }
+    files.store(alloc, "geo", b"||050||00|||1||37001|||37||001\n")?;
+    files.store(alloc, "seg", b"||||1|94\n")?;
+    Ok(Failing {
+        files,
+        loads: 0,
+        fails_at,
+        failures,
+    })
+}
+
+/// A device that fails at each file in turn is named with that file.
 #[test]
 fn failing_shelves(rt: HostRuntime) -> Result<(), Fail> {
     let alloc = rt.alloc();
-    let words = ["size", "--geo", "geo", "--segment", "seg", "--chamber", "4"];
+    let words = [
+        "judge",
+        "--geo",
+        "geo",
+        "--segment",
+        "seg",
+        "--chamber",
+        "4",
+        "--adjacency",
+        "adj",
+        "--links",
+        "links",
+        "--withdrawn",
+        "w",
+        "--grouping",
+        "g",
+    ];
     for (fails_at, failures, want) in [
         (1, 0, "device geo Device\n"),
         (2, 0, "device seg Device\n"),
+        (3, 0, "device adj Device\n"),
+        (4, 0, "device links Device\n"),
+        (5, 0, "device w Device\n"),
+        (6, 0, "device g Device\n"),
         (1, u64::MAX, "device geo Missing\n"),
     ] {
-        let mut files = MemoryShelf::new(alloc, Vec::new(alloc));
-        files.store(alloc, "geo", b"")?;
-        files.store(alloc, "seg", b"")?;
-        let mut shelf = Failing {
-            files,
-            loads: 0,
-            fails_at,
-            failures,
-        };
+        let mut shelf = failing_at(alloc, &["adj", "links", "w", "g"], fails_at, failures)?;
         let mut bytes = Vec::new(alloc);
         let status = run(alloc, &words, &mut shelf, &mut Writing::new(&mut bytes));
-        assert_eq!(rt; status, 5);
         assert_eq!(rt; bytes.as_slice(), want.as_bytes());
+        assert_eq!(rt; status, 5);
         assert!(rt; shelf.failures() == u64::MAX || shelf.failures() == 1);
     }
-    Ok(())
-}
-
-#[test]
-fn a_source_read_whole(rt: HostRuntime) -> Result<(), Fail> {
-    let alloc = rt.alloc();
-    let text = b"A|37001|B|37003|12".as_slice();
-    assert_eq!(rt;
-        read_whole(alloc, &mut Reading::new(text), 18)?.as_slice(),
-        text
-    );
-    let above = read_whole(alloc, &mut Reading::new(text), 17).err();
-    assert_eq!(rt; above, Some(WholeFault::TooLarge));
-    let broken = read_whole(alloc, &mut Reading::new(Broken), 17).err();
-    assert_eq!(rt; broken, Some(WholeFault::Failed));
     Ok(())
 }

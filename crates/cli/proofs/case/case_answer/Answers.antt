@@ -1,6 +1,6 @@
 use Rattle.std.proofs.Common.{◌≡◌, true, rules}
 use Rattle.field_lines.specs.Raw.{raw_lines}
-use Rattle.cli.specs.Memory.{files_of}
+use Rattle.shelves.specs.Memory.{files_of}
 use Rattle.cli.specs.Case.{case_files, first_line, is_case}
 use Rattle.cli.proofs.CaseLemmas.{case_over}
 use Rattle.cli.proofs.case.case_answer.Goals as goal

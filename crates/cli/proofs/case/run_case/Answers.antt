@@ -1,17 +1,17 @@
 use Rattle.std.proofs.lemmas.Bool.{false_from_ne_true}
 use Rattle.std.proofs.Common.{◌≡◌, false, ◌≤◌, ℕ, List, Some, None, ap, refl, inl, inr, rules, subst, length}
 use Rattle.std.specs.Prelude.{Ok, Err, codes}
-use Rattle.cli.specs.declared.whole.WholeFault.{WholeFault}
-use Rattle.cli.specs.declared.whole.WholeFault.TheVariants.{TooLarge, Failed, Memory}
+use Rattle.shelves.specs.declared.whole.WholeFault.{WholeFault}
+use Rattle.shelves.specs.declared.whole.WholeFault.TheVariants.{TooLarge, Failed, Memory}
 use Rattle.cli.specs.Answer.{Answered, memory_answer}
-use Rattle.cli.specs.Answers.{answered}
+use Rattle.cli.specs.Answers.{answer_of}
 use Rattle.cli.specs.Delivery.{Delivers}
 use Rattle.cli.specs.CaseRun.{IsCaseAnswer}
 use Rattle.cli.proofs.case.run_case.Goals as goal
 
 pub returns-in-Ok-Some : goal.returns-in-Ok-Some
 returns-in-Ok-Some g c =
-    let a : Answered = answered c.in-Ok-Some.answer in
+    let a : Answered = answer_of c.in-Ok-Some.answer in
     let small : length c.in-Ok.text.items ≤ 16777216 = search rules in
     let sound : g.R.Source.is_failed c.read_whole.new.source ≡ false = false_from_ne_true _ (λ failed. let bad = c.in-Ok.ensures.failed.1 failed in cc) in
     let answer : IsCaseAnswer c.deref.result.now (Some a) = search rules in (

@@ -1,9 +1,9 @@
 use Rattle.std.proofs.Common.{◌≡◌, ◌==◌, ◌∙◌, ℕ, List, Some, ap, subst}
 use Rattle.std.specs.Prelude.{reverse}
 use Rattle.std.specs.List.{slice_split}
-use Rattle.cli.specs.Answers.{answered}
-use Rattle.cli.specs.Files.{File}
-use Rattle.cli.specs.Memory.{files_of}
+use Rattle.cli.specs.Answers.{answer_of}
+use Rattle.shelves.specs.Files.{File}
+use Rattle.shelves.specs.Memory.{files_of}
 use Rattle.cli.specs.Delivery.{texts}
 use Rattle.cli.specs.CaseRun.{WordsOver}
 use Rattle.cli.proofs.CaseLemmas.{words_over, files-reverse}
@@ -11,7 +11,7 @@ use Rattle.cli.proofs.case.words_over_files.Goals as goal
 
 pub returns : goal.returns
 returns c =
-    let a = answered (record { text = c.push_stored.new.out; status = c.in_ok-answer.answer.status }) in
+    let a = answer_of (record { text = c.push_stored.new.out; status = c.in_ok-answer.answer.status }) in
     let files : c.new-shelf.result.files ≡ reverse (files_of c.args.files.items) = c.new-shelf.ensures.files ∙ (ap files_of c.reverse.ensures.items ∙ files-reverse c.args.files.items) in
     let words : texts c.deref.result.now ≡ slice_split (λ b. b == 32) c.args.line.now = ap texts c.deref.ensures.value ∙ c.in_ok-words.ensures in
     subst (λ (w : List (List ℕ)). WordsOver (reverse (files_of c.args.files.items)) w a) words

@@ -1,46 +1,38 @@
-use Rattle.std.proofs.Common.{◌≡◌, ◌⊎◌, ℕ, List, Option, subst, sym}
+use Rattle.std.proofs.Common.{◌≡◌, ℕ, List, [], refl, subst, ap}
 use Rattle.std.specs.Prelude.{Ok, Err}
-use Rattle.pl94_counties.specs.Counties.{county_list}
-use Rattle.cli.specs.Answer.{memory_answer}
-use Rattle.cli.specs.Answers.{answered}
-use Rattle.cli.specs.Files.{Files}
-use Rattle.cli.specs.Shelf.{IsLoad}
-use Rattle.cli.specs.Refusals.{shelf_answer}
-use Rattle.cli.specs.Run.{IsCountiesAnswer, SizeRun}
-use Rattle.cli.proofs.RunLemmas.{if_ok, loaded_bytes, load_fault, geo_missing, segment_missing, both_loaded}
+use Rattle.county_problem.specs.declared.county.County.{County}
+use Rattle.grouping_report.specs.SizeTable.{size_text}
+use Rattle.cli.specs.Answer.{Answered}
+use Rattle.cli.specs.Answers.{answer_of, Meets}
+use Rattle.cli.specs.Course.{Course, ◌>>=◌, value_step}
+use Rattle.cli.specs.ProblemCourse.{counties_of, build_step}
+use Rattle.cli.specs.Run.{success}
+use Rattle.cli.proofs.RunLemmas.{handed_on, went_on, came}
 use Rattle.cli.proofs.size.size.Goals as goal
 
-pub returns-in-Err-clause-answer : goal.returns-in-Err-clause-answer
-returns-in-Err-clause-answer g c =
-    let files = g.H.Shelf.contents c.args.shelf.now in
-    let before = g.H.Shelf.failure_count c.args.shelf.now in
-    let after = g.H.Shelf.failure_count c.load.new.self in
-    let loaded = load_fault _ files before c.args.words.geo.now c.in-Err.fault c.in-Err.ensures.loaded in
-    if_ok (λ a. answered a ≡ shelf_answer c.args.words.geo.now c.in-Err.fault) (λ a. (answered a ≡ memory_answer) ⊎ SizeRun files before after c.args.words (answered a)) c.refuse_load.result
-    (λ a is. geo_missing files before after c.args.words (answered a) c.in-Err.fault loaded c.in-Err.ensures.counted is) c.refuse_load.ensures
+-- the table of counties
+of_counties : ℕ → List County → Course Answered
+of_counties chamber counties = build_step chamber counties [] [] >>= λ v. value_step (λ a. a ≡ success (size_text v))
 
-pub returns-in-Err-load-clause-answer : goal.returns-in-Err-load-clause-answer
-returns-in-Err-load-clause-answer g c =
+pub returns-in_err-problem-clause-course : goal.returns-in_err-problem-clause-course
+unfolding of_counties
+returns-in_err-problem-clause-course g c =
     let files = g.H.Shelf.contents c.args.shelf.now in
     let before = g.H.Shelf.failure_count c.args.shelf.now in
-    let then = g.H.Shelf.failure_count c.load.new.self in
-    let after = g.H.Shelf.failure_count c.load-2.new.self in
-    let geo = loaded_bytes _ files before c.args.words.geo.now c.in-Ok.bytes c.in-Ok.ensures.loaded in
-    let loaded = subst (λ (known : Option Files). IsLoad {X = List ℕ} (λ b. b) known then c.args.words.segment.now (Err c.in-Err-load.fault)) c.load.ensures.same
-    (load_fault _ (g.H.Shelf.contents c.load.new.self) then c.args.words.segment.now c.in-Err-load.fault c.in-Err-load.ensures.loaded) in
-    if_ok (λ a. answered a ≡ shelf_answer c.args.words.segment.now c.in-Err-load.fault) (λ a. (answered a ≡ memory_answer) ⊎ SizeRun files before after c.args.words (answered a)) c.refuse_load-in-Err-load.result
-    (λ a is. segment_missing files before after c.args.words (answered a) c.in-Ok.bytes.items then geo c.in-Ok.ensures.counted c.in-Err-load.fault loaded c.in-Err-load.ensures.counted is) c.refuse_load-in-Err-load.ensures
+    let after = g.H.Shelf.failure_count c.load_counties.new.shelf in
+    let counties = c.in_ok-counties.counties.items in
+    let met = subst (λ (listed : List County). Meets c.in_err-problem.field-0.0 (λ a. build_step c.args.words.chamber listed [] [] after after (Err a))) c.deref.ensures.value (c.in_err-problem.ensures after) in
+    went_on answer_of c.from_residual-in_err-problem.result (counties_of files c.args.words) (of_counties c.args.words.chamber) counties before after after c.in_ok-counties.ensures.course
+    (handed_on answer_of c.in_err-problem.field-0.0 c.from_residual-in_err-problem.result (build_step c.args.words.chamber counties [] []) (λ v. value_step (λ a. a ≡ success (size_text v))) after after c.from_residual-in_err-problem.ensures.1 met)
 
-pub returns-clause-answer : goal.returns-clause-answer
-returns-clause-answer g c =
+pub returns-clause-course : goal.returns-clause-course
+unfolding of_counties
+returns-clause-course g c =
     let files = g.H.Shelf.contents c.args.shelf.now in
     let before = g.H.Shelf.failure_count c.args.shelf.now in
-    let then = g.H.Shelf.failure_count c.load.new.self in
-    let after = g.H.Shelf.failure_count c.load-2.new.self in
-    let geo = subst (λ (bytes : List ℕ). IsLoad (λ b. b) files before c.args.words.geo.now (Ok bytes)) (sym c.deref.ensures.value)
-    (loaded_bytes _ files before c.args.words.geo.now c.in-Ok.bytes c.in-Ok.ensures.loaded) in
-    let segment = subst (λ (bytes : List ℕ). IsLoad (λ b. b) files then c.args.words.segment.now (Ok bytes)) (sym c.deref-2.ensures.value)
-    (subst (λ (known : Option Files). IsLoad {X = List ℕ} (λ b. b) known then c.args.words.segment.now (Ok c.in-Ok-load.bytes.items)) c.load.ensures.same
-    (loaded_bytes _ (g.H.Shelf.contents c.load.new.self) then c.args.words.segment.now c.in-Ok-load.bytes c.in-Ok-load.ensures.loaded)) in
-    if_ok (λ a. (answered a ≡ memory_answer) ⊎ IsCountiesAnswer (county_list c.deref.result.now c.deref-2.result.now c.args.words.state) c.args.words.chamber (answered a)) (λ a. (answered a ≡ memory_answer) ⊎ SizeRun files before after c.args.words (answered a)) c.bytes_answer.result
-    (λ a is. both_loaded files before after c.args.words (answered a) c.deref.result.now then geo c.in-Ok.ensures.counted c.deref-2.result.now segment c.in-Ok-load.ensures.counted is) c.bytes_answer.ensures
+    let after = g.H.Shelf.failure_count c.load_counties.new.shelf in
+    let counties = c.in_ok-counties.counties.items in
+    let given = subst (λ (listed : List County). build_step c.args.words.chamber listed [] [] after after (Ok c.in_ok-problem.problem)) c.deref.ensures.value (c.in_ok-problem.ensures after) in
+    let text : success c.in_ok-text.text.items ≡ success (size_text c.in_ok-problem.problem) = ap success c.in_ok-text.ensures in
+    came (counties_of files c.args.words) (of_counties c.args.words.chamber) counties before after after (Ok (success c.in_ok-text.text.items)) c.in_ok-counties.ensures.course
+    (came (build_step c.args.words.chamber counties [] []) (λ v. value_step (λ a. a ≡ success (size_text v))) c.in_ok-problem.problem after after after (Ok (success c.in_ok-text.text.items)) given (refl, text))

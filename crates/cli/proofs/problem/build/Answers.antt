@@ -1,0 +1,10 @@
+use Rattle.county_problem.specs.Building.{problem_fault}
+use Rattle.cli.specs.Refusals.{problem_answer}
+use Rattle.cli.specs.ProblemCourse.{IsBuilt}
+use Rattle.cli.proofs.RunLemmas.{refused, fault_stands}
+use Rattle.cli.proofs.problem.build.Goals as goal
+
+pub returns-in-Err : goal.returns-in-Err
+returns-in-Err c n =
+    refused c.refuse_problem.result problem_answer c.in-Err.fault (IsBuilt c.args.counties.now c.args.pairs.now c.args.withdrawn.now c.args.chamber) n c.refuse_problem.ensures.answer
+    (λ shown. fault_stands (problem_fault c.args.counties.now c.args.pairs.now c.args.withdrawn.now c.args.chamber) c.in-Err.fault (c.refuse_problem.ensures.shown shown) c.in-Err.ensures.fault)

@@ -1,0 +1,83 @@
+-- The steps from files to a problem, and to a grouping.
+use Rattle.std.specs.Prelude.{◌≡◌, ℕ, List, [], Option, Some, None, Result, Ok, Err}
+use Rattle.std.specs.Borrow.{Bor}
+use Rattle.county_problem.specs.declared.county.County.{County}
+use Rattle.county_problem.specs.declared.withdrawn.Withdrawn as county
+use Rattle.county_problem.specs.declared.fault.ProblemFault.{ProblemFault}
+use Rattle.county_problem.specs.ProblemValue.{ProblemValue, codes_of}
+use Rattle.county_problem.specs.Building.{IsProblemOf, problem_fault}
+use Rattle.county_problem.specs.Grouping as groups
+use Rattle.pl94_counties.specs.Counties.{county_list}
+use Rattle.adjacency_reader.specs.declared.links.Link.{Link}
+use Rattle.adjacency_reader.specs.Pairs.{IsPairsAnswer}
+use Rattle.adjacency_reader.specs.Links.{link_list}
+use Rattle.adjacency_reader.specs.Withdrawn.{withdrawn_list}
+use Rattle.adjacency_reader.specs.Adjacent.{AreLinked}
+use Rattle.grouping_report.specs.GroupingLines.{grouping_list}
+use Rattle.command_words.specs.declared.words.CommonWords.{CommonWords}
+use Rattle.command_words.specs.declared.words.ProblemWords.{ProblemWords}
+use Rattle.shelves.specs.Files.{Files}
+use Rattle.cli.specs.declared.refusal.InputFile.TheVariants.{Adjacency, Links, Withdrawn}
+use Rattle.cli.specs.Refusals.{pl94_answer, adjacency_answer, grouping_answer, problem_answer}
+use Rattle.cli.specs.Course.{Course, ◌>>=◌, load_step, call_step, value_step, optional_step}
+
+-- the counties that two files give
+abbrev pub counties_in : ℕ → List ℕ → List ℕ → Course (List County)
+counties_in state geo segment = call_step pl94_answer (λ counties. county_list geo segment state ≡ counties)
+
+-- the counties of the state: the geographic header and segment 1 are loaded, in this order, before they are read
+abbrev pub counties_of : Option Files → CommonWords → Course (List County)
+counties_of files words =
+    load_step files words.geo.now >>= λ geo. load_step files words.segment.now >>= λ segment. counties_in words.state geo segment
+
+-- the pairs of listed counties that an adjacency file gives
+abbrev pub pairs_in : List ℕ → List ℕ → Course (List (ℕ × ℕ))
+pairs_in listed text = call_step (adjacency_answer Adjacency) (IsPairsAnswer text listed)
+
+-- the links that a file gives
+abbrev pub links_in : List ℕ → Course (List Link)
+links_in text = call_step (adjacency_answer Links) (λ links. link_list text ≡ links)
+
+-- the withdrawn sets that a file gives
+abbrev pub withdrawn_in : List ℕ → Course (List county.Withdrawn)
+withdrawn_in text = call_step (adjacency_answer Withdrawn) (λ sets. withdrawn_list text ≡ sets)
+
+-- the grouping that a file gives
+abbrev pub grouping_in : List ℕ → Course groups.Grouping
+grouping_in text = call_step grouping_answer (λ grouping. grouping_list text ≡ grouping)
+
+-- the pairs of listed counties of an adjacency file
+abbrev pub pairs_of : Option Files → List ℕ → List ℕ → Course (List (ℕ × ℕ))
+pairs_of files listed name = load_step files name >>= pairs_in listed
+
+-- the links of a file that is named, else none
+abbrev pub links_of : Option Files → Option (Bor (List ℕ)) → Course (List Link)
+links_of files name = optional_step [] (λ file. load_step files file >>= links_in) name
+
+-- the withdrawn sets of a file that is named, else none
+abbrev pub withdrawn_of : Option Files → Option (Bor (List ℕ)) → Course (List county.Withdrawn)
+withdrawn_of files name = optional_step [] (λ file. load_step files file >>= withdrawn_in) name
+
+-- the adjacent pairs: those of the adjacency file, and then the links over them
+abbrev pub adjacency_of : Option Files → List ℕ → ProblemWords → Course (List (ℕ × ℕ))
+adjacency_of files listed words =
+    pairs_of files listed words.adjacency.now >>= λ pairs. links_of files words.links >>= λ links. value_step (AreLinked pairs links)
+
+-- the problem that is built, or its fault
+abbrev pub IsBuilt : List County → List (ℕ × ℕ) → List county.Withdrawn → ℕ → Result ProblemValue ProblemFault → Type 0
+IsBuilt counties pairs withdrawn chamber (Ok v) = (problem_fault counties pairs withdrawn chamber ≡ None) × IsProblemOf counties pairs withdrawn chamber v
+IsBuilt counties pairs withdrawn chamber (Err fault) = problem_fault counties pairs withdrawn chamber ≡ Some fault
+
+-- the step that builds the problem
+abbrev pub build_step : ℕ → List County → List (ℕ × ℕ) → List county.Withdrawn → Course ProblemValue
+build_step chamber counties pairs withdrawn = call_step problem_answer (IsBuilt counties pairs withdrawn chamber)
+
+-- The problem: its files are loaded and read one after the other, the counties first, then adjacency, links and withdrawn sets, and
+-- then it is built.
+abbrev pub problem_in : Option Files → ProblemWords → Course ProblemValue
+problem_in files words =
+    counties_of files words.common >>= λ counties. adjacency_of files (codes_of counties) words >>= λ pairs. withdrawn_of files words.withdrawn >>= build_step words.common.chamber counties pairs
+
+-- the grouping of a file
+abbrev pub grouping_of : Option Files → List ℕ → Course groups.Grouping
+grouping_of files name = load_step files name >>= grouping_in

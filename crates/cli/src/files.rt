@@ -1,0 +1,184 @@
+//! What a command's files give: each is loaded and read, and the first fault met is refused.
+
+ghost use Rattle.std.specs.Prelude.{◌≡◌, ◌≤◌, ℕ, IfOk};
+ghost use Rattle.county_problem.specs.ProblemValue.{codes_of};
+ghost use Rattle.cli.specs.Answers.{Comes};
+ghost use Rattle.cli.specs.Course.{load_step};
+ghost use Rattle.cli.specs.ProblemCourse.{counties_of, pairs_of, pairs_in, links_in, withdrawn_in, grouping_in, links_of, withdrawn_of, adjacency_of, grouping_of};
+
+use crate::answer::Refusal;
+use crate::refusal::{InputFile, refuse_adjacency, refuse_file, refuse_grouping, refuse_load};
+use adjacency_reader::{Link, apply_links, read_links, read_pairs, read_withdrawn};
+use command_words::{CommonWords, ProblemWords};
+use county_problem::{County, CountyCode, Grouping, Withdrawn};
+use grouping_report::read_grouping;
+use pl94_counties::read_counties;
+use shelves::Shelf;
+use std::alloc::{AllocError, Global};
+
+/// The bytes of a file.
+fn load<H: Shelf>(alloc: Global, name: &str, shelf: &mut H) -> Result<Vec<u8>, Refusal>
+    ensures course { Comes (λ v. v.items) result (load_step (H.contents shelf.old) name.now (H.failure_count shelf.old) (H.failure_count shelf.new)) }
+    ensures same { H.contents shelf.new ≡ H.contents shelf.old }
+    ensures kept { H.stored shelf.new ≡ H.stored shelf.old }
+{
+    match shelf.load(alloc, name) {
+        Ok(bytes) => Ok(bytes),
+        Err(fault) => Err(refuse_load(alloc, name, fault)),
+    }
+}
+
+/// The counties of the state. Both files are loaded, the geographic header first, before they are read.
+pub(crate) fn load_counties<H: Shelf>(
+    alloc: Global,
+    words: CommonWords<'_>,
+    shelf: &mut H,
+) -> Result<Vec<County>, Refusal>
+    requires { words.state ≤ 99 }
+    ensures course { Comes (λ v. v.items) result (counties_of (H.contents shelf.old) words.entry (H.failure_count shelf.old) (H.failure_count shelf.new)) }
+    ensures same { H.contents shelf.new ≡ H.contents shelf.old }
+    ensures kept { H.stored shelf.new ≡ H.stored shelf.old }
+{
+    let geo = load(alloc, words.geo, shelf)?;
+    let segment = load(alloc, words.segment, shelf)?;
+    match read_counties(alloc, &geo, &segment, words.state) {
+        Ok(counties) => Ok(counties),
+        Err(fault) => Err(refuse_file(alloc, fault)),
+    }
+}
+
+/// The codes of the counties.
+fn codes(alloc: Global, counties: &[County]) -> Result<Vec<CountyCode>, AllocError>
+    ensures { IfOk result (λ v. v.items ≡ codes_of counties.now) }
+{
+    counties.iter().map(|county| county.code).collect(alloc)
+}
+
+/// The pairs that an adjacency file gives of the listed counties.
+fn pairs_from(
+    alloc: Global,
+    listed: &[CountyCode],
+    text: &[u8],
+) -> Result<Vec<(CountyCode, CountyCode)>, Refusal>
+    ensures { (n : ℕ) → Comes (λ v. v.items) result (pairs_in listed.now text.now n n) }
+{
+    match read_pairs(alloc, text, listed) {
+        Ok(pairs) => Ok(pairs),
+        Err(fault) => Err(refuse_adjacency(alloc, InputFile::Adjacency, fault)),
+    }
+}
+
+/// The links that a file gives.
+fn links_from(alloc: Global, text: &[u8]) -> Result<Vec<Link>, Refusal>
+    ensures { (n : ℕ) → Comes (λ v. v.items) result (links_in text.now n n) }
+{
+    match read_links(alloc, text) {
+        Ok(links) => Ok(links),
+        Err(fault) => Err(refuse_adjacency(alloc, InputFile::Links, fault)),
+    }
+}
+
+/// The withdrawn sets that a file gives.
+fn withdrawn_from(alloc: Global, text: &[u8]) -> Result<Vec<Withdrawn>, Refusal>
+    ensures { (n : ℕ) → Comes (λ v. v.items) result (withdrawn_in text.now n n) }
+{
+    match read_withdrawn(alloc, text) {
+        Ok(sets) => Ok(sets),
+        Err(fault) => Err(refuse_adjacency(alloc, InputFile::Withdrawn, fault)),
+    }
+}
+
+/// The grouping that a file gives.
+fn grouping_from(alloc: Global, text: &[u8]) -> Result<Grouping, Refusal>
+    ensures { (n : ℕ) → Comes (λ g. g.groups.items) result (grouping_in text.now n n) }
+{
+    match read_grouping(alloc, text) {
+        Ok(grouping) => Ok(grouping),
+        Err(fault) => Err(refuse_grouping(alloc, fault)),
+    }
+}
+
+/// The pairs of an adjacency file.
+fn load_pairs<H: Shelf>(
+    alloc: Global,
+    listed: &[CountyCode],
+    name: &str,
+    shelf: &mut H,
+) -> Result<Vec<(CountyCode, CountyCode)>, Refusal>
+    ensures course { Comes (λ v. v.items) result (pairs_of (H.contents shelf.old) listed.now name.now (H.failure_count shelf.old) (H.failure_count shelf.new)) }
+    ensures same { H.contents shelf.new ≡ H.contents shelf.old }
+    ensures kept { H.stored shelf.new ≡ H.stored shelf.old }
+{
+    let text = load(alloc, name, shelf)?;
+    pairs_from(alloc, listed, &text)
+}
+
+/// The links of a file that is named, else none.
+fn load_links<H: Shelf>(
+    alloc: Global,
+    name: Option<&str>,
+    shelf: &mut H,
+) -> Result<Vec<Link>, Refusal>
+    ensures course { Comes (λ v. v.items) result (links_of (H.contents shelf.old) name.entry (H.failure_count shelf.old) (H.failure_count shelf.new)) }
+    ensures same { H.contents shelf.new ≡ H.contents shelf.old }
+    ensures kept { H.stored shelf.new ≡ H.stored shelf.old }
+{
+    match name {
+        Some(name) => {
+            let text = load(alloc, name, shelf)?;
+            links_from(alloc, &text)
+        }
+        None => Ok(Vec::new(alloc)),
+    }
+}
+
+/// The withdrawn sets of a file that is named, else none.
+pub(crate) fn load_withdrawn<H: Shelf>(
+    alloc: Global,
+    name: Option<&str>,
+    shelf: &mut H,
+) -> Result<Vec<Withdrawn>, Refusal>
+    ensures course { Comes (λ v. v.items) result (withdrawn_of (H.contents shelf.old) name.entry (H.failure_count shelf.old) (H.failure_count shelf.new)) }
+    ensures same { H.contents shelf.new ≡ H.contents shelf.old }
+    ensures kept { H.stored shelf.new ≡ H.stored shelf.old }
+{
+    match name {
+        Some(name) => {
+            let text = load(alloc, name, shelf)?;
+            withdrawn_from(alloc, &text)
+        }
+        None => Ok(Vec::new(alloc)),
+    }
+}
+
+/// The adjacent pairs: those of the adjacency file, and then the links over them.
+pub(crate) fn load_adjacency<H: Shelf>(
+    alloc: Global,
+    counties: &[County],
+    words: ProblemWords<'_>,
+    shelf: &mut H,
+) -> Result<Vec<(CountyCode, CountyCode)>, Refusal>
+    ensures course { Comes (λ v. v.items) result (adjacency_of (H.contents shelf.old) (codes_of counties.now) words.entry (H.failure_count shelf.old) (H.failure_count shelf.new)) }
+    ensures same { H.contents shelf.new ≡ H.contents shelf.old }
+    ensures kept { H.stored shelf.new ≡ H.stored shelf.old }
+{
+    let listed = codes(alloc, counties)?;
+    let pairs = load_pairs(alloc, &listed, words.adjacency, shelf)?;
+    let links = load_links(alloc, words.links, shelf)?;
+    let linked = apply_links(alloc, &pairs, &links)?;
+    Ok(linked)
+}
+
+/// The grouping of a file.
+pub(crate) fn load_grouping<H: Shelf>(
+    alloc: Global,
+    name: &str,
+    shelf: &mut H,
+) -> Result<Grouping, Refusal>
+    ensures course { Comes (λ g. g.groups.items) result (grouping_of (H.contents shelf.old) name.now (H.failure_count shelf.old) (H.failure_count shelf.new)) }
+    ensures same { H.contents shelf.new ≡ H.contents shelf.old }
+    ensures kept { H.stored shelf.new ≡ H.stored shelf.old }
+{
+    let text = load(alloc, name, shelf)?;
+    grouping_from(alloc, &text)
+}

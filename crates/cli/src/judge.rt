@@ -1,0 +1,48 @@
+//! The subcommand `judge`.
+
+ghost use Rattle.std.specs.Prelude.{◌≡◌, ◌≤◌, ℕ};
+ghost use Rattle.cli.specs.Answers.{answer_of, Comes};
+ghost use Rattle.cli.specs.Run.{judge_step, judge_course};
+
+use crate::answer::{Answer, Refusal};
+use crate::files::load_grouping;
+use crate::problem::load_problem;
+use crate::refusal::refuse_verdict;
+use command_words::JudgeWords;
+use county_problem::{Grouping, Problem, judge as judge_grouping};
+use grouping_report::{Outcome, report};
+use shelves::Shelf;
+use std::alloc::Global;
+
+/// The report of a lawful grouping, or the fault of one that isn't.
+fn verdict(alloc: Global, problem: &Problem, grouping: Grouping) -> Result<Answer, Refusal>
+    ensures { (n : ℕ) → Comes answer_of result (judge_step problem.now grouping.groups.items n n) }
+{
+    match judge_grouping(alloc, problem, &grouping) {
+        Ok(_) => Ok(Answer {
+            text: report(alloc, problem, &Outcome::Lawful(grouping))?,
+            status: 0,
+        }),
+        Err(fault) => Err(refuse_verdict(alloc, fault)),
+    }
+}
+
+/// Whether a grouping is lawful. The problem is built before the grouping is loaded and read; the first
+/// fault met is the answer.
+pub(crate) fn judge<H: Shelf>(
+    alloc: Global,
+    words: JudgeWords<'_>,
+    shelf: &mut H,
+) -> Result<Answer, Refusal>
+    requires { words.problem.common.state ≤ 99 }
+    ensures course { Comes answer_of result (judge_course (H.contents shelf.old) words.entry (H.failure_count shelf.old) (H.failure_count shelf.new)) }
+    ensures same { H.contents shelf.new ≡ H.contents shelf.old }
+    ensures kept { H.stored shelf.new ≡ H.stored shelf.old }
+{
+    let problem = load_problem(alloc, words.problem, shelf)?;
+    let grouping = load_grouping(alloc, words.grouping, shelf)?;
+    verdict(alloc, &problem, grouping)
+}
+
+#[cfg(test)]
+mod tests;

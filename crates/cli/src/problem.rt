@@ -1,0 +1,46 @@
+//! The problem that a command works on.
+
+ghost use Rattle.std.specs.Prelude.{◌≡◌, ◌≤◌, ℕ};
+ghost use Rattle.cli.specs.Answers.{Comes};
+ghost use Rattle.cli.specs.ProblemCourse.{build_step, problem_in};
+
+use crate::answer::Refusal;
+use crate::files::{load_adjacency, load_counties, load_withdrawn};
+use crate::refusal::refuse_problem;
+use command_words::ProblemWords;
+use county_problem::{County, CountyCode, Problem, Withdrawn};
+use shelves::Shelf;
+use std::alloc::Global;
+
+/// The problem, or the refusal of its first fault.
+pub(crate) fn build(
+    alloc: Global,
+    counties: &[County],
+    pairs: &[(CountyCode, CountyCode)],
+    withdrawn: &[Withdrawn],
+    chamber: u16,
+) -> Result<Problem, Refusal>
+    ensures { (n : ℕ) → Comes (λ p. p) result (build_step chamber counties.now pairs.now withdrawn.now n n) }
+{
+    match Problem::build(alloc, counties, pairs, withdrawn, chamber) {
+        Ok(problem) => Ok(problem),
+        Err(fault) => Err(refuse_problem(alloc, fault)),
+    }
+}
+
+/// The problem of the files: they are loaded and read in turn, before it is built.
+pub(crate) fn load_problem<H: Shelf>(
+    alloc: Global,
+    words: ProblemWords<'_>,
+    shelf: &mut H,
+) -> Result<Problem, Refusal>
+    requires { words.common.state ≤ 99 }
+    ensures course { Comes (λ p. p) result (problem_in (H.contents shelf.old) words.entry (H.failure_count shelf.old) (H.failure_count shelf.new)) }
+    ensures same { H.contents shelf.new ≡ H.contents shelf.old }
+    ensures kept { H.stored shelf.new ≡ H.stored shelf.old }
+{
+    let counties = load_counties(alloc, words.common, shelf)?;
+    let pairs = load_adjacency(alloc, &counties, words, shelf)?;
+    let withdrawn = load_withdrawn(alloc, words.withdrawn, shelf)?;
+    build(alloc, &counties, &pairs, &withdrawn, words.common.chamber)
+}

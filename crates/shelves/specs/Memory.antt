@@ -1,0 +1,24 @@
+-- A shelf in memory.
+use Rattle.std.specs.Prelude.{◌≡◌, ◌<◌, ◌++◌, ◌∷◌, [], ℕ, List, Option, Some, None, length, slice_set, map, string_bytes}
+use Rattle.std.specs.Option.{option_map}
+use Rattle.std.specs.Borrow.{Bor}
+use Rattle.shelves.specs.declared.memory.MemoryFile.{MemoryFile}
+use Rattle.shelves.specs.Files.{File, with_file}
+
+-- the files that the shelf began with, and those that were stored
+pub record MemoryValue : Type 0 where
+  pub files : List File
+  pub stored : List File
+
+-- files with their names and bytes
+abbrev pub files_of : List MemoryFile → List File
+files_of files = map (λ f. record { name = string_bytes f.name; bytes = f.bytes.items }) files
+
+-- the bytes of a file that was found
+abbrev pub bytes_in : Option (Bor MemoryFile) → Option (List ℕ)
+bytes_in found = option_map (λ f. f.now.bytes.items) found
+
+-- the place of the first file of that name, where a file put under it goes; without one it goes last
+abbrev pub HasPlace : List File → List ℕ → Option ℕ → Type 0
+HasPlace files name (Some i) = (i < length files) × ((bytes : List ℕ) → with_file files name bytes ≡ slice_set files i (record { name = name; bytes = bytes }))
+HasPlace files name None = (bytes : List ℕ) → with_file files name bytes ≡ files ++ record { name = name; bytes = bytes } ∷ []

@@ -1,0 +1,96 @@
+ghost use Rattle.std.specs.Prelude.{◌≡◌, ◌<◌, ◌≤◌, None};
+ghost use Rattle.shelves.specs.Shelf.{CountsFault};
+
+use crate::shelf::{MAX_FILE, Shelf, ShelfFault};
+use crate::whole::{WholeFault, read_whole};
+use field_lines::Reading;
+use std::alloc::Global;
+use std::fs;
+use std::fs::OpenFile;
+use std::io::{Error, ErrorKind};
+use std::rt::Files;
+
+/// The machine's files.
+#[derive(Drop)]
+pub struct FileShelf<R> {
+    rt: R,
+    failures: u64,
+}
+
+impl<R: Files + AllocGlobal> FileShelf<R> {
+    /// The files that the runtime reaches, with no failure so far.
+    pub fn new(rt: R) -> Self
+        ensures { ⟦<FileShelf<R> as Shelf>⟧.failure_count result ≡ 0 }
+    {
+        FileShelf { rt, failures: 0 }
+    }
+}
+
+/// Whether the system says that the file is above the limit.
+fn is_too_large(file: &impl OpenFile) -> bool {
+    match file.metadata() {
+        Ok(metadata) => metadata.len() > MAX_FILE as u64,
+        Err(_) => false,
+    }
+}
+
+/// Counts a failure of the device. Where the count is at its last value it stays, and the fault is `Missing`.
+fn device_fault(failures: &mut u64) -> ShelfFault
+    ensures { CountsFault failures.old failures.new result }
+{
+    match failures.checked_add(1) {
+        Some(more) => {
+            *failures = more;
+            ShelfFault::Device
+        }
+        None => ShelfFault::Missing,
+    }
+}
+
+/// The fault that an error of the system is.
+fn fault_of(error: &Error, failures: &mut u64) -> ShelfFault
+    ensures { CountsFault failures.old failures.new result }
+{
+    match error.kind() {
+        ErrorKind::NotFound => ShelfFault::Missing,
+        ErrorKind::OutOfMemory => ShelfFault::Memory,
+        _ => device_fault(failures),
+    }
+}
+
+impl<R: Files + AllocGlobal> Shelf for FileShelf<R> {
+    ghost contents = { λ _. None };
+
+    ghost stored = { λ _. None };
+
+    ghost failure_count = { λ s. s.failures };
+
+    /// A file is read up to its limit and no further, and one that the system says is larger not at all.
+    fn load(&mut self, alloc: Global, name: &str) -> Result<Vec<u8>, ShelfFault> {
+        let file = match fs::open(&self.rt, name) {
+            Ok(file) => file,
+            Err(error) => return Err(fault_of(&error, &mut self.failures)),
+        };
+        if is_too_large(&file) {
+            return Err(ShelfFault::TooLarge);
+        }
+        match read_whole(alloc, &mut Reading::new(file), MAX_FILE) {
+            Ok(bytes) => Ok(bytes),
+            Err(WholeFault::TooLarge) => Err(ShelfFault::TooLarge),
+            Err(WholeFault::Failed) => Err(device_fault(&mut self.failures)),
+            Err(WholeFault::Memory) => Err(ShelfFault::Memory),
+        }
+    }
+
+    fn store(&mut self, alloc: Global, name: &str, bytes: &[u8]) -> Result<(), ShelfFault> {
+        let _ = alloc;
+        match fs::write(&self.rt, name, bytes) {
+            Ok(()) => Ok(()),
+            Err(error) => Err(fault_of(&error, &mut self.failures)),
+        }
+    }
+
+    fn failures(&self) -> u64 {
+        self.failures
+    }
+}

@@ -1,0 +1,18 @@
+//! Named files, and where bytes come from and go: the machine's files or some in memory, a source
+//! that is read whole, and an output that tells whether it failed.
+#![tactic(auto)]
+
+mod device;
+mod memory;
+mod shelf;
+mod sink;
+mod whole;
+
+pub use device::FileShelf;
+pub use memory::{MemoryFile, MemoryShelf};
+pub use shelf::{MAX_FILE, Shelf, ShelfFault};
+pub use sink::{Sink, SinkFault, Writing};
+pub use whole::{WholeFault, read_whole};
+
+#[cfg(test)]
+mod tests;

@@ -1,0 +1,136 @@
+ghost use Rattle.std.specs.Prelude.{◌≡◌, ℕ, List, [], Option, Some, None, IfOk, OnOk, OnErr, option_map, string_bytes, map};
+ghost use Rattle.std.specs.Option.{option_or};
+ghost use Rattle.shelves.specs.Files.{held, with_file};
+ghost use Rattle.shelves.specs.Memory.{bytes_in, files_of, HasPlace};
+
+use crate::shelf::{MAX_FILE, Shelf, ShelfFault};
+use std::alloc::{AllocError, Global};
+use std::marker::Model;
+
+/// A file in memory.
+#[derive(Drop)]
+pub struct MemoryFile {
+    /// The name.
+    pub name: String,
+    /// The bytes.
+    pub bytes: Vec<u8>,
+}
+
+/// A shelf in memory: the files that it began with, and those that were stored since.
+#[derive(Drop)]
+pub struct MemoryShelf {
+    files: Vec<MemoryFile>,
+    stored: Vec<MemoryFile>,
+}
+
+impl Model for MemoryShelf {
+    ghost use Rattle.shelves.specs.Memory.{MemoryValue, files_of};
+
+    /// The files that it began with, and those that were stored.
+    ghost Value = { MemoryValue };
+
+    ghost view = { λ s. record { files = files_of s.files.items; stored = files_of s.stored.items } };
+}
+
+/// The first file of the name.
+fn file_named<'a>(files: &'a [MemoryFile], name: &str) -> Option<&'a MemoryFile>
+    ensures { bytes_in result ≡ held (files_of files.now) name.now }
+{
+    for file in files {
+        if file.name.as_str() == name {
+            return Some(file);
+        }
+    }
+    None
+}
+
+/// The place of the first file of the name.
+fn place_of(files: &[MemoryFile], name: &str) -> Option<usize>
+    ensures { HasPlace (files_of files.now) name.now result }
+{
+    for (i, file) in files.iter().enumerate() {
+        if file.name.as_str() == name {
+            return Some(i);
+        }
+    }
+    None
+}
+
+/// Puts the bytes in the place of the file of that name, or last.
+fn put_file(
+    alloc: Global,
+    files: &mut Vec<MemoryFile>,
+    name: &str,
+    bytes: Vec<u8>,
+) -> Result<(), AllocError>
+    ensures put { OnOk result (files_of files.new.items ≡ with_file (files_of files.old.items) name.now bytes.items) }
+    ensures same { OnErr result (files.new.items ≡ files.old.items) }
+{
+    let name_copy = String::from_str(alloc, name)?;
+    let file = MemoryFile {
+        name: name_copy,
+        bytes,
+    };
+    match place_of(files, name) {
+        Some(place) => files[place] = file,
+        None => files.push(file)?,
+    }
+    Ok(())
+}
+
+impl MemoryShelf {
+    /// A shelf of these files; of several of one name the first counts.
+    pub fn new(alloc: Global, files: Vec<MemoryFile>) -> Self
+        ensures files { result.files ≡ files_of files.items }
+        ensures stored { result.stored ≡ [] }
+    {
+        MemoryShelf {
+            files,
+            stored: Vec::new(alloc),
+        }
+    }
+
+    /// The file that was stored under the name, else the first of those that it began with.
+    fn file(&self, name: &str) -> Option<&MemoryFile>
+        ensures { bytes_in result ≡ option_or (held self.now.stored name.now) (held self.now.files name.now) }
+    {
+        let stored = file_named(self.stored.as_slice(), name);
+        if stored.is_some() {
+            return stored;
+        }
+        file_named(self.files.as_slice(), name)
+    }
+
+    /// The files that were stored, in order of storing, each name once.
+    pub fn stored_files(&self) -> &[MemoryFile]
+        ensures { files_of result.now ≡ self.now.stored }
+    {
+        self.stored.as_slice()
+    }
+}
+
+impl Shelf for MemoryShelf {
+    ghost contents = { λ s. Some (λ name. option_or (held s.stored name) (held s.files name)) };
+
+    ghost stored = { λ s. Some s.stored };
+
+    ghost failure_count = { λ _. 0 };
+
+    fn load(&mut self, alloc: Global, name: &str) -> Result<Vec<u8>, ShelfFault> {
+        match self.file(name) {
+            None => Err(ShelfFault::Missing),
+            Some(file) if file.bytes.len() > MAX_FILE => Err(ShelfFault::TooLarge),
+            Some(file) => Ok(Vec::from_slice(alloc, file.bytes.as_slice())?),
+        }
+    }
+
+    fn store(&mut self, alloc: Global, name: &str, bytes: &[u8]) -> Result<(), ShelfFault> {
+        let bytes = Vec::from_slice(alloc, bytes)?;
+        put_file(alloc, &mut self.stored, name, bytes)?;
+        Ok(())
+    }
+
+    fn failures(&self) -> u64 {
+        0
+    }
+}

@@ -1,0 +1,78 @@
+ghost use Rattle.std.specs.Prelude.{◌≡◌, ℕ, ◌<◌, ◌≤◌, List, Option, IfOk, OnOk, OnErr, option_map, vec_len};
+ghost use Rattle.shelves.specs.Files.{File, Files, with_file, with_bytes};
+ghost use Rattle.shelves.specs.Shelf.{IsLoad, IsCounted};
+ghost use Rattle.shelves.specs.declared.shelf.ShelfFault.TheVariants.{Memory};
+
+use std::alloc::{AllocError, Global};
+use thiserror::Error;
+
+/// How many bytes a file that is read whole may have.
+pub const MAX_FILE: usize = 1_073_741_824;
+
+/// Why a shelf gave or took nothing.
+#[derive(Clone, Copy, Debug, PartialEq, Eq, Error)]
+pub enum ShelfFault {
+    /// There is no file of the name.
+    #[error("the file is missing")]
+    Missing,
+    /// The file has more than 1,073,741,824 bytes.
+    #[error("the file is too large")]
+    TooLarge,
+    /// The device failed, and the count of failures rose.
+    #[error("the device failed")]
+    Device,
+    /// A growth was refused.
+    #[error("out of memory")]
+    Memory,
+}
+
+impl From<AllocError> for ShelfFault {
+    ghost from_gives = { λ _ e. e ≡ Memory };
+
+    fn from(_e: AllocError) -> ShelfFault {
+        ShelfFault::Memory
+    }
+}
+
+/// Named files, as those of the machine or of a case.
+pub trait Shelf {
+    /// The bytes under each name, where the shelf tells them.
+    ghost contents: { Self → Option Files };
+
+    /// The files that were stored, in order of storing, each name once, where the shelf tells them.
+    ghost stored: { Self → Option (List File) };
+
+    /// How often the device has failed.
+    ghost failure_count: { Self → ℕ };
+
+    /// The bytes of the file of a name.
+    ///
+    /// # Errors
+    ///
+    /// `Device` only where the count of failures rose in this call, which never falls. Where the shelf tells its
+    /// files, `Missing` only where there is none of the name, or where the device failed and its count is at its
+    /// last value; `TooLarge` only above 1,073,741,824 bytes. No larger file is ever given. `Memory` where a
+    /// growth was refused.
+    fn load(&mut self, alloc: Global, name: &str) -> Result<Vec<u8>, ShelfFault>
+        ensures small { IfOk result (λ v. vec_len v ≤ 1073741824) }
+        ensures loaded { IsLoad (λ v. v.items) (contents self.old) (failure_count self.old) name.now result }
+        ensures same { contents self.new ≡ contents self.old }
+        ensures kept { stored self.new ≡ stored self.old }
+        ensures counted { IsCounted (failure_count self.old) (failure_count self.new) result };
+
+    /// Puts a file under a name, in the place of the one that was there.
+    ///
+    /// # Errors
+    ///
+    /// `Device` only where the count of failures rose. The files are then as before, where the shelf tells them.
+    fn store(&mut self, alloc: Global, name: &str, bytes: &[u8]) -> Result<(), ShelfFault>
+        ensures put { OnOk result (contents self.new ≡ option_map (λ files. with_bytes files name.now bytes.now) (contents self.old)) }
+        ensures listed { OnOk result (stored self.new ≡ option_map (λ files. with_file files name.now bytes.now) (stored self.old)) }
+        ensures same { OnErr result (contents self.new ≡ contents self.old) }
+        ensures kept { OnErr result (stored self.new ≡ stored self.old) }
+        ensures counted { IsCounted (failure_count self.old) (failure_count self.new) result };
+
+    /// How often the device has failed.
+    fn failures(&self) -> u64
+        ensures { result ≡ failure_count self.now };
+}
