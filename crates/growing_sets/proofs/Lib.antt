@@ -1,0 +1,6 @@
+pub mod Distinct
+pub mod PlaceLists
+pub mod Growing
+pub mod Starts
+pub mod Sorting
+pub mod Groups
