@@ -1,8 +1,8 @@
 -- Which counties are adjacent, by the rows of a file and by links over them.
 use Rattle.std.specs.Prelude.{◌≡◌, ◌≢◌, ℕ, ◌<◌, ◌&&◌, ◌↔◌, ◌⊎◌, Bool, true, false, List, Option, Some, None, Contains}
 use Rattle.std.specs.List.Sorted.{IsStrictlySortedBy}
-use Rattle.county_problem.specs.Sets.{member}
-use Rattle.county_problem.specs.ProblemValue.{names_both}
+use Rattle.grouping_laws.specs.Sets.{member}
+use Rattle.grouping_problem.specs.ProblemValue.{names_both}
 use Rattle.adjacency_reader.specs.declared.links.Sign.{Sign}
 use Rattle.adjacency_reader.specs.declared.links.Sign.TheVariants.{Add, Cut}
 use Rattle.adjacency_reader.specs.declared.links.Link.{Link}

@@ -3,8 +3,8 @@ use Rattle.std.specs.Prelude.{◌≡◌, ℕ, ◌==◌, ◌&&◌, ◌||◌, Bool
 use Rattle.std.specs.List.Sorted.{IsStrictlySortedBy}
 use Rattle.std.specs.Ordering.{nat_cmp, ordering_then}
 use Rattle.std.specs.declared.cmp.Ordering.{Ordering}
-use Rattle.county_problem.specs.Sets.{member}
-use Rattle.county_problem.specs.ProblemValue.{names_both}
+use Rattle.grouping_laws.specs.Sets.{member}
+use Rattle.grouping_problem.specs.ProblemValue.{names_both}
 use Rattle.adjacency_reader.specs.declared.fault.AdjacencyFault.{AdjacencyFault}
 use Rattle.adjacency_reader.specs.Rows.{row_list}
 

@@ -1,7 +1,7 @@
 -- The withdrawn sets of a text.
 use Rattle.std.specs.Prelude.{ℕ, List, Result}
 use Rattle.std.specs.Result.{result_map_both}
-use Rattle.county_problem.specs.declared.withdrawn.Withdrawn.{Withdrawn}
+use Rattle.county_codes.specs.declared.withdrawn.Withdrawn.{Withdrawn}
 use Rattle.seat_lines.specs.declared.fault.SeatLineFault.{SeatLineFault}
 use Rattle.seat_lines.specs.declared.fault.SeatLineFault.TheVariants as seats
 use Rattle.seat_lines.specs.SeatLine.{seat_line}

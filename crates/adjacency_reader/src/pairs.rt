@@ -2,8 +2,8 @@ ghost use Rattle.std.specs.Prelude.{◌≡◌, ℕ, ◌&&◌, ◌||◌, nat_lt, 
 ghost use Rattle.std.specs.Ordering.{nat_cmp};
 ghost use Rattle.std.specs.List.Sorted.{IsStrictlySortedBy};
 ghost use Rattle.std.specs.BTreeSet.{contains};
-ghost use Rattle.county_problem.specs.Sets.{member};
-ghost use Rattle.county_problem.specs.ProblemValue.{names_both};
+ghost use Rattle.grouping_laws.specs.Sets.{member};
+ghost use Rattle.grouping_problem.specs.ProblemValue.{names_both};
 ghost use Rattle.field_lines.specs.Values.{AnswersUnless};
 ghost use Rattle.adjacency_reader.specs.Faults.{IsMemory};
 ghost use Rattle.adjacency_reader.specs.Pairs.{by_codes, in_order, names, ArePairs, IsPairsAnswer};

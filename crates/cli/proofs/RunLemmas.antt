@@ -6,9 +6,9 @@ use Rattle.shelves.specs.declared.shelf.ShelfFault.TheVariants.{Missing, TooLarg
 use Rattle.shelves.specs.declared.shelf.ShelfFault.TheVariants as shelf
 use Rattle.shelves.specs.Files.{Files}
 use Rattle.shelves.specs.Shelf.{IsLoad}
-use Rattle.county_problem.specs.declared.fault.ProblemFault.{ProblemFault}
-use Rattle.county_problem.specs.declared.fault.ProblemFault.TheVariants as problem
-use Rattle.county_problem.specs.Building.{IsRefused}
+use Rattle.grouping_problem.specs.declared.fault.ProblemFault.{ProblemFault}
+use Rattle.grouping_problem.specs.declared.fault.ProblemFault.TheVariants as problem
+use Rattle.grouping_problem.specs.Building.{IsRefused}
 use Rattle.cli.specs.declared.answer.Refusal.{Refusal}
 use Rattle.cli.specs.declared.answer.Refusal.TheVariants.{Shown, Memory}
 use Rattle.cli.specs.Answer.{Answered}

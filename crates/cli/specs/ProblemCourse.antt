@@ -1,12 +1,12 @@
 -- The steps from files to a problem, and to a grouping.
 use Rattle.std.specs.Prelude.{◌≡◌, ℕ, List, [], Option, Some, None, Result, Ok, Err}
 use Rattle.std.specs.Borrow.{Bor}
-use Rattle.county_problem.specs.declared.county.County.{County}
-use Rattle.county_problem.specs.declared.withdrawn.Withdrawn as county
-use Rattle.county_problem.specs.declared.fault.ProblemFault.{ProblemFault}
-use Rattle.county_problem.specs.ProblemValue.{ProblemValue, codes_of}
-use Rattle.county_problem.specs.Building.{IsProblemOf, problem_fault}
-use Rattle.county_problem.specs.Grouping as groups
+use Rattle.county_codes.specs.declared.county.County.{County}
+use Rattle.county_codes.specs.declared.withdrawn.Withdrawn as county
+use Rattle.grouping_problem.specs.declared.fault.ProblemFault.{ProblemFault}
+use Rattle.grouping_problem.specs.ProblemValue.{ProblemValue, codes_of}
+use Rattle.grouping_problem.specs.Building.{IsProblemOf, problem_fault}
+use Rattle.grouping_laws.specs.Grouping as groups
 use Rattle.pl94_counties.specs.Counties.{county_list}
 use Rattle.adjacency_reader.specs.declared.links.Link.{Link}
 use Rattle.adjacency_reader.specs.Pairs.{IsPairsAnswer}

@@ -14,12 +14,12 @@ use Rattle.grouping_report.specs.declared.grouping_fault.GroupingTextKind.{Group
 use Rattle.grouping_report.specs.declared.grouping_fault.GroupingTextKind.TheVariants as groups
 use Rattle.grouping_report.specs.declared.grouping_fault.GroupingTextFault.{GroupingTextFault}
 use Rattle.grouping_report.specs.FaultWords.{grouping_fault_words}
-use Rattle.county_problem.specs.declared.grouping_fault.GroupingFault.{GroupingFault}
-use Rattle.county_problem.specs.declared.grouping_fault.GroupingFault.TheVariants as verdict
+use Rattle.grouping_judge.specs.declared.grouping_fault.GroupingFault.{GroupingFault}
+use Rattle.grouping_judge.specs.declared.grouping_fault.GroupingFault.TheVariants as verdict
 use Rattle.cli.specs.declared.refusal.InputFile.{InputFile}
 use Rattle.cli.specs.declared.refusal.InputFile.TheVariants.{Geo, Segment1, Adjacency, Links, Withdrawn, Grouping}
-use Rattle.county_problem.specs.declared.fault.ProblemFault.{ProblemFault}
-use Rattle.county_problem.specs.declared.fault.ProblemFault.TheVariants as problem
+use Rattle.grouping_problem.specs.declared.fault.ProblemFault.{ProblemFault}
+use Rattle.grouping_problem.specs.declared.fault.ProblemFault.TheVariants as problem
 use Rattle.shelves.specs.declared.shelf.ShelfFault.{ShelfFault}
 use Rattle.shelves.specs.declared.shelf.ShelfFault.TheVariants as shelf
 use Rattle.grouping_report.specs.Digits.{five_digits}

@@ -1,9 +1,9 @@
 -- What a run answers.
 use Rattle.std.specs.Prelude.{◌≡◌, ◌⊎◌, ◌≤◌, ℕ, true, List, [], Option, Result, Ok, Err, string_bytes}
-use Rattle.county_problem.specs.declared.grouping_fault.GroupingFault.{GroupingFault}
-use Rattle.county_problem.specs.ProblemValue.{ProblemValue, problem_of}
-use Rattle.county_problem.specs.Grouping.{Grouping, Lawful}
-use Rattle.county_problem.specs.Judging.{IsFault}
+use Rattle.grouping_judge.specs.declared.grouping_fault.GroupingFault.{GroupingFault}
+use Rattle.grouping_problem.specs.ProblemValue.{ProblemValue, problem_of}
+use Rattle.grouping_laws.specs.Grouping.{Grouping, Lawful}
+use Rattle.grouping_judge.specs.Judging.{IsFault}
 use Rattle.grouping_report.specs.SizeTable.{size_text}
 use Rattle.grouping_report.specs.Report.{report_text}
 use Rattle.command_words.specs.Words.{Means, EndsBy, faults_of, takes_words}

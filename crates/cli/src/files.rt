@@ -1,7 +1,7 @@
 //! What a command's files give: each is loaded and read, and the first fault met is refused.
 
 ghost use Rattle.std.specs.Prelude.{◌≡◌, ◌≤◌, ℕ, IfOk};
-ghost use Rattle.county_problem.specs.ProblemValue.{codes_of};
+ghost use Rattle.grouping_problem.specs.ProblemValue.{codes_of};
 ghost use Rattle.cli.specs.Answers.{Comes};
 ghost use Rattle.cli.specs.Course.{load_step};
 ghost use Rattle.cli.specs.ProblemCourse.{counties_of, pairs_of, pairs_in, links_in, withdrawn_in, grouping_in, links_of, withdrawn_of, adjacency_of, grouping_of};

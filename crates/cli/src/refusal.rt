@@ -2,7 +2,7 @@
 
 ghost use Rattle.std.specs.Prelude.{◌≡◌, ◌≢◌, ℕ, ◌++◌, OnOk, IfOk, codes, decimal};
 ghost use Rattle.pl94_counties.specs.declared.fault.Kind.TheVariants as kinds;
-ghost use Rattle.county_problem.specs.declared.fault.ProblemFault.TheVariants as problem;
+ghost use Rattle.grouping_problem.specs.declared.fault.ProblemFault.TheVariants as problem;
 ghost use Rattle.cli.specs.Answers.{Refuses, IsShown};
 ghost use Rattle.grouping_report.specs.Digits.{five_digits};
 ghost use Rattle.adjacency_reader.specs.declared.fault.Kind.TheVariants as pairs;

@@ -1,11 +1,11 @@
 -- The lines of a report.
 use Rattle.std.proofs.Common.{◌≡◌, ◌≢◌, ℕ, zero, suc, ◌+◌, ◌≤◌, ◌<◌, ◌==◌, Bool, true, false, List, [], ◌∷◌, ◌++◌, length, max, nat_lt, drop, drop-cons, get_or, refl, sym, ap, ◌∙◌, subst, arith}
 use Rattle.std.proofs.lemmas.Bool.{eqb-true, eqb-false, ltb-true, ltb-false}
-use Rattle.county_problem.specs.declared.group.Group.{Group}
-use Rattle.county_problem.specs.Sets.{digit, often, stands}
-use Rattle.county_problem.specs.Problem.{Problem, people_of}
-use Rattle.county_problem.specs.Grouping.{Grouping, sets_of, counts}
-use Rattle.county_problem.specs.CountList.{count_at, IsLongest}
+use Rattle.county_codes.specs.declared.group.Group.{Group}
+use Rattle.grouping_laws.specs.Sets.{digit, often, stands}
+use Rattle.grouping_laws.specs.Problem.{Problem, people_of}
+use Rattle.grouping_laws.specs.Grouping.{Grouping, sets_of, counts}
+use Rattle.grouping_judge.specs.CountList.{count_at, IsLongest}
 use Rattle.grouping_report.specs.Report.{longest_size, numbers_to, group_line, group_lines}
 
 -- the rest of groups begins with the one at its place

@@ -6,8 +6,8 @@ use Rattle.std.proofs.lemmas.Bool.{ne_eqb}
 use Rattle.std.proofs.lemmas.Bool.Decides.{nat_tests}
 use Rattle.std.proofs.lemmas.List.Elements.{All-from_recursion, recursion_from_All, All-get_or}
 use Rattle.std.proofs.lemmas.List.Splits.{slice_split_at}
-use Rattle.county_problem.specs.declared.group.Group.{Group}
-use Rattle.county_problem.specs.Grouping.{Grouping}
+use Rattle.county_codes.specs.declared.group.Group.{Group}
+use Rattle.grouping_laws.specs.Grouping.{Grouping}
 use Rattle.field_lines.specs.Fault.{most_lines, most_bytes}
 use Rattle.field_lines.specs.Raw.{RawLine, is_lf, raw_lines_from, numbered}
 use Rattle.field_lines.specs.Cut.{Line, Cut, cut_of, line_bytes, without_mark, fault_in, in_front}

@@ -1,7 +1,7 @@
 -- The words of a grouping's fault.
 use Rattle.std.specs.Prelude.{ℕ, List, ◌++◌, codes, decimal}
-use Rattle.county_problem.specs.declared.grouping_fault.GroupingFault.{GroupingFault}
-use Rattle.county_problem.specs.declared.grouping_fault.GroupingFault.TheVariants.{EmptyGroup, UnknownCounty, Twice, Missing, NotConnected, OutOfWindow, SeatsTotal, Memory}
+use Rattle.grouping_judge.specs.declared.grouping_fault.GroupingFault.{GroupingFault}
+use Rattle.grouping_judge.specs.declared.grouping_fault.GroupingFault.TheVariants.{EmptyGroup, UnknownCounty, Twice, Missing, NotConnected, OutOfWindow, SeatsTotal, Memory}
 use Rattle.grouping_report.specs.Digits.{five_digits}
 
 -- words and a number

@@ -1,8 +1,8 @@
 -- The grouping of a text.
 use Rattle.std.specs.Prelude.{◌≡◌, ℕ, List, Result}
 use Rattle.std.specs.Result.{result_map_both}
-use Rattle.county_problem.specs.declared.group.Group.{Group}
-use Rattle.county_problem.specs.Grouping.{Grouping}
+use Rattle.county_codes.specs.declared.group.Group.{Group}
+use Rattle.grouping_laws.specs.Grouping.{Grouping}
 use Rattle.field_lines.specs.Fault.{line_of_fault}
 use Rattle.field_lines.specs.Cut.{cut}
 use Rattle.field_lines.specs.Values.{values_of}

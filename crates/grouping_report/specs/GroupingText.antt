@@ -1,7 +1,7 @@
 -- The text of a grouping, as it is read again.
 use Rattle.std.specs.Prelude.{◌≤◌, ℕ, List, ◌++◌, length, All, codes, decimal}
 use Rattle.std.specs.List.{flat_map}
-use Rattle.county_problem.specs.Grouping.{Grouping}
+use Rattle.grouping_laws.specs.Grouping.{Grouping}
 use Rattle.field_lines.specs.Fault.{most_lines, most_bytes}
 use Rattle.grouping_report.specs.Digits.{each_after}
 

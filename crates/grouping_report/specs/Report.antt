@@ -1,8 +1,8 @@
 -- The text of a report.
 use Rattle.std.specs.Prelude.{ℕ, zero, suc, ◌+◌, List, [], ◌∷◌, ◌++◌, length, max, codes, decimal}
-use Rattle.county_problem.specs.Problem.{Problem, people_of}
-use Rattle.county_problem.specs.ProblemValue.{ProblemValue, problem_of}
-use Rattle.county_problem.specs.Grouping.{Grouping, sets_of, counts}
+use Rattle.grouping_laws.specs.Problem.{Problem, people_of}
+use Rattle.grouping_problem.specs.ProblemValue.{ProblemValue, problem_of}
+use Rattle.grouping_laws.specs.Grouping.{Grouping, sets_of, counts}
 use Rattle.grouping_report.specs.Digits.{each_after}
 
 -- the people, the chamber, the seats left, and how many counties there are

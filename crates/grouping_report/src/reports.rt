@@ -1,10 +1,10 @@
 //! The report of a problem and what was found of it.
 
 ghost use Rattle.std.specs.Prelude.{◌≡◌, ℕ, ◌++◌, ◌≤◌, OnOk, IfOk, length, codes};
-ghost use Rattle.county_problem.specs.Sets.{stands};
-ghost use Rattle.county_problem.specs.ProblemValue.{problem_of};
-ghost use Rattle.county_problem.specs.Grouping.{Lawful, sets_of, counts as counts_by_size};
-ghost use Rattle.county_problem.specs.CountList.{count_at};
+ghost use Rattle.grouping_laws.specs.Sets.{stands};
+ghost use Rattle.grouping_problem.specs.ProblemValue.{problem_of};
+ghost use Rattle.grouping_laws.specs.Grouping.{Lawful, sets_of, counts as counts_by_size};
+ghost use Rattle.grouping_judge.specs.CountList.{count_at};
 ghost use Rattle.grouping_report.specs.Report.{head_lines, answer_line, longest_size, numbers_to, counts_line, group_line, group_lines, report_text};
 ghost use Rattle.grouping_report.specs.Outcomes.{IsTrueOf, outcome_text};
 

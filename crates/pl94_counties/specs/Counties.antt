@@ -1,6 +1,6 @@
 -- The counties of a state.
 use Rattle.std.specs.Prelude.{ℕ, List, [], ◌∷◌, Result, Ok, Err, map}
-use Rattle.county_problem.specs.declared.county.County.{County}
+use Rattle.county_codes.specs.declared.county.County.{County}
 use Rattle.pl94_counties.specs.declared.fault.Kind.TheVariants.{DoubleCounty, NoCounties}
 use Rattle.pl94_counties.specs.declared.fault.File.TheVariants.{Geo}
 use Rattle.pl94_counties.specs.declared.fault.Pl94Fault.{Pl94Fault}

@@ -2,7 +2,7 @@
 use Rattle.std.specs.Prelude.{◌≡◌, ℕ, ◌==◌, Bool, false, List, [], ◌∷◌, Some, Contains, filter, codes}
 use Rattle.std.specs.Option.{option_and_then, option_map_or}
 use Rattle.field_lines.specs.Cut.{Line}
-use Rattle.county_problem.specs.declared.county.County.{County}
+use Rattle.county_codes.specs.declared.county.County.{County}
 use Rattle.pl94_counties.specs.Fields.{field, small_number, GeoFields, geo_fields}
 use Rattle.pl94_counties.specs.Geo.{state_digits, county_code}
 

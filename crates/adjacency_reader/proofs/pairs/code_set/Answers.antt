@@ -2,7 +2,7 @@ use Rattle.std.proofs.Common.{ℕ, ◌+◌, ◌||◌, List, drop, refl, sym, ap,
 use Rattle.std.proofs.lemmas.List.{drop_all}
 use Rattle.std.specs.BTreeSet.{contains}
 use Rattle.std.specs.Ordering.{nat_cmp}
-use Rattle.county_problem.specs.Sets.{member}
+use Rattle.grouping_laws.specs.Sets.{member}
 use Rattle.adjacency_reader.proofs.PairLemmas.{after_code, after_codes, drop_item}
 use Rattle.adjacency_reader.proofs.pairs.code_set.Goals as goal
 

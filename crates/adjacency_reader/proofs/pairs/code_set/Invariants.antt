@@ -1,7 +1,7 @@
 use Rattle.std.proofs.Common.{◌≡◌, ℕ, ◌||◌, drop}
 use Rattle.std.specs.BTreeSet.{contains}
 use Rattle.std.specs.Ordering.{nat_cmp}
-use Rattle.county_problem.specs.Sets.{member}
+use Rattle.grouping_laws.specs.Sets.{member}
 use Rattle.adjacency_reader.proofs.pairs.code_set.Given as goal
 
 abbrev pub invariant-loop-code : goal.invariant-loop-code

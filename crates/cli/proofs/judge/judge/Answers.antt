@@ -1,6 +1,6 @@
 use Rattle.std.proofs.Common.{ℕ, List, Option, subst}
 use Rattle.std.specs.Prelude.{Ok, Err}
-use Rattle.county_problem.specs.ProblemValue.{ProblemValue}
+use Rattle.grouping_problem.specs.ProblemValue.{ProblemValue}
 use Rattle.shelves.specs.Files.{Files}
 use Rattle.cli.specs.Answer.{Answered}
 use Rattle.cli.specs.Answers.{answer_of, Meets}

@@ -1,4 +1,4 @@
-use Rattle.county_problem.specs.Building.{problem_fault}
+use Rattle.grouping_problem.specs.Building.{problem_fault}
 use Rattle.cli.specs.Refusals.{problem_answer}
 use Rattle.cli.specs.ProblemCourse.{IsBuilt}
 use Rattle.cli.proofs.RunLemmas.{refused, fault_stands}

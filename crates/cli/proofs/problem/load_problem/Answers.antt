@@ -1,8 +1,8 @@
 use Rattle.std.proofs.Common.{◌≡◌, ℕ, List, Option, subst}
 use Rattle.std.specs.Prelude.{Ok, Err}
-use Rattle.county_problem.specs.declared.county.County.{County}
-use Rattle.county_problem.specs.declared.withdrawn.Withdrawn.{Withdrawn}
-use Rattle.county_problem.specs.ProblemValue.{ProblemValue, codes_of}
+use Rattle.county_codes.specs.declared.county.County.{County}
+use Rattle.county_codes.specs.declared.withdrawn.Withdrawn.{Withdrawn}
+use Rattle.grouping_problem.specs.ProblemValue.{ProblemValue, codes_of}
 use Rattle.command_words.specs.declared.words.ProblemWords.{ProblemWords}
 use Rattle.shelves.specs.Files.{Files}
 use Rattle.cli.specs.Answers.{Comes, Meets}

@@ -1,6 +1,6 @@
 use Rattle.std.proofs.Common.{◌≡◌, ℕ, List, [], refl, subst, ap}
 use Rattle.std.specs.Prelude.{Ok, Err}
-use Rattle.county_problem.specs.declared.county.County.{County}
+use Rattle.county_codes.specs.declared.county.County.{County}
 use Rattle.grouping_report.specs.SizeTable.{size_text}
 use Rattle.cli.specs.Answer.{Answered}
 use Rattle.cli.specs.Answers.{answer_of, Meets}

@@ -1,6 +1,6 @@
 use Rattle.std.proofs.Common.{subst}
-use Rattle.county_problem.specs.Grouping.{sets_of}
-use Rattle.county_problem.specs.CountList.{IsLongest}
+use Rattle.grouping_laws.specs.Grouping.{sets_of}
+use Rattle.grouping_judge.specs.CountList.{IsLongest}
 use Rattle.grouping_report.proofs.ReportLemmas.{same_numbers}
 use Rattle.grouping_report.proofs.reports.counts_of.Goals as goal
 

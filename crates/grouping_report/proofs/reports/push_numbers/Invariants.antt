@@ -1,5 +1,5 @@
 use Rattle.std.proofs.Common.{◌≡◌, ◌++◌}
-use Rattle.county_problem.specs.CountList.{count_at}
+use Rattle.grouping_judge.specs.CountList.{count_at}
 use Rattle.grouping_report.specs.Report.{numbers_to}
 use Rattle.grouping_report.proofs.reports.push_numbers.Given as goal
 

@@ -1,7 +1,7 @@
 use Rattle.std.proofs.Common.{◌≡◌, ◌≤◌, ◌++◌, drop}
-use Rattle.county_problem.specs.ProblemValue.{problem_of}
-use Rattle.county_problem.specs.SeatWindow.{people_bounds}
-use Rattle.county_problem.specs.Building.{people_in}
+use Rattle.grouping_problem.specs.ProblemValue.{problem_of}
+use Rattle.grouping_laws.specs.SeatWindow.{people_bounds}
+use Rattle.grouping_problem.specs.Building.{people_in}
 use Rattle.grouping_report.specs.SizeTable.{lines_text, head_text}
 use Rattle.grouping_report.proofs.table.size_table.Given as goal
 

@@ -1,6 +1,6 @@
 use Rattle.std.proofs.Common.{◌≡◌, rules, Err, All, List, subst, sym}
 use Rattle.field_lines.specs.Cut.{cut}
-use Rattle.county_problem.specs.declared.county.County.{County}
+use Rattle.county_codes.specs.declared.county.County.{County}
 use Rattle.pl94_counties.specs.Counties.{listed}
 use Rattle.pl94_counties.specs.Joined.{IsJoined, IsListed}
 use Rattle.pl94_counties.proofs.OfTextLemmas.{of_segment, of_geo}

@@ -1,0 +1,45 @@
+ghost use Rattle.std.specs.Prelude.{◌≡◌, ℕ, ◌<◌, ◌≤◌, length, IfOk};
+ghost use Rattle.connected_groups.specs.Search.{problem_at, HasMost, later, only};
+
+use ordered_counties::Ordered;
+use place_sets::CountySet;
+use std::alloc::{AllocError, Global};
+
+/// The set of one place.
+pub(crate) fn only_place<C: CountySet>(alloc: Global, place: u16) -> Result<C, AllocError>
+    requires { place < C.PLACES }
+    ensures { IfOk result (λ s. (x : ℕ) → C.test s x ≡ only place x) }
+{
+    C::empty(alloc)?.with(alloc, place)
+}
+
+/// The places after one.
+pub(crate) fn later_places<C: CountySet>(
+    alloc: Global,
+    places: u16,
+    place: u16,
+) -> Result<C, AllocError>
+    requires { places ≤ C.PLACES }
+    ensures { IfOk result (λ s. (x : ℕ) → C.test s x ≡ later places place x) }
+{
+    let mut free = C::empty(alloc)?;
+    for other in 0..places {
+        if place < other {
+            free = free.with(alloc, other)?;
+        }
+    }
+    Ok(free)
+}
+
+/// The greatest people of a place after the given one; 0 where there is none.
+pub(crate) fn most_after(ordered: &Ordered, place: u16) -> u32
+    ensures { HasMost (problem_at ordered.now) (later (length ordered.now.order) place) result }
+{
+    let mut most = 0;
+    for other in 0..ordered.places() {
+        if other > place {
+            most = most.max(ordered.people(other));
+        }
+    }
+    most
+}

@@ -1,0 +1,24 @@
+//! Counties by their codes, and the sets of codes that files and groupings name.
+//!
+//! A county has the five digits of the Census's GEOID. A withdrawn set and a group are seats with a list of codes; what
+//! such a list has to keep is no matter here, a problem and the judge test it.
+//!
+//! ```
+//! let wake = CountyCode::new(37_183);      // Some: at most 99,999
+//! let first = repeated_code(&[a, b, a]);   // Some(a)
+//! ```
+#![tactic(auto)]
+
+mod code;
+mod code_lists;
+mod codes;
+mod county;
+mod group;
+mod withdrawn;
+
+pub use code::CountyCode;
+pub use code_lists::{has_code, listed_codes, repeated_code, unlisted_code};
+pub use codes::Codes;
+pub use county::County;
+pub use group::{Group, Grouping};
+pub use withdrawn::{Withdrawn, copy_sets};

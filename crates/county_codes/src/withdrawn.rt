@@ -1,0 +1,37 @@
+ghost use Rattle.std.specs.Prelude.{◌≡◌, IfOk};
+
+use crate::codes::Codes;
+use std::alloc::{AllocError, Global};
+
+/// A set of counties that was taken out beforehand, with its seats: *Stephenson v. Bartlett* has the
+/// districts that the Voting Rights Act requires formed first.
+#[derive(Debug, Drop)]
+pub struct Withdrawn {
+    /// The seats of the set, at least 1 in a problem.
+    pub seats: u16,
+    /// The codes of its counties.
+    pub codes: Codes,
+}
+
+impl Withdrawn {
+    /// An equal set, or an error where memory was refused.
+    pub fn copy(&self) -> Result<Withdrawn, AllocError>
+        ensures { IfOk result (λ set. set ≡ self.now) }
+    {
+        Ok(Withdrawn {
+            seats: self.seats,
+            codes: self.codes.copy()?,
+        })
+    }
+}
+
+/// Equal sets.
+pub fn copy_sets(alloc: Global, sets: &[Withdrawn]) -> Result<Vec<Withdrawn>, AllocError>
+    ensures { IfOk result (λ v. v.items ≡ sets.now) }
+{
+    let mut copies = Vec::new(alloc);
+    for set in sets {
+        copies.push(set.copy()?)?;
+    }
+    Ok(copies)
+}

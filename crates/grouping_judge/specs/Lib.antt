@@ -1,0 +1,3 @@
+pub mod CountList
+pub mod Judging
+pub mod Filling

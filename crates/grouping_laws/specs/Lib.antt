@@ -1,0 +1,12 @@
+pub mod Sets
+pub mod Problem
+pub mod Grouping
+pub mod Order
+pub mod Parts
+pub mod Ranges
+pub mod AddUp
+pub mod Fill
+pub mod GroupsFrom
+pub mod Places
+pub mod SeatWindow
+pub mod PlaceProblem

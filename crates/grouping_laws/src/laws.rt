@@ -1,0 +1,20 @@
+//! Laws of groupings and of their counts: the functions do nothing, and their contracts are the laws.
+
+ghost use Rattle.grouping_laws.specs.AddUp.{SizesAddUp, WindowsAddUp, GroupsFit};
+ghost use Rattle.grouping_laws.specs.Order.{GreaterIsIrreflexive, GreaterIsTransitive, GreaterIsTotal};
+
+/// The sizes of the sets of a lawful grouping add up to the number of counties of the problem. The people
+/// of groups together suit the sum of their seats, and no lawful group has more counties than the problem.
+pub fn groups_add_up()
+    ensures sizes { SizesAddUp }
+    ensures windows { WindowsAddUp }
+    ensures fit { GroupsFit }
+{}
+
+/// Greater orders counts totally: none is greater than itself, what is greater than a greater one is
+/// greater, and of two different ones one is greater.
+pub fn greater_orders_counts()
+    ensures irreflexive { GreaterIsIrreflexive }
+    ensures transitive { GreaterIsTransitive }
+    ensures total { GreaterIsTotal }
+{}

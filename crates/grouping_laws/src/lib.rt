@@ -1,0 +1,7 @@
+//! What a lawful grouping is, which is best, and the laws of both: definitions (`specs/`), lemmas that other crates
+//! cite (`proofs/`), and no code. The functions do nothing; their contracts are the laws.
+#![tactic(auto)]
+
+mod laws;
+
+pub use laws::{greater_orders_counts, groups_add_up};

@@ -1,0 +1,4 @@
+pub mod RisingLemmas
+pub mod BuildLemmas
+pub mod ProblemLemmas
+pub mod PeopleLemmas

@@ -1,0 +1,19 @@
+use Rattle.std.proofs.Common.{not, arith}
+use Rattle.grouping_laws.specs.Sets.{member}
+use Rattle.county_codes.specs.declared.county.County.{County}
+use Rattle.grouping_problem.proofs.BuildLemmas.{people_left}
+use Rattle.grouping_problem.proofs.problem.Problem.build.Goals as goal
+
+pub invariant_of-result : goal.invariant_of-result
+invariant_of-result c =
+    let p = λ (x : County). not (member c.deref-5.result.now x.code) in
+    let fewer = people_left p c.args.counties.now c.in_ok-counties.counties.items c.in_ok-counties.ensures.same in (
+      omega arith,
+      c.people_of-total.ensures.small,
+      omega arith,
+      omega arith,
+      omega (arith, fewer, c.people_of-total.ensures.sum),
+      c.in_ok-counties.ensures.by_code,
+      omega (arith, c.in_ok-counties.ensures.few),
+      rw c.in_ok-copy_sets.ensures c.in_ok-left.ensures.1,
+    )

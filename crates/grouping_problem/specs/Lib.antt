@@ -1,0 +1,2 @@
+pub mod ProblemValue
+pub mod Building

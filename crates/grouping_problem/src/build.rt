@@ -1,0 +1,188 @@
+ghost use Rattle.std.specs.Prelude.{◌≡◌, ℕ, ◌+◌, ◌<◌, ◌≤◌, ◌^◌, ◌==◌, ◌&&◌, ◌||◌, not, find, filter, length, map, None, Some, IfOk, MatchOption, MatchResult, option_map};
+ghost use Rattle.std.specs.List.{position_from, list_any};
+ghost use Rattle.std.specs.List.Sorted.{IsPermutation, IsStrictlyIncreasing};
+ghost use Rattle.std.specs.Option.{option_copied};
+ghost use Rattle.grouping_laws.specs.Sets.{member};
+ghost use Rattle.grouping_problem.specs.ProblemValue.{codes_of};
+ghost use Rattle.grouping_problem.specs.Building.{people_in, seats_in, codes_in, first_repeated, first_unlisted, first_empty, is_strange, is_left, joins, withdrawn_fault, problem_fault, IsProblemOf, IsRefused};
+
+use crate::fault::ProblemFault;
+use crate::problem::Problem;
+use county_codes::{
+    County, CountyCode, Withdrawn, copy_sets, has_code, listed_codes, repeated_code, unlisted_code,
+};
+use std::alloc::{AllocError, Global};
+
+/// How many counties a problem may list.
+pub const MAX_COUNTIES: usize = 128;
+
+/// How many seats a chamber may have.
+pub const MAX_SEATS: u16 = 1000;
+
+/// The number, from 1, of the first set without codes or without seats.
+fn empty_set(sets: &[Withdrawn]) -> Option<usize>
+    ensures { result ≡ first_empty sets.now }
+{
+    for (i, set) in sets.iter().enumerate() {
+        if set.codes.as_slice().is_empty() || set.seats == 0 {
+            return Some(i + 1);
+        }
+    }
+    None
+}
+
+/// The first pair of two different codes of which one isn't listed.
+fn strange_pair(
+    listed: &[CountyCode],
+    pairs: &[(CountyCode, CountyCode)],
+) -> Option<(CountyCode, CountyCode)>
+    ensures { result ≡ find (is_strange listed.now) pairs.now }
+{
+    for (a, b) in pairs {
+        if a != b && !(has_code(listed, *a) && has_code(listed, *b)) {
+            return Some((*a, *b));
+        }
+    }
+    None
+}
+
+/// The people of the counties.
+fn people_of(counties: &[County]) -> u64
+    requires { length counties.now ≤ 128 }
+    ensures sum { result ≡ people_in counties.now }
+    ensures small { result ≤ 2 ^ 40 }
+{
+    let mut total = 0;
+    for county in counties {
+        total += u64::from(county.people);
+    }
+    total
+}
+
+/// The codes of the sets, set after set.
+fn withdrawn_codes(alloc: Global, sets: &[Withdrawn]) -> Result<Vec<CountyCode>, AllocError>
+    ensures { IfOk result (λ v. v.items ≡ codes_in sets.now) }
+{
+    let mut codes = Vec::new(alloc);
+    for set in sets {
+        codes.extend_from_slice(set.codes.as_slice())?;
+    }
+    Ok(codes)
+}
+
+/// The seats that the sets leave of the chamber's, if they have no more.
+fn seats_without(sets: &[Withdrawn], chamber: u16) -> Option<u16>
+    ensures { MatchOption result (chamber < seats_in sets.now) (λ left. left + seats_in sets.now ≡ chamber) }
+{
+    let mut left = chamber;
+    for set in sets {
+        left = left.checked_sub(set.seats)?;
+    }
+    Some(left)
+}
+
+/// The seats that the withdrawn sets leave, or the first of their faults.
+fn seats_after(
+    listed: &[CountyCode],
+    taken: &[CountyCode],
+    sets: &[Withdrawn],
+    chamber: u16,
+) -> Result<u16, ProblemFault>
+    requires { taken.now ≡ codes_in sets.now }
+    ensures { MatchResult result (λ left. (withdrawn_fault listed.now sets.now chamber ≡ None) × (left + seats_in sets.now ≡ chamber)) (λ fault. withdrawn_fault listed.now sets.now chamber ≡ Some fault) }
+{
+    if let Some(set) = empty_set(sets) {
+        return Err(ProblemFault::EmptyWithdrawn(set));
+    }
+    if let Some(code) = unlisted_code(listed, taken) {
+        return Err(ProblemFault::UnknownWithdrawn(code));
+    }
+    if let Some(code) = repeated_code(taken) {
+        return Err(ProblemFault::WithdrawnTwice(code));
+    }
+    seats_without(sets, chamber).ok_or(ProblemFault::WithdrawnSeats)
+}
+
+/// The counties that aren't withdrawn, by code.
+fn counties_left(
+    alloc: Global,
+    counties: &[County],
+    taken: &[CountyCode],
+) -> Result<Vec<County>, AllocError>
+    requires { first_repeated (codes_of counties.now) ≡ None }
+    ensures same { IfOk result (λ v. IsPermutation (filter (λ c. not (member taken.now c.code)) counties.now) v.items) }
+    ensures by_code { IfOk result (λ v. IsStrictlyIncreasing (codes_of v.items)) }
+    ensures few { IfOk result (λ v. length v.items ≤ length counties.now) }
+{
+    let mut left = Vec::new(alloc);
+    for county in counties {
+        if !has_code(taken, county.code) {
+            left.push(*county)?;
+        }
+    }
+    left.sort_by_key(|county| county.code)?;
+    Ok(left)
+}
+
+/// The pairs of two different counties of the problem.
+fn pairs_of(
+    alloc: Global,
+    codes: &[CountyCode],
+    pairs: &[(CountyCode, CountyCode)],
+) -> Result<Vec<(CountyCode, CountyCode)>, AllocError>
+    ensures { IfOk result (λ v. v.items ≡ filter (joins codes.now) pairs.now) }
+{
+    let mut joined = Vec::new(alloc);
+    for (a, b) in pairs {
+        if a != b && has_code(codes, *a) && has_code(codes, *b) {
+            joined.push((*a, *b))?;
+        }
+    }
+    Ok(joined)
+}
+
+impl Problem {
+    /// The problem of the listed counties, the pairs of adjacent codes, the withdrawn sets and a chamber's
+    /// seats, or the first fault. A pair of a county with itself is ignored, and so is a pair of listed
+    /// counties of which at least one is withdrawn. `Memory` comes only where a growth was refused.
+    pub fn build(
+        alloc: Global,
+        counties: &[County],
+        pairs: &[(CountyCode, CountyCode)],
+        withdrawn: &[Withdrawn],
+        chamber: u16,
+    ) -> Result<Problem, ProblemFault>
+        ensures problem { IfOk result (IsProblemOf counties.now pairs.now withdrawn.now chamber) }
+        ensures fault { IsRefused (problem_fault counties.now pairs.now withdrawn.now chamber) result }
+    {
+        if chamber == 0 || chamber > MAX_SEATS {
+            return Err(ProblemFault::SeatsOutOfRange);
+        }
+        if counties.len() > MAX_COUNTIES {
+            return Err(ProblemFault::TooManyCounties);
+        }
+        let listed = listed_codes(alloc, counties)?;
+        if let Some(code) = repeated_code(&listed) {
+            return Err(ProblemFault::DoubleCounty(code));
+        }
+        let total = people_of(counties);
+        if total == 0 {
+            return Err(ProblemFault::NoPeople);
+        }
+        let taken = withdrawn_codes(alloc, withdrawn)?;
+        let left = seats_after(&listed, &taken, withdrawn, chamber)?;
+        if let Some((a, b)) = strange_pair(&listed, pairs) {
+            return Err(ProblemFault::UnknownPair(a, b));
+        }
+        let counties = counties_left(alloc, counties, &taken)?;
+        let codes = listed_codes(alloc, &counties)?;
+        Ok(Problem {
+            pairs: pairs_of(alloc, &codes, pairs)?,
+            withdrawn: copy_sets(alloc, withdrawn)?,
+            counties,
+            total,
+            chamber,
+            left,
+        })
+    }
+}

@@ -1,0 +1,3 @@
+pub mod OrderedValue
+pub mod Allot
+pub mod StepsValue
