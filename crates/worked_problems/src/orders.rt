@@ -1,0 +1,85 @@
+//! Orders of counties, seats allotted, and steps.
+
+use crate::sketch::{STRANDING_PATH, Sketch, THIRTY_NINE_SEATS, codes};
+use anyhow::{Context, Result};
+use grouping_problem::Problem;
+use ordered_counties::{Ordered, Steps, allot};
+
+/// Prints the counties of an order, by their places, or why it is none.
+fn show_order(rt: &HostRuntime, problem: &Problem, numbers: &[u32]) -> Result<()> {
+    let order = codes(rt.alloc(), numbers)?;
+    let ordered = match Ordered::build(rt.alloc(), problem, &order) {
+        Ok(ordered) => ordered,
+        Err(fault) => {
+            println!(rt; "{fault}")?;
+            return Ok(());
+        }
+    };
+    println!(rt;
+        "{} places for {} seats",
+        ordered.places(),
+        ordered.problem().chamber()
+    )?;
+    for place in 0..ordered.places() {
+        let (code, people) = (ordered.code(place), ordered.people(place));
+        println!(rt;
+            "place {place}: {code} of {people}, touches place 0: {}",
+            ordered.touch(place, 0)
+        )?;
+    }
+    Ok(())
+}
+
+/// Prints the seats that are allotted to numbers of people.
+fn show_seats(rt: &HostRuntime, problem: &Problem, people: &[u64]) -> Result<()> {
+    let mut sum = 0_u64;
+    for entry in people {
+        sum = sum.checked_add(*entry).context("a sum")?;
+    }
+    if sum > problem.total_people() {
+        println!(rt; "too many people")?;
+        return Ok(());
+    }
+    match allot(rt.alloc(), problem, people)? {
+        Some(seats) => println!(rt;
+            "{:?} of {} seats left",
+            seats.as_slice(),
+            problem.seats_left()
+        )?,
+        None => println!(rt; "no seats for {people:?}")?,
+    }
+    Ok(())
+}
+
+/// Prints how steps are taken up to a limit.
+fn show_steps(rt: &HostRuntime, limit: u64) -> Result<()> {
+    let mut steps = Steps::new(limit);
+    for _ in 0..3 {
+        let taken = steps.tick();
+        println!(rt; "taken {taken}, used {} of {}", steps.used(), steps.limit())?;
+    }
+    Ok(())
+}
+
+/// Prints orders, seats and steps.
+pub(crate) fn show(rt: &HostRuntime) -> Result<()> {
+    let path = STRANDING_PATH.problem(rt.alloc())?;
+    show_order(rt, &path, &[5, 1, 3])?;
+    show_order(rt, &path, &[1, 3, 3])?;
+    show_order(rt, &path, &[1, 3])?;
+    show_order(rt, &path, &[1, 3, 5, 7])?;
+    let apart = THIRTY_NINE_SEATS.problem(rt.alloc())?;
+    show_seats(rt, &apart, &[1950, 1950])?;
+    show_seats(rt, &apart, &[1950])?;
+    for chamber in [1, 2] {
+        let none = Sketch {
+            people: &[(1, 100)],
+            pairs: &[],
+            withdrawn: &[(1, &[1])],
+            chamber,
+        };
+        show_seats(rt, &none.problem(rt.alloc())?, &[])?;
+    }
+    show_steps(rt, 0)?;
+    show_steps(rt, 2)
+}

@@ -1,0 +1,124 @@
+use anyhow::Result;
+use county_codes::{Codes, County, CountyCode, Group, Grouping, Withdrawn};
+use grouping_problem::Problem;
+use std::alloc::{AllocError, Global};
+
+/// A small problem of counties of North Carolina, each named by the last three digits of its code.
+#[derive(Clone, Copy, Drop)]
+pub(crate) struct Sketch<'a> {
+    /// Counties and their people.
+    pub(crate) people: &'a [(u32, u32)],
+    /// Adjacent counties.
+    pub(crate) pairs: &'a [(u32, u32)],
+    /// Seats and counties of the withdrawn sets.
+    pub(crate) withdrawn: &'a [(u16, &'a [u32])],
+    /// The chamber's seats.
+    pub(crate) chamber: u16,
+}
+
+/// Four counties in a path.
+pub(crate) const FOUR_COUNTY_PATH: Sketch = Sketch {
+    people: &[(1, 100), (3, 60), (5, 40), (7, 200)],
+    pairs: &[(1, 3), (3, 5), (5, 7)],
+    withdrawn: &[],
+    chamber: 4,
+};
+
+/// A path whose middle county would strand its neighbours.
+pub(crate) const STRANDING_PATH: Sketch = Sketch {
+    people: &[(1, 50), (3, 100), (5, 50)],
+    pairs: &[(1, 3), (3, 5)],
+    withdrawn: &[],
+    chamber: 2,
+};
+
+/// One county that is large enough, and five in a path that are so together.
+pub(crate) const ONE_AND_FIVE: Sketch = Sketch {
+    people: &[(1, 100), (3, 20), (5, 20), (7, 20), (9, 20), (11, 20)],
+    pairs: &[(1, 3), (3, 5), (5, 7), (7, 9), (9, 11)],
+    withdrawn: &[],
+    chamber: 2,
+};
+
+/// Six counties in a path that make three pairs, or one and five.
+pub(crate) const THREE_PAIRS: Sketch = Sketch {
+    people: &[(1, 98), (3, 6), (5, 60), (7, 41), (9, 30), (11, 65)],
+    pairs: &[(1, 3), (3, 5), (5, 7), (7, 9), (9, 11)],
+    withdrawn: &[],
+    chamber: 3,
+};
+
+/// Two counties apart, each of which suits 19 or 20 of 39 seats.
+pub(crate) const THIRTY_NINE_SEATS: Sketch = Sketch {
+    people: &[(1, 1950), (3, 1950)],
+    pairs: &[],
+    withdrawn: &[],
+    chamber: 39,
+};
+
+/// Four counties in a ring.
+pub(crate) const RING_OF_FOUR: Sketch = Sketch {
+    people: &[(1, 50), (3, 50), (5, 50), (7, 50)],
+    pairs: &[(1, 3), (3, 5), (5, 7), (7, 1)],
+    withdrawn: &[],
+    chamber: 2,
+};
+
+/// A code by its last three digits.
+pub(crate) fn code(number: u32) -> Option<CountyCode> {
+    CountyCode::new(number.checked_add(37_000)?)
+}
+
+/// The codes of these numbers.
+pub(crate) fn codes(alloc: Global, numbers: &[u32]) -> Result<Vec<CountyCode>, AllocError> {
+    numbers.iter().filter_map(|n| code(*n)).collect(alloc)
+}
+
+/// The grouping of the sets with their seats.
+pub(crate) fn grouping(alloc: Global, sets: &[(u16, &[u32])]) -> Result<Grouping, AllocError> {
+    let mut groups = Vec::new(alloc);
+    for (seats, numbers) in sets {
+        let codes = Codes::new(codes(alloc, numbers)?);
+        groups.push(Group {
+            seats: *seats,
+            codes,
+        })?;
+    }
+    Ok(Grouping { groups })
+}
+
+/// The withdrawn sets of a sketch.
+fn withdrawn(alloc: Global, sets: &[(u16, &[u32])]) -> Result<Vec<Withdrawn>, AllocError> {
+    let mut list = Vec::new(alloc);
+    for (seats, numbers) in sets {
+        let codes = Codes::new(codes(alloc, numbers)?);
+        list.push(Withdrawn {
+            seats: *seats,
+            codes,
+        })?;
+    }
+    Ok(list)
+}
+
+impl Sketch<'_> {
+    /// The problem, or why there is none.
+    pub(crate) fn problem(self, alloc: Global) -> Result<Problem> {
+        let counties: Vec<County> = self
+            .people
+            .iter()
+            .filter_map(|(n, people)| {
+                Some(County {
+                    code: code(*n)?,
+                    people: *people,
+                })
+            })
+            .collect(alloc)?;
+        let pairs: Vec<(CountyCode, CountyCode)> = self
+            .pairs
+            .iter()
+            .filter_map(|(a, b)| Some((code(*a)?, code(*b)?)))
+            .collect(alloc)?;
+        let sets = withdrawn(alloc, self.withdrawn)?;
+        Ok(Problem::build(alloc, &counties, &pairs, &sets, self.chamber)?)
+    }
+}
