@@ -1,0 +1,47 @@
+-- The language by the places of the round's order: what is found there holds of the codes.
+use Rattle.std.specs.Prelude.{ℕ, ◌≡◌, ◌<◌, Bool, true, List, map, filter, length, ◌↔◌}
+use Rattle.county_problem.specs.Sets.{total, member}
+use Rattle.county_problem.specs.Problem.{Problem, IsProblem}
+use Rattle.county_problem.specs.Parts.{IsPart, AreParts}
+use Rattle.county_problem.specs.GroupsFrom.{IsOrder}
+use Rattle.county_problem.specs.Places.{places_below, codes_at}
+use Rattle.place_sets.specs.CountySet.{places_of}
+use Rattle.county_problem.specs.OrderedValue.{code_at, at_places}
+use Rattle.proof_trees.specs.Round.{Round}
+use Rattle.proof_trees.specs.State.{State, listed}
+use Rattle.proof_trees.specs.Stuck.{CannotFill}
+use Rattle.proof_trees.specs.Fitting.{Fits}
+use Rattle.proof_trees.specs.Groups.{AreGroupsAt, AreGroupsOf}
+
+-- a region of codes of an order, and the region of their places
+pub record IsRegionAt (order : List ℕ) (region places : ℕ → Bool) : Type 0 where
+  pub same : (i : ℕ) → i < length order → places i ≡ region (code_at order i)
+  pub below : (i : ℕ) → places i ≡ true → i < length order
+  pub known : (c : ℕ) → region c ≡ true → member order c ≡ true
+
+-- a state, and a state by places with the same rest and the same least sizes
+pub record IsStateAt (order : List ℕ) (s t : State) : Type 0 where
+  pub rest : IsRegionAt order s.rest t.rest
+  pub least : (i : ℕ) → i < length order → t.least i ≡ s.least (code_at order i)
+
+-- the round by places
+abbrev pub round_at : Round → Round
+round_at round = record round { order = places_below (length round.order) }
+
+-- Parts, groups that fit and their lists by places are those of the codes.
+pub record PlacesServe : Type 0 where
+  -- the codes at the places of a region are the region's, in order, and sums over the region are sums over its places
+  pub kept : (p : Problem) (order : List ℕ) (region places : ℕ → Bool) → IsOrder p order → IsRegionAt order region places → codes_at order (places_of (length order) places) ≡ filter region order
+  pub sums : (p : Problem) (order : List ℕ) (region places : ℕ → Bool) (f : ℕ → ℕ) → IsProblem p → IsOrder p order → IsRegionAt order region places
+      → total f (listed p region) ≡ total (λ i. f (code_at order i)) (places_of (length order) places)
+  pub part : (p : Problem) (order : List ℕ) (region places : ℕ → Bool) (xs : List ℕ) → IsOrder p order → IsRegionAt order region places → IsPart (at_places p order) places xs → IsPart p region (codes_at order xs)
+  pub parts : (p : Problem) (order : List ℕ) (region places : ℕ → Bool) (parts : List (List ℕ)) → IsOrder p order → IsRegionAt order region places → AreParts (at_places p order) places parts
+      → AreParts p region (map (codes_at order) parts)
+  pub cannot_fill : (p : Problem) (order : List ℕ) (s t : State) (xs : List ℕ) → IsOrder p order → IsStateAt order s t → ((i : ℕ) → member xs i ≡ true → i < length order)
+      → CannotFill (at_places p order) t xs ↔ CannotFill p s (codes_at order xs)
+  pub fits : (p : Problem) (round : Round) (s t : State) (g : List ℕ) → IsOrder p round.order → IsStateAt round.order s t → ((i : ℕ) → member g i ≡ true → i < length round.order)
+      → Fits round.language (at_places p round.order) t g ↔ Fits round.language p s (codes_at round.order g)
+  pub groups_at : (p : Problem) (round : Round) (s t : State) (i j : ℕ) (groups : List (List ℕ)) → IsOrder p round.order → IsStateAt round.order s t → i < length round.order
+      → AreGroupsAt (at_places p round.order) (round_at round) t i j groups → AreGroupsAt p round s (code_at round.order i) j (map (codes_at round.order) groups)
+  pub groups_of_size : (p : Problem) (round : Round) (s t : State) (i : ℕ) (groups : List (List ℕ)) → IsOrder p round.order → IsStateAt round.order s t
+      → AreGroupsOf (at_places p round.order) (round_at round) t i groups → AreGroupsOf p round s i (map (codes_at round.order) groups)
