@@ -19,3 +19,5 @@ pub mod Examples
 pub mod States
 pub mod Places
 pub mod MarkLemmas
+mod RegionGrowthLemmas
+mod StateLemmas

@@ -23,7 +23,7 @@ set_of_group p round s c j g f = record { connected = f.fits.lawful.connected; i
 set_of_size : (p : Problem) (round : Round) (s : State) (i : ℕ) (g : List ℕ) → IsGroupOf p round s i g → IsSetWithin p round.order s i g
 set_of_size p round s i g f = record { connected = f.fits.lawful.connected; in_order = f.in_order; small = omega (arith, f.size); inside = λ x e. open_above s (length g) i x (omega (arith, f.size)) (f.fits.inside x e) }
 
-kept_at : (p : Problem) (round : Round) (s : State) (c j : ℕ) (keep : List ℕ → Bool) (groups : List (List ℕ)) → ((g : List ℕ) → Contains groups g ↔ (IsSetAt p round.order s c j g × (keep g ≡ true)))
+pub kept_at : (p : Problem) (round : Round) (s : State) (c j : ℕ) (keep : List ℕ → Bool) (groups : List (List ℕ)) → ((g : List ℕ) → Contains groups g ↔ (IsSetAt p round.order s c j g × (keep g ≡ true)))
     → AllPairs (IsBefore round.order) groups → ((g : List ℕ) → IsSetAt p round.order s c j g → (keep g ≡ true) ↔ Fits round.language p s g) → AreGroupsAt p round s c j groups
 kept_at p round s c j keep groups each sorted decides = record {
   each = λ g. (

@@ -1,6 +1,7 @@
 pub mod Round
 pub mod RoundValue
 pub mod State
+pub mod StateValue
 pub mod Agreement
 pub mod Stuck
 pub mod Fitting
@@ -16,5 +17,6 @@ pub mod Search
 pub mod Lists
 pub mod Depth
 pub mod Places
+pub mod RegionGrowth
 pub mod Marks
 pub mod Examples

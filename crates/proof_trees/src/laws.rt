@@ -6,6 +6,7 @@ ghost use Rattle.proof_trees.specs.Decided.{LeavesAreDecided};
 ghost use Rattle.proof_trees.specs.Depth.{TreesAreShallow};
 ghost use Rattle.proof_trees.specs.Lists.{ListsServe};
 ghost use Rattle.proof_trees.specs.Places.{PlacesServe};
+ghost use Rattle.proof_trees.specs.RegionGrowth.{RegionsAreGrown};
 ghost use Rattle.proof_trees.specs.Marks.{PlainIsMarked};
 ghost use Rattle.proof_trees.specs.Search.{FinishedStateBeats, SearchEnds, ImpossibleIsLeaf};
 ghost use Rattle.proof_trees.specs.Examples.{stranding, plain_round, plain_tree, wide_round, wide_tree, lone_leaf};
@@ -61,6 +62,13 @@ pub fn lists_serve()
 /// the codes.
 pub fn places_serve()
     ensures { PlacesServe }
+{}
+
+/// Growing sets inside the open counties, from one of them, meets exactly the sets that a branch looks through,
+/// and from each in turn those that a weigh line looks through; what is kept of the first by a test of
+/// fitting, sorted, is the list of the branch's groups.
+pub fn regions_are_grown()
+    ensures { RegionsAreGrown }
 {}
 
 /// A proof tree keeps the depth of its language, and no path of it has more branches than steps are left.
