@@ -19,5 +19,6 @@ pub mod Examples
 pub mod States
 pub mod Places
 pub mod MarkLemmas
-mod RegionGrowthLemmas
-mod StateLemmas
+pub mod RegionGrowthLemmas
+pub mod StateLemmas
+pub mod PlaceStates

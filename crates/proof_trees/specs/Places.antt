@@ -1,14 +1,14 @@
 -- The language by the places of the round's order: what is found there holds of the codes.
-use Rattle.std.specs.Prelude.{ℕ, ◌≡◌, ◌<◌, Bool, true, List, map, filter, length, ◌↔◌}
-use Rattle.county_problem.specs.Sets.{total, member}
+use Rattle.std.specs.Prelude.{ℕ, ◌≡◌, ◌≤◌, ◌<◌, Bool, true, ◌&&◌, cond, List, map, filter, length, ◌↔◌}
+use Rattle.county_problem.specs.Sets.{total, often, member}
 use Rattle.county_problem.specs.Problem.{Problem, IsProblem}
 use Rattle.county_problem.specs.Parts.{IsPart, AreParts}
-use Rattle.county_problem.specs.GroupsFrom.{IsOrder}
+use Rattle.county_problem.specs.GroupsFrom.{IsOrder, place}
 use Rattle.county_problem.specs.Places.{places_below, codes_at}
 use Rattle.place_sets.specs.CountySet.{places_of}
 use Rattle.county_problem.specs.OrderedValue.{code_at, at_places}
 use Rattle.proof_trees.specs.Round.{Round}
-use Rattle.proof_trees.specs.State.{State, listed}
+use Rattle.proof_trees.specs.State.{State, listed, empty_state, close, raise}
 use Rattle.proof_trees.specs.Stuck.{CannotFill}
 use Rattle.proof_trees.specs.Fitting.{Fits}
 use Rattle.proof_trees.specs.Groups.{AreGroupsAt, AreGroupsOf}
@@ -23,6 +23,14 @@ pub record IsRegionAt (order : List ℕ) (region places : ℕ → Bool) : Type 0
 pub record IsStateAt (order : List ℕ) (s t : State) : Type 0 where
   pub rest : IsRegionAt order s.rest t.rest
   pub least : (i : ℕ) → i < length order → t.least i ≡ s.least (code_at order i)
+
+-- the state by codes of an order that a state by its places says
+abbrev pub in_codes : List ℕ → State → State
+in_codes order t = record {
+  closed = map (codes_at order) t.closed;
+  rest = λ c. member order c && t.rest (place order c);
+  least = λ c. cond (member order c) (t.least (place order c)) 0;
+}
 
 -- the round by places
 abbrev pub round_at : Round → Round
@@ -45,3 +53,10 @@ pub record PlacesServe : Type 0 where
       → AreGroupsAt (at_places p round.order) (round_at round) t i j groups → AreGroupsAt p round s (code_at round.order i) j (map (codes_at round.order) groups)
   pub groups_of_size : (p : Problem) (round : Round) (s t : State) (i : ℕ) (groups : List (List ℕ)) → IsOrder p round.order → IsStateAt round.order s t
       → AreGroupsOf (at_places p round.order) (round_at round) t i groups → AreGroupsOf p round s i (map (codes_at round.order) groups)
+
+-- A state by places says a state by codes, and keeps saying it: at the beginning, where a group is closed and where a county is raised.
+pub record StatesHaveCodes : Type 0 where
+  pub there : (order : List ℕ) (t : State) → ((c : ℕ) → often c order ≤ 1) → ((i : ℕ) → t.rest i ≡ true → i < length order) → IsStateAt order (in_codes order t) t
+  pub empty : (p : Problem) (order : List ℕ) → IsOrder p order → in_codes order (empty_state (at_places p order)) ≡ empty_state p
+  pub closed : (order : List ℕ) (t : State) (xs : List ℕ) → ((c : ℕ) → often c order ≤ 1) → ((i : ℕ) → member xs i ≡ true → i < length order) → in_codes order (close xs t) ≡ close (codes_at order xs) (in_codes order t)
+  pub raised : (order : List ℕ) (t : State) (i j : ℕ) → ((c : ℕ) → often c order ≤ 1) → i < length order → in_codes order (raise i j t) ≡ raise (code_at order i) j (in_codes order t)

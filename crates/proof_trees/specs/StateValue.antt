@@ -1,8 +1,5 @@
 -- The state that a value of the Rust type stands for.
-use Rattle.std.specs.Prelude.{ℕ, ◌&&◌, cond, Bool, List, map, length, get_or}
-use Rattle.county_problem.specs.Sets.{member}
-use Rattle.county_problem.specs.GroupsFrom.{place}
-use Rattle.county_problem.specs.Places.{codes_at}
+use Rattle.std.specs.Prelude.{ℕ, Bool, map, length, get_or}
 use Rattle.place_sets.specs.CountySet.{places_of}
 use Rattle.proof_trees.specs.declared.state.State.{State as StateHeld}
 use Rattle.proof_trees.specs.State.{State}
@@ -14,12 +11,4 @@ state_of test s = record {
   closed = map (λ g. places_of (length s.least.items) (test g)) s.closed.items;
   rest = test s.rest;
   least = λ i. get_or s.least.items i 0;
-}
-
--- the state by codes of an order that a state by its places says
-abbrev pub in_codes : List ℕ → State → State
-in_codes order t = record {
-  closed = map (codes_at order) t.closed;
-  rest = λ c. member order c && t.rest (place order c);
-  least = λ c. cond (member order c) (t.least (place order c)) 0;
 }

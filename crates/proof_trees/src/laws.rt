@@ -5,7 +5,7 @@ ghost use Rattle.proof_trees.specs.Branching.{BranchKeepsState};
 ghost use Rattle.proof_trees.specs.Decided.{LeavesAreDecided};
 ghost use Rattle.proof_trees.specs.Depth.{TreesAreShallow};
 ghost use Rattle.proof_trees.specs.Lists.{ListsServe};
-ghost use Rattle.proof_trees.specs.Places.{PlacesServe};
+ghost use Rattle.proof_trees.specs.Places.{PlacesServe, StatesHaveCodes};
 ghost use Rattle.proof_trees.specs.RegionGrowth.{RegionsAreGrown};
 ghost use Rattle.proof_trees.specs.Marks.{PlainIsMarked};
 ghost use Rattle.proof_trees.specs.Search.{FinishedStateBeats, SearchEnds, ImpossibleIsLeaf};
@@ -62,6 +62,12 @@ pub fn lists_serve()
 /// the codes.
 pub fn places_serve()
     ensures { PlacesServe }
+{}
+
+/// A state by places says a state by codes, and it goes on saying it where a group is closed or a county is
+/// raised; the empty one says the empty one.
+pub fn states_have_codes()
+    ensures { StatesHaveCodes }
 {}
 
 /// Growing sets inside the open counties, from one of them, meets exactly the sets that a branch looks through,

@@ -26,7 +26,8 @@ pub use language::Language;
 pub use laws::{
     branches_keep_states, certificates_show, example_certificates, finished_states_beat,
     impossible_is_a_leaf, leaves_are_decided, lists_serve, places_serve,
-    plain_rules_are_the_marked_ones, proof_trees_exclude, regions_are_grown, searches_end, trees_are_shallow,
+    plain_rules_are_the_marked_ones, proof_trees_exclude, regions_are_grown, searches_end,
+    states_have_codes, trees_are_shallow,
 };
 pub use round::Round;
 pub use state::State;

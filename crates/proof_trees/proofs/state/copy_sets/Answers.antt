@@ -1,4 +1,4 @@
-use Rattle.std.proofs.Common.{◌≡◌, ℕ, arith, refl}
+use Rattle.std.proofs.Common.{arith}
 use Rattle.place_sets.specs.CountySet.{places_of}
 use Rattle.place_sets.proofs.PlaceSets.{places_same}
 use Rattle.proof_trees.proofs.StateLemmas.{copied_more, copied_all}

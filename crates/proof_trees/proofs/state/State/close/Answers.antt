@@ -1,4 +1,4 @@
-use Rattle.std.proofs.Common.{◌≡◌, ℕ, length, ap, ◌∙◌, sym, not, ◌&&◌, refl}
+use Rattle.std.proofs.Common.{length, ap, ◌∙◌, sym, not, ◌&&◌, refl}
 use Rattle.place_sets.specs.CountySet.{places_of}
 use Rattle.proof_trees.proofs.StateLemmas.{pushed_places, cleared, own_places}
 use Rattle.proof_trees.proofs.States.{same_state}

@@ -1,4 +1,4 @@
-use Rattle.std.proofs.Common.{◌≡◌, ℕ, map, length, get_or, ap, ◌∙◌}
+use Rattle.std.proofs.Common.{◌≡◌, map, length, get_or, ap, ◌∙◌}
 use Rattle.std.proofs.lemmas.List.{map-id}
 use Rattle.std.proofs.lemmas.Slice.Zip.{AllZip-map}
 use Rattle.place_sets.specs.CountySet.{places_of}

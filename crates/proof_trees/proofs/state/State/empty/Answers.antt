@@ -1,4 +1,4 @@
-use Rattle.std.proofs.Common.{◌≡◌, ℕ, length, ap, ◌∙◌, map, nat_lt}
+use Rattle.std.proofs.Common.{length, ap, ◌∙◌, map, nat_lt}
 use Rattle.place_sets.specs.CountySet.{places_of}
 use Rattle.proof_trees.proofs.StateLemmas.{all_below}
 use Rattle.proof_trees.proofs.States.{same_state}
