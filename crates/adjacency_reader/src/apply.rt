@@ -6,7 +6,7 @@ ghost use Rattle.adjacency_reader.specs.Adjacent.{joined_by, AreLinked, AreAdjac
 
 use crate::links::{Link, Sign};
 use crate::pairs::{add_pair, in_order, list, pair_set};
-use county_problem::CountyCode;
+use county_codes::CountyCode;
 use std::alloc::{AllocError, Global};
 use std::collections::BTreeSet;
 

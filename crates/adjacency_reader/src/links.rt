@@ -5,7 +5,7 @@ ghost use Rattle.adjacency_reader.specs.Links.{sign_of, link_on, link_list};
 ghost use Rattle.adjacency_reader.specs.declared.fault.Kind.TheVariants.{Memory};
 
 use crate::fault::{AdjacencyFault, DELIMITER, Kind};
-use county_problem::CountyCode;
+use county_codes::CountyCode;
 use field_lines::{Lines, field_at};
 use seat_lines::code_in;
 use std::alloc::Global;

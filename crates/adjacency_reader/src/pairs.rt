@@ -10,7 +10,7 @@ ghost use Rattle.adjacency_reader.specs.Pairs.{by_codes, in_order, names, ArePai
 
 use crate::fault::{AdjacencyFault, Kind};
 use crate::rows::read_rows;
-use county_problem::CountyCode;
+use county_codes::CountyCode;
 use std::alloc::{AllocError, Global};
 use std::collections::BTreeSet;
 

@@ -5,7 +5,7 @@ ghost use Rattle.adjacency_reader.specs.Withdrawn.{kind_of, set_on, withdrawn_li
 ghost use Rattle.adjacency_reader.specs.declared.fault.Kind.TheVariants.{Memory};
 
 use crate::fault::{AdjacencyFault, Kind};
-use county_problem::Withdrawn;
+use county_codes::Withdrawn;
 use field_lines::Lines;
 use seat_lines::{SeatLineFault, seats_and_codes};
 use std::alloc::Global;

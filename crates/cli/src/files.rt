@@ -10,7 +10,7 @@ use crate::answer::Refusal;
 use crate::refusal::{InputFile, refuse_adjacency, refuse_file, refuse_grouping, refuse_load};
 use adjacency_reader::{Link, apply_links, read_links, read_pairs, read_withdrawn};
 use command_words::{CommonWords, ProblemWords};
-use county_problem::{County, CountyCode, Grouping, Withdrawn};
+use county_codes::{County, CountyCode, Grouping, Withdrawn};
 use grouping_report::read_grouping;
 use pl94_counties::read_counties;
 use shelves::Shelf;

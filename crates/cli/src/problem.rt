@@ -8,7 +8,8 @@ use crate::answer::Refusal;
 use crate::files::{load_adjacency, load_counties, load_withdrawn};
 use crate::refusal::refuse_problem;
 use command_words::ProblemWords;
-use county_problem::{County, CountyCode, Problem, Withdrawn};
+use county_codes::{County, CountyCode, Withdrawn};
+use grouping_problem::Problem;
 use shelves::Shelf;
 use std::alloc::Global;
 

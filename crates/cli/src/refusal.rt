@@ -11,7 +11,9 @@ ghost use Rattle.cli.specs.Refusals.{line_fault_word, kind_word, adjacency_word,
 
 use crate::answer::Refusal;
 use adjacency_reader::AdjacencyFault;
-use county_problem::{CountyCode, GroupingFault, ProblemFault};
+use county_codes::CountyCode;
+use grouping_judge::GroupingFault;
+use grouping_problem::ProblemFault;
 use field_lines::LineFault;
 use grouping_report::{
     GroupingTextFault, GroupingTextKind, push_code, push_grouping_fault, push_number,

@@ -3,7 +3,7 @@ ghost use Rattle.grouping_report.specs.GroupingLines.{grouping_list};
 ghost use Rattle.grouping_report.specs.GroupingText.{group_fields, grouping_text as text_of, IsReadable};
 
 use crate::text::{push_codes, push_number};
-use county_problem::{Group, Grouping};
+use county_codes::{Group, Grouping};
 use std::alloc::{AllocError, Global};
 
 /// Appends the line of a group.

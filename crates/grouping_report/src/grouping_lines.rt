@@ -4,7 +4,7 @@ ghost use Rattle.grouping_report.specs.GroupingLines.{IsMemory, group_on, groupi
 ghost use Rattle.grouping_report.specs.declared.grouping_fault.GroupingTextKind.TheVariants.{Memory};
 
 use crate::grouping_fault::{GroupingTextFault, GroupingTextKind};
-use county_problem::{Group, Grouping};
+use county_codes::{Group, Grouping};
 use field_lines::Lines;
 use seat_lines::seats_and_codes;
 use std::alloc::Global;

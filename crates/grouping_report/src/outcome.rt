@@ -1,4 +1,4 @@
-use county_problem::Grouping;
+use county_codes::Grouping;
 
 /// What is reported of a problem.
 #[derive(Debug, Drop)]

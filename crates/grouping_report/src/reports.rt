@@ -10,7 +10,9 @@ ghost use Rattle.grouping_report.specs.Outcomes.{IsTrueOf, outcome_text};
 
 use crate::outcome::Outcome;
 use crate::text::{push_codes, push_number};
-use county_problem::{Counts, Group, Grouping, GroupingFault, Problem, judge};
+use county_codes::{Group, Grouping};
+use grouping_judge::{Counts, GroupingFault, judge};
+use grouping_problem::Problem;
 use std::alloc::{AllocError, Global};
 
 /// Appends the people, the chamber, the seats left and the number of counties.

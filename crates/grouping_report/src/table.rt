@@ -2,7 +2,8 @@ ghost use Rattle.std.specs.Prelude.{◌≡◌, ℕ, ◌++◌, OnOk, IfOk, decima
 ghost use Rattle.grouping_report.specs.SizeTable.{size_text, county_line, run_text, bounds_text, head_text};
 
 use crate::text::{push_code, push_number};
-use county_problem::{County, Problem};
+use county_codes::County;
+use grouping_problem::Problem;
 use std::alloc::{AllocError, Global};
 
 /// Appends the least and the greatest number of seats.

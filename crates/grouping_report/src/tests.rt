@@ -2,9 +2,9 @@ use crate::{
     GroupingTextFault, GroupingTextKind, Outcome, grouping_text, push_code, push_grouping_fault,
     push_number, read_grouping, report, size_table,
 };
-use county_problem::{
-    Codes, County, CountyCode, Group, Grouping, GroupingFault, Problem, Withdrawn, judge,
-};
+use county_codes::{Codes, County, CountyCode, Group, Grouping, Withdrawn};
+use grouping_judge::{GroupingFault, judge};
+use grouping_problem::Problem;
 use field_lines::LineFault;
 use std::alloc::{AllocError, Global};
 use std::test::Fail;

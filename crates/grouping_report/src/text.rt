@@ -3,7 +3,7 @@
 ghost use Rattle.std.specs.Prelude.{◌≡◌, ℕ, ◌≤◌, ◌++◌, All, OnOk, decimal};
 ghost use Rattle.grouping_report.specs.Digits.{five_digits, each_after};
 
-use county_problem::CountyCode;
+use county_codes::CountyCode;
 use itoa::Buffer;
 use std::alloc::AllocError;
 

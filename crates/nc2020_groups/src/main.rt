@@ -8,7 +8,10 @@
 use adjacency_reader::read_pairs;
 use anyhow::{Context, Result};
 use connected_groups::{GroupList, groups_from};
-use county_problem::{County, CountyCode, ListSet, Ordered, Problem, Steps};
+use county_codes::{County, CountyCode};
+use grouping_problem::Problem;
+use ordered_counties::{Ordered, Steps};
+use place_sets::ListSet;
 use pl94_counties::read_counties;
 use std::alloc::Global;
 use std::{env, fs};

@@ -12,7 +12,7 @@ ghost use Rattle.pl94_counties.specs.Counties.{found_list, listed, county_list};
 use crate::fault::{File, Kind, Pl94Fault};
 use crate::geo::county_in;
 use crate::segment::read_records;
-use county_problem::{County, CountyCode};
+use county_codes::{County, CountyCode};
 use field_lines::Lines;
 use std::alloc::{AllocError, Global};
 use std::collections::BTreeMap;

@@ -6,7 +6,7 @@ ghost use Rattle.seat_lines.specs.SeatLine.{codes_on, seat_line};
 ghost use Rattle.seat_lines.specs.declared.fault.SeatLineFault.TheVariants.{Memory};
 
 use crate::fault::SeatLineFault;
-use county_problem::{Codes, CountyCode};
+use county_codes::{Codes, CountyCode};
 use field_lines::{Fields, field_at, five_digits, number_in};
 use std::alloc::Global;
 

@@ -1,6 +1,6 @@
 use super::apply_links;
 use crate::links::read_links;
-use county_problem::CountyCode;
+use county_codes::CountyCode;
 use std::alloc::{AllocError, Global};
 use std::test::Fail;
 

@@ -1,6 +1,6 @@
 use super::{Link, Sign, read_links};
 use crate::fault::{AdjacencyFault, Kind};
-use county_problem::CountyCode;
+use county_codes::CountyCode;
 use field_lines::LineFault;
 use std::test::Fail;
 

@@ -1,6 +1,6 @@
 use super::read_pairs;
 use crate::fault::{AdjacencyFault, Kind};
-use county_problem::CountyCode;
+use county_codes::CountyCode;
 use field_lines::LineFault;
 use std::alloc::{AllocError, Global};
 use std::test::Fail;

@@ -1,6 +1,6 @@
 use super::read_counties;
 use crate::fault::{File, Kind, Pl94Fault};
-use county_problem::{County, CountyCode};
+use county_codes::{County, CountyCode};
 use field_lines::LineFault;
 use std::test::Fail;
 
