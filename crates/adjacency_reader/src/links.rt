@@ -85,6 +85,3 @@ pub fn read_links(alloc: Global, bytes: &[u8]) -> Result<Vec<Link>, AdjacencyFau
     }
     Ok(links)
 }
-
-#[cfg(test)]
-mod tests;

@@ -135,6 +135,3 @@ pub fn read_pairs(
         line: 0,
     })
 }
-
-#[cfg(test)]
-mod tests;

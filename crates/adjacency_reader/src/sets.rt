@@ -68,6 +68,3 @@ pub fn read_withdrawn(alloc: Global, bytes: &[u8]) -> Result<Vec<Withdrawn>, Adj
     }
     Ok(sets)
 }
-
-#[cfg(test)]
-mod tests;

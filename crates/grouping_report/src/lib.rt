@@ -18,6 +18,3 @@ pub use outcome::Outcome;
 pub use reports::report;
 pub use table::size_table;
 pub use text::{push_code, push_number};
-
-#[cfg(test)]
-mod tests;

@@ -131,6 +131,3 @@ pub fn read_counties(
     })?;
     Ok(counties)
 }
-
-#[cfg(test)]
-mod tests;

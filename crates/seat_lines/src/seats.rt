@@ -60,6 +60,3 @@ pub fn seats_and_codes(
     let codes = codes_in(alloc, line)?;
     Ok((seats as u16, codes))
 }
-
-#[cfg(test)]
-mod tests;
