@@ -12,7 +12,7 @@ mod state;
 mod tables;
 
 use crate::state::{State, count};
-use anyhow::{Context, Result, bail};
+use anyhow::{Context, Error, Result};
 use place_sets::{CountySet, ListSet, MaskSet, WideSet};
 use std::env;
 
@@ -40,7 +40,7 @@ fn show_form(rt: &HostRuntime, state: &State, limit: u16, form: &str) -> Result<
         "lists" => show_counts::<ListSet>(rt, state, limit),
         "masks" => show_counts::<MaskSet>(rt, state, limit),
         "wide" => show_counts::<WideSet>(rt, state, limit),
-        _ => bail!("no form of sets is called {form}"),
+        _ => Err(Error::msg("a form of sets is lists, masks or wide")),
     }
 }
 

@@ -1,6 +1,6 @@
 //! The reports of North Carolina's county groups of 2023, and the size tables of its House and Senate.
 
-use anyhow::{Result, bail};
+use anyhow::{Error, Result};
 use cli::{FileShelf, Writing, run};
 use std::io;
 
@@ -13,7 +13,7 @@ fn run_words(rt: &HostRuntime, words: &[&str]) -> Result<()> {
     let mut out = Writing::new(io::writer(rt));
     let status = run(rt.alloc(), words, &mut shelf, &mut out);
     if status != 0 {
-        bail!("the exit status is {status}");
+        return Err(Error::msg("a command was refused"));
     }
     Ok(())
 }
