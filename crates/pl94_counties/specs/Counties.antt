@@ -1,7 +1,7 @@
 -- The counties of a state.
 use Rattle.std.specs.Prelude.{ℕ, List, [], ◌∷◌, Result, Ok, Err, map}
 use Rattle.county_problem.specs.declared.county.County.{County}
-use Rattle.pl94_counties.specs.declared.fault.Kind.TheVariants.{DoubleCounty, NoCounties}
+use Rattle.pl94_counties.specs.declared.fault.Pl94Kind.TheVariants.{DoubleCounty, NoCounties}
 use Rattle.pl94_counties.specs.declared.fault.File.TheVariants.{Geo}
 use Rattle.pl94_counties.specs.declared.fault.Pl94Fault.{Pl94Fault}
 use Rattle.pl94_counties.specs.Chain.{◌>>=◌}

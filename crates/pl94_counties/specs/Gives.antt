@@ -1,6 +1,6 @@
 -- What a reader answers, where the definition says what is there to be read.
 use Rattle.std.specs.Prelude.{◌≡◌, ◌≢◌, Result, Ok, Err}
-use Rattle.pl94_counties.specs.declared.fault.Kind.TheVariants.{Memory}
+use Rattle.pl94_counties.specs.declared.fault.Pl94Kind.TheVariants.{Memory}
 use Rattle.pl94_counties.specs.declared.fault.Pl94Fault.{Pl94Fault}
 
 -- a reader answered what is given, seen by `view`, unless memory was refused
