@@ -2,10 +2,12 @@
 use Rattle.std.specs.Prelude.{◌≡◌, ◌≢◌, ℕ, ◌==◌, Bool, List, [], ◌∷◌, ◌++◌, Option, Some, None, Result, Ok, Err, is_some, fold, if◌then◌else◌}
 use Rattle.std.specs.List.{list_any, filter_map}
 use Rattle.std.specs.Map.{lookup}
+use Rattle.std.specs.Option.{option_map}
 use Rattle.std.specs.Ordering.{nat_cmp}
 use Rattle.std.specs.BTreeMap.{is_at, insert_entry}
 use Rattle.field_lines.specs.Fault.{line_of_fault}
 use Rattle.field_lines.specs.Cut.{Line, cut}
+use Rattle.field_lines.specs.Values as values
 use Rattle.field_lines.specs.declared.fault.LineFault.{LineFault}
 use Rattle.pl94_counties.specs.declared.fault.Pl94Kind.{Pl94Kind}
 use Rattle.pl94_counties.specs.declared.fault.Pl94Kind.TheVariants.{Lower, Memory}
@@ -70,15 +72,21 @@ first_fault read double before (l ∷ ls) =
 abbrev pub by_number : List (ℕ × ℕ) → List (ℕ × ℕ)
 by_number entries = fold (λ placed e. insert_entry nat_cmp placed e.0 e.1) [] entries
 
+-- memory was refused
+abbrev pub IsMemory : Pl94Fault → Type 0
+IsMemory fault = fault.kind ≡ Memory
+
 -- the fault of a text whose cut ends in a fault
 abbrev pub cut_fault : File → LineFault → Pl94Fault
 cut_fault file fault = record { kind = Lower fault; file = file; line = line_of_fault fault }
 
+-- what is wrong with the line of a number
+abbrev pub fault_on : File → Pl94Kind × ℕ → Pl94Fault
+fault_on file f = record { kind = f.0; file = file; line = f.1 }
+
 -- the entries, unless a line is at fault, or the cut after all its lines
 abbrev pub unless_fault : File → Option (Pl94Kind × ℕ) → Option LineFault → List (ℕ × ℕ) → Result (List (ℕ × ℕ)) Pl94Fault
-unless_fault file (Some f) fault entries = Err (record { kind = f.0; file = file; line = f.1 })
-unless_fault file None (Some fault) entries = Err (cut_fault file fault)
-unless_fault file None None entries = Ok entries
+unless_fault file first fault entries = values.unless_fault (option_map (fault_on file) first) (option_map (cut_fault file) fault) entries
 
 -- the people by number of a whole text, or its first fault
 abbrev pub people_by_number : (List ℕ → Given) → Pl94Kind → File → List ℕ → Result (List (ℕ × ℕ)) Pl94Fault

@@ -1,8 +1,8 @@
 ghost use Rattle.std.specs.Prelude.{◌≡◌, ◌≤◌, Ok, Some, IfOk, IfErr, map, All};
 ghost use Rattle.std.specs.List.Sorted.{IsStrictlyIncreasing};
-ghost use Rattle.pl94_counties.specs.Gives.{Gives};
+ghost use Rattle.field_lines.specs.Values.{GivesUnless};
 ghost use Rattle.pl94_counties.specs.Geo.{county_on};
-ghost use Rattle.pl94_counties.specs.Numbered.{Adds};
+ghost use Rattle.pl94_counties.specs.Numbered.{Adds, IsMemory};
 ghost use Rattle.pl94_counties.specs.declared.fault.Pl94Kind.TheVariants.{DoubleCounty};
 ghost use Rattle.field_lines.specs.Cut.{cut};
 ghost use Rattle.pl94_counties.specs.Joined.{IsJoined, IsListed};
@@ -56,7 +56,7 @@ fn join(
     records: &BTreeMap<u32, u32>,
 ) -> Result<BTreeMap<CountyCode, u32>, Pl94Fault>
     requires { state ≤ 99 }
-    ensures { Gives (λ m. m.entries) result (found_list state records.now.entries text.now) }
+    ensures { GivesUnless IsMemory (λ m. m.entries) result (found_list state records.now.entries text.now) }
 {
     let mut found = BTreeMap::new(alloc);
     let mut lines = Lines::new(text);
@@ -109,7 +109,7 @@ pub fn read_counties(
     state: u8,
 ) -> Result<Vec<County>, Pl94Fault>
     requires { state ≤ 99 }
-    ensures value { Gives (λ v. v.items) result (county_list geo.now segment1.now state) }
+    ensures value { GivesUnless IsMemory (λ v. v.items) result (county_list geo.now segment1.now state) }
     ensures of_text { IfErr result (λ f. IsOfText f.kind) }
     ensures ascending { IfOk result (λ v. IsStrictlyIncreasing (map (λ c. c.code) v.items)) }
     ensures from_lines { IfOk result (λ v. All (IsJoined (cut geo.now).lines (cut segment1.now).lines state) v.items) }
