@@ -61,7 +61,7 @@ fn word_of_code_line(kind: CodeLineKind) -> &'static [u8]
 }
 
 /// An input file that is a cut text.
-#[derive(Clone, Copy, Debug, PartialEq, Eq)]
+#[derive(Clone, Copy)]
 pub(crate) enum InputFile {
     /// The PL 94-171 geographic header.
     Geo,

@@ -40,14 +40,15 @@ pub fn read_grouping(alloc: Global, bytes: &[u8]) -> Result<Grouping, CodeLineFa
 {
     let mut groups = Vec::new(alloc);
     let mut lines = Lines::new(bytes);
-    while let Some((number, line)) = lines
-        .next_line()
-        .map_err(|fault| CodeLineFault::of_cut(fault))?
-    {
-        add_group(alloc, &mut groups, line).map_err(|kind| CodeLineFault {
-            kind,
-            line: number,
-        })?;
+    loop {
+        match lines.next_line() {
+            Ok(Some((number, line))) => {
+                if let Err(kind) = add_group(alloc, &mut groups, line) {
+                    return Err(CodeLineFault { kind, line: number });
+                }
+            }
+            Ok(None) => return Ok(Grouping { groups }),
+            Err(fault) => return Err(CodeLineFault::of_cut(fault)),
+        }
     }
-    Ok(Grouping { groups })
 }
