@@ -4,13 +4,13 @@ use Rattle.std.specs.Option.{ok_or, option_or}
 use Rattle.field_lines.specs.Chain.{◌>>=◌}
 use Rattle.field_lines.specs.Fields.{field_of}
 use Rattle.field_lines.specs.Number.{digits_of}
-use Rattle.adjacency_reader.specs.declared.fault.Kind.{Kind}
-use Rattle.adjacency_reader.specs.declared.fault.Kind.TheVariants.{TooFewFields, BadSign, BadCode}
-use Rattle.adjacency_reader.specs.declared.fault.AdjacencyFault.{AdjacencyFault}
+use Rattle.seat_lines.specs.declared.fault.CodeLineKind.{CodeLineKind}
+use Rattle.seat_lines.specs.declared.fault.CodeLineKind.TheVariants.{TooFewFields, BadSign, BadCode}
+use Rattle.seat_lines.specs.declared.fault.CodeLineFault.{CodeLineFault}
 use Rattle.adjacency_reader.specs.declared.links.Sign.{Sign}
 use Rattle.adjacency_reader.specs.declared.links.Sign.TheVariants.{Add, Cut}
 use Rattle.adjacency_reader.specs.declared.links.Link.{Link}
-use Rattle.adjacency_reader.specs.Faults.{value_list}
+use Rattle.seat_lines.specs.Faults.{value_list}
 
 -- the sign that a field is: `+` or `-`
 abbrev pub sign_of : List ℕ → Option Sign
@@ -18,7 +18,7 @@ sign_of (b ∷ []) = if b == 43 then Some Add else if b == 45 then Some Cut else
 sign_of bytes = None
 
 -- the link on a line: its sign, and two codes of five digits
-unfoldable pub link_on : List ℕ → Result Link Kind
+unfoldable pub link_on : List ℕ → Result Link CodeLineKind
 link_on line = do
   sign_field ← ok_or (field_of 124 1 line) TooFewFields
   a_field ← ok_or (field_of 124 2 line) TooFewFields
@@ -29,7 +29,7 @@ link_on line = do
   Ok (record { sign = sign; a = a; b = b })
 
 -- the links of a whole text in their order, or its first fault
-abbrev pub link_list : List ℕ → Result (List Link) AdjacencyFault
+abbrev pub link_list : List ℕ → Result (List Link) CodeLineFault
 link_list text = value_list link_on text
 
 -- whether a link names both codes, in either order

@@ -5,7 +5,7 @@ use Rattle.std.specs.Ordering.{nat_cmp, ordering_then}
 use Rattle.std.specs.declared.cmp.Ordering.{Ordering}
 use Rattle.grouping_laws.specs.Sets.{member}
 use Rattle.grouping_problem.specs.ProblemValue.{names_both}
-use Rattle.adjacency_reader.specs.declared.fault.AdjacencyFault.{AdjacencyFault}
+use Rattle.seat_lines.specs.declared.fault.CodeLineFault.{CodeLineFault}
 use Rattle.adjacency_reader.specs.Rows.{row_list}
 
 -- two pairs by their first codes, and then by their second
@@ -26,6 +26,6 @@ pub record ArePairs (listed : List ℕ) (rows pairs : List (ℕ × ℕ)) : Type 
   pub each : (a b : ℕ) → Contains pairs (a, b) ↔ ((a < b) × (member listed a ≡ true) × (member listed b ≡ true) × (names_both rows a b ≡ true))
 
 -- the answer to an adjacency file: the pairs of its rows, or its first fault
-abbrev pub IsPairsAnswer : List ℕ → List ℕ → Result (List (ℕ × ℕ)) AdjacencyFault → Type 0
+abbrev pub IsPairsAnswer : List ℕ → List ℕ → Result (List (ℕ × ℕ)) CodeLineFault → Type 0
 IsPairsAnswer text listed (Ok pairs) = (rows : List (ℕ × ℕ)) × (row_list text ≡ Ok rows) × ArePairs listed rows pairs
 IsPairsAnswer text listed (Err fault) = row_list text ≡ Err fault

@@ -6,13 +6,13 @@ use Rattle.field_lines.specs.Cut.{Line, cut}
 use Rattle.field_lines.specs.Fields.{field_of}
 use Rattle.field_lines.specs.Number.{digits_of}
 use Rattle.field_lines.specs.Values.{values_of}
-use Rattle.adjacency_reader.specs.declared.fault.Kind.{Kind}
-use Rattle.adjacency_reader.specs.declared.fault.Kind.TheVariants.{TooFewFields, BadCode}
-use Rattle.adjacency_reader.specs.declared.fault.AdjacencyFault.{AdjacencyFault}
-use Rattle.adjacency_reader.specs.Faults.{line_fault, cut_fault}
+use Rattle.seat_lines.specs.declared.fault.CodeLineKind.{CodeLineKind}
+use Rattle.seat_lines.specs.declared.fault.CodeLineKind.TheVariants.{TooFewFields, BadCode}
+use Rattle.seat_lines.specs.declared.fault.CodeLineFault.{CodeLineFault}
+use Rattle.seat_lines.specs.Faults.{line_fault, cut_fault}
 
 -- the county and its neighbour on a line: field 2 and field 4, each of five digits
-unfoldable pub row_on : List ℕ → Result (ℕ × ℕ) Kind
+unfoldable pub row_on : List ℕ → Result (ℕ × ℕ) CodeLineKind
 row_on line = do
   county_field ← ok_or (field_of 124 2 line) TooFewFields
   neighbour_field ← ok_or (field_of 124 4 line) TooFewFields
@@ -30,5 +30,5 @@ without_header [] = []
 without_header (line ∷ lines) = if is_header line.bytes then lines else line ∷ lines
 
 -- the rows of a whole text in their order, or its first fault
-abbrev pub row_list : List ℕ → Result (List (ℕ × ℕ)) AdjacencyFault
+abbrev pub row_list : List ℕ → Result (List (ℕ × ℕ)) CodeLineFault
 row_list text = values_of row_on line_fault cut_fault (without_header (cut text).lines) (cut text).fault

@@ -52,6 +52,3 @@ pub fn apply_links(
     }
     list(alloc, &linked)
 }
-
-#[cfg(test)]
-mod tests;

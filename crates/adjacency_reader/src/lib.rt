@@ -2,14 +2,13 @@
 #![tactic(auto)]
 
 mod apply;
-mod fault;
 mod links;
 mod pairs;
 mod rows;
 mod sets;
 
 pub use apply::apply_links;
-pub use fault::{AdjacencyFault, Kind};
 pub use links::{Link, Sign, read_links};
 pub use pairs::read_pairs;
+pub use seat_lines::{CodeLineFault as AdjacencyFault, CodeLineKind as AdjacencyKind};
 pub use sets::read_withdrawn;

@@ -1,13 +1,12 @@
 ghost use Rattle.std.specs.Prelude.{◌≡◌};
 ghost use Rattle.field_lines.specs.Values.{GivesUnless, AddsUnless};
-ghost use Rattle.adjacency_reader.specs.Faults.{IsMemory};
+ghost use Rattle.seat_lines.specs.Faults.{IsMemory};
 ghost use Rattle.adjacency_reader.specs.Links.{sign_of, link_on, link_list};
-ghost use Rattle.adjacency_reader.specs.declared.fault.Kind.TheVariants.{Memory};
+ghost use Rattle.seat_lines.specs.declared.fault.CodeLineKind.TheVariants.{Memory};
 
-use crate::fault::{AdjacencyFault, DELIMITER, Kind};
 use county_codes::CountyCode;
 use field_lines::{Lines, field_at};
-use seat_lines::code_in;
+use seat_lines::{CodeLineFault, CodeLineKind, DELIMITER, code_in};
 use std::alloc::Global;
 
 /// What a link does to a pair.
@@ -43,24 +42,24 @@ fn sign_in(field: &[u8]) -> Option<Sign>
 
 /// The link on a line.
 #[tactic(auto, unfolding(crate::specs::Links::link_on))]
-fn link_in(line: &[u8]) -> Result<Link, Kind>
+fn link_in(line: &[u8]) -> Result<Link, CodeLineKind>
     ensures { result ≡ link_on line.now }
 {
-    let sign = field_at(line, DELIMITER, 0).ok_or(Kind::TooFewFields)?;
-    let a = field_at(line, DELIMITER, 1).ok_or(Kind::TooFewFields)?;
-    let b = field_at(line, DELIMITER, 2).ok_or(Kind::TooFewFields)?;
-    let sign = sign_in(sign).ok_or(Kind::BadSign)?;
-    let a = code_in(a).ok_or(Kind::BadCode)?;
-    let b = code_in(b).ok_or(Kind::BadCode)?;
+    let sign = field_at(line, DELIMITER, 0).ok_or(CodeLineKind::TooFewFields)?;
+    let a = field_at(line, DELIMITER, 1).ok_or(CodeLineKind::TooFewFields)?;
+    let b = field_at(line, DELIMITER, 2).ok_or(CodeLineKind::TooFewFields)?;
+    let sign = sign_in(sign).ok_or(CodeLineKind::BadSign)?;
+    let a = code_in(a).ok_or(CodeLineKind::BadCode)?;
+    let b = code_in(b).ok_or(CodeLineKind::BadCode)?;
     Ok(Link { sign, a, b })
 }
 
 /// Adds the link on a line to those of the lines before.
-fn add_link(links: &mut Vec<Link>, line: &[u8]) -> Result<(), Kind>
+fn add_link(links: &mut Vec<Link>, line: &[u8]) -> Result<(), CodeLineKind>
     ensures { AddsUnless (λ k. k ≡ Memory) links.old.items (link_on line.now) result links.new.items }
 {
     let link = link_in(line)?;
-    links.push(link).map_err(|_| Kind::Memory)
+    links.push(link).map_err(|_| CodeLineKind::Memory)
 }
 
 /// The links of a text, in order: pairs that a state adds to the adjacent counties or cuts from them, as a
@@ -72,19 +71,16 @@ fn add_link(links: &mut Vec<Link>, line: &[u8]) -> Result<(), Kind>
 /// The first line at fault answers, on it the first kind: `TooFewFields` where it has fewer than 3 fields,
 /// then `BadSign`, then `BadCode`. A line that can't be read (`Lower`) answers after the lines before it,
 /// and `Memory` in the place of any answer.
-pub fn read_links(alloc: Global, bytes: &[u8]) -> Result<Vec<Link>, AdjacencyFault>
+pub fn read_links(alloc: Global, bytes: &[u8]) -> Result<Vec<Link>, CodeLineFault>
     ensures value { GivesUnless IsMemory (λ v. v.items) result (link_list bytes.now) }
 {
     let mut links = Vec::new(alloc);
     let mut lines = Lines::new(bytes);
     while let Some((number, line)) = lines
         .next_line()
-        .map_err(|fault| AdjacencyFault::of_cut(fault))?
+        .map_err(|fault| CodeLineFault::of_cut(fault))?
     {
-        add_link(&mut links, line).map_err(|kind| AdjacencyFault { kind, line: number })?;
+        add_link(&mut links, line).map_err(|kind| CodeLineFault { kind, line: number })?;
     }
     Ok(links)
 }
-
-#[cfg(test)]
-mod tests;

@@ -5,12 +5,12 @@ ghost use Rattle.std.specs.BTreeSet.{contains};
 ghost use Rattle.grouping_laws.specs.Sets.{member};
 ghost use Rattle.grouping_problem.specs.ProblemValue.{names_both};
 ghost use Rattle.field_lines.specs.Values.{AnswersUnless};
-ghost use Rattle.adjacency_reader.specs.Faults.{IsMemory};
+ghost use Rattle.seat_lines.specs.Faults.{IsMemory};
 ghost use Rattle.adjacency_reader.specs.Pairs.{by_codes, in_order, names, ArePairs, IsPairsAnswer};
 
-use crate::fault::{AdjacencyFault, Kind};
 use crate::rows::read_rows;
 use county_codes::CountyCode;
+use seat_lines::{CodeLineFault, CodeLineKind};
 use std::alloc::{AllocError, Global};
 use std::collections::BTreeSet;
 
@@ -126,15 +126,12 @@ pub fn read_pairs(
     alloc: Global,
     bytes: &[u8],
     counties: &[CountyCode],
-) -> Result<Vec<(CountyCode, CountyCode)>, AdjacencyFault>
+) -> Result<Vec<(CountyCode, CountyCode)>, CodeLineFault>
     ensures pairs { AnswersUnless IsMemory (λ v. v.items) result (IsPairsAnswer bytes.now counties.now) }
 {
     let rows = read_rows(alloc, bytes)?;
-    pairs_among(alloc, counties, &rows).map_err(|_| AdjacencyFault {
-        kind: Kind::Memory,
+    pairs_among(alloc, counties, &rows).map_err(|_| CodeLineFault {
+        kind: CodeLineKind::Memory,
         line: 0,
     })
 }
-
-#[cfg(test)]
-mod tests;

@@ -1,24 +1,23 @@
 ghost use Rattle.std.specs.Prelude.{◌≡◌};
 ghost use Rattle.field_lines.specs.Values.{GivesUnless, AddsUnless};
-ghost use Rattle.adjacency_reader.specs.Faults.{IsMemory};
+ghost use Rattle.seat_lines.specs.Faults.{IsMemory};
 ghost use Rattle.adjacency_reader.specs.Rows.{row_on, is_header, row_list};
-ghost use Rattle.adjacency_reader.specs.declared.fault.Kind.TheVariants.{Memory};
+ghost use Rattle.seat_lines.specs.declared.fault.CodeLineKind.TheVariants.{Memory};
 
-use crate::fault::{AdjacencyFault, DELIMITER, Kind};
 use county_codes::CountyCode;
 use field_lines::{Lines, field_at, five_digits};
-use seat_lines::code_in;
+use seat_lines::{CodeLineFault, CodeLineKind, DELIMITER, code_in};
 use std::alloc::Global;
 
 /// The county and its neighbour on a line.
 #[tactic(auto, unfolding(crate::specs::Rows::row_on))]
-fn row_in(line: &[u8]) -> Result<(CountyCode, CountyCode), Kind>
+fn row_in(line: &[u8]) -> Result<(CountyCode, CountyCode), CodeLineKind>
     ensures { result ≡ row_on line.now }
 {
-    let county = field_at(line, DELIMITER, 1).ok_or(Kind::TooFewFields)?;
-    let neighbour = field_at(line, DELIMITER, 3).ok_or(Kind::TooFewFields)?;
-    let county = code_in(county).ok_or(Kind::BadCode)?;
-    let neighbour = code_in(neighbour).ok_or(Kind::BadCode)?;
+    let county = field_at(line, DELIMITER, 1).ok_or(CodeLineKind::TooFewFields)?;
+    let neighbour = field_at(line, DELIMITER, 3).ok_or(CodeLineKind::TooFewFields)?;
+    let county = code_in(county).ok_or(CodeLineKind::BadCode)?;
+    let neighbour = code_in(neighbour).ok_or(CodeLineKind::BadCode)?;
     Ok((county, neighbour))
 }
 
@@ -33,18 +32,18 @@ fn is_header(line: &[u8]) -> bool
 }
 
 /// Adds the row on a line to those of the lines before.
-fn add_row(rows: &mut Vec<(CountyCode, CountyCode)>, line: &[u8]) -> Result<(), Kind>
+fn add_row(rows: &mut Vec<(CountyCode, CountyCode)>, line: &[u8]) -> Result<(), CodeLineKind>
     ensures { AddsUnless (λ k. k ≡ Memory) rows.old.items (row_on line.now) result rows.new.items }
 {
     let row = row_in(line)?;
-    rows.push(row).map_err(|_| Kind::Memory)
+    rows.push(row).map_err(|_| CodeLineKind::Memory)
 }
 
 /// The rows of an adjacency file in their order, or its first fault.
 pub(crate) fn read_rows(
     alloc: Global,
     bytes: &[u8],
-) -> Result<Vec<(CountyCode, CountyCode)>, AdjacencyFault>
+) -> Result<Vec<(CountyCode, CountyCode)>, CodeLineFault>
     ensures { GivesUnless IsMemory (λ v. v.items) result (row_list bytes.now) }
 {
     let mut rows = Vec::new(alloc);
@@ -52,10 +51,10 @@ pub(crate) fn read_rows(
     let mut at_first = true;
     while let Some((number, line)) = lines
         .next_line()
-        .map_err(|fault| AdjacencyFault::of_cut(fault))?
+        .map_err(|fault| CodeLineFault::of_cut(fault))?
     {
         if !(at_first && is_header(line)) {
-            add_row(&mut rows, line).map_err(|kind| AdjacencyFault { kind, line: number })?;
+            add_row(&mut rows, line).map_err(|kind| CodeLineFault { kind, line: number })?;
         }
         at_first = false;
     }

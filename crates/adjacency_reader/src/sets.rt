@@ -1,13 +1,12 @@
 ghost use Rattle.std.specs.Prelude.{◌≡◌};
 ghost use Rattle.field_lines.specs.Values.{GivesUnless, AddsUnless};
-ghost use Rattle.adjacency_reader.specs.Faults.{IsMemory};
-ghost use Rattle.adjacency_reader.specs.Withdrawn.{kind_of, set_on, withdrawn_list};
-ghost use Rattle.adjacency_reader.specs.declared.fault.Kind.TheVariants.{Memory};
+ghost use Rattle.seat_lines.specs.Faults.{IsMemory};
+ghost use Rattle.adjacency_reader.specs.Withdrawn.{set_on, withdrawn_list};
+ghost use Rattle.seat_lines.specs.declared.fault.CodeLineKind.TheVariants.{Memory};
 
-use crate::fault::{AdjacencyFault, Kind};
 use county_codes::Withdrawn;
 use field_lines::Lines;
-use seat_lines::{SeatLineFault, seats_and_codes};
+use seat_lines::{CodeLineFault, CodeLineKind, seats_and_codes};
 use std::alloc::Global;
 
 /// The least number of seats of a withdrawn set.
@@ -16,34 +15,20 @@ const LEAST_SEATS: u16 = 1;
 /// The greatest number of seats of a withdrawn set.
 const GREATEST_SEATS: u16 = 1_000;
 
-/// What is wrong with a line of seats and codes, as a kind of fault of the file.
-fn kind_of(fault: SeatLineFault) -> Kind
-    ensures { result ≡ kind_of fault }
-{
-    match fault {
-        SeatLineFault::TooFewFields => Kind::TooFewFields,
-        SeatLineFault::BadSeats => Kind::BadSeats,
-        SeatLineFault::BadCode => Kind::BadCode,
-        SeatLineFault::Memory => Kind::Memory,
-    }
-}
-
 /// The withdrawn set on a line.
-fn set_in(alloc: Global, line: &[u8]) -> Result<Withdrawn, Kind>
+fn set_in(alloc: Global, line: &[u8]) -> Result<Withdrawn, CodeLineKind>
     ensures { GivesUnless (λ k. k ≡ Memory) (λ w. w) result (set_on line.now) }
 {
-    match seats_and_codes(alloc, line, LEAST_SEATS, GREATEST_SEATS) {
-        Ok((seats, codes)) => Ok(Withdrawn { seats, codes }),
-        Err(fault) => Err(kind_of(fault)),
-    }
+    let (seats, codes) = seats_and_codes(alloc, line, LEAST_SEATS, GREATEST_SEATS)?;
+    Ok(Withdrawn { seats, codes })
 }
 
 /// Adds the withdrawn set on a line to those of the lines before.
-fn add_set(alloc: Global, sets: &mut Vec<Withdrawn>, line: &[u8]) -> Result<(), Kind>
+fn add_set(alloc: Global, sets: &mut Vec<Withdrawn>, line: &[u8]) -> Result<(), CodeLineKind>
     ensures { AddsUnless (λ k. k ≡ Memory) sets.old.items (set_on line.now) result sets.new.items }
 {
     let set = set_in(alloc, line)?;
-    sets.push(set).map_err(|_| Kind::Memory)
+    sets.push(set).map_err(|_| CodeLineKind::Memory)
 }
 
 /// The withdrawn sets of a text, in order: counties that were taken out beforehand, with their seats. The
@@ -55,19 +40,16 @@ fn add_set(alloc: Global, sets: &mut Vec<Withdrawn>, line: &[u8]) -> Result<(), 
 /// The first line at fault answers, on it the first kind: `TooFewFields` where it has fewer than 2 fields,
 /// then `BadSeats`, then `BadCode`. A line that can't be read (`Lower`) answers after the lines before it,
 /// and `Memory` in the place of any answer.
-pub fn read_withdrawn(alloc: Global, bytes: &[u8]) -> Result<Vec<Withdrawn>, AdjacencyFault>
+pub fn read_withdrawn(alloc: Global, bytes: &[u8]) -> Result<Vec<Withdrawn>, CodeLineFault>
     ensures value { GivesUnless IsMemory (λ v. v.items) result (withdrawn_list bytes.now) }
 {
     let mut sets = Vec::new(alloc);
     let mut lines = Lines::new(bytes);
     while let Some((number, line)) = lines
         .next_line()
-        .map_err(|fault| AdjacencyFault::of_cut(fault))?
+        .map_err(|fault| CodeLineFault::of_cut(fault))?
     {
-        add_set(alloc, &mut sets, line).map_err(|kind| AdjacencyFault { kind, line: number })?;
+        add_set(alloc, &mut sets, line).map_err(|kind| CodeLineFault { kind, line: number })?;
     }
     Ok(sets)
 }
-
-#[cfg(test)]
-mod tests;

@@ -13,12 +13,12 @@ use Rattle.adjacency_reader.specs.Pairs.{IsPairsAnswer}
 use Rattle.adjacency_reader.specs.Links.{link_list}
 use Rattle.adjacency_reader.specs.Withdrawn.{withdrawn_list}
 use Rattle.adjacency_reader.specs.Adjacent.{AreLinked}
-use Rattle.grouping_report.specs.GroupingLines.{grouping_list}
+use Rattle.seat_lines.specs.GroupingLines.{grouping_list}
 use Rattle.command_words.specs.declared.words.CommonWords.{CommonWords}
 use Rattle.command_words.specs.declared.words.ProblemWords.{ProblemWords}
 use Rattle.shelves.specs.Files.{Files}
-use Rattle.cli.specs.declared.refusal.InputFile.TheVariants.{Adjacency, Links, Withdrawn}
-use Rattle.cli.specs.Refusals.{pl94_answer, adjacency_answer, grouping_answer, problem_answer}
+use Rattle.cli.specs.declared.refusal.InputFile.TheVariants.{Adjacency, Links, Withdrawn, Grouping}
+use Rattle.cli.specs.Refusals.{pl94_answer, code_file_answer, problem_answer}
 use Rattle.cli.specs.Course.{Course, ◌>>=◌, load_step, call_step, value_step, optional_step}
 
 -- the counties that two files give
@@ -32,19 +32,19 @@ counties_of files words =
 
 -- the pairs of listed counties that an adjacency file gives
 abbrev pub pairs_in : List ℕ → List ℕ → Course (List (ℕ × ℕ))
-pairs_in listed text = call_step (adjacency_answer Adjacency) (IsPairsAnswer text listed)
+pairs_in listed text = call_step (code_file_answer Adjacency) (IsPairsAnswer text listed)
 
 -- the links that a file gives
 abbrev pub links_in : List ℕ → Course (List Link)
-links_in text = call_step (adjacency_answer Links) (λ links. link_list text ≡ links)
+links_in text = call_step (code_file_answer Links) (λ links. link_list text ≡ links)
 
 -- the withdrawn sets that a file gives
 abbrev pub withdrawn_in : List ℕ → Course (List county.Withdrawn)
-withdrawn_in text = call_step (adjacency_answer Withdrawn) (λ sets. withdrawn_list text ≡ sets)
+withdrawn_in text = call_step (code_file_answer Withdrawn) (λ sets. withdrawn_list text ≡ sets)
 
 -- the grouping that a file gives
 abbrev pub grouping_in : List ℕ → Course groups.Grouping
-grouping_in text = call_step grouping_answer (λ grouping. grouping_list text ≡ grouping)
+grouping_in text = call_step (code_file_answer Grouping) (λ grouping. grouping_list text ≡ grouping)
 
 -- the pairs of listed counties of an adjacency file
 abbrev pub pairs_of : Option Files → List ℕ → List ℕ → Course (List (ℕ × ℕ))

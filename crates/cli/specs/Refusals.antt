@@ -4,15 +4,12 @@ use Rattle.field_lines.specs.declared.fault.LineFault.{LineFault}
 use Rattle.field_lines.specs.declared.fault.LineFault.TheVariants as lines
 use Rattle.pl94_counties.specs.declared.fault.File.{File}
 use Rattle.pl94_counties.specs.declared.fault.File.TheVariants as files
-use Rattle.pl94_counties.specs.declared.fault.Kind.{Kind}
-use Rattle.pl94_counties.specs.declared.fault.Kind.TheVariants as kinds
+use Rattle.pl94_counties.specs.declared.fault.Pl94Kind.{Pl94Kind}
+use Rattle.pl94_counties.specs.declared.fault.Pl94Kind.TheVariants as kinds
 use Rattle.pl94_counties.specs.declared.fault.Pl94Fault.{Pl94Fault}
-use Rattle.adjacency_reader.specs.declared.fault.Kind as adjacency
-use Rattle.adjacency_reader.specs.declared.fault.Kind.TheVariants as pairs
-use Rattle.adjacency_reader.specs.declared.fault.AdjacencyFault.{AdjacencyFault}
-use Rattle.grouping_report.specs.declared.grouping_fault.GroupingTextKind.{GroupingTextKind}
-use Rattle.grouping_report.specs.declared.grouping_fault.GroupingTextKind.TheVariants as groups
-use Rattle.grouping_report.specs.declared.grouping_fault.GroupingTextFault.{GroupingTextFault}
+use Rattle.seat_lines.specs.declared.fault.CodeLineKind.{CodeLineKind}
+use Rattle.seat_lines.specs.declared.fault.CodeLineKind.TheVariants as lines_of_codes
+use Rattle.seat_lines.specs.declared.fault.CodeLineFault.{CodeLineFault}
 use Rattle.grouping_report.specs.FaultWords.{grouping_fault_words}
 use Rattle.grouping_judge.specs.declared.grouping_fault.GroupingFault.{GroupingFault}
 use Rattle.grouping_judge.specs.declared.grouping_fault.GroupingFault.TheVariants as verdict
@@ -33,7 +30,7 @@ line_fault_word (lines.ReadFault line) = codes "ReadFault"
 line_fault_word lines.Memory = codes "Memory"
 
 -- the word of a kind of fault in a PL 94-171 file: for a line fault, that fault's
-abbrev pub kind_word : Kind → List ℕ
+abbrev pub kind_word : Pl94Kind → List ℕ
 kind_word kinds.TooFewFields = codes "TooFewFields"
 kind_word kinds.BadCode = codes "BadCode"
 kind_word kinds.BadNumber = codes "BadNumber"
@@ -44,22 +41,14 @@ kind_word kinds.NoCounties = codes "NoCounties"
 kind_word (kinds.Lower fault) = line_fault_word fault
 kind_word kinds.Memory = codes "Memory"
 
--- the word of a kind of fault of a file of adjacency, links or withdrawn sets
-abbrev pub adjacency_word : adjacency.Kind → List ℕ
-adjacency_word pairs.TooFewFields = codes "TooFewFields"
-adjacency_word pairs.BadSign = codes "BadSign"
-adjacency_word pairs.BadSeats = codes "BadSeats"
-adjacency_word pairs.BadCode = codes "BadCode"
-adjacency_word (pairs.Lower fault) = line_fault_word fault
-adjacency_word pairs.Memory = codes "Memory"
-
--- the word of a kind of fault of a grouping's file
-abbrev pub grouping_word : GroupingTextKind → List ℕ
-grouping_word groups.TooFewFields = codes "TooFewFields"
-grouping_word groups.BadSeats = codes "BadSeats"
-grouping_word groups.BadCode = codes "BadCode"
-grouping_word (groups.Lower fault) = line_fault_word fault
-grouping_word groups.Memory = codes "Memory"
+-- the word of a kind of fault of a file whose lines have county codes
+abbrev pub code_line_word : CodeLineKind → List ℕ
+code_line_word lines_of_codes.TooFewFields = codes "TooFewFields"
+code_line_word lines_of_codes.BadSign = codes "BadSign"
+code_line_word lines_of_codes.BadSeats = codes "BadSeats"
+code_line_word lines_of_codes.BadCode = codes "BadCode"
+code_line_word (lines_of_codes.Lower fault) = line_fault_word fault
+code_line_word lines_of_codes.Memory = codes "Memory"
 
 -- the line that is shown of a line fault: 0 where the text has too many
 abbrev pub cut_line : LineFault → ℕ → ℕ
@@ -67,19 +56,14 @@ cut_line lines.TooManyLines line = 0
 cut_line fault line = line
 
 -- the line that is shown of a fault
-abbrev pub shown_line : Kind → ℕ → ℕ
+abbrev pub shown_line : Pl94Kind → ℕ → ℕ
 shown_line (kinds.Lower fault) line = cut_line fault line
 shown_line kind line = line
 
--- the same of a file of adjacency, links or withdrawn sets
-abbrev pub adjacency_line : adjacency.Kind → ℕ → ℕ
-adjacency_line (pairs.Lower fault) line = cut_line fault line
-adjacency_line kind line = line
-
--- and of a grouping's file
-abbrev pub grouping_line : GroupingTextKind → ℕ → ℕ
-grouping_line (groups.Lower fault) line = cut_line fault line
-grouping_line kind line = line
+-- the same of a file whose lines have county codes
+abbrev pub shown_code_line : CodeLineKind → ℕ → ℕ
+shown_code_line (lines_of_codes.Lower fault) line = cut_line fault line
+shown_code_line kind line = line
 
 -- the word of an input file
 abbrev pub file_word : InputFile → List ℕ
@@ -104,7 +88,7 @@ abbrev pub input_answer : InputFile → List ℕ → ℕ → Answered
 input_answer file word line = record { text = refused_line (file_word file) word line; status = 4 }
 
 -- a fault of this kind, at this line of a PL 94-171 file
-abbrev pub file_answer : InputFile → Kind → ℕ → Answered
+abbrev pub file_answer : InputFile → Pl94Kind → ℕ → Answered
 file_answer file kinds.Memory line = memory_answer
 file_answer file kind line = input_answer file (kind_word kind) (shown_line kind line)
 
@@ -112,23 +96,14 @@ file_answer file kind line = input_answer file (kind_word kind) (shown_line kind
 abbrev pub pl94_answer : Pl94Fault → Answered
 pl94_answer fault = file_answer (input_of fault.file) fault.kind fault.line
 
--- a fault of this kind, at this line of a file of adjacency, links or withdrawn sets
-abbrev pub pairs_answer : InputFile → adjacency.Kind → ℕ → Answered
-pairs_answer file pairs.Memory line = memory_answer
-pairs_answer file kind line = input_answer file (adjacency_word kind) (adjacency_line kind line)
+-- a fault of this kind, at this line of a file whose lines have county codes
+abbrev pub code_line_answer : InputFile → CodeLineKind → ℕ → Answered
+code_line_answer file lines_of_codes.Memory line = memory_answer
+code_line_answer file kind line = input_answer file (code_line_word kind) (shown_code_line kind line)
 
--- the answer to a fault of a file of adjacency, links or withdrawn sets
-abbrev pub adjacency_answer : InputFile → AdjacencyFault → Answered
-adjacency_answer file fault = pairs_answer file fault.kind fault.line
-
--- a fault of this kind, at this line of a grouping's file
-abbrev pub groups_answer : GroupingTextKind → ℕ → Answered
-groups_answer groups.Memory line = memory_answer
-groups_answer kind line = input_answer Grouping (grouping_word kind) (grouping_line kind line)
-
--- the answer to a fault of a grouping's file
-abbrev pub grouping_answer : GroupingTextFault → Answered
-grouping_answer fault = groups_answer fault.kind fault.line
+-- the answer to a fault of a file whose lines have county codes
+abbrev pub code_file_answer : InputFile → CodeLineFault → Answered
+code_file_answer file fault = code_line_answer file fault.kind fault.line
 
 -- `fault KIND` with its group, its county or its seats
 unfoldable pub fault_line : GroupingFault → List ℕ

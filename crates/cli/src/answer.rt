@@ -5,7 +5,7 @@ ghost use Rattle.cli.specs.Answers.{answer_of, Refuses};
 use std::alloc::{AllocError, Global};
 
 /// What the program writes, and its exit status.
-#[derive(Debug, Drop)]
+#[derive(Drop)]
 pub(crate) struct Answer {
     pub(crate) text: Vec<u8>,
     pub(crate) status: u8,
@@ -24,7 +24,7 @@ impl Answer {
 }
 
 /// Why a command ends before its own answer.
-#[derive(Debug, Drop)]
+#[derive(Drop)]
 pub(crate) enum Refusal {
     /// A fault was met, and this is the answer to it.
     Shown(Answer),

@@ -7,12 +7,12 @@ ghost use Rattle.cli.specs.Course.{load_step};
 ghost use Rattle.cli.specs.ProblemCourse.{counties_of, pairs_of, pairs_in, links_in, withdrawn_in, grouping_in, links_of, withdrawn_of, adjacency_of, grouping_of};
 
 use crate::answer::Refusal;
-use crate::refusal::{InputFile, refuse_adjacency, refuse_file, refuse_grouping, refuse_load};
+use crate::refusal::{InputFile, refuse_codes, refuse_file, refuse_load};
 use adjacency_reader::{Link, apply_links, read_links, read_pairs, read_withdrawn};
 use command_words::{CommonWords, ProblemWords};
 use county_codes::{County, CountyCode, Grouping, Withdrawn};
-use grouping_report::read_grouping;
 use pl94_counties::read_counties;
+use seat_lines::read_grouping;
 use shelves::Shelf;
 use std::alloc::{AllocError, Global};
 
@@ -64,7 +64,7 @@ fn pairs_from(
 {
     match read_pairs(alloc, text, listed) {
         Ok(pairs) => Ok(pairs),
-        Err(fault) => Err(refuse_adjacency(alloc, InputFile::Adjacency, fault)),
+        Err(fault) => Err(refuse_codes(alloc, InputFile::Adjacency, fault)),
     }
 }
 
@@ -74,7 +74,7 @@ fn links_from(alloc: Global, text: &[u8]) -> Result<Vec<Link>, Refusal>
 {
     match read_links(alloc, text) {
         Ok(links) => Ok(links),
-        Err(fault) => Err(refuse_adjacency(alloc, InputFile::Links, fault)),
+        Err(fault) => Err(refuse_codes(alloc, InputFile::Links, fault)),
     }
 }
 
@@ -84,7 +84,7 @@ fn withdrawn_from(alloc: Global, text: &[u8]) -> Result<Vec<Withdrawn>, Refusal>
 {
     match read_withdrawn(alloc, text) {
         Ok(sets) => Ok(sets),
-        Err(fault) => Err(refuse_adjacency(alloc, InputFile::Withdrawn, fault)),
+        Err(fault) => Err(refuse_codes(alloc, InputFile::Withdrawn, fault)),
     }
 }
 
@@ -94,7 +94,7 @@ fn grouping_from(alloc: Global, text: &[u8]) -> Result<Grouping, Refusal>
 {
     match read_grouping(alloc, text) {
         Ok(grouping) => Ok(grouping),
-        Err(fault) => Err(refuse_grouping(alloc, fault)),
+        Err(fault) => Err(refuse_codes(alloc, InputFile::Grouping, fault)),
     }
 }
 

@@ -45,6 +45,3 @@ pub(crate) fn judge<H: Shelf>(
     let grouping = load_grouping(alloc, words.grouping, shelf)?;
     verdict(alloc, &problem, grouping)
 }
-
-#[cfg(test)]
-mod tests;

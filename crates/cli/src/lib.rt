@@ -16,6 +16,3 @@ pub use shelves::{
     FileShelf, MAX_FILE, MemoryFile, MemoryShelf, Shelf, ShelfFault, Sink, SinkFault, WholeFault,
     Writing,
 };
-
-#[cfg(test)]
-mod tests;

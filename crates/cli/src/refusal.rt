@@ -1,24 +1,21 @@
 //! The lines of the program that stand in place of an answer.
 
 ghost use Rattle.std.specs.Prelude.{◌≡◌, ◌≢◌, ℕ, ◌++◌, OnOk, IfOk, codes, decimal};
-ghost use Rattle.pl94_counties.specs.declared.fault.Kind.TheVariants as kinds;
+ghost use Rattle.pl94_counties.specs.declared.fault.Pl94Kind.TheVariants as kinds;
 ghost use Rattle.grouping_problem.specs.declared.fault.ProblemFault.TheVariants as problem;
 ghost use Rattle.cli.specs.Answers.{Refuses, IsShown};
 ghost use Rattle.grouping_report.specs.Digits.{five_digits};
-ghost use Rattle.adjacency_reader.specs.declared.fault.Kind.TheVariants as pairs;
-ghost use Rattle.grouping_report.specs.declared.grouping_fault.GroupingTextKind.TheVariants as groups;
-ghost use Rattle.cli.specs.Refusals.{line_fault_word, kind_word, adjacency_word, grouping_word, cut_line, file_word, input_of as input_file_of, refused_line, input_answer, pl94_answer, adjacency_answer, grouping_answer, fault_line, verdict_answer, after_blank, problem_words, refused_problem, problem_answer, shelf_word, device_line, shelf_answer};
+ghost use Rattle.seat_lines.specs.declared.fault.CodeLineKind.TheVariants as lines_of_codes;
+ghost use Rattle.cli.specs.Refusals.{line_fault_word, kind_word, code_line_word, cut_line, file_word, input_of as input_file_of, refused_line, input_answer, pl94_answer, code_file_answer, fault_line, verdict_answer, after_blank, problem_words, refused_problem, problem_answer, shelf_word, device_line, shelf_answer};
 
 use crate::answer::Refusal;
-use adjacency_reader::AdjacencyFault;
 use county_codes::CountyCode;
 use grouping_judge::GroupingFault;
 use grouping_problem::ProblemFault;
 use field_lines::LineFault;
-use grouping_report::{
-    GroupingTextFault, GroupingTextKind, push_code, push_grouping_fault, push_number,
-};
-use pl94_counties::{File, Kind, Pl94Fault};
+use grouping_report::{push_code, push_grouping_fault, push_number};
+use pl94_counties::{File, Pl94Fault, Pl94Kind};
+use seat_lines::{CodeLineFault, CodeLineKind};
 use shelves::ShelfFault;
 use std::alloc::{AllocError, Global};
 
@@ -36,49 +33,37 @@ fn word_of_line_fault(fault: LineFault) -> &'static [u8]
     }
 }
 
-fn word_of_kind(kind: Kind) -> &'static [u8]
+fn word_of_kind(kind: Pl94Kind) -> &'static [u8]
     ensures { result.now ≡ kind_word kind }
 {
     match kind {
-        Kind::TooFewFields => b"TooFewFields",
-        Kind::BadCode => b"BadCode",
-        Kind::BadNumber => b"BadNumber",
-        Kind::DoubleRecord => b"DoubleRecord",
-        Kind::NoRecord => b"NoRecord",
-        Kind::DoubleCounty => b"DoubleCounty",
-        Kind::NoCounties => b"NoCounties",
-        Kind::Lower(fault) => word_of_line_fault(fault),
-        Kind::Memory => b"Memory",
+        Pl94Kind::TooFewFields => b"TooFewFields",
+        Pl94Kind::BadCode => b"BadCode",
+        Pl94Kind::BadNumber => b"BadNumber",
+        Pl94Kind::DoubleRecord => b"DoubleRecord",
+        Pl94Kind::NoRecord => b"NoRecord",
+        Pl94Kind::DoubleCounty => b"DoubleCounty",
+        Pl94Kind::NoCounties => b"NoCounties",
+        Pl94Kind::Lower(fault) => word_of_line_fault(fault),
+        Pl94Kind::Memory => b"Memory",
     }
 }
 
-fn word_of_adjacency(kind: adjacency_reader::Kind) -> &'static [u8]
-    ensures { result.now ≡ adjacency_word kind }
+fn word_of_code_line(kind: CodeLineKind) -> &'static [u8]
+    ensures { result.now ≡ code_line_word kind }
 {
     match kind {
-        adjacency_reader::Kind::TooFewFields => b"TooFewFields",
-        adjacency_reader::Kind::BadSign => b"BadSign",
-        adjacency_reader::Kind::BadSeats => b"BadSeats",
-        adjacency_reader::Kind::BadCode => b"BadCode",
-        adjacency_reader::Kind::Lower(fault) => word_of_line_fault(fault),
-        adjacency_reader::Kind::Memory => b"Memory",
-    }
-}
-
-fn word_of_grouping(kind: GroupingTextKind) -> &'static [u8]
-    ensures { result.now ≡ grouping_word kind }
-{
-    match kind {
-        GroupingTextKind::TooFewFields => b"TooFewFields",
-        GroupingTextKind::BadSeats => b"BadSeats",
-        GroupingTextKind::BadCode => b"BadCode",
-        GroupingTextKind::Lower(fault) => word_of_line_fault(fault),
-        GroupingTextKind::Memory => b"Memory",
+        CodeLineKind::TooFewFields => b"TooFewFields",
+        CodeLineKind::BadSign => b"BadSign",
+        CodeLineKind::BadSeats => b"BadSeats",
+        CodeLineKind::BadCode => b"BadCode",
+        CodeLineKind::Lower(fault) => word_of_line_fault(fault),
+        CodeLineKind::Memory => b"Memory",
     }
 }
 
 /// An input file that is a cut text.
-#[derive(Clone, Copy, Debug, PartialEq, Eq)]
+#[derive(Clone, Copy)]
 pub(crate) enum InputFile {
     /// The PL 94-171 geographic header.
     Geo,
@@ -159,38 +144,24 @@ pub(crate) fn refuse_file(alloc: Global, fault: Pl94Fault) -> Refusal
     ensures shown { IsShown result → fault.kind ≢ kinds.Memory }
 {
     let line = match fault.kind {
-        Kind::Memory => return Refusal::Memory,
-        Kind::Lower(cut) => line_of_cut(cut, fault.line),
+        Pl94Kind::Memory => return Refusal::Memory,
+        Pl94Kind::Lower(cut) => line_of_cut(cut, fault.line),
         _ => fault.line,
     };
     refuse_input(alloc, input_of(fault.file), word_of_kind(fault.kind), line)
 }
 
-/// The refusal of a fault of a file of adjacency, links or withdrawn sets.
-pub(crate) fn refuse_adjacency(alloc: Global, file: InputFile, fault: AdjacencyFault) -> Refusal
-    ensures answer { Refuses (adjacency_answer file fault) result }
-    ensures shown { IsShown result → fault.kind ≢ pairs.Memory }
+/// The refusal of a fault of a file whose lines have county codes.
+pub(crate) fn refuse_codes(alloc: Global, file: InputFile, fault: CodeLineFault) -> Refusal
+    ensures answer { Refuses (code_file_answer file fault) result }
+    ensures shown { IsShown result → fault.kind ≢ lines_of_codes.Memory }
 {
     let line = match fault.kind {
-        adjacency_reader::Kind::Memory => return Refusal::Memory,
-        adjacency_reader::Kind::Lower(cut) => line_of_cut(cut, fault.line),
+        CodeLineKind::Memory => return Refusal::Memory,
+        CodeLineKind::Lower(cut) => line_of_cut(cut, fault.line),
         _ => fault.line,
     };
-    refuse_input(alloc, file, word_of_adjacency(fault.kind), line)
-}
-
-/// The refusal of a fault of a grouping's file.
-pub(crate) fn refuse_grouping(alloc: Global, fault: GroupingTextFault) -> Refusal
-    ensures answer { Refuses (grouping_answer fault) result }
-    ensures shown { IsShown result → fault.kind ≢ groups.Memory }
-{
-    let line = match fault.kind {
-        GroupingTextKind::Memory => return Refusal::Memory,
-        GroupingTextKind::Lower(cut) => line_of_cut(cut, fault.line),
-        _ => fault.line,
-    };
-    let kind = word_of_grouping(fault.kind);
-    refuse_input(alloc, InputFile::Grouping, kind, line)
+    refuse_input(alloc, file, word_of_code_line(fault.kind), line)
 }
 
 /// `fault KIND` with its group, its county or its seats.

@@ -146,6 +146,3 @@ pub fn parse<'a>(alloc: Global, words: &'a [&'a str]) -> Result<CommandWords<'a>
         Err(error) => Err(WordsEnd::of_error(alloc, &error)),
     }
 }
-
-#[cfg(test)]
-mod tests;

@@ -109,6 +109,3 @@ pub fn field_at(line: &[u8], delimiter: u8, index: usize) -> Option<&[u8]>
 {
     Fields::new(line, delimiter).nth(index)
 }
-
-#[cfg(test)]
-mod tests;

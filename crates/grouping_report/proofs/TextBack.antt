@@ -15,7 +15,8 @@ use Rattle.field_lines.specs.Values.{fault_on, value_on, values_of}
 use Rattle.field_lines.proofs.SplitLemmas.{numbered-ended}
 use Rattle.field_lines.proofs.CutLemmas.{cut_of-line}
 use Rattle.grouping_report.specs.GroupingText.{group_fields, grouping_text, IsReadable}
-use Rattle.grouping_report.specs.GroupingLines.{group_on, line_fault, cut_fault, grouping_list}
+use Rattle.seat_lines.specs.Faults.{line_fault, cut_fault}
+use Rattle.seat_lines.specs.GroupingLines.{group_on, grouping_list}
 use Rattle.grouping_report.proofs.FieldsBack.{Within, fields_back, fields_within, fields_some}
 
 -- no byte of the line is a CR

@@ -4,4 +4,3 @@ pub mod Report
 pub mod Outcomes
 pub mod GroupingText
 pub mod FaultWords
-pub mod GroupingLines

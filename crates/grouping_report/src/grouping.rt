@@ -1,5 +1,5 @@
 ghost use Rattle.std.specs.Prelude.{◌≡◌, ◌<◌, ◌≤◌, ◌++◌, All, Ok, OnOk, IfOk, codes};
-ghost use Rattle.grouping_report.specs.GroupingLines.{grouping_list};
+ghost use Rattle.seat_lines.specs.GroupingLines.{grouping_list};
 ghost use Rattle.grouping_report.specs.GroupingText.{group_fields, grouping_text as text_of, IsReadable};
 
 use crate::text::{push_codes, push_number};

@@ -1,10 +1,8 @@
-//! What the program writes of a problem and its groupings, and groupings read from their lines.
+//! What the program writes of a problem and its groupings. Groupings are read from their lines by `seat_lines`.
 #![tactic(auto)]
 
 mod faults;
 mod grouping;
-mod grouping_fault;
-mod grouping_lines;
 mod outcome;
 mod reports;
 mod table;
@@ -12,12 +10,10 @@ mod text;
 
 pub use faults::push_grouping_fault;
 pub use grouping::grouping_text;
-pub use grouping_fault::{GroupingTextFault, GroupingTextKind};
-pub use grouping_lines::read_grouping;
 pub use outcome::Outcome;
 pub use reports::report;
+pub use seat_lines::{
+    CodeLineFault as GroupingTextFault, CodeLineKind as GroupingTextKind, read_grouping,
+};
 pub use table::size_table;
 pub use text::{push_code, push_number};
-
-#[cfg(test)]
-mod tests;

@@ -8,7 +8,7 @@ use Rattle.std.specs.List.{cons_option}
 use Rattle.std.specs.BTreeMap.{insert_entry}
 use Rattle.field_lines.specs.Cut.{Line, cut}
 use Rattle.field_lines.specs.declared.fault.LineFault.{LineFault}
-use Rattle.pl94_counties.specs.declared.fault.Kind.{Kind}
+use Rattle.pl94_counties.specs.declared.fault.Pl94Kind.{Pl94Kind}
 use Rattle.pl94_counties.specs.declared.fault.File.{File}
 use Rattle.pl94_counties.specs.declared.fault.Pl94Fault.{Pl94Fault}
 use Rattle.pl94_counties.specs.Numbered.{people_of, Given, people_by_number, has_number, by_number, entries_on, entry_of, line_fault, first_fault, at_line, unless_fault, with_given, cut_fault}
@@ -78,7 +78,7 @@ is_placed n es = placed_after n [] es
 -- ---- line by line
 
 -- the entries after further lines, each in turn, or the first fault
-abbrev pub collect_from : (List ℕ → Given) → Kind → File → List (ℕ × ℕ) → List Line → Option LineFault → Result (List (ℕ × ℕ)) Pl94Fault
+abbrev pub collect_from : (List ℕ → Given) → Pl94Kind → File → List (ℕ × ℕ) → List Line → Option LineFault → Result (List (ℕ × ℕ)) Pl94Fault
 collect_from read double file placed [] None = Ok placed
 collect_from read double file placed [] (Some fault) = Err (cut_fault file fault)
 collect_from read double file placed (l ∷ ls) fault = elim (with_given double placed (read l.bytes)) as (λ _. Result (List (ℕ × ℕ)) Pl94Fault) [
@@ -86,7 +86,7 @@ collect_from read double file placed (l ∷ ls) fault = elim (with_given double 
   | Err kind ↦ Err (record { kind = kind; file = file; line = l.number })
 ]
 
-module _ (read : List ℕ → Given) (double : Kind) (file : File) (fault : Option LineFault) where
+module _ (read : List ℕ → Given) (double : Pl94Kind) (file : File) (fault : Option LineFault) where
   -- what is answered after the lines before, over the others
   abbrev After : List Line → List Line → Type 0
   After before ls = collect_from read double file (by_number (entries_on read before)) ls fault ≡ unless_fault file (first_fault read double before ls) fault (by_number (entries_on read (before ++ ls)))
@@ -98,7 +98,7 @@ module _ (read : List ℕ → Given) (double : Kind) (file : File) (fault : Opti
   after_nil None before = ap (λ (b : List Line). Ok (by_number (entries_on read b))) (sym (append-nil before))
   after_nil (Some f) before = refl
 
-  choose : (number : ℕ) (more entries : List (ℕ × ℕ)) (ls : List Line) (later : Option (Kind × ℕ)) (b d : Bool) → b ≡ d
+  choose : (number : ℕ) (more entries : List (ℕ × ℕ)) (ls : List Line) (later : Option (Pl94Kind × ℕ)) (b d : Bool) → b ≡ d
       → collect_from read double file more ls fault ≡ unless_fault file later fault entries
       → (elim (if b then Err double else Ok more) as (λ _. Result (List (ℕ × ℕ)) Pl94Fault) [
         | Ok more ↦ collect_from read double file more ls fault
@@ -135,5 +135,5 @@ module _ (read : List ℕ → Given) (double : Kind) (file : File) (fault : Opti
   collected_after before [] = after_nil fault before
   collected_after before (l ∷ ls) = after_line before l ls (collected_after (before ++ l ∷ []) ls) (read l.bytes) refl
 
-pub collected : (read : List ℕ → Given) (double : Kind) (file : File) (text : List ℕ) → collect_from read double file [] (cut text).lines (cut text).fault ≡ people_by_number read double file text
+pub collected : (read : List ℕ → Given) (double : Pl94Kind) (file : File) (text : List ℕ) → collect_from read double file [] (cut text).lines (cut text).fault ≡ people_by_number read double file text
 collected read double file text = collected_after read double file (cut text).fault [] (cut text).lines

@@ -13,9 +13,9 @@ use Rattle.std.proofs.lemmas.Map.Entries.{lookup_from_place}
 use Rattle.std.proofs.lemmas.Map.Keys.{sorted_from_strictly_increasing, IsDistinct-from_sorted}
 use Rattle.field_lines.specs.Cut.{Line, cut}
 use Rattle.county_codes.specs.declared.county.County.{County}
-use Rattle.pl94_counties.specs.declared.fault.Kind.TheVariants.{TooFewFields, BadCode, BadNumber, DoubleRecord, NoRecord, DoubleCounty}
+use Rattle.pl94_counties.specs.declared.fault.Pl94Kind.TheVariants.{TooFewFields, BadCode, BadNumber, DoubleRecord, NoRecord, DoubleCounty}
 use Rattle.pl94_counties.specs.declared.fault.File.TheVariants.{Geo, Segment1}
-use Rattle.pl94_counties.specs.Chain.{◌>>=◌}
+use Rattle.field_lines.specs.Chain.{◌>>=◌}
 use Rattle.pl94_counties.specs.Fields.{field, small_number, GeoFields, geo_fields}
 use Rattle.pl94_counties.specs.Numbered.{Given, people_of}
 use Rattle.pl94_counties.specs.Segment.{record_on, record_list}

@@ -6,8 +6,8 @@ use Rattle.field_lines.specs.Fault.{most_lines, most_bytes}
 use Rattle.field_lines.specs.Cut.{Line, cut, fault_in}
 use Rattle.field_lines.specs.declared.fault.LineFault.{LineFault}
 use Rattle.field_lines.specs.declared.fault.LineFault.TheVariants.{LineTooLong, TooManyLines}
-use Rattle.pl94_counties.specs.declared.fault.Kind.{Kind}
-use Rattle.pl94_counties.specs.declared.fault.Kind.TheVariants.{TooFewFields, BadCode, BadNumber, DoubleRecord, NoRecord, DoubleCounty, NoCounties, Lower, Memory}
+use Rattle.pl94_counties.specs.declared.fault.Pl94Kind.{Pl94Kind}
+use Rattle.pl94_counties.specs.declared.fault.Pl94Kind.TheVariants.{TooFewFields, BadCode, BadNumber, DoubleRecord, NoRecord, DoubleCounty, NoCounties, Lower, Memory}
 use Rattle.pl94_counties.specs.declared.fault.File.{File}
 use Rattle.pl94_counties.specs.declared.fault.File.TheVariants.{Geo, Segment1}
 use Rattle.pl94_counties.specs.declared.fault.Pl94Fault.{Pl94Fault}
@@ -20,35 +20,35 @@ use Rattle.pl94_counties.specs.OfText.{IsOfText}
 use Rattle.pl94_counties.proofs.LawLemmas.{record_of_numbers, record_in_fields, with_people, joined_of}
 
 -- what is wrong with a line is the given kind
-is_kind : (k kind : Kind) → ◌≡◌ {A = Given} (Err k) (Err kind) → IsOfText k → IsOfText kind
+is_kind : (k kind : Pl94Kind) → ◌≡◌ {A = Given} (Err k) (Err kind) → IsOfText k → IsOfText kind
 is_kind k kind is own = let same : k ≡ kind = cc in subst IsOfText same own
 
 -- ---- records
-of_numbers : (m q : Option ℕ) (kind : Kind) → record_of_numbers m q ≡ Err kind → IsOfText kind
+of_numbers : (m q : Option ℕ) (kind : Pl94Kind) → record_of_numbers m q ≡ Err kind → IsOfText kind
 of_numbers None q kind is = is_kind BadNumber kind is tt
 of_numbers (Some m) None kind is = is_kind BadNumber kind is tt
 of_numbers (Some m) (Some q) kind is = absurd cc
 
-of_fields : (a b : Option (List ℕ)) (kind : Kind) → record_in_fields a b ≡ Err kind → IsOfText kind
+of_fields : (a b : Option (List ℕ)) (kind : Pl94Kind) → record_in_fields a b ≡ Err kind → IsOfText kind
 of_fields None b kind is = is_kind TooFewFields kind is tt
 of_fields (Some x) None kind is = is_kind TooFewFields kind is tt
 of_fields (Some x) (Some y) kind is = of_numbers (small_number x) (small_number y) kind is
 
-of_record : (line : List ℕ) (kind : Kind) → record_on line ≡ Err kind → IsOfText kind
+of_record : (line : List ℕ) (kind : Pl94Kind) → record_on line ≡ Err kind → IsOfText kind
 unfolding record_on
 of_record line kind is = of_fields (field 5 line) (field 6 line) kind is
 
 -- ---- county lines
-of_people : (code : ℕ) (q : Option ℕ) (kind : Kind) → with_people code q ≡ Err kind → IsOfText kind
+of_people : (code : ℕ) (q : Option ℕ) (kind : Pl94Kind) → with_people code q ≡ Err kind → IsOfText kind
 of_people code None kind is = is_kind NoRecord kind is tt
 of_people code (Some p) kind is = absurd cc
 
-of_joined : (records : List (ℕ × ℕ)) (k m : Option ℕ) (kind : Kind) → joined_of records k m ≡ Err kind → IsOfText kind
+of_joined : (records : List (ℕ × ℕ)) (k m : Option ℕ) (kind : Pl94Kind) → joined_of records k m ≡ Err kind → IsOfText kind
 of_joined records None m kind is = is_kind BadCode kind is tt
 of_joined records (Some code) None kind is = is_kind BadNumber kind is tt
 of_joined records (Some code) (Some number) kind is = of_people code (people_of number records) kind is
 
-module _ (state : ℕ) (records : List (ℕ × ℕ)) (kind : Kind) where
+module _ (state : ℕ) (records : List (ℕ × ℕ)) (kind : Pl94Kind) where
   of_choice : (g : GeoFields) (b : Bool) → (if b then joined state records g else Ok None) ≡ Err kind → IsOfText kind
   of_choice g true is = of_joined records (county_code state g.county) (small_number g.record_number) kind is
   of_choice g false is = absurd cc
@@ -65,29 +65,29 @@ module _ (state : ℕ) (records : List (ℕ × ℕ)) (kind : Kind) where
   of_county line is = of_geo_fields (geo_fields line) is
 
 -- ---- the first line at fault
-module _ (read : List ℕ → Given) (double : Kind) (own : (line : List ℕ) (kind : Kind) → read line ≡ Err kind → IsOfText kind) (own_double : IsOfText double) where
-  some_kind : (k kind : Kind) → ◌≡◌ {A = Option Kind} (Some k) (Some kind) → IsOfText k → IsOfText kind
+module _ (read : List ℕ → Given) (double : Pl94Kind) (own : (line : List ℕ) (kind : Pl94Kind) → read line ≡ Err kind → IsOfText kind) (own_double : IsOfText double) where
+  some_kind : (k kind : Pl94Kind) → ◌≡◌ {A = Option Pl94Kind} (Some k) (Some kind) → IsOfText k → IsOfText kind
   some_kind k kind is of = let same : k ≡ kind = cc in subst IsOfText same of
 
-  of_double : (b : Bool) (kind : Kind) → (if b then Some double else None) ≡ Some kind → IsOfText kind
+  of_double : (b : Bool) (kind : Pl94Kind) → (if b then Some double else None) ≡ Some kind → IsOfText kind
   of_double true kind is = some_kind double kind is own_double
   of_double false kind is = absurd cc
 
-  of_line : (earlier : List (ℕ × ℕ)) (line : List ℕ) (g : Given) (kind : Kind) → read line ≡ g → line_fault double earlier g ≡ Some kind → IsOfText kind
+  of_line : (earlier : List (ℕ × ℕ)) (line : List ℕ) (g : Given) (kind : Pl94Kind) → read line ≡ g → line_fault double earlier g ≡ Some kind → IsOfText kind
   of_line earlier line (Err k) kind gives is = some_kind k kind is (own line k gives)
   of_line earlier line (Ok None) kind gives is = absurd cc
   of_line earlier line (Ok (Some e)) kind gives is = of_double (has_number e.0 earlier) kind is
 
-  of_first : (number : ℕ) (o : Option Kind) (later : Option (Kind × ℕ)) (f : Kind × ℕ) → ((kind : Kind) → o ≡ Some kind → IsOfText kind) → (later ≡ Some f → IsOfText f.0) → at_line number o later ≡ Some f → IsOfText f.0
+  of_first : (number : ℕ) (o : Option Pl94Kind) (later : Option (Pl94Kind × ℕ)) (f : Pl94Kind × ℕ) → ((kind : Pl94Kind) → o ≡ Some kind → IsOfText kind) → (later ≡ Some f → IsOfText f.0) → at_line number o later ≡ Some f → IsOfText f.0
   of_first number (Some kind) later f here after is =
-      let same : ◌≡◌ {A = Kind × ℕ} (kind, number) f = cc in
-      subst (λ (p : Kind × ℕ). IsOfText p.0) same (here kind refl)
+      let same : ◌≡◌ {A = Pl94Kind × ℕ} (kind, number) f = cc in
+      subst (λ (p : Pl94Kind × ℕ). IsOfText p.0) same (here kind refl)
   of_first number None later f here after is = after is
 
-  of_first_fault : (before ls : List Line) (f : Kind × ℕ) → first_fault read double before ls ≡ Some f → IsOfText f.0
+  of_first_fault : (before ls : List Line) (f : Pl94Kind × ℕ) → first_fault read double before ls ≡ Some f → IsOfText f.0
   of_first_fault before [] f is = absurd cc
   of_first_fault before (l ∷ ls) f is = of_first l.number (line_fault double (entries_on read before) (read l.bytes)) (first_fault read double (before ++ l ∷ []) ls) f
-      (λ (kind : Kind) (at : line_fault double (entries_on read before) (read l.bytes) ≡ Some kind). of_line (entries_on read before) l.bytes (read l.bytes) kind refl at)
+      (λ (kind : Pl94Kind) (at : line_fault double (entries_on read before) (read l.bytes) ≡ Some kind). of_line (entries_on read before) l.bytes (read l.bytes) kind refl at)
       (of_first_fault (before ++ l ∷ []) ls f) is
 
 -- ---- the cut
@@ -107,21 +107,21 @@ of_pieces (p ∷ ps) f is = of_pieces_by (fault_in p) (filter_map fault_in ps) f
     (of_pieces ps f) is
 
 -- ---- a whole text
-of_outcome : (file : File) (first : Option (Kind × ℕ)) (last : Option LineFault) (entries : List (ℕ × ℕ)) (fault : Pl94Fault)
-    → ((f : Kind × ℕ) → first ≡ Some f → IsOfText f.0) → ((f : LineFault) → last ≡ Some f → IsOfText (Lower f))
+of_outcome : (file : File) (first : Option (Pl94Kind × ℕ)) (last : Option LineFault) (entries : List (ℕ × ℕ)) (fault : Pl94Fault)
+    → ((f : Pl94Kind × ℕ) → first ≡ Some f → IsOfText f.0) → ((f : LineFault) → last ≡ Some f → IsOfText (Lower f))
     → unless_fault file first last entries ≡ Err fault → IsOfText fault.kind
 of_outcome file (Some f) last entries fault here after is = let same : ◌≡◌ {A = Pl94Fault} (record { kind = f.0; file = file; line = f.1 }) fault = cc in subst (λ (g : Pl94Fault). IsOfText g.kind) same (here f refl)
 of_outcome file None (Some f) entries fault here after is = let same : cut_fault file f ≡ fault = cc in subst (λ (g : Pl94Fault). IsOfText g.kind) same (after f refl)
 of_outcome file None None entries fault here after is = absurd cc
 
-of_text : (read : List ℕ → Given) (double : Kind) (file : File) (text : List ℕ) (fault : Pl94Fault)
-    → ((line : List ℕ) (kind : Kind) → read line ≡ Err kind → IsOfText kind) → IsOfText double
+of_text : (read : List ℕ → Given) (double : Pl94Kind) (file : File) (text : List ℕ) (fault : Pl94Fault)
+    → ((line : List ℕ) (kind : Pl94Kind) → read line ≡ Err kind → IsOfText kind) → IsOfText double
     → people_by_number read double file text ≡ Err fault → IsOfText fault.kind
 of_text read double file text fault own own_double is = of_outcome file (first_fault read double [] (cut text).lines) (cut text).fault _ fault
     (of_first_fault read double own own_double [] (cut text).lines) (of_pieces (raw_lines text)) is
 
 -- a reader's fault is that of a text, or memory was refused
-unless_memory : {Y : Type 0} (fault : Pl94Fault) (given : Result Y Pl94Fault) → (fault.kind ≢ Memory → given ≡ Err fault) → (given ≡ Err fault → IsOfText fault.kind) → (k : Kind) → fault.kind ≡ k → IsOfText k
+unless_memory : {Y : Type 0} (fault : Pl94Fault) (given : Result Y Pl94Fault) → (fault.kind ≢ Memory → given ≡ Err fault) → (given ≡ Err fault → IsOfText fault.kind) → (k : Pl94Kind) → fault.kind ≡ k → IsOfText k
 unless_memory fault given answers of Memory is = tt
 unless_memory fault given answers of (Lower f) is = subst IsOfText is (of (answers (λ (m : fault.kind ≡ Memory). cc)))
 unless_memory fault given answers of TooFewFields is = tt
@@ -137,4 +137,4 @@ of_segment text fault answers = unless_memory fault (record_list text) answers (
 
 pub of_geo : (state : ℕ) (records : List (ℕ × ℕ)) (text : List ℕ) (fault : Pl94Fault) → (fault.kind ≢ Memory → found_list state records text ≡ Err fault) → IsOfText fault.kind
 of_geo state records text fault answers = unless_memory fault (found_list state records text) answers
-    (of_text (county_on state records) DoubleCounty Geo text fault (λ (line : List ℕ) (kind : Kind) (is : county_on state records line ≡ Err kind). of_county state records kind line is) tt) fault.kind refl
+    (of_text (county_on state records) DoubleCounty Geo text fault (λ (line : List ℕ) (kind : Pl94Kind) (is : county_on state records line ≡ Err kind). of_county state records kind line is) tt) fault.kind refl

@@ -4,7 +4,7 @@ use Rattle.std.specs.Ordering.{nat_cmp, is_eq}
 use Rattle.std.specs.BTreeMap.{insert_entry}
 use Rattle.field_lines.specs.Cut.{Line}
 use Rattle.field_lines.specs.declared.fault.LineFault.{LineFault}
-use Rattle.pl94_counties.specs.declared.fault.Kind.{Kind}
+use Rattle.pl94_counties.specs.declared.fault.Pl94Kind.{Pl94Kind}
 use Rattle.pl94_counties.specs.declared.fault.File.{File}
 use Rattle.pl94_counties.specs.declared.fault.Pl94Fault.{Pl94Fault}
 use Rattle.pl94_counties.specs.Numbered.{people_of, Given, with_given}
@@ -27,7 +27,7 @@ contains_cases {X} y xs x c = by c.0 c.1 c.2
     by zero lt is = inl is
     by (suc k) lt is = let below : suc k < suc (length xs) = lt in let within : k < length xs = omega arith in inr (k, within, is)
 
-module _ (read : List ℕ → Given) (double : Kind) (file : File) (fault : Option LineFault) (all : List (ℕ × ℕ)) where
+module _ (read : List ℕ → Given) (double : Pl94Kind) (file : File) (fault : Option LineFault) (all : List (ℕ × ℕ)) where
   -- the entries before, and what is left of the lines, give all the entries
   abbrev pub Collects : List (ℕ × ℕ) → List Line → Type 0
   Collects placed ls = collect_from read double file placed ls fault ≡ Ok all

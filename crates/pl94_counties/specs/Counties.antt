@@ -1,10 +1,10 @@
 -- The counties of a state.
 use Rattle.std.specs.Prelude.{ℕ, List, [], ◌∷◌, Result, Ok, Err, map}
 use Rattle.county_codes.specs.declared.county.County.{County}
-use Rattle.pl94_counties.specs.declared.fault.Kind.TheVariants.{DoubleCounty, NoCounties}
+use Rattle.pl94_counties.specs.declared.fault.Pl94Kind.TheVariants.{DoubleCounty, NoCounties}
 use Rattle.pl94_counties.specs.declared.fault.File.TheVariants.{Geo}
 use Rattle.pl94_counties.specs.declared.fault.Pl94Fault.{Pl94Fault}
-use Rattle.pl94_counties.specs.Chain.{◌>>=◌}
+use Rattle.field_lines.specs.Chain.{◌>>=◌}
 use Rattle.pl94_counties.specs.Numbered.{people_by_number}
 use Rattle.pl94_counties.specs.Segment.{record_list}
 use Rattle.pl94_counties.specs.Geo.{county_on}

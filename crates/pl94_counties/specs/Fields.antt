@@ -1,7 +1,6 @@
 -- The fields of a line that are read.
-use Rattle.std.specs.Prelude.{ℕ, ◌-◌, List, Option, Some, None}
-use Rattle.std.specs.List.{slice_get}
-use Rattle.field_lines.specs.Fields.{fields_of}
+use Rattle.std.specs.Prelude.{ℕ, List, Option, Some, None}
+use Rattle.field_lines.specs.Fields.{field_of}
 use Rattle.field_lines.specs.Number.{number_in}
 use Rattle.pl94_counties.specs.declared.geo.GeoLine.{GeoLine}
 
@@ -12,7 +11,7 @@ None >>= f = None
 
 -- a field of a line that is cut at each pipe; the first is field 1
 abbrev pub field : ℕ → List ℕ → Option (List ℕ)
-field n line = slice_get (fields_of 124 line) (n - 1)
+field n line = field_of 124 n line
 
 -- the number that a field spells, at most 4,294,967,295
 abbrev pub small_number : List ℕ → Option ℕ

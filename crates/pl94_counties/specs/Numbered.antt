@@ -2,22 +2,24 @@
 use Rattle.std.specs.Prelude.{◌≡◌, ◌≢◌, ℕ, ◌==◌, Bool, List, [], ◌∷◌, ◌++◌, Option, Some, None, Result, Ok, Err, is_some, fold, if◌then◌else◌}
 use Rattle.std.specs.List.{list_any, filter_map}
 use Rattle.std.specs.Map.{lookup}
+use Rattle.std.specs.Option.{option_map}
 use Rattle.std.specs.Ordering.{nat_cmp}
 use Rattle.std.specs.BTreeMap.{is_at, insert_entry}
 use Rattle.field_lines.specs.Fault.{line_of_fault}
 use Rattle.field_lines.specs.Cut.{Line, cut}
+use Rattle.field_lines.specs.Values as values
 use Rattle.field_lines.specs.declared.fault.LineFault.{LineFault}
-use Rattle.pl94_counties.specs.declared.fault.Kind.{Kind}
-use Rattle.pl94_counties.specs.declared.fault.Kind.TheVariants.{Lower, Memory}
+use Rattle.pl94_counties.specs.declared.fault.Pl94Kind.{Pl94Kind}
+use Rattle.pl94_counties.specs.declared.fault.Pl94Kind.TheVariants.{Lower, Memory}
 use Rattle.pl94_counties.specs.declared.fault.File.{File}
 use Rattle.pl94_counties.specs.declared.fault.Pl94Fault.{Pl94Fault}
 
 -- what one line gives: a number with its people, nothing, or what is wrong with the line
 abbrev pub Given : Type 0
-Given = Result (Option (ℕ × ℕ)) Kind
+Given = Result (Option (ℕ × ℕ)) Pl94Kind
 
 -- a line that always has a number
-abbrev pub entry_given : Result (ℕ × ℕ) Kind → Given
+abbrev pub entry_given : Result (ℕ × ℕ) Pl94Kind → Given
 entry_given (Ok entry) = Ok (Some entry)
 entry_given (Err kind) = Err kind
 
@@ -35,13 +37,13 @@ abbrev pub people_of : ℕ → List (ℕ × ℕ) → Option ℕ
 people_of number entries = lookup (is_at (nat_cmp number)) entries
 
 -- entries by number with what a further line gives, unless it is at fault after them
-abbrev pub with_given : Kind → List (ℕ × ℕ) → Given → Result (List (ℕ × ℕ)) Kind
+abbrev pub with_given : Pl94Kind → List (ℕ × ℕ) → Given → Result (List (ℕ × ℕ)) Pl94Kind
 with_given double placed (Err kind) = Err kind
 with_given double placed (Ok None) = Ok placed
 with_given double placed (Ok (Some e)) = if is_some (people_of e.0 placed) then Err double else Ok (insert_entry nat_cmp placed e.0 e.1)
 
 -- a further line was added to entries, or is at fault after them, unless memory was refused
-abbrev pub Adds : Kind → List (ℕ × ℕ) → Given → Result (Unit {0}) Kind → List (ℕ × ℕ) → Type 0
+abbrev pub Adds : Pl94Kind → List (ℕ × ℕ) → Given → Result (Unit {0}) Pl94Kind → List (ℕ × ℕ) → Type 0
 Adds double old given (Ok done) new = with_given double old given ≡ Ok new
 Adds double old given (Err kind) new = kind ≢ Memory → with_given double old given ≡ Err kind
 
@@ -50,18 +52,18 @@ abbrev pub has_number : ℕ → List (ℕ × ℕ) → Bool
 has_number number entries = list_any (λ e. number == e.0) entries
 
 -- what is wrong with a line after the entries of the lines before it: a number among them is `double`
-abbrev pub line_fault : Kind → List (ℕ × ℕ) → Given → Option Kind
+abbrev pub line_fault : Pl94Kind → List (ℕ × ℕ) → Given → Option Pl94Kind
 line_fault double earlier (Err kind) = Some kind
 line_fault double earlier (Ok None) = None
 line_fault double earlier (Ok (Some e)) = if has_number e.0 earlier then Some double else None
 
 -- what is wrong with a line and its number, or else the later fault
-abbrev pub at_line : ℕ → Option Kind → Option (Kind × ℕ) → Option (Kind × ℕ)
+abbrev pub at_line : ℕ → Option Pl94Kind → Option (Pl94Kind × ℕ) → Option (Pl94Kind × ℕ)
 at_line number (Some kind) later = Some (kind, number)
 at_line number None later = later
 
 -- what is wrong with the first line at fault, and its number; `before` are the lines before the others
-abbrev pub first_fault : (List ℕ → Given) → Kind → List Line → List Line → Option (Kind × ℕ)
+abbrev pub first_fault : (List ℕ → Given) → Pl94Kind → List Line → List Line → Option (Pl94Kind × ℕ)
 first_fault read double before [] = None
 first_fault read double before (l ∷ ls) =
     at_line l.number (line_fault double (entries_on read before) (read l.bytes)) (first_fault read double (before ++ l ∷ []) ls)
@@ -70,17 +72,23 @@ first_fault read double before (l ∷ ls) =
 abbrev pub by_number : List (ℕ × ℕ) → List (ℕ × ℕ)
 by_number entries = fold (λ placed e. insert_entry nat_cmp placed e.0 e.1) [] entries
 
+-- memory was refused
+abbrev pub IsMemory : Pl94Fault → Type 0
+IsMemory fault = fault.kind ≡ Memory
+
 -- the fault of a text whose cut ends in a fault
 abbrev pub cut_fault : File → LineFault → Pl94Fault
 cut_fault file fault = record { kind = Lower fault; file = file; line = line_of_fault fault }
 
+-- what is wrong with the line of a number
+abbrev pub fault_on : File → Pl94Kind × ℕ → Pl94Fault
+fault_on file f = record { kind = f.0; file = file; line = f.1 }
+
 -- the entries, unless a line is at fault, or the cut after all its lines
-abbrev pub unless_fault : File → Option (Kind × ℕ) → Option LineFault → List (ℕ × ℕ) → Result (List (ℕ × ℕ)) Pl94Fault
-unless_fault file (Some f) fault entries = Err (record { kind = f.0; file = file; line = f.1 })
-unless_fault file None (Some fault) entries = Err (cut_fault file fault)
-unless_fault file None None entries = Ok entries
+abbrev pub unless_fault : File → Option (Pl94Kind × ℕ) → Option LineFault → List (ℕ × ℕ) → Result (List (ℕ × ℕ)) Pl94Fault
+unless_fault file first fault entries = values.unless_fault (option_map (fault_on file) first) (option_map (cut_fault file) fault) entries
 
 -- the people by number of a whole text, or its first fault
-abbrev pub people_by_number : (List ℕ → Given) → Kind → File → List ℕ → Result (List (ℕ × ℕ)) Pl94Fault
+abbrev pub people_by_number : (List ℕ → Given) → Pl94Kind → File → List ℕ → Result (List (ℕ × ℕ)) Pl94Fault
 people_by_number read double file text =
     unless_fault file (first_fault read double [] (cut text).lines) (cut text).fault (by_number (entries_on read (cut text).lines))

@@ -1,10 +1,10 @@
 -- The faults that texts in memory can have.
-use Rattle.pl94_counties.specs.declared.fault.Kind.{Kind}
-use Rattle.pl94_counties.specs.declared.fault.Kind.TheVariants.{Lower}
+use Rattle.pl94_counties.specs.declared.fault.Pl94Kind.{Pl94Kind}
+use Rattle.pl94_counties.specs.declared.fault.Pl94Kind.TheVariants.{Lower}
 use Rattle.field_lines.specs.declared.fault.LineFault.TheVariants.{ReadFault, Memory}
 
 -- no line failed to be read, and none was refused memory
-abbrev pub IsOfText : Kind → Type 0
+abbrev pub IsOfText : Pl94Kind → Type 0
 IsOfText (Lower (ReadFault number)) = ⊥
 IsOfText (Lower Memory) = ⊥
 IsOfText kind = Unit {0}

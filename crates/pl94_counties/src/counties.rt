@@ -1,15 +1,15 @@
 ghost use Rattle.std.specs.Prelude.{◌≡◌, ◌≤◌, Ok, Some, IfOk, IfErr, map, All};
 ghost use Rattle.std.specs.List.Sorted.{IsStrictlyIncreasing};
-ghost use Rattle.pl94_counties.specs.Gives.{Gives};
+ghost use Rattle.field_lines.specs.Values.{GivesUnless};
 ghost use Rattle.pl94_counties.specs.Geo.{county_on};
-ghost use Rattle.pl94_counties.specs.Numbered.{Adds};
-ghost use Rattle.pl94_counties.specs.declared.fault.Kind.TheVariants.{DoubleCounty};
+ghost use Rattle.pl94_counties.specs.Numbered.{Adds, IsMemory};
+ghost use Rattle.pl94_counties.specs.declared.fault.Pl94Kind.TheVariants.{DoubleCounty};
 ghost use Rattle.field_lines.specs.Cut.{cut};
 ghost use Rattle.pl94_counties.specs.Joined.{IsJoined, IsListed};
 ghost use Rattle.pl94_counties.specs.OfText.{IsOfText};
 ghost use Rattle.pl94_counties.specs.Counties.{found_list, listed, county_list};
 
-use crate::fault::{File, Kind, Pl94Fault};
+use crate::fault::{File, Pl94Kind, Pl94Fault};
 use crate::geo::county_in;
 use crate::segment::read_records;
 use county_codes::{County, CountyCode};
@@ -22,13 +22,13 @@ fn put_county(
     found: &mut BTreeMap<CountyCode, u32>,
     code: CountyCode,
     people: u32,
-) -> Result<(), Kind>
+) -> Result<(), Pl94Kind>
     ensures { Adds DoubleCounty found.old.entries (Ok (Some (code, people))) result found.new.entries }
 {
     match found.insert(code, people) {
         Ok(None) => Ok(()),
-        Ok(Some(_)) => Err(Kind::DoubleCounty),
-        Err(_) => Err(Kind::Memory),
+        Ok(Some(_)) => Err(Pl94Kind::DoubleCounty),
+        Err(_) => Err(Pl94Kind::Memory),
     }
 }
 
@@ -38,7 +38,7 @@ fn add_line(
     state: u8,
     records: &BTreeMap<u32, u32>,
     line: &[u8],
-) -> Result<(), Kind>
+) -> Result<(), Pl94Kind>
     requires { state ≤ 99 }
     ensures { Adds DoubleCounty found.old.entries (county_on state records.now.entries line.now) result found.new.entries }
 {
@@ -56,7 +56,7 @@ fn join(
     records: &BTreeMap<u32, u32>,
 ) -> Result<BTreeMap<CountyCode, u32>, Pl94Fault>
     requires { state ≤ 99 }
-    ensures { Gives (λ m. m.entries) result (found_list state records.now.entries text.now) }
+    ensures { GivesUnless IsMemory (λ m. m.entries) result (found_list state records.now.entries text.now) }
 {
     let mut found = BTreeMap::new(alloc);
     let mut lines = Lines::new(text);
@@ -100,7 +100,7 @@ fn list(alloc: Global, found: &BTreeMap<CountyCode, u32>) -> Result<Vec<County>,
 /// # Errors
 ///
 /// Segment 1 is read whole, and then geo. The first line at fault answers, on it the first of the
-/// kinds in the order of `Kind`; a line that can't be read (`Lower`) answers after the lines before
+/// kinds in the order of `Pl94Kind`; a line that can't be read (`Lower`) answers after the lines before
 /// it. `NoCounties` comes only where no line is at fault, and `Memory` in the place of any fault.
 pub fn read_counties(
     alloc: Global,
@@ -109,7 +109,7 @@ pub fn read_counties(
     state: u8,
 ) -> Result<Vec<County>, Pl94Fault>
     requires { state ≤ 99 }
-    ensures value { Gives (λ v. v.items) result (county_list geo.now segment1.now state) }
+    ensures value { GivesUnless IsMemory (λ v. v.items) result (county_list geo.now segment1.now state) }
     ensures of_text { IfErr result (λ f. IsOfText f.kind) }
     ensures ascending { IfOk result (λ v. IsStrictlyIncreasing (map (λ c. c.code) v.items)) }
     ensures from_lines { IfOk result (λ v. All (IsJoined (cut geo.now).lines (cut segment1.now).lines state) v.items) }
@@ -119,18 +119,15 @@ pub fn read_counties(
     let found = join(alloc, geo, state, &records)?;
     if found.is_empty() {
         return Err(Pl94Fault {
-            kind: Kind::NoCounties,
+            kind: Pl94Kind::NoCounties,
             file: File::Geo,
             line: 0,
         });
     }
     let counties = list(alloc, &found).map_err(|_| Pl94Fault {
-        kind: Kind::Memory,
+        kind: Pl94Kind::Memory,
         file: File::Geo,
         line: 0,
     })?;
     Ok(counties)
 }
-
-#[cfg(test)]
-mod tests;

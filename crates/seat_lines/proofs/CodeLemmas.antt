@@ -5,37 +5,37 @@ use Rattle.std.specs.Option.{ok_or}
 use Rattle.field_lines.specs.Chain.{◌>>=◌}
 use Rattle.field_lines.specs.Number.{digits_of}
 use Rattle.seat_lines.specs.SeatLine.{codes_on}
-use Rattle.seat_lines.specs.declared.fault.SeatLineFault.{SeatLineFault}
-use Rattle.seat_lines.specs.declared.fault.SeatLineFault.TheVariants.{BadCode}
+use Rattle.seat_lines.specs.declared.fault.CodeLineKind.{CodeLineKind}
+use Rattle.seat_lines.specs.declared.fault.CodeLineKind.TheVariants.{BadCode}
 
 -- the codes found, and those of further fields, each in turn
-abbrev pub collect_codes : List ℕ → List (List ℕ) → Result (List ℕ) SeatLineFault
+abbrev pub collect_codes : List ℕ → List (List ℕ) → Result (List ℕ) CodeLineKind
 collect_codes found [] = Ok found
-collect_codes found (field ∷ fields) = elim (digits_of 5 field) as (λ _. Result (List ℕ) SeatLineFault) [
+collect_codes found (field ∷ fields) = elim (digits_of 5 field) as (λ _. Result (List ℕ) CodeLineKind) [
   | Some code ↦ collect_codes (found ++ code ∷ []) fields
   | None ↦ Err BadCode
 ]
 
 -- the codes after those found
-abbrev onto : List ℕ → Result (List ℕ) SeatLineFault → Result (List ℕ) SeatLineFault
+abbrev onto : List ℕ → Result (List ℕ) CodeLineKind → Result (List ℕ) CodeLineKind
 onto found (Ok codes) = Ok (found ++ codes)
 onto found (Err fault) = Err fault
 
-onto_next : (found : List ℕ) (code : ℕ) (later : Result (List ℕ) SeatLineFault)
+onto_next : (found : List ℕ) (code : ℕ) (later : Result (List ℕ) CodeLineKind)
     → onto (found ++ code ∷ []) later ≡ onto found (do
       codes ← later
       Ok (code ∷ codes))
 onto_next found code (Ok codes) = ap (λ (l : List ℕ). Ok l) (append_assoc found (code ∷ []) codes)
 onto_next found code (Err fault) = refl
 
-onto_nothing : (r : Result (List ℕ) SeatLineFault) → onto [] r ≡ r
+onto_nothing : (r : Result (List ℕ) CodeLineKind) → onto [] r ≡ r
 onto_nothing (Ok codes) = refl
 onto_nothing (Err fault) = refl
 
 -- one more field, by the number that it spells
 onto_field : (found : List ℕ) (number : Option ℕ) (fields : List (List ℕ))
     → ((code : ℕ) → collect_codes (found ++ code ∷ []) fields ≡ onto (found ++ code ∷ []) (codes_on fields))
-    → (elim number as (λ _. Result (List ℕ) SeatLineFault) [
+    → (elim number as (λ _. Result (List ℕ) CodeLineKind) [
       | Some code ↦ collect_codes (found ++ code ∷ []) fields
       | None ↦ Err BadCode
     ]) ≡ onto found (do

@@ -1,1 +1,3 @@
 pub mod SeatLine
+pub mod Faults
+pub mod GroupingLines

@@ -3,15 +3,15 @@ ghost use Rattle.field_lines.specs.Fields.{fields_of};
 ghost use Rattle.field_lines.specs.Number.{digits_of};
 ghost use Rattle.field_lines.specs.Values.{GivesUnless};
 ghost use Rattle.seat_lines.specs.SeatLine.{codes_on, seat_line};
-ghost use Rattle.seat_lines.specs.declared.fault.SeatLineFault.TheVariants.{Memory};
+ghost use Rattle.seat_lines.specs.declared.fault.CodeLineKind.TheVariants.{Memory};
 
-use crate::fault::SeatLineFault;
+use crate::fault::CodeLineKind;
 use county_codes::{Codes, CountyCode};
 use field_lines::{Fields, field_at, five_digits, number_in};
 use std::alloc::Global;
 
 /// What stands between two fields of a line.
-const DELIMITER: u8 = b'|';
+pub const DELIMITER: u8 = b'|';
 
 /// The county code that a field of exactly five ASCII digits spells. `None` for any other field.
 pub fn code_in(field: &[u8]) -> Option<CountyCode>
@@ -21,14 +21,14 @@ pub fn code_in(field: &[u8]) -> Option<CountyCode>
 }
 
 /// The codes of a line's fields from the second on.
-fn codes_in(alloc: Global, line: &[u8]) -> Result<Codes, SeatLineFault>
+fn codes_in(alloc: Global, line: &[u8]) -> Result<Codes, CodeLineKind>
     ensures { GivesUnless (λ f. f ≡ Memory) (λ c. c) result (codes_on (drop 1 (fields_of 124 line.now))) }
 {
     let mut codes = Vec::new(alloc);
     let mut fields = Fields::new(line, DELIMITER);
     let _seats = fields.next();
     while let Some(field) = fields.next() {
-        let code = code_in(field).ok_or(SeatLineFault::BadCode)?;
+        let code = code_in(field).ok_or(CodeLineKind::BadCode)?;
         codes.push(code)?;
     }
     Ok(Codes::new(codes))
@@ -49,17 +49,14 @@ pub fn seats_and_codes(
     line: &[u8],
     least: u16,
     greatest: u16,
-) -> Result<(u16, Codes), SeatLineFault>
+) -> Result<(u16, Codes), CodeLineKind>
     ensures { GivesUnless (λ f. f ≡ Memory) (λ r. (r.0, r.1)) result (seat_line least greatest line.now) }
 {
-    let seats = field_at(line, DELIMITER, 0).ok_or(SeatLineFault::TooFewFields)?;
-    field_at(line, DELIMITER, 1).ok_or(SeatLineFault::TooFewFields)?;
+    let seats = field_at(line, DELIMITER, 0).ok_or(CodeLineKind::TooFewFields)?;
+    field_at(line, DELIMITER, 1).ok_or(CodeLineKind::TooFewFields)?;
     let seats = number_in(seats, u32::from(least), u32::from(greatest)).ok_or(
-        SeatLineFault::BadSeats,
+        CodeLineKind::BadSeats,
     )?;
     let codes = codes_in(alloc, line)?;
     Ok((seats as u16, codes))
 }
-
-#[cfg(test)]
-mod tests;

@@ -13,6 +13,3 @@ pub use memory::{MemoryFile, MemoryShelf};
 pub use shelf::{MAX_FILE, Shelf, ShelfFault};
 pub use sink::{Sink, SinkFault, Writing};
 pub use whole::{WholeFault, read_whole};
-
-#[cfg(test)]
-mod tests;

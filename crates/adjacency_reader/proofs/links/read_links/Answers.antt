@@ -1,6 +1,6 @@
 use Rattle.field_lines.specs.Cut.{cut}
 use Rattle.field_lines.proofs.ValueLemmas.{collected}
-use Rattle.adjacency_reader.specs.Faults.{line_fault, cut_fault}
+use Rattle.seat_lines.specs.Faults.{line_fault, cut_fault}
 use Rattle.adjacency_reader.specs.Links.{link_on}
 use Rattle.adjacency_reader.proofs.links.read_links.Goals as goal
 

@@ -1,6 +1,6 @@
 use Rattle.std.proofs.Common.{◌≡◌, length}
 use Rattle.field_lines.proofs.ValueLemmas.{collect_values}
-use Rattle.adjacency_reader.specs.Faults.{line_fault, cut_fault}
+use Rattle.seat_lines.specs.Faults.{line_fault, cut_fault}
 use Rattle.adjacency_reader.specs.Links.{link_on, link_list}
 use Rattle.adjacency_reader.proofs.links.read_links.Given as goal
 

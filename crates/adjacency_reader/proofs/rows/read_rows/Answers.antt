@@ -1,6 +1,6 @@
 use Rattle.field_lines.specs.Cut.{cut}
 use Rattle.field_lines.proofs.ValueLemmas.{collected}
-use Rattle.adjacency_reader.specs.Faults.{line_fault, cut_fault}
+use Rattle.seat_lines.specs.Faults.{line_fault, cut_fault}
 use Rattle.adjacency_reader.specs.Rows.{row_on, without_header}
 use Rattle.adjacency_reader.proofs.rows.read_rows.Goals as goal
 

@@ -1,6 +1,6 @@
 use Rattle.std.proofs.Common.{◌≡◌, length}
 use Rattle.field_lines.proofs.ValueLemmas.{collect_values}
-use Rattle.adjacency_reader.specs.Faults.{line_fault, cut_fault}
+use Rattle.seat_lines.specs.Faults.{line_fault, cut_fault}
 use Rattle.adjacency_reader.specs.Rows.{row_on, row_list}
 use Rattle.adjacency_reader.proofs.RowLemmas.{lines_left}
 use Rattle.adjacency_reader.proofs.rows.read_rows.Given as goal

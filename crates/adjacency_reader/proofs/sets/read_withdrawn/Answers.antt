@@ -1,6 +1,6 @@
 use Rattle.field_lines.specs.Cut.{cut}
 use Rattle.field_lines.proofs.ValueLemmas.{collected}
-use Rattle.adjacency_reader.specs.Faults.{line_fault, cut_fault}
+use Rattle.seat_lines.specs.Faults.{line_fault, cut_fault}
 use Rattle.adjacency_reader.specs.Withdrawn.{set_on}
 use Rattle.adjacency_reader.proofs.sets.read_withdrawn.Goals as goal
 

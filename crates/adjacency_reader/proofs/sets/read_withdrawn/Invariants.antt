@@ -1,6 +1,6 @@
 use Rattle.std.proofs.Common.{◌≡◌, length}
 use Rattle.field_lines.proofs.ValueLemmas.{collect_values}
-use Rattle.adjacency_reader.specs.Faults.{line_fault, cut_fault}
+use Rattle.seat_lines.specs.Faults.{line_fault, cut_fault}
 use Rattle.adjacency_reader.specs.Withdrawn.{set_on, withdrawn_list}
 use Rattle.adjacency_reader.proofs.sets.read_withdrawn.Given as goal
 

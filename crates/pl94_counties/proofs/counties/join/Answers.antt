@@ -1,4 +1,4 @@
-use Rattle.pl94_counties.specs.declared.fault.Kind.TheVariants.{DoubleCounty}
+use Rattle.pl94_counties.specs.declared.fault.Pl94Kind.TheVariants.{DoubleCounty}
 use Rattle.pl94_counties.specs.declared.fault.File.TheVariants.{Geo}
 use Rattle.pl94_counties.specs.Geo.{county_on}
 use Rattle.pl94_counties.proofs.CollectLemmas.{collected}

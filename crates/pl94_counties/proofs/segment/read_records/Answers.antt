@@ -1,4 +1,4 @@
-use Rattle.pl94_counties.specs.declared.fault.Kind.TheVariants.{DoubleRecord}
+use Rattle.pl94_counties.specs.declared.fault.Pl94Kind.TheVariants.{DoubleRecord}
 use Rattle.pl94_counties.specs.declared.fault.File.TheVariants.{Segment1}
 use Rattle.pl94_counties.specs.Segment.{record_on}
 use Rattle.pl94_counties.proofs.CollectLemmas.{collected}

@@ -1,5 +1,5 @@
 use Rattle.std.proofs.Common.{◌≡◌, length}
-use Rattle.pl94_counties.specs.declared.fault.Kind.TheVariants.{DoubleRecord}
+use Rattle.pl94_counties.specs.declared.fault.Pl94Kind.TheVariants.{DoubleRecord}
 use Rattle.pl94_counties.specs.declared.fault.File.TheVariants.{Segment1}
 use Rattle.pl94_counties.specs.Segment.{record_on, record_list}
 use Rattle.pl94_counties.proofs.CollectLemmas.{collect_from}

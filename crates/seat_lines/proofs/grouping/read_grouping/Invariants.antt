@@ -1,0 +1,11 @@
+use Rattle.std.proofs.Common.{◌≡◌, length}
+use Rattle.field_lines.proofs.ValueLemmas.{collect_values}
+use Rattle.seat_lines.specs.Faults.{line_fault, cut_fault}
+use Rattle.seat_lines.specs.GroupingLines.{group_on, grouping_list}
+use Rattle.seat_lines.proofs.grouping.read_grouping.Given as goal
+
+abbrev pub invariant-loop-groups : goal.invariant-loop-groups
+invariant-loop-groups l = collect_values group_on line_fault cut_fault l.groups.items l.lines.lines l.lines.fault ≡ grouping_list l.fn.bytes
+
+abbrev pub decreases-loop-groups : goal.decreases-loop-groups
+decreases-loop-groups l = length l.lines.lines

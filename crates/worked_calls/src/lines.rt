@@ -1,0 +1,107 @@
+//! Lines, pieces and fields of texts.
+
+use anyhow::Result;
+use field_lines::{Fields, Lines, RawLines, field_at};
+
+/// More lines and pieces than any text here has.
+const MANY: u32 = 20;
+
+/// Prints the lines of a text, and its fault.
+fn show_lines(rt: &HostRuntime, text: &[u8]) -> Result<()> {
+    println!(rt; "lines of {:?}", str::from_utf8(text)?)?;
+    let mut lines = Lines::new(text);
+    for _ in 0..MANY {
+        let Some((number, line)) = lines.next_line()? else {
+            break;
+        };
+        println!(rt; "{number} {:?}", str::from_utf8(line)?)?;
+    }
+    Ok(())
+}
+
+/// Prints how long the lines of a text are, and its fault, which stays.
+fn show_lengths(rt: &HostRuntime, text: &str) -> Result<()> {
+    println!(rt; "lines of {} bytes", text.len())?;
+    let mut lines = Lines::new(text.as_bytes());
+    for _ in 0..3 {
+        match lines.next_line() {
+            Ok(Some((number, line))) => println!(rt; "{number}: {} bytes", line.len())?,
+            Ok(None) => println!(rt; "end")?,
+            Err(fault) => println!(rt; "{fault}: {}", fault.line())?,
+        }
+    }
+    Ok(())
+}
+
+/// Prints the pieces of a text.
+fn show_pieces(rt: &HostRuntime, text: &[u8]) -> Result<()> {
+    println!(rt; "pieces of {:?}", str::from_utf8(text)?)?;
+    let mut pieces = RawLines::new(text);
+    for _ in 0..MANY {
+        let Some(piece) = pieces.next_piece() else {
+            break;
+        };
+        let bytes = str::from_utf8(piece.bytes)?;
+        println!(rt; "{} {bytes:?} ended {}", piece.number, piece.ended)?;
+    }
+    Ok(())
+}
+
+/// Prints the fields of a line.
+fn show_fields(rt: &HostRuntime, line: &str, delimiter: u8) -> Result<()> {
+    println!(rt; "fields of {line:?}")?;
+    for field in Fields::new(line.as_bytes(), delimiter) {
+        println!(rt; "{:?}", str::from_utf8(field)?)?;
+    }
+    Ok(())
+}
+
+/// Prints a field of a line.
+fn show_field(rt: &HostRuntime, line: &str, delimiter: u8, index: usize) -> Result<()> {
+    match field_at(line.as_bytes(), delimiter, index) {
+        Some(field) => println!(rt; "field {index} of {line:?}: {:?}", str::from_utf8(field)?)?,
+        None => println!(rt; "field {index} of {line:?}: none")?,
+    }
+    Ok(())
+}
+
+/// Prints the lines of texts with marks, carriage returns, blank lines and a last piece.
+fn show_texts(rt: &HostRuntime) -> Result<()> {
+    for text in [
+        "",
+        "\u{feff}",
+        "\u{feff}\r\n\n\r\na",
+        "a\r\r\n\n b\r",
+        "a\n\u{feff}b\n",
+        "\u{feff}County Name|County GEOID|Neighbor Name|Neighbor GEOID|Length\r\nA|37001|A|37001|0\r\nA|37001|B|37003|12\r\nC|37005|B|37003|9\r\nA|37001|X|51001|3\r\n",
+    ] {
+        show_lines(rt, text.as_bytes())?;
+    }
+    Ok(())
+}
+
+/// Prints how long lines may be.
+fn show_long(rt: &HostRuntime) -> Result<()> {
+    let alloc = rt.alloc();
+    let full = "x".repeat(alloc, 65_536)?;
+    let above = "x".repeat(alloc, 65_537)?;
+    show_lengths(rt, &full)?;
+    show_lengths(rt, &above)?;
+    show_lengths(rt, &format!(in alloc; "x\n{full}")?)?;
+    show_lengths(rt, &format!(in alloc; "x\n{full}\r")?)
+}
+
+/// Prints lines, pieces and fields.
+pub(crate) fn show(rt: &HostRuntime) -> Result<()> {
+    show_texts(rt)?;
+    show_long(rt)?;
+    show_pieces(rt, b"\xEF\xBB\xBFa\r\n\nb")?;
+    show_pieces(rt, b"a\n")?;
+    for line in ["", "|", "a|b|", "A|37001|X|51001|3"] {
+        show_fields(rt, line, b'|')?;
+    }
+    for index in [1, 2, 3] {
+        show_field(rt, "a,b,", b',', index)?;
+    }
+    Ok(())
+}

@@ -1,0 +1,60 @@
+//! Numbers in fields, and the texts of faults of lines.
+
+use anyhow::Result;
+use field_lines::{LineFault, fifteen_digits, five_digits, number_in, three_digits, two_digits};
+
+/// Prints the number that a field spells within a range.
+fn show_number(rt: &HostRuntime, field: &str, least: u32, greatest: u32) -> Result<()> {
+    let number = number_in(field.as_bytes(), least, greatest);
+    println!(rt; "{field:?} from {least} to {greatest}: {number:?}")?;
+    Ok(())
+}
+
+/// Prints numbers at the ends of ranges.
+fn show_ranges(rt: &HostRuntime) -> Result<()> {
+    for field in [
+        "", "0", "007", "10", "+4", " 4", "4 ", "-4", "4.", "4\r", "\u{ff14}",
+    ] {
+        show_number(rt, field, 0, 9)?;
+    }
+    for field in ["0", "1", "1000", "1001"] {
+        show_number(rt, field, 1, 1_000)?;
+    }
+    for field in [
+        "4294967295",
+        "4294967296",
+        "00000000000000000000000000000000000000012",
+        "99999999999999999999999999999999999999999",
+    ] {
+        show_number(rt, field, 0, u32::MAX)?;
+    }
+    Ok(())
+}
+
+/// Prints what a field of exactly so many digits spells.
+fn show_digits(rt: &HostRuntime, text: &str) -> Result<()> {
+    let field = text.as_bytes();
+    println!(rt; "{text:?}: two {:?}, three {:?}", two_digits(field), three_digits(field))?;
+    println!(rt; "{text:?}: five {:?}, fifteen {:?}", five_digits(field), fifteen_digits(field))?;
+    Ok(())
+}
+
+/// Prints numbers, digits and faults.
+pub(crate) fn show(rt: &HostRuntime) -> Result<()> {
+    show_ranges(rt)?;
+    for text in [
+        "7", "37", "3a", "037", "01", "001", "0001", "3700", "37001", "037001", "37001020100100",
+        "370010201001000", "999999999999999",
+    ] {
+        show_digits(rt, text)?;
+    }
+    for fault in [
+        LineFault::LineTooLong(7),
+        LineFault::TooManyLines,
+        LineFault::ReadFault(8),
+        LineFault::Memory,
+    ] {
+        println!(rt; "{fault}: {}", fault.line())?;
+    }
+    Ok(())
+}

@@ -1,0 +1,48 @@
+//! Lines of seats and codes.
+
+use anyhow::Result;
+use county_codes::CountyCode;
+use seat_lines::seats_and_codes;
+use std::alloc::{AllocError, Global};
+
+/// The numbers of codes.
+pub(crate) fn numbers(alloc: Global, codes: &[CountyCode]) -> Result<Vec<u32>, AllocError> {
+    codes.iter().map(|code| code.get()).collect(alloc)
+}
+
+/// Prints the seats and the codes of a line, or its fault.
+fn show_line(rt: &HostRuntime, line: &str) -> Result<()> {
+    match seats_and_codes(rt.alloc(), line.as_bytes(), 1, 1_000) {
+        Ok((seats, codes)) => {
+            let codes = numbers(rt.alloc(), codes.as_slice())?;
+            println!(rt; "{line:?}: {seats} seats, codes {codes:?}")?;
+        }
+        Err(fault) => println!(rt; "{line:?}: {fault}")?,
+    }
+    Ok(())
+}
+
+/// Prints lines of 1 to 1,000 seats.
+pub(crate) fn show(rt: &HostRuntime) -> Result<()> {
+    for line in [
+        "3|37005",
+        "001|37005|37007",
+        "1000|00000",
+        "1|99999|37001|99999",
+        "",
+        "3",
+        "x",
+        "0|37005",
+        "1001|37005",
+        "+1|37005",
+        "|37005",
+        "x|3700",
+        "3|",
+        "3|3700",
+        "3|37005|",
+        "3|37005|370055|37007",
+    ] {
+        show_line(rt, line)?;
+    }
+    Ok(())
+}
