@@ -1,11 +1,11 @@
 -- The quotients of the seat window are its ends.
-use Rattle.std.proofs.Common.{◌≡◌, ℕ, ◌+◌, ◌-◌, ◌*◌, ◌/◌, ◌<◌, ◌≤◌, ◌↔◌, Bool, true, false, Some, None, max, nat_le, if◌then◌else◌, arith, refl}
+use Rattle.std.proofs.Common.{◌≡◌, ℕ, ◌+◌, ◌-◌, ◌*◌, ◌/◌, ◌<◌, ◌≤◌, ◌↔◌, Bool, true, false, ◌&&◌, Some, None, is_some, max, nat_le, if◌then◌else◌, arith, refl}
 use Rattle.std.specs.Int.{div_ceil}
 use Rattle.std.proofs.Math.Nat.{le-div_iff_mul-le, mul-le-mul_left}
 use Rattle.std.proofs.lemmas.Grind.{div_ceil_times}
 use Rattle.std.proofs.lemmas.Bool.Decides.{nat_tests}
 use Rattle.grouping_laws.specs.Problem.{Problem, Suits}
-use Rattle.grouping_laws.specs.SeatWindow.{IsRun, AreBounds, seat_run, people_bounds}
+use Rattle.grouping_laws.specs.SeatWindow.{IsRun, AreBounds, seats_between, some_suit, seat_run, people_bounds}
 
 module _ (x d k : ℕ) (some : 0 < d) where
   below_quotient : (k ≤ x / d) ↔ (k * d ≤ x)
@@ -76,3 +76,27 @@ module _ (p : Problem) (some_scale : 1 ≤ p.scale) (some_seats : 1 ≤ p.chambe
         λ s. (low.1 (omega (arith, s.enough, l, m)), high.1 (omega (arith, s.not_more, h, m))),
         λ b. record { some_seat = some; enough = omega (arith, low.0 b.0, l, m); not_more = omega (arith, high.0 b.1, h, m) },
       )
+
+-- a run from max d 1 to m is there exactly where m is at least 1 and d at most m, said by another test
+chosen : (d x y m : ℕ) → (d ≤ m) ↔ (x ≤ y) → is_some {T = ℕ × ℕ} (if nat_le (max d 1) m then Some (max d 1, m) else None) ≡ (nat_le 1 m && nat_le x y)
+chosen d x y m same = go (nat_le (max d 1) m) refl (nat_le 1 m) refl (nat_le x y) refl
+  where
+    low : nat_le (max d 1) m ≡ true → (d ≤ m) × (1 ≤ m)
+    low e = (grind (arith, nat_tests, e), grind (arith, nat_tests, e))
+
+    within : nat_le x y ≡ true → x ≤ y
+    within e = grind (arith, nat_tests, e)
+
+    go : (a : Bool) → nat_le (max d 1) m ≡ a → (b : Bool) → nat_le 1 m ≡ b → (c : Bool) → nat_le x y ≡ c → is_some {T = ℕ × ℕ} (if a then Some (max d 1, m) else None) ≡ (b && c)
+    go true e true f true h = refl
+    go true e true f false h = absurd (let r = same.0 (low e).0 in grind (arith, nat_tests, r, h))
+    go true e false f c h = absurd (let l = (low e).1 in grind (arith, nat_tests, l, f))
+    go false e true f true h = absurd (let r = same.1 (within h) in grind (arith, nat_tests, r, f, e))
+    go false e true f false h = refl
+    go false e false f c h = refl
+
+-- some number of seats suits exactly where the greatest quotient is a seat and reaches: one quotient tells
+pub some_between : (below whole above_ total chamber people : ℕ) → 1 ≤ above_ → 1 ≤ total → is_some (seats_between below whole above_ total chamber people) ≡ some_suit below whole above_ total chamber people
+some_between below whole above_ total chamber people some_above some =
+    chosen (div_ceil (whole * chamber * people) (above_ * total)) (whole * chamber * people) (whole * chamber * people / (below * total) * (above_ * total)) (whole * chamber * people / (below * total))
+    (above_quotient (whole * chamber * people) (above_ * total) (whole * chamber * people / (below * total)) (pos_product above_ total some_above some))

@@ -1,5 +1,5 @@
 -- How many seats suit how many people.
-use Rattle.std.specs.Prelude.{ℕ, ◌+◌, ◌-◌, ◌*◌, ◌/◌, ◌≤◌, ◌↔◌, Option, Some, None, max, nat_le, if◌then◌else◌}
+use Rattle.std.specs.Prelude.{ℕ, ◌+◌, ◌-◌, ◌*◌, ◌/◌, ◌≤◌, ◌↔◌, Bool, ◌&&◌, Option, Some, None, max, nat_le, if◌then◌else◌}
 use Rattle.std.specs.Int.{div_ceil}
 use Rattle.grouping_laws.specs.Problem.{Problem, Suits}
 
@@ -16,6 +16,13 @@ seats_between below whole above total chamber people =
     let least = max (div_ceil share (above * total)) 1 in
     let greatest = share / (below * total) in
     if nat_le least greatest then Some (least, greatest) else None
+
+-- whether the people suit some number of seats: the greatest quotient is one, and they are not too many for it
+abbrev pub some_suit : ℕ → ℕ → ℕ → ℕ → ℕ → ℕ → Bool
+some_suit below whole above total chamber people =
+    let share = whole * chamber * people in
+    let greatest = share / (below * total) in
+    nat_le 1 greatest && nat_le share (greatest * (above * total))
 
 -- the bounds of so many seats, as quotients
 abbrev pub bounds_of : ℕ → ℕ → ℕ → ℕ → ℕ → ℕ → ℕ × ℕ

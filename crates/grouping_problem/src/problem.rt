@@ -1,11 +1,11 @@
-ghost use Rattle.std.specs.Prelude.{◌≡◌, ℕ, ◌+◌, ◌<◌, ◌≤◌, ◌^◌, IfOk, length};
+ghost use Rattle.std.specs.Prelude.{◌≡◌, ℕ, ◌+◌, ◌<◌, ◌≤◌, ◌^◌, IfOk, is_some, length};
 ghost use Rattle.std.specs.List.Sorted.{IsStrictlyIncreasing};
 ghost use Rattle.grouping_laws.specs.Problem.{Suits, IsProblem};
 ghost use Rattle.grouping_laws.specs.SeatWindow.{IsRun, AreBounds, seat_run, people_bounds};
 ghost use Rattle.grouping_problem.specs.ProblemValue.{problem_of, codes_of, IsWithinLimits, names_both as joined_by};
 ghost use Rattle.grouping_problem.specs.Building.{people_in, seats_in};
 
-use crate::size::{bounds_for, seats_for};
+use crate::size::{bounds_for, seats_for, suits_some_seats};
 use county_codes::{County, CountyCode, Withdrawn, copy_sets};
 use std::alloc::AllocError;
 use std::marker::Model;
@@ -115,6 +115,14 @@ impl Problem {
         ensures law { IsRun (Suits (problem_of self.now) people) result }
     {
         seats_for(people, self.total, self.chamber)
+    }
+
+    /// Whether the people suit some number of seats. The people are at most those of the problem.
+    pub fn suits_some(&self, people: u64) -> bool
+        requires { people ≤ self.now.total_people }
+        ensures value { result ≡ is_some (seat_run (problem_of self.now) people) }
+    {
+        suits_some_seats(people, self.total, self.chamber)
     }
 
     /// The least and the greatest number of people that suit the seats (1 to 2,000); where the first is

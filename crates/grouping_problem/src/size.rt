@@ -1,5 +1,5 @@
 ghost use Rattle.std.specs.Prelude.{◌≡◌, ℕ, ◌+◌, ◌*◌, ◌<◌, ◌≤◌, ◌^◌};
-ghost use Rattle.grouping_laws.specs.SeatWindow.{seats_between, bounds_of};
+ghost use Rattle.grouping_laws.specs.SeatWindow.{seats_between, some_suit, bounds_of};
 
 /// The least and the greatest number of seats that the people suit.
 pub(crate) fn seats_for(people: u64, total: u64, chamber: u16) -> Option<(u16, u16)>
@@ -17,6 +17,19 @@ pub(crate) fn seats_for(people: u64, total: u64, chamber: u16) -> Option<(u16, u
     } else {
         None
     }
+}
+
+/// Whether the people suit some number of seats: one quotient, where the range takes two.
+pub(crate) fn suits_some_seats(people: u64, total: u64, chamber: u16) -> bool
+    requires within { people ≤ total }
+    requires some { 0 < total }
+    requires fits { total ≤ 2 ^ 40 }
+    requires seats { chamber ≤ 1000 }
+    ensures { result ≡ some_suit 19 20 21 total chamber people }
+{
+    let share = 20 * u64::from(chamber) * people;
+    let most = share / (19 * total);
+    most >= 1 && share <= most * (21 * total)
 }
 
 /// The least and the greatest number of people that suit the seats; where the first is above the second,

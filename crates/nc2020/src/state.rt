@@ -3,7 +3,8 @@ ghost use Rattle.std.specs.Prelude.{◌≤◌};
 
 use adjacency_reader::read_pairs;
 use anyhow::Result;
-use connected_groups::{GroupList, groups_over, neighbour_rows};
+use connected_groups::{GroupList, groups_over};
+use county_regions::neighbour_rows;
 use county_codes::{County, CountyCode};
 use grouping_problem::Problem;
 use ordered_counties::{Ordered, Steps};
