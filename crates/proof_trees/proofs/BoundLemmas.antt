@@ -9,7 +9,8 @@ use Rattle.place_sets.proofs.Sums.{total_same, total_ones, total-append}
 use Rattle.grouping_laws.proofs.Elements.{Has, has-map}
 use Rattle.grouping_laws.proofs.Sizes.{share, below, below_more, below-le, below_all, below_same, same_sizes}
 use Rattle.proof_trees.specs.Round.{Language}
-use Rattle.proof_trees.specs.State.{State, open_to, listed}
+use Rattle.proof_trees.specs.Regions.{listed}
+use Rattle.proof_trees.specs.State.{State, open_to}
 use Rattle.proof_trees.specs.Fitting.{Fits}
 use Rattle.proof_trees.specs.Tree.{Allowance, room, weigh}
 use Rattle.proof_trees.specs.BoundLines.{allowance, room_at, IsFair, Bounds, weight_of}

@@ -13,19 +13,19 @@ use Rattle.grouping_laws.proofs.Digits.{true_digit}
 use Rattle.grouping_laws.proofs.Alike.{member_same}
 use Rattle.grouping_laws.proofs.Parts.{has_from_stands}
 use Rattle.proof_trees.specs.Round.{Language, Plain, Wide, Round}
-use Rattle.proof_trees.specs.State.{State, IsState, IsLeastSize, open_to, close, raise, without}
+use Rattle.proof_trees.specs.Regions.{without}
+use Rattle.proof_trees.specs.State.{State, IsState, IsLeastSize, open_to, close, raise}
 use Rattle.proof_trees.specs.Agreement.{Agrees}
 use Rattle.proof_trees.specs.Fitting.{Fits}
 use Rattle.proof_trees.specs.Proving.{CanBranch, GoesInOrder}
 use Rattle.proof_trees.specs.Groups.{IsGroupAt}
 use Rattle.proof_trees.specs.Branching.{BranchKeepsState, steps_left, turns_left}
 use Rattle.proof_trees.proofs.Completion.{open_rest, open_least, is_open, rest_listed}
-use Rattle.proof_trees.proofs.LeafLemmas.{not_longer}
-use Rattle.proof_trees.proofs.Steps.{split_one, find_small}
-use Rattle.proof_trees.proofs.Living.{without_in, without_not}
+use Rattle.proof_trees.proofs.Counting.{not_longer, total-filter, total_less, length-filter, fewer_kept}
+use Rattle.proof_trees.proofs.Steps.{find_small}
+use Rattle.proof_trees.proofs.WithoutGroup.{split_one, without_in, without_not}
 use Rattle.proof_trees.proofs.Heart.{group_there}
 use Rattle.proof_trees.proofs.Agreement.{Peeled, no_size, peeled, peeled_completes, empty_is_state, empty_agrees}
-use Rattle.proof_trees.proofs.Regions.{total-filter, total_less, length-filter, fewer_kept}
 use Rattle.proof_trees.proofs.Narrowing.{closing_narrows, raising_narrows}
 
 -- a group that fits lies in the rest

@@ -1,5 +1,5 @@
 -- What one list of groups and one list of connected parts decide.
-use Rattle.std.proofs.Common.{◌≡◌, ◌≤◌, length, ℕ, suc, ◌<◌, Bool, true, List, [], ◌∷◌, ◌++◌, map, refl, sym, ap, ◌∙◌, subst, arith, ◌⊎◌, inl, inr, ⊎_elim, AllPairs, All, Contains, filter}
+use Rattle.std.proofs.Common.{◌≡◌, ◌≤◌, length, ℕ, ◌<◌, Bool, true, List, [], ◌∷◌, ◌++◌, map, refl, sym, ap, ◌∙◌, subst, arith, ◌⊎◌, inl, inr, ⊎_elim, AllPairs, All, Contains, filter}
 use Rattle.std.specs.List.{AllZip}
 use Rattle.std.proofs.lemmas.List.Elements.{filter_agree}
 use Rattle.grouping_laws.specs.Sets.{total, stands, member, SameSet}
@@ -15,14 +15,17 @@ use Rattle.grouping_laws.proofs.Parts.{FillRegion, within_part, has_hit}
 use Rattle.grouping_laws.proofs.Fill.{same_from}
 use Rattle.grouping_laws.proofs.Seated.{parts_seated, least_sum, most_sum, AllZip-append, seated_sets, seated_seats, seated_has, first_code, set_from_stands}
 use Rattle.proof_trees.specs.Round.{Language, Plain, Wide, Round}
-use Rattle.proof_trees.specs.State.{State, open_to, close, without}
+use Rattle.proof_trees.specs.Regions.{without}
+use Rattle.proof_trees.specs.State.{State, open_to, close}
 use Rattle.proof_trees.specs.Stuck.{CannotFill}
 use Rattle.proof_trees.specs.Fitting.{IsDead, IsKept, Fits}
 use Rattle.proof_trees.specs.Leaves.{IsStuck, IsOffSeats}
 use Rattle.proof_trees.specs.Groups.{AreGroupsAt, AreGroupsOf}
 use Rattle.proof_trees.specs.Decided.{LeavesAreDecided}
-use Rattle.proof_trees.proofs.Living.{without_not, without_same, cannot_once_closed, cannot_before}
+use Rattle.proof_trees.proofs.Living.{cannot_once_closed, cannot_before}
+use Rattle.proof_trees.proofs.WithoutGroup.{without_not, without_same}
 use Rattle.proof_trees.proofs.Regions.{parts_exist}
+use Rattle.proof_trees.proofs.Kept.{head_before, tail_pairs}
 
 -- two sorted lists with the same elements are one
 lesser_irreflexive : (xs : List ℕ) → IsLesser xs xs → ⊥
@@ -47,13 +50,6 @@ before_asymmetric order g h (inl l) (inl m) = omega arith
 before_asymmetric order g h (inl l) (inr m) = omega (arith, m.0)
 before_asymmetric order g h (inr l) (inl m) = omega (arith, l.0)
 before_asymmetric order g h (inr l) (inr m) = lesser_asymmetric (map (place order) g) (map (place order) h) l.1 m.1
-
--- each element of the tail is after the head
-pub head_before : {X : Type 0} (R : X → X → Type 0) (x : X) (xs : List X) → AllPairs R (x ∷ xs) → (y : X) → Has xs y → R x y
-head_before R x xs h y i = let r = contains_from_has xs y i in subst (R x) r.2 (h 0 (suc r.0) y (omega arith) (omega (arith, r.1)))
-
-pub tail_pairs : {X : Type 0} (R : X → X → Type 0) (x : X) (xs : List X) → AllPairs R (x ∷ xs) → AllPairs R xs
-tail_pairs R x xs h = λ i j d a b. h (suc i) (suc j) d (omega arith) (omega arith)
 
 sorted_same : {X : Type 0} (R : X → X → Type 0) (irreflexive : (x : X) → R x x → ⊥) (asymmetric : (x y : X) → R x y → R y x → ⊥) (xs ys : List X) → AllPairs R xs → AllPairs R ys
     → ((x : X) → Has xs x → Has ys x) → ((x : X) → Has ys x → Has xs x) → xs ≡ ys

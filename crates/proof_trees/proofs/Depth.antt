@@ -9,15 +9,16 @@ use Rattle.grouping_laws.proofs.Elements.{Has, contains_from_has}
 use Rattle.grouping_laws.proofs.Digits.{true_digit}
 use Rattle.grouping_laws.proofs.Parts.{member_head}
 use Rattle.proof_trees.specs.Round.{Language, Plain, Wide, Round}
-use Rattle.proof_trees.specs.State.{State, IsState, open_to, close, raise, without, listed}
+use Rattle.proof_trees.specs.Regions.{without, listed}
+use Rattle.proof_trees.specs.State.{State, IsState, open_to, close, raise}
 use Rattle.proof_trees.specs.Tree.{Tree, leaf, branch, Takes, no_take, take, groups_of}
 use Rattle.proof_trees.specs.Proving.{limit_of, Proves, EachProves, CanBranch, GoesInOrder}
 use Rattle.proof_trees.specs.Groups.{IsGroupAt}
 use Rattle.proof_trees.specs.Branching.{steps_left}
 use Rattle.proof_trees.specs.Depth.{IsWithin, EachWithin, after_raise, branches_on, branches_in, HasLimits, EachHasLimits, TreesAreShallow}
 use Rattle.proof_trees.proofs.Completion.{open_rest, open_least, rest_listed}
-use Rattle.proof_trees.proofs.Living.{without_in}
-use Rattle.proof_trees.proofs.Regions.{fewer_kept, no_more_kept, total-filter, total_less}
+use Rattle.proof_trees.proofs.WithoutGroup.{without_in}
+use Rattle.proof_trees.proofs.Counting.{fewer_kept, no_more_kept, total-filter, total_less}
 use Rattle.proof_trees.proofs.Branches.{branch_keeps_state, open_above, closed_open, raised_open, settled_shut, raised_shut, settled_out}
 
 -- how many counties a path can still use up, in order: of the rest, in a plain round of those open to groups of at most the limit

@@ -14,7 +14,8 @@ use Rattle.grouping_laws.proofs.Digits.{true_digit}
 use Rattle.grouping_laws.proofs.Ranges.{seats_to}
 use Rattle.grouping_laws.proofs.Seated.{set_from_stands, first_code, seated_find, seated_lawful}
 use Rattle.proof_trees.specs.Round.{Language, Plain, Wide, Round}
-use Rattle.proof_trees.specs.State.{State, IsState, open_to, without, listed}
+use Rattle.proof_trees.specs.Regions.{without, listed}
+use Rattle.proof_trees.specs.State.{State, IsState, open_to}
 use Rattle.proof_trees.specs.Agreement.{Agrees}
 use Rattle.proof_trees.specs.Fitting.{IsDead, IsKept, Fits, NoGroupFits}
 use Rattle.proof_trees.specs.Tree.{Allowance, weigh}
@@ -22,7 +23,7 @@ use Rattle.proof_trees.specs.BoundLines.{IsFair, allowance, Bounds, weight_of}
 use Rattle.proof_trees.specs.Certificate.{Beats}
 use Rattle.proof_trees.specs.Search.{HasNoLeaf, FinishedBeats, FinishedStateBeats, AreCountLines, IsCountLine}
 use Rattle.proof_trees.proofs.Completion.{rest_listed, is_open}
-use Rattle.proof_trees.proofs.Living.{without_in, without_not}
+use Rattle.proof_trees.proofs.WithoutGroup.{without_in, without_not}
 use Rattle.proof_trees.proofs.Decided.{part_same, cannot_either}
 
 none_weigh : (xs : List ℕ) → total (weight_of []) xs ≡ 0

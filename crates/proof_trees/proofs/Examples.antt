@@ -11,13 +11,14 @@ use Rattle.grouping_laws.proofs.Digits.{often_member}
 use Rattle.grouping_laws.proofs.Alike.{Alike, in_order_alike, lawful_alike, length_alike, member_same}
 use Rattle.grouping_laws.proofs.Fill.{one, grown, member_cases}
 use Rattle.proof_trees.specs.Round.{Plain, Wide}
-use Rattle.proof_trees.specs.State.{State, open_to, empty_state, raise, without}
+use Rattle.proof_trees.specs.Regions.{without}
+use Rattle.proof_trees.specs.State.{State, open_to, empty_state, raise}
 use Rattle.proof_trees.specs.Fitting.{Fits, IsDead}
 use Rattle.proof_trees.specs.BoundLines.{weight_of}
 use Rattle.proof_trees.specs.Groups.{IsGroupAt, AreGroupsAt}
 use Rattle.proof_trees.specs.Certificate.{IsCertificate, TargetFits}
 use Rattle.proof_trees.specs.Examples.{path, linked, stranding, together, plain_round, plain_tree, wide_round, wide_tree, lone_leaf}
-use Rattle.proof_trees.proofs.Living.{without_same}
+use Rattle.proof_trees.proofs.WithoutGroup.{without_same}
 
 path_once : (c : ℕ) → often c path ≤ 1
 path_once c = grind (arith, nat_tests)

@@ -1,10 +1,10 @@
 -- At a state that can be completed no part of the rest is stuck, and the seats are not off.
-use Rattle.std.proofs.Common.{◌≡◌, ℕ, ◌≤◌, Bool, true, false, List, ◌++◌, length, refl, sym, ◌∙◌, arith, inl, inr, ⊎_elim}
-use Rattle.grouping_laws.specs.Sets.{often, stands, member}
+use Rattle.std.proofs.Common.{◌≡◌, ℕ, true, List, ◌++◌, sym, ◌∙◌, arith, inl, inr, ⊎_elim}
+use Rattle.grouping_laws.specs.Sets.{stands, member}
 use Rattle.grouping_laws.specs.Problem.{Problem, Suits, people_of}
 use Rattle.grouping_laws.specs.Grouping.{Grouping, sets_of, seats_of}
 use Rattle.grouping_laws.specs.Parts.{IsPart}
-use Rattle.place_sets.proofs.Sums.{total-append, total_within, total_ones, often_none, often_some, digit_one}
+use Rattle.place_sets.proofs.Sums.{total-append, digit_one}
 use Rattle.grouping_laws.proofs.Elements.{has_all}
 use Rattle.grouping_laws.proofs.Digits.{true_digit}
 use Rattle.grouping_laws.proofs.Parts.{FillRegion, inner, part_suits, has_from_stands, has_hit, within_part}
@@ -13,17 +13,7 @@ use Rattle.proof_trees.specs.State.{State}
 use Rattle.proof_trees.specs.Stuck.{CannotFill, StuckPart}
 use Rattle.proof_trees.specs.Leaves.{IsOffSeats}
 use Rattle.proof_trees.proofs.Completion.{IsWhole, Completes, group_rest, group_lawful}
-
--- codes that stand once, all of another list
-pub no_more_often : (xs ys : List ℕ) → ((x : ℕ) → often x xs ≤ 1) → ((x : ℕ) → member xs x ≡ true → member ys x ≡ true) → (x : ℕ) → often x xs ≤ often x ys
-no_more_often xs ys once inside x = go (member xs x) refl
-  where
-    go : (b : Bool) → member xs x ≡ b → often x xs ≤ often x ys
-    go true e = omega (arith, once x, often_some x ys (inside x e))
-    go false e = omega (arith, often_none x xs e)
-
-pub not_longer : (xs ys : List ℕ) → ((x : ℕ) → often x xs ≤ 1) → ((x : ℕ) → member xs x ≡ true → member ys x ≡ true) → length xs ≤ length ys
-not_longer xs ys once inside = omega (arith, total_within (λ x. 1) xs ys (no_more_often xs ys once inside), total_ones xs, total_ones ys)
+use Rattle.proof_trees.proofs.Counting.{not_longer}
 
 module _ (p : Problem) (s : State) (whole : IsWhole p s) (opens : Grouping) (c : Completes p s opens) where
   fill : FillRegion p s.rest opens

@@ -1,3 +1,7 @@
+pub mod Counting
+pub mod WithoutGroup
+pub mod SortedKeys
+pub mod Regions
 pub mod Completion
 pub mod LeafLemmas
 pub mod Steps
@@ -5,7 +9,6 @@ pub mod Living
 pub mod BoundLemmas
 pub mod Heart
 pub mod Agreement
-pub mod Regions
 pub mod Narrowing
 pub mod Branches
 pub mod Decided

@@ -1,30 +1,19 @@
 -- Each group of a completion fits: closed, it leaves a state that can be completed, at which no part is stuck.
-use Rattle.std.proofs.Common.{◌≡◌, ℕ, ◌<◌, Bool, true, false, cond, not, ◌&&◌, List, length, refl, sym, ap, ◌∙◌, subst, arith, inl, inr}
-use Rattle.std.proofs.lemmas.Bool.{and_parts, false≢true}
+use Rattle.std.proofs.Common.{◌≡◌, ℕ, ◌<◌, Bool, true, false, cond, List, length, refl, sym, subst, arith, inl, inr}
 use Rattle.county_codes.specs.declared.group.Group.{Group}
 use Rattle.grouping_laws.specs.Sets.{member}
 use Rattle.grouping_laws.specs.Problem.{Problem}
 use Rattle.grouping_laws.specs.Grouping.{Grouping, sets_of}
-use Rattle.grouping_laws.specs.Parts.{IsPart}
 use Rattle.grouping_laws.proofs.Elements.{Has, has-map}
 use Rattle.grouping_laws.proofs.Alike.{Alike, length_alike, member_alike, lawful_alike}
 use Rattle.proof_trees.specs.Round.{Language, Plain, Wide}
-use Rattle.proof_trees.specs.State.{State, close, without}
+use Rattle.proof_trees.specs.State.{State, close}
 use Rattle.proof_trees.specs.Stuck.{CannotFill, StuckPart}
 use Rattle.proof_trees.specs.Fitting.{IsDead, IsKept, Fits}
 use Rattle.proof_trees.proofs.Completion.{IsWhole, Completes, group_open, group_lawful}
 use Rattle.proof_trees.proofs.LeafLemmas.{none_stuck}
 use Rattle.proof_trees.proofs.Steps.{others_of, close_whole, close_completes}
-
-pub without_not : (g : List ℕ) (region : ℕ → Bool) (x : ℕ) → without g region x ≡ true → member g x ≡ false
-without_not g region x e = go (member g x) (and_parts (region x) (not (member g x)) e).1
-  where
-    go : (b : Bool) → not b ≡ true → b ≡ false
-    go true h = absurd (false≢true h)
-    go false h = refl
-
-pub without_in : (g : List ℕ) (region : ℕ → Bool) (x : ℕ) → without g region x ≡ true → region x ≡ true
-without_in g region x e = (and_parts (region x) (not (member g x)) e).0
+use Rattle.proof_trees.proofs.WithoutGroup.{without_not}
 
 -- a set off a group that no groups can fill can't be filled once the group is closed, and the other way round
 pub cannot_once_closed : (p : Problem) (s : State) (g xs : List ℕ) → ((x : ℕ) → member xs x ≡ true → member g x ≡ false) → CannotFill p s xs → CannotFill p (close g s) xs
@@ -60,12 +49,3 @@ module _ (p : Problem) (s : State) (whole : IsWhole p s) (opens : Grouping) (c :
 
   pub set_fits : (language : Language) (g : List ℕ) → Has (sets_of opens) g → Fits language p s g
   set_fits language g h = let r = has-map opens g h in subst (Fits language p s) r.2 (group_fits language r.0 r.1 r.0.codes (λ x. refl))
-
--- what groups with the same codes leave has the same parts
-pub without_same : (p : Problem) (region : ℕ → Bool) (g k xs : List ℕ) → ((x : ℕ) → member g x ≡ member k x) → IsPart p (without k region) xs → IsPart p (without g region) xs
-without_same p region g k xs same a = record {
-  once = a.once;
-  connected = a.connected;
-  inside = λ x e. ap (λ b. region x && not b) (same x) ∙ a.inside x e;
-  whole = λ x y m r t. a.whole x y m (ap (λ b. region y && not b) (sym (same y)) ∙ r) t;
-}

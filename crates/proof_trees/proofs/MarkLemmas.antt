@@ -14,7 +14,8 @@ use Rattle.grouping_laws.proofs.Digits.{true_digit}
 use Rattle.grouping_laws.proofs.Alike.{begins, head_same}
 use Rattle.grouping_laws.proofs.Parts.{member_head, has_from_stands}
 use Rattle.proof_trees.specs.Round.{Language, Plain, Wide, Round}
-use Rattle.proof_trees.specs.State.{State, IsState, IsLeastSize, open_to, close, raise, empty_state, listed}
+use Rattle.proof_trees.specs.Regions.{listed}
+use Rattle.proof_trees.specs.State.{State, IsState, IsLeastSize, open_to, close, raise, empty_state}
 use Rattle.proof_trees.specs.Agreement.{Agrees}
 use Rattle.proof_trees.specs.Fitting.{Fits, IsKept}
 use Rattle.proof_trees.specs.Tree.{Leaf, stuck, seats, bound, Allowance, room, weigh, Tree, leaf, branch, Takes, no_take, take, groups_of}
@@ -24,7 +25,7 @@ use Rattle.proof_trees.specs.Proving.{CanBranch, Proves, EachProves}
 use Rattle.proof_trees.specs.Groups.{IsGroupAt, AreGroupsAt, IsSetAt}
 use Rattle.proof_trees.specs.Marks.{MarkedState, IsMarkedState, none_marked, close_group, mark, AgreesAbove, IsMarkedStuck, IsMarkedOff, rest_allowance, IsRestFair, RestBounds, IsMarkedLeaf, MarkedProves, EachMarkedProves, as_state, as_marked, PlainIsMarked}
 use Rattle.proof_trees.proofs.States.{same_state}
-use Rattle.proof_trees.proofs.Steps.{split_one}
+use Rattle.proof_trees.proofs.WithoutGroup.{split_one}
 
 and_true : (b : Bool) → (b && true) ≡ b
 and_true true = refl

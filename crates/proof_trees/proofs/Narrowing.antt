@@ -13,14 +13,15 @@ use Rattle.grouping_laws.proofs.Parts.{FillRegion, hits, has_hit, within_part, i
 use Rattle.grouping_laws.proofs.Ranges.{people_have_ranges}
 use Rattle.grouping_laws.proofs.Seated.{seated_sets, seated_has}
 use Rattle.proof_trees.specs.Round.{Language, Plain, Wide}
-use Rattle.proof_trees.specs.State.{State, open_to, close, raise, without}
+use Rattle.proof_trees.specs.Regions.{without}
+use Rattle.proof_trees.specs.State.{State, open_to, close, raise}
 use Rattle.proof_trees.specs.Stuck.{CannotFill}
 use Rattle.proof_trees.specs.Fitting.{IsDead, IsKept, Fits}
 use Rattle.proof_trees.specs.Branching.{Narrows}
 use Rattle.proof_trees.proofs.Completion.{open_rest, open_least, is_open}
-use Rattle.proof_trees.proofs.LeafLemmas.{not_longer}
-use Rattle.proof_trees.proofs.Steps.{split_one}
-use Rattle.proof_trees.proofs.Living.{without_not, without_in, cannot_once_closed}
+use Rattle.proof_trees.proofs.Counting.{not_longer}
+use Rattle.proof_trees.proofs.WithoutGroup.{split_one, without_not, without_in}
+use Rattle.proof_trees.proofs.Living.{cannot_once_closed}
 use Rattle.proof_trees.proofs.Regions.{part_around, parts_exist}
 
 -- each set suits some number of seats, or one suits none

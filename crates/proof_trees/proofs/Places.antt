@@ -18,13 +18,14 @@ use Rattle.grouping_laws.proofs.PlaceCodes.{Below, member_has, mapped_has, has_m
 use Rattle.grouping_laws.proofs.PlaceProblem.{below_ordered, places_ordered, order_once, suits_codes, suits_places, connected_codes, connected_places, ordered_codes, places_for, codes_for}
 use Rattle.grouping_laws.proofs.PlaceGroups.{before_codes, codes_pairs}
 use Rattle.proof_trees.specs.Round.{Language, Plain, Wide, Round}
-use Rattle.proof_trees.specs.State.{State, without, listed}
+use Rattle.proof_trees.specs.Regions.{without, listed}
+use Rattle.proof_trees.specs.State.{State}
 use Rattle.proof_trees.specs.Stuck.{CannotFill}
 use Rattle.proof_trees.specs.Fitting.{IsDead, IsKept, Fits}
 use Rattle.proof_trees.specs.Groups.{IsGroupAt, AreGroupsAt, IsGroupOf, AreGroupsOf}
 use Rattle.proof_trees.specs.Places.{IsRegionAt, IsStateAt, round_at, PlacesServe}
 use Rattle.proof_trees.proofs.Completion.{open_rest, open_least, is_open}
-use Rattle.proof_trees.proofs.Living.{without_in}
+use Rattle.proof_trees.proofs.WithoutGroup.{without_in}
 
 -- codes of an order are the codes at their places
 codes_back : (order : List ℕ) (ys : List ℕ) → ((c : ℕ) → Has ys c → member order c ≡ true) → codes_at order (map (place order) ys) ≡ ys

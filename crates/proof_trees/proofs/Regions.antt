@@ -1,59 +1,17 @@
 -- Every region of a problem has connected parts: they are found by growing.
-use Rattle.std.proofs.Common.{◌≡◌, ℕ, zero, suc, ◌+◌, ◌≤◌, ◌<◌, Bool, true, false, cond, not, ◌&&◌, ◌||◌, List, [], ◌∷◌, length, filter, ◌==◌, refl, sym, ap, ◌∙◌, subst, arith, ◌⊎◌, inl, inr, ⊎_elim}
+use Rattle.std.proofs.Common.{◌≡◌, ℕ, zero, suc, ◌+◌, ◌≤◌, Bool, true, false, not, ◌&&◌, List, [], ◌∷◌, length, filter, ◌==◌, refl, sym, ap, ◌∙◌, subst, arith, ◌⊎◌, inl, inr, ⊎_elim}
 use Rattle.std.proofs.lemmas.Bool.{and_parts, and_from, false≢true, eqb-true}
-use Rattle.grouping_laws.specs.Sets.{digit, total, often, member, Inside}
+use Rattle.grouping_laws.specs.Sets.{digit, often, member, Inside}
 use Rattle.grouping_laws.specs.Problem.{Problem, Connected, IsProblem}
 use Rattle.grouping_laws.specs.Parts.{IsPart, AreParts}
-use Rattle.place_sets.proofs.Sums.{total_le, often_none}
+use Rattle.place_sets.proofs.Sums.{often_none}
 use Rattle.grouping_laws.proofs.Elements.{has_all, all_from_has}
 use Rattle.grouping_laws.proofs.Parts.{member_head, member_tail}
 use Rattle.grouping_laws.proofs.Fill.{one, grown, member_cases}
 use Rattle.grouping_laws.proofs.AddUp.{few_codes}
-use Rattle.proof_trees.specs.State.{without}
-use Rattle.proof_trees.proofs.Steps.{split_one}
-use Rattle.proof_trees.proofs.Living.{without_not, without_in}
-
--- a sum over what a test keeps
-pub total-filter : (f : ℕ → ℕ) (q : ℕ → Bool) (xs : List ℕ) → total f (filter q xs) ≡ total (λ x. cond (q x) (f x) 0) xs
-total-filter f q [] = refl
-total-filter f q (x ∷ xs) = go (q x) (total-filter f q xs)
-  where
-    go : (b : Bool) → total f (filter q xs) ≡ total (λ x. cond (q x) (f x) 0) xs → total f (cond b (x ∷ filter q xs) (filter q xs)) ≡ cond b (f x) 0 + total (λ x. cond (q x) (f x) 0) xs
-    go true e = omega (arith, e)
-    go false e = omega (arith, e)
-
--- a sum is less if no term is more and that of a member is less
-pub total_less : (f g : ℕ → ℕ) (xs : List ℕ) (y : ℕ) → member xs y ≡ true → f y < g y → ((x : ℕ) → f x ≤ g x) → total f xs < total g xs
-total_less f g [] y m l h = absurd (false≢true m)
-total_less f g (x ∷ xs) y m l h = go (x == y) refl m (total_less f g xs y)
-  where
-    go : (b : Bool) → (x == y) ≡ b → (b || member xs y) ≡ true → (member xs y ≡ true → f y < g y → ((z : ℕ) → f z ≤ g z) → total f xs < total g xs) → f x + total f xs < g x + total g xs
-    go true e o next = omega (arith, subst (λ z. f z < g z) (sym (eqb-true x y e)) l, total_le f g xs h)
-    go false e o next = omega (arith, h x, next o l h)
-
-pub length-filter : (q : ℕ → Bool) (xs : List ℕ) → length (filter q xs) ≡ total (λ x. digit (q x)) xs
-length-filter q [] = refl
-length-filter q (x ∷ xs) = go (q x) (length-filter q xs)
-  where
-    go : (b : Bool) → length (filter q xs) ≡ total (λ x. digit (q x)) xs → length (cond b (x ∷ filter q xs) (filter q xs)) ≡ digit b + total (λ x. digit (q x)) xs
-    go true e = omega (arith, e)
-    go false e = omega (arith, e)
-
--- a narrower test that leaves out a member that the other keeps keeps fewer
-pub fewer_kept : (q r : ℕ → Bool) (xs : List ℕ) (y : ℕ) → ((x : ℕ) → q x ≡ true → r x ≡ true) → member xs y ≡ true → q y ≡ false → r y ≡ true → length (filter q xs) < length (filter r xs)
-fewer_kept q r xs y within m out kept =
-    omega (arith, total_less (λ x. digit (q x)) (λ x. digit (r x)) xs y m (omega (arith, ap digit out, ap digit kept)) (λ x. each x (q x) refl), length-filter q xs, length-filter r xs)
-  where
-    each : (x : ℕ) → (b : Bool) → q x ≡ b → digit b ≤ digit (r x)
-    each x true e = omega (arith, ap digit (within x e))
-    each x false e = omega arith
-
-pub no_more_kept : (q r : ℕ → Bool) (xs : List ℕ) → ((x : ℕ) → q x ≡ true → r x ≡ true) → length (filter q xs) ≤ length (filter r xs)
-no_more_kept q r xs within = omega (arith, total_le (λ x. digit (q x)) (λ x. digit (r x)) xs (λ x. each x (q x) refl), length-filter q xs, length-filter r xs)
-  where
-    each : (x : ℕ) → (b : Bool) → q x ≡ b → digit b ≤ digit (r x)
-    each x true e = omega (arith, ap digit (within x e))
-    each x false e = omega arith
+use Rattle.proof_trees.specs.Regions.{without}
+use Rattle.proof_trees.proofs.WithoutGroup.{split_one, without_not, without_in}
+use Rattle.proof_trees.proofs.Counting.{fewer_kept}
 
 -- a member that passes the test, or none does
 find_or_none : (q : ℕ → Bool) (ys : List ℕ) → ((y : ℕ) × (member ys y ≡ true) × (q y ≡ true)) ⊎ ((y : ℕ) → member ys y ≡ true → q y ≡ false)

@@ -1,17 +1,19 @@
 -- How a branch moves a completion: the group of its county is closed, or the county is raised.
-use Rattle.std.proofs.Common.{◌≡◌, ℕ, ◌+◌, ◌≤◌, ◌<◌, Bool, true, false, cond, ◌&&◌, not, List, [], ◌∷◌, ◌++◌, length, ◌==◌, refl, sym, ap, ◌∙◌, subst, arith, ◌⊎◌, inl, inr, Option, Some, None}
+use Rattle.std.proofs.Common.{◌≡◌, ℕ, ◌+◌, ◌≤◌, ◌<◌, Bool, true, false, cond, List, [], ◌∷◌, ◌++◌, length, ◌==◌, refl, sym, ap, ◌∙◌, subst, arith, ◌⊎◌, inl, inr, Option, Some, None}
 use Rattle.std.specs.List.{AllZip}
 use Rattle.std.proofs.lemmas.Bool.{eqb-true, false≢true, cases_lt}
 use Rattle.county_codes.specs.declared.group.Group.{Group}
 use Rattle.grouping_laws.specs.Sets.{digit, total, often, member}
 use Rattle.grouping_laws.specs.Problem.{Problem, Suits, people_of}
 use Rattle.grouping_laws.specs.Grouping.{Grouping, counts, sets_of}
-use Rattle.place_sets.proofs.Sums.{total-append, total-map, often_none, often_some, total_alike}
+use Rattle.place_sets.proofs.Sums.{total-append, total-map, total_alike}
 use Rattle.grouping_laws.proofs.Elements.{Has}
 use Rattle.grouping_laws.proofs.Alike.{Alike, length_alike, member_alike}
-use Rattle.proof_trees.specs.State.{State, close, raise, without}
+use Rattle.proof_trees.specs.Regions.{without}
+use Rattle.proof_trees.specs.State.{State, close, raise}
 use Rattle.proof_trees.specs.Certificate.{Beats}
 use Rattle.proof_trees.proofs.Completion.{IsWhole, Completes, group_lawful, group_rest}
+use Rattle.proof_trees.proofs.WithoutGroup.{split_one}
 
 -- the list without the element found
 abbrev pub others_of : {X : Type 0} (xs : List X) (y : X) → Has xs y → List X
@@ -66,18 +68,6 @@ beats_same (Some t) f g h b = record {
   same_before = λ j x y. sym (h j) ∙ b.same_before j x y;
   more = omega (arith, h b.size, b.more);
 }
-
-pub and_yes : (b : Bool) → digit (b && not false) ≡ digit b
-and_yes true = refl
-and_yes false = refl
-
--- a county of a region is in a group inside it or in the region without the group
-pub split_one : (region : ℕ → Bool) (g : List ℕ) → ((c : ℕ) → often c g ≤ 1) → ((c : ℕ) → member g c ≡ true → region c ≡ true) → (x : ℕ) → often x g + digit (without g region x) ≡ digit (region x)
-split_one region g once inside x = go (member g x) refl
-  where
-    go : (b : Bool) → member g x ≡ b → often x g + digit (region x && not b) ≡ digit (region x)
-    go true e = rw (inside x e) (omega (arith, often_some x g e, once x))
-    go false e = omega (arith, often_none x g e, and_yes (region x))
 
 module _ (p : Problem) (s : State) (whole : IsWhole p s) (opens : Grouping) (c : Completes p s opens) (m : Group) (has : Has opens m)
     (g : List ℕ) (same : Alike m.codes g) where

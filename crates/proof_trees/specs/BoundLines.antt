@@ -5,7 +5,8 @@ use Rattle.grouping_laws.specs.Sets.{total, member}
 use Rattle.grouping_laws.specs.Problem.{Problem}
 use Rattle.grouping_laws.specs.Grouping.{Grouping, counts, sets_of}
 use Rattle.proof_trees.specs.Round.{Language, Round}
-use Rattle.proof_trees.specs.State.{State, open_to, listed}
+use Rattle.proof_trees.specs.Regions.{listed}
+use Rattle.proof_trees.specs.State.{State, open_to}
 use Rattle.proof_trees.specs.Fitting.{Fits}
 use Rattle.proof_trees.specs.Tree.{Weight, Allowance, room, weigh}
 

@@ -5,7 +5,8 @@ use Rattle.grouping_laws.specs.Problem.{Problem, IsProblem}
 use Rattle.grouping_laws.specs.Grouping.{Grouping, Lawful}
 use Rattle.grouping_laws.specs.GroupsFrom.{IsOrder}
 use Rattle.proof_trees.specs.Round.{Language, Plain, Round}
-use Rattle.proof_trees.specs.State.{State, IsState, open_to, close, raise, empty_state, listed}
+use Rattle.proof_trees.specs.Regions.{listed}
+use Rattle.proof_trees.specs.State.{State, IsState, open_to, close, raise, empty_state}
 use Rattle.proof_trees.specs.Agreement.{Agrees}
 use Rattle.proof_trees.specs.Fitting.{Fits}
 use Rattle.proof_trees.specs.Proving.{CanBranch}

@@ -7,7 +7,8 @@ use Rattle.grouping_laws.specs.Parts.{IsPart, AreParts}
 use Rattle.grouping_laws.specs.GroupsFrom.{IsOrder}
 use Rattle.grouping_laws.specs.Ranges.{IsLeast, IsMost, SuitAll}
 use Rattle.proof_trees.specs.Round.{Round}
-use Rattle.proof_trees.specs.State.{State, close, without}
+use Rattle.proof_trees.specs.Regions.{without}
+use Rattle.proof_trees.specs.State.{State, close}
 use Rattle.proof_trees.specs.Stuck.{CannotFill}
 use Rattle.proof_trees.specs.Fitting.{IsDead, Fits}
 use Rattle.proof_trees.specs.Leaves.{IsStuck, IsOffSeats}

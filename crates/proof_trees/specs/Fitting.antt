@@ -3,7 +3,8 @@ use Rattle.std.specs.Prelude.{ℕ, ◌≤◌, List, length, ⊤}
 use Rattle.grouping_laws.specs.Sets.{Inside}
 use Rattle.grouping_laws.specs.Problem.{Problem, LawfulGroup}
 use Rattle.proof_trees.specs.Round.{Language, Plain, Wide, Round}
-use Rattle.proof_trees.specs.State.{State, open_to, without}
+use Rattle.proof_trees.specs.Regions.{without}
+use Rattle.proof_trees.specs.State.{State, open_to}
 use Rattle.proof_trees.specs.Stuck.{StuckPart}
 
 -- a group of the rest is dead where some connected part of the rest without it is stuck, else live

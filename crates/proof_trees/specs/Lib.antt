@@ -1,5 +1,6 @@
 pub mod Round
 pub mod RoundValue
+pub mod Regions
 pub mod State
 pub mod StateValue
 pub mod Agreement

@@ -1,4 +1,5 @@
--- The plain language with marks in place of sizes, and that it is the plain language of these definitions.
+-- The plain language said by itself: a county is marked where it lies in a group above the one limit. That this is the plain language of
+-- the other definitions.
 use Rattle.std.specs.Prelude.{ℕ, ◌+◌, ◌-◌, ◌*◌, ◌/◌, ◌≡◌, ◌≤◌, ◌<◌, min, cond, Bool, true, false, not, nat_le, ◌&&◌, ◌||◌, List, [], ◌∷◌, ◌++◌, length, ◌==◌, All, Contains, filter, Some, None, ◌⊎◌, ◌↔◌, ⊤}
 use Rattle.county_codes.specs.declared.group.Group.{Group}
 use Rattle.grouping_laws.specs.Sets.{digit, total, stands, member, Inside, SameSet}
@@ -9,7 +10,8 @@ use Rattle.std.specs.List.{AllZip}
 use Rattle.grouping_laws.specs.Ranges.{IsLeast, IsMost}
 use Rattle.grouping_laws.specs.GroupsFrom.{BeginsWith, AreGroupsFrom, IsSetFrom}
 use Rattle.proof_trees.specs.Round.{Plain, Wide, Round}
-use Rattle.proof_trees.specs.State.{State, IsState, open_to, empty_state, without, listed}
+use Rattle.proof_trees.specs.Regions.{without, listed}
+use Rattle.proof_trees.specs.State.{State, IsState, open_to, empty_state}
 use Rattle.proof_trees.specs.Agreement.{Agrees}
 use Rattle.proof_trees.specs.Tree.{Allowance, room, weigh, Leaf, stuck, seats, bound, Tree, leaf, branch, Takes, no_take, take, groups_of}
 use Rattle.proof_trees.specs.BoundLines.{weight_of}

@@ -8,7 +8,8 @@ use Rattle.grouping_laws.specs.Places.{places_below, codes_at}
 use Rattle.place_sets.specs.CountySet.{places_of}
 use Rattle.ordered_counties.specs.OrderedValue.{code_at, at_places}
 use Rattle.proof_trees.specs.Round.{Round}
-use Rattle.proof_trees.specs.State.{State, listed, empty_state, close, raise}
+use Rattle.proof_trees.specs.Regions.{listed}
+use Rattle.proof_trees.specs.State.{State, empty_state, close, raise}
 use Rattle.proof_trees.specs.Stuck.{CannotFill}
 use Rattle.proof_trees.specs.Fitting.{Fits}
 use Rattle.proof_trees.specs.Groups.{AreGroupsAt, AreGroupsOf}

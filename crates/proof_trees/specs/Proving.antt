@@ -1,4 +1,5 @@
--- What makes a tree a proof: valid leaves and whole branches.
+-- What makes a tree a proof: valid leaves and whole branches. A branch is whole where its takes are all groups in which its county may lie
+-- up to the limit: the county's group is one of them or larger.
 use Rattle.std.specs.Prelude.{ℕ, ◌≡◌, ◌≤◌, true, filter, Option, Some, None, ⊤}
 use Rattle.grouping_laws.specs.Problem.{Problem}
 use Rattle.grouping_laws.specs.GroupsFrom.{BeginsWith}

@@ -1,23 +1,16 @@
 -- Where a search stands: closed groups, the other counties, and how large a group each of these asks for. States are the project's own;
 -- that closed groups are lawful and small is what a search for the most small groups keeps (Carter et al.).
-use Rattle.std.specs.Prelude.{ℕ, ◌+◌, ◌≡◌, ◌≤◌, Bool, false, not, cond, nat_le, ◌&&◌, List, [], ◌∷◌, ◌++◌, length, ◌==◌, All, filter, ◌⊎◌, ⊤}
+use Rattle.std.specs.Prelude.{ℕ, ◌+◌, ◌≡◌, ◌≤◌, Bool, false, cond, nat_le, ◌&&◌, List, [], ◌∷◌, ◌++◌, length, ◌==◌, All, ◌⊎◌, ⊤}
 use Rattle.grouping_laws.specs.Sets.{digit, stands, member}
 use Rattle.grouping_laws.specs.Problem.{Problem, LawfulGroup}
 use Rattle.proof_trees.specs.Round.{Language, Plain, Wide, Round}
+use Rattle.proof_trees.specs.Regions.{without}
 
 -- groups that are closed, the rest of the counties, and for each of the rest the least size of a group that it may lie in
 pub record State : Type 0 where
   pub closed : List (List ℕ)
   pub rest : ℕ → Bool
   pub least : ℕ → ℕ
-
--- the counties of a region that a group doesn't have
-abbrev pub without : List ℕ → (ℕ → Bool) → ℕ → Bool
-without g region c = region c && not (member g c)
-
--- the counties of the problem in a region
-abbrev pub listed : Problem → (ℕ → Bool) → List ℕ
-listed p region = filter region p.counties
 
 -- the counties open to a group of i: those of the rest that may lie in a group of i counties
 abbrev pub open_to : State → ℕ → ℕ → Bool

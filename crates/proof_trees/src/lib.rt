@@ -1,5 +1,5 @@
-//! The language of certificates that no lawful grouping has greater counts than a target, as definitions, and
-//! what certificates show, as laws.
+//! Certificates that a grouping is best, or that none is lawful: their language as definitions, and what they
+//! show as laws.
 //!
 //! A *round* names an order of the counties, a limit of sizes, a target (or none) and one of two languages. A
 //! *state* has closed groups, the rest of the counties, and for each of these the least size of a group that it
@@ -13,8 +13,9 @@
 //! larger. A *certificate* is a proof tree at the empty state.
 //!
 //! The definitions stand in `specs/`: `Round`, `State`, `Agreement`, `Stuck`, `Fitting`, `Groups` (of a branch),
-//! `Tree` (the data), `BoundLines`, `Leaves`, `Proving` and `Certificate`. `docs/definitions.md` tells them with
-//! examples. Code is only what the crates above share: the types of language, round and state.
+//! `Tree` (the data), `BoundLines`, `Leaves`, `Proving` and `Certificate`; the other files state the laws.
+//! `docs/definitions.md` tells them with examples. Code is only what the crates above share: the types of
+//! language, round and state.
 #![tactic(auto)]
 
 mod language;

@@ -13,7 +13,7 @@ use std::alloc::{AllocError, Global};
 /// counties, and how large a group each of these asks for.
 ///
 /// The type stands here, below the checker and the desk, since both go from state to state; their contracts
-/// speak of its value, `state_of`.
+/// speak of its value by places, `state_of`, and of the value by codes that this says, `in_codes`.
 #[derive(Debug, Drop)]
 pub struct State<C> {
     /// The places of each closed group, in the order in which they were closed.
