@@ -1,5 +1,5 @@
 #!/usr/bin/env bash
-# The pairs of counties of an adjacency file, the lesser code first, each once, by awk: what `nc2020` writes after the tables is
+# The pairs of counties of an adjacency file, the lesser code first, each once, by awk: what `worked_cases` writes after the tables is
 # compared with it, where all counties of the file are listed. Usage: adjacency_pairs.sh FILE
 set -euo pipefail
 awk -F'|' 'NR > 1 && $2 < $4 { print $2 "|" $4 } NR > 1 && $4 < $2 { print $4 "|" $2 }' "$1" | LC_ALL=C sort -u

@@ -59,7 +59,8 @@ fn add_link(links: &mut Vec<Link>, line: &[u8]) -> Result<(), CodeLineKind>
     ensures { AddsUnless (λ k. k ≡ Memory) links.old.items (link_on line.now) result links.new.items }
 {
     let link = link_in(line)?;
-    links.push(link).map_err(|_| CodeLineKind::Memory)
+    links.push(link)?;
+    Ok(())
 }
 
 /// The links of a text, in order: pairs that a state adds to the adjacent counties or cuts from them, as a
@@ -76,11 +77,15 @@ pub fn read_links(alloc: Global, bytes: &[u8]) -> Result<Vec<Link>, CodeLineFaul
 {
     let mut links = Vec::new(alloc);
     let mut lines = Lines::new(bytes);
-    while let Some((number, line)) = lines
-        .next_line()
-        .map_err(|fault| CodeLineFault::of_cut(fault))?
-    {
-        add_link(&mut links, line).map_err(|kind| CodeLineFault { kind, line: number })?;
+    loop {
+        match lines.next_line() {
+            Ok(Some((number, line))) => {
+                if let Err(kind) = add_link(&mut links, line) {
+                    return Err(CodeLineFault { kind, line: number });
+                }
+            }
+            Ok(None) => return Ok(links),
+            Err(fault) => return Err(CodeLineFault::of_cut(fault)),
+        }
     }
-    Ok(links)
 }

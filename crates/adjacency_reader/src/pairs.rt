@@ -130,8 +130,11 @@ pub fn read_pairs(
     ensures pairs { AnswersUnless IsMemory (λ v. v.items) result (IsPairsAnswer bytes.now counties.now) }
 {
     let rows = read_rows(alloc, bytes)?;
-    pairs_among(alloc, counties, &rows).map_err(|_| CodeLineFault {
-        kind: CodeLineKind::Memory,
-        line: 0,
-    })
+    match pairs_among(alloc, counties, &rows) {
+        Ok(pairs) => Ok(pairs),
+        Err(AllocError) => Err(CodeLineFault {
+            kind: CodeLineKind::Memory,
+            line: 0,
+        }),
+    }
 }

@@ -36,7 +36,8 @@ fn add_row(rows: &mut Vec<(CountyCode, CountyCode)>, line: &[u8]) -> Result<(), 
     ensures { AddsUnless (λ k. k ≡ Memory) rows.old.items (row_on line.now) result rows.new.items }
 {
     let row = row_in(line)?;
-    rows.push(row).map_err(|_| CodeLineKind::Memory)
+    rows.push(row)?;
+    Ok(())
 }
 
 /// The rows of an adjacency file in their order, or its first fault.
@@ -49,14 +50,17 @@ pub(crate) fn read_rows(
     let mut rows = Vec::new(alloc);
     let mut lines = Lines::new(bytes);
     let mut at_first = true;
-    while let Some((number, line)) = lines
-        .next_line()
-        .map_err(|fault| CodeLineFault::of_cut(fault))?
-    {
-        if !(at_first && is_header(line)) {
-            add_row(&mut rows, line).map_err(|kind| CodeLineFault { kind, line: number })?;
+    loop {
+        match lines.next_line() {
+            Ok(Some((_, line))) if at_first && is_header(line) => {}
+            Ok(Some((number, line))) => {
+                if let Err(kind) = add_row(&mut rows, line) {
+                    return Err(CodeLineFault { kind, line: number });
+                }
+            }
+            Ok(None) => return Ok(rows),
+            Err(fault) => return Err(CodeLineFault::of_cut(fault)),
         }
         at_first = false;
     }
-    Ok(rows)
 }

@@ -28,7 +28,8 @@ fn add_set(alloc: Global, sets: &mut Vec<Withdrawn>, line: &[u8]) -> Result<(), 
     ensures { AddsUnless (λ k. k ≡ Memory) sets.old.items (set_on line.now) result sets.new.items }
 {
     let set = set_in(alloc, line)?;
-    sets.push(set).map_err(|_| CodeLineKind::Memory)
+    sets.push(set)?;
+    Ok(())
 }
 
 /// The withdrawn sets of a text, in order: counties that were taken out beforehand, with their seats. The
@@ -45,11 +46,15 @@ pub fn read_withdrawn(alloc: Global, bytes: &[u8]) -> Result<Vec<Withdrawn>, Cod
 {
     let mut sets = Vec::new(alloc);
     let mut lines = Lines::new(bytes);
-    while let Some((number, line)) = lines
-        .next_line()
-        .map_err(|fault| CodeLineFault::of_cut(fault))?
-    {
-        add_set(alloc, &mut sets, line).map_err(|kind| CodeLineFault { kind, line: number })?;
+    loop {
+        match lines.next_line() {
+            Ok(Some((number, line))) => {
+                if let Err(kind) = add_set(alloc, &mut sets, line) {
+                    return Err(CodeLineFault { kind, line: number });
+                }
+            }
+            Ok(None) => return Ok(sets),
+            Err(fault) => return Err(CodeLineFault::of_cut(fault)),
+        }
     }
-    Ok(sets)
 }

@@ -9,7 +9,7 @@ ghost use Rattle.pl94_counties.specs.Joined.{IsJoined, IsListed};
 ghost use Rattle.pl94_counties.specs.OfText.{IsOfText};
 ghost use Rattle.pl94_counties.specs.Counties.{found_list, listed, county_list};
 
-use crate::fault::{File, Pl94Kind, Pl94Fault};
+use crate::fault::{File, Pl94Fault, Pl94Kind};
 use crate::geo::county_in;
 use crate::segment::read_records;
 use county_codes::{County, CountyCode};
@@ -60,17 +60,21 @@ fn join(
 {
     let mut found = BTreeMap::new(alloc);
     let mut lines = Lines::new(text);
-    while let Some((line_number, line)) = lines
-        .next_line()
-        .map_err(|fault| Pl94Fault::of_cut(fault, File::Geo))?
-    {
-        add_line(&mut found, state, records, line).map_err(|kind| Pl94Fault {
-            kind,
-            file: File::Geo,
-            line: line_number,
-        })?;
+    loop {
+        match lines.next_line() {
+            Ok(Some((line_number, line))) => {
+                if let Err(kind) = add_line(&mut found, state, records, line) {
+                    return Err(Pl94Fault {
+                        kind,
+                        file: File::Geo,
+                        line: line_number,
+                    });
+                }
+            }
+            Ok(None) => return Ok(found),
+            Err(fault) => return Err(Pl94Fault::of_cut(fault, File::Geo)),
+        }
     }
-    Ok(found)
 }
 
 /// The entries as counties.

@@ -23,7 +23,8 @@ fn add_group(alloc: Global, groups: &mut Vec<Group>, line: &[u8]) -> Result<(), 
     ensures { AddsUnless (λ k. k ≡ Memory) groups.old.items (group_on line.now) result groups.new.items }
 {
     let group = group_in(alloc, line)?;
-    groups.push(group).map_err(|_| CodeLineKind::Memory)
+    groups.push(group)?;
+    Ok(())
 }
 
 /// The grouping of a text, its groups in the order of the lines. The text is a cut text (`Lines` of

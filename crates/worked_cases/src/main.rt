@@ -1,45 +1,56 @@
-//! Worked cases of the command, one behind another on standard input: each is run as `countygroups` runs a case, and
-//! what it writes and its exit status are printed.
+//! What the gate runs and compares with texts that were made elsewhere: worked cases of the command, from standard
+//! input; calls that no case reaches; and the real files of North Carolina 2020, whose texts other programs made
+//! (`bench/judge_report.py`, `bench/size_table.py`, `bench/adjacency_pairs.sh`).
 //!
-//! A case begins after a line `== NAME` and ends before the LF in front of the next one, so a blank line in front of
-//! that means that the case ends with an LF. In a case under `== NAME ~ N` each `~` stands for N letters `x`.
+//! With the words LIMIT and FORM (`lists`, `masks` or `wide`) it only counts the real counties' groups of at most LIMIT
+//! counties, in sets of that form.
 #![tactic(auto)]
 
-use anyhow::{Context, Result};
-use cli::{Writing, run_case};
-use field_lines::Reading;
-use std::alloc::Global;
-use std::io;
+mod cases;
+mod counts;
+mod devices;
+mod lines;
+mod links;
+mod numbers;
+mod seats;
+mod shelf;
+mod sources;
+mod state;
+mod tables;
+mod texts;
 
-/// The name of a case, and its text.
-fn named_case<'a>(alloc: Global, section: &'a str) -> Result<(&'a str, String)> {
-    let (header, text) = section.split_once('\n').context("the line of a name")?;
-    match header.split_once(" ~ ") {
-        Some((name, count)) => {
-            let letters = "x".repeat(alloc, count.parse::<usize>()?)?;
-            Ok((name, text.replace(alloc, "~", &letters)?))
-        }
-        None => Ok((header, String::from_str(alloc, text)?)),
-    }
+use crate::state::State;
+use anyhow::{Context, Result};
+use std::env;
+
+/// Shows calls that no case of the command reaches.
+fn show_calls(rt: &HostRuntime) -> Result<()> {
+    lines::show(rt)?;
+    numbers::show(rt)?;
+    sources::show(rt)?;
+    seats::show(rt)?;
+    links::show(rt)?;
+    texts::show(rt)?;
+    shelf::show(rt)?;
+    devices::show(rt)
 }
 
-/// What a case writes, and its exit status.
-fn outcome(alloc: Global, case: &str) -> Result<(String, u8)> {
-    let mut bytes = Vec::new(alloc);
-    let mut input = Reading::new(case.as_bytes());
-    let status = run_case(alloc, &mut input, &mut Writing::new(&mut bytes));
-    let text = String::from_utf8(bytes).ok().context("the text of a case")?;
-    Ok((text, status))
+/// Shows the cases, the calls and the real files.
+fn show_all(rt: &HostRuntime) -> Result<()> {
+    cases::show(rt)?;
+    show_calls(rt)?;
+    tables::show(rt)?;
+    counts::show(rt, &State::load(rt)?)
 }
 
 fn main(rt: HostRuntime) -> Result<()> {
-    let alloc = rt.alloc();
-    let text = io::read_to_string(alloc, rt.reader())?;
-    let cases = text.strip_prefix("== ").context("the first case")?;
-    for section in cases.split("\n== ") {
-        let (name, case) = named_case(alloc, section)?;
-        let (written, status) = outcome(alloc, &case)?;
-        println!(rt; "== {name}\n{written}exit {status}")?;
-    }
-    Ok(())
+    let words: Vec<String> = env::args(&rt)?.collect(rt.alloc())?;
+    let Some(limit) = words.get(1) else {
+        return show_all(&rt);
+    };
+    let limit = limit
+        .parse::<u16>()
+        .context("the most counties of a group")?;
+    let form = words.get(2).context("a form of sets")?;
+    counts::show_form(&rt, &State::load(&rt)?, limit, form)
 }

@@ -4,5 +4,5 @@ use Rattle.seat_lines.specs.Faults.{line_fault, cut_fault}
 use Rattle.adjacency_reader.specs.Links.{link_on}
 use Rattle.adjacency_reader.proofs.links.read_links.Goals as goal
 
-pub loop-links-init : goal.loop-links-init
-loop-links-init c = rw (c.new-links.ensures.items, c.new-lines.ensures.lines) (collected link_on line_fault cut_fault (cut c.args.bytes.now).lines (cut c.args.bytes.now).fault)
+pub loop-number-init : goal.loop-number-init
+loop-number-init c = rw (c.new-links.ensures.items, c.new-lines.ensures.lines) (collected link_on line_fault cut_fault (cut c.args.bytes.now).lines (cut c.args.bytes.now).fault)

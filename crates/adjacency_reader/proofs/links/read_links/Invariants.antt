@@ -4,8 +4,8 @@ use Rattle.seat_lines.specs.Faults.{line_fault, cut_fault}
 use Rattle.adjacency_reader.specs.Links.{link_on, link_list}
 use Rattle.adjacency_reader.proofs.links.read_links.Given as goal
 
-abbrev pub invariant-loop-links : goal.invariant-loop-links
-invariant-loop-links l = collect_values link_on line_fault cut_fault l.links.items l.lines.lines l.lines.fault ≡ link_list l.fn.bytes
+abbrev pub invariant-loop-number : goal.invariant-loop-number
+invariant-loop-number l = collect_values link_on line_fault cut_fault l.links.items l.lines.lines l.lines.fault ≡ link_list l.fn.bytes
 
-abbrev pub decreases-loop-links : goal.decreases-loop-links
-decreases-loop-links l = length l.lines.lines
+abbrev pub decreases-loop-number : goal.decreases-loop-number
+decreases-loop-number l = length l.lines.lines

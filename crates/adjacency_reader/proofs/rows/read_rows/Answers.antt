@@ -4,5 +4,5 @@ use Rattle.seat_lines.specs.Faults.{line_fault, cut_fault}
 use Rattle.adjacency_reader.specs.Rows.{row_on, without_header}
 use Rattle.adjacency_reader.proofs.rows.read_rows.Goals as goal
 
-pub loop-rows-init : goal.loop-rows-init
-loop-rows-init c = rw (c.new-rows.ensures.items, c.new-lines.ensures.lines) (collected row_on line_fault cut_fault (without_header (cut c.args.bytes.now).lines) (cut c.args.bytes.now).fault)
+pub loop-line-init : goal.loop-line-init
+loop-line-init c = rw (c.new-rows.ensures.items, c.new-lines.ensures.lines) (collected row_on line_fault cut_fault (without_header (cut c.args.bytes.now).lines) (cut c.args.bytes.now).fault)

@@ -5,8 +5,8 @@ use Rattle.adjacency_reader.specs.Rows.{row_on, row_list}
 use Rattle.adjacency_reader.proofs.RowLemmas.{lines_left}
 use Rattle.adjacency_reader.proofs.rows.read_rows.Given as goal
 
-abbrev pub invariant-loop-rows : goal.invariant-loop-rows
-invariant-loop-rows l = collect_values row_on line_fault cut_fault l.rows.items (lines_left l.at_first l.lines.lines) l.lines.fault ≡ row_list l.fn.bytes
+abbrev pub invariant-loop-line : goal.invariant-loop-line
+invariant-loop-line l = collect_values row_on line_fault cut_fault l.rows.items (lines_left l.at_first l.lines.lines) l.lines.fault ≡ row_list l.fn.bytes
 
-abbrev pub decreases-loop-rows : goal.decreases-loop-rows
-decreases-loop-rows l = length l.lines.lines
+abbrev pub decreases-loop-line : goal.decreases-loop-line
+decreases-loop-line l = length l.lines.lines

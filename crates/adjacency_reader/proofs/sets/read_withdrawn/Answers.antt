@@ -4,5 +4,5 @@ use Rattle.seat_lines.specs.Faults.{line_fault, cut_fault}
 use Rattle.adjacency_reader.specs.Withdrawn.{set_on}
 use Rattle.adjacency_reader.proofs.sets.read_withdrawn.Goals as goal
 
-pub loop-sets-init : goal.loop-sets-init
-loop-sets-init c = rw (c.new-sets.ensures.items, c.new-lines.ensures.lines) (collected set_on line_fault cut_fault (cut c.args.bytes.now).lines (cut c.args.bytes.now).fault)
+pub loop-number-init : goal.loop-number-init
+loop-number-init c = rw (c.new-sets.ensures.items, c.new-lines.ensures.lines) (collected set_on line_fault cut_fault (cut c.args.bytes.now).lines (cut c.args.bytes.now).fault)

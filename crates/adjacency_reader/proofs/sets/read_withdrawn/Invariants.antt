@@ -4,8 +4,8 @@ use Rattle.seat_lines.specs.Faults.{line_fault, cut_fault}
 use Rattle.adjacency_reader.specs.Withdrawn.{set_on, withdrawn_list}
 use Rattle.adjacency_reader.proofs.sets.read_withdrawn.Given as goal
 
-abbrev pub invariant-loop-sets : goal.invariant-loop-sets
-invariant-loop-sets l = collect_values set_on line_fault cut_fault l.sets.items l.lines.lines l.lines.fault ≡ withdrawn_list l.fn.bytes
+abbrev pub invariant-loop-number : goal.invariant-loop-number
+invariant-loop-number l = collect_values set_on line_fault cut_fault l.sets.items l.lines.lines l.lines.fault ≡ withdrawn_list l.fn.bytes
 
-abbrev pub decreases-loop-sets : goal.decreases-loop-sets
-decreases-loop-sets l = length l.lines.lines
+abbrev pub decreases-loop-number : goal.decreases-loop-number
+decreases-loop-number l = length l.lines.lines

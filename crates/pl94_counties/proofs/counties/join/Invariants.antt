@@ -6,8 +6,8 @@ use Rattle.pl94_counties.specs.Counties.{found_list}
 use Rattle.pl94_counties.proofs.CollectLemmas.{collect_from}
 use Rattle.pl94_counties.proofs.counties.join.Given as goal
 
-abbrev pub invariant-loop-found : goal.invariant-loop-found
-invariant-loop-found l = collect_from (county_on l.state l.records.entries) DoubleCounty Geo l.found.entries l.lines.lines l.lines.fault ≡ found_list l.state l.records.entries l.fn.text
+abbrev pub invariant-loop-line_number : goal.invariant-loop-line_number
+invariant-loop-line_number l = collect_from (county_on l.state l.records.entries) DoubleCounty Geo l.found.entries l.lines.lines l.lines.fault ≡ found_list l.state l.records.entries l.fn.text
 
-abbrev pub decreases-loop-found : goal.decreases-loop-found
-decreases-loop-found l = length l.lines.lines
+abbrev pub decreases-loop-line_number : goal.decreases-loop-line_number
+decreases-loop-line_number l = length l.lines.lines

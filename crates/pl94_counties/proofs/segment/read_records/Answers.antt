@@ -4,5 +4,5 @@ use Rattle.pl94_counties.specs.Segment.{record_on}
 use Rattle.pl94_counties.proofs.CollectLemmas.{collected}
 use Rattle.pl94_counties.proofs.segment.read_records.Goals as goal
 
-pub loop-records-init : goal.loop-records-init
-loop-records-init c = rw (c.new-records.ensures.empty, c.new-lines.ensures.lines) (collected record_on DoubleRecord Segment1 c.args.text.now)
+pub loop-line_number-init : goal.loop-line_number-init
+loop-line_number-init c = rw (c.new-records.ensures.empty, c.new-lines.ensures.lines) (collected record_on DoubleRecord Segment1 c.args.text.now)

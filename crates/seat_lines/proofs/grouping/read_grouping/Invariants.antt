@@ -4,8 +4,8 @@ use Rattle.seat_lines.specs.Faults.{line_fault, cut_fault}
 use Rattle.seat_lines.specs.GroupingLines.{group_on, grouping_list}
 use Rattle.seat_lines.proofs.grouping.read_grouping.Given as goal
 
-abbrev pub invariant-loop-groups : goal.invariant-loop-groups
-invariant-loop-groups l = collect_values group_on line_fault cut_fault l.groups.items l.lines.lines l.lines.fault ≡ grouping_list l.fn.bytes
+abbrev pub invariant-loop-number : goal.invariant-loop-number
+invariant-loop-number l = collect_values group_on line_fault cut_fault l.groups.items l.lines.lines l.lines.fault ≡ grouping_list l.fn.bytes
 
-abbrev pub decreases-loop-groups : goal.decreases-loop-groups
-decreases-loop-groups l = length l.lines.lines
+abbrev pub decreases-loop-number : goal.decreases-loop-number
+decreases-loop-number l = length l.lines.lines

@@ -1,4 +1,5 @@
 //! Readers as sources, and sources that are read whole.
+ghost use Rattle.std.specs.Prelude.{◌≡◌, false};
 
 use anyhow::Result;
 use cli::WholeFault;
@@ -78,8 +79,16 @@ where
 pub(crate) fn show(rt: &HostRuntime) -> Result<()> {
     show_pulls(rt, "a slice", Reading::new(TEXT))?;
     show_pulls(rt, "two at a time", Reading::new(in_parts(0, 2, false)))?;
-    show_pulls(rt, "interrupted 999 times", Reading::new(in_parts(999, 7, false)))?;
-    show_pulls(rt, "interrupted 1,000 times", Reading::new(in_parts(1_000, 7, false)))?;
+    show_pulls(
+        rt,
+        "interrupted 999 times",
+        Reading::new(in_parts(999, 7, false)),
+    )?;
+    show_pulls(
+        rt,
+        "interrupted 1,000 times",
+        Reading::new(in_parts(1_000, 7, false)),
+    )?;
     show_pulls(rt, "fails at the end", Reading::new(in_parts(0, 7, true)))?;
     show_whole(rt, Reading::new(TEXT), 18)?;
     show_whole(rt, Reading::new(in_parts(0, 1, false)), 18)?;

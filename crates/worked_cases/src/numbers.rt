@@ -34,8 +34,16 @@ fn show_ranges(rt: &HostRuntime) -> Result<()> {
 /// Prints what a field of exactly so many digits spells.
 fn show_digits(rt: &HostRuntime, text: &str) -> Result<()> {
     let field = text.as_bytes();
-    println!(rt; "{text:?}: two {:?}, three {:?}", two_digits(field), three_digits(field))?;
-    println!(rt; "{text:?}: five {:?}, fifteen {:?}", five_digits(field), fifteen_digits(field))?;
+    println!(rt;
+        "{text:?}: two {:?}, three {:?}",
+        two_digits(field),
+        three_digits(field)
+    )?;
+    println!(rt;
+        "{text:?}: five {:?}, fifteen {:?}",
+        five_digits(field),
+        fifteen_digits(field)
+    )?;
     Ok(())
 }
 
@@ -43,8 +51,19 @@ fn show_digits(rt: &HostRuntime, text: &str) -> Result<()> {
 pub(crate) fn show(rt: &HostRuntime) -> Result<()> {
     show_ranges(rt)?;
     for text in [
-        "7", "37", "3a", "037", "01", "001", "0001", "3700", "37001", "037001", "37001020100100",
-        "370010201001000", "999999999999999",
+        "7",
+        "37",
+        "3a",
+        "037",
+        "01",
+        "001",
+        "0001",
+        "3700",
+        "37001",
+        "037001",
+        "37001020100100",
+        "370010201001000",
+        "999999999999999",
     ] {
         show_digits(rt, text)?;
     }

@@ -46,7 +46,10 @@ fn show_linked(rt: &HostRuntime, before: &[(u32, u32)], text: &str) -> Result<()
     let alloc = rt.alloc();
     let links = read_links(alloc, text.as_bytes())?;
     let linked = apply_links(alloc, &pairs(alloc, before)?, &links)?;
-    println!(rt; "{before:?} by {text:?}: {:?}", pair_numbers(alloc, &linked)?)?;
+    println!(rt;
+        "{before:?} by {text:?}: {:?}",
+        pair_numbers(alloc, &linked)?
+    )?;
     Ok(())
 }
 
@@ -68,7 +71,11 @@ fn show_withdrawn(rt: &HostRuntime, text: &str) -> Result<()> {
     let alloc = rt.alloc();
     println!(rt; "withdrawn sets of {text:?}")?;
     for set in read_withdrawn(alloc, text.as_bytes())? {
-        println!(rt; "{} seats, codes {:?}", set.seats, numbers(alloc, set.codes.as_slice())?)?;
+        println!(rt;
+            "{} seats, codes {:?}",
+            set.seats,
+            numbers(alloc, set.codes.as_slice())?
+        )?;
     }
     Ok(())
 }
@@ -76,7 +83,8 @@ fn show_withdrawn(rt: &HostRuntime, text: &str) -> Result<()> {
 /// Prints the pairs of three counties in adjacency files.
 fn show_files(rt: &HostRuntime) -> Result<()> {
     let three = [37_005, 37_001, 37_003].as_slice();
-    let census = "\u{feff}County Name|County GEOID|Neighbor Name|Neighbor GEOID|Length\r\nA|37001|A|37001|0\r\nA|37001|B|37003|12\r\nC|37005|B|37003|9\r\nA|37001|X|51001|3\r\n";
+    let census =
+        "\u{feff}County Name|County GEOID|Neighbor Name|Neighbor GEOID|Length\r\nA|37001|A|37001|0\r\nA|37001|B|37003|12\r\nC|37005|B|37003|9\r\nA|37001|X|51001|3\r\n";
     for text in [
         census,
         "A|37001|B|37003\n|37005||37003|x|y",
@@ -121,7 +129,10 @@ fn show_changes(rt: &HostRuntime) -> Result<()> {
 pub(crate) fn show(rt: &HostRuntime) -> Result<()> {
     show_files(rt)?;
     show_changes(rt)?;
-    show_links(rt, "\u{feff}+|37001|37005\r\n\r\n-|37003|37001|a bridge\n+|37001|51001")?;
+    show_links(
+        rt,
+        "\u{feff}+|37001|37005\r\n\r\n-|37003|37001|a bridge\n+|37001|51001",
+    )?;
     show_links(rt, "\n\n")?;
     show_withdrawn(rt, "\u{feff}3|37005\r\n\n001|37005|37007\n1000|00000")?;
     show_withdrawn(rt, "")

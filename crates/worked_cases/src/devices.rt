@@ -102,7 +102,11 @@ fn failing_at(alloc: Global, fails_at: u32, failures: u64) -> Result<Failing, Sh
 fn show_run<H: Shelf>(rt: &HostRuntime, words: &[&str], shelf: &mut H) -> Result<()> {
     let mut bytes = Vec::new(rt.alloc());
     let status = run(rt.alloc(), words, shelf, &mut Writing::new(&mut bytes));
-    println!(rt; "{}exit {status}, failures {}", str::from_utf8(&bytes)?, shelf.failures())?;
+    println!(rt;
+        "{}exit {status}, failures {}",
+        str::from_utf8(&bytes)?,
+        shelf.failures()
+    )?;
     Ok(())
 }
 
@@ -114,14 +118,22 @@ where
     let mut bytes = Vec::new(rt.alloc());
     let mut input = Reading::new(reader);
     let status = run_case(rt.alloc(), &mut input, &mut Writing::new(&mut bytes));
-    println!(rt; "{}exit {status}, input failed {}", str::from_utf8(&bytes)?, input.failed())?;
+    println!(rt;
+        "{}exit {status}, input failed {}",
+        str::from_utf8(&bytes)?,
+        input.failed()
+    )?;
     Ok(())
 }
 
 /// Prints what a case gives whose output fails.
 fn show_broken_output(rt: &HostRuntime) -> Result<()> {
     let mut out = Writing::new(Broken);
-    let status = run_case(rt.alloc(), &mut Reading::new(b"--help\n".as_slice()), &mut out);
+    let status = run_case(
+        rt.alloc(),
+        &mut Reading::new(b"--help\n".as_slice()),
+        &mut out,
+    );
     println!(rt; "exit {status}, output failed {}", out.failed())?;
     Ok(())
 }
@@ -158,6 +170,12 @@ pub(crate) fn show(rt: &HostRuntime) -> Result<()> {
     show_broken_output(rt)?;
     show_case(rt, Broken)?;
     show_case(rt, Endless)?;
-    show_case(rt, b"size --geo \xff --segment seg --chamber 4\n".as_slice())?;
-    show_case(rt, b"size --geo geo --segment seg --chamber 4\nfile \xff\n".as_slice())
+    show_case(
+        rt,
+        b"size --geo \xff --segment seg --chamber 4\n".as_slice(),
+    )?;
+    show_case(
+        rt,
+        b"size --geo geo --segment seg --chamber 4\nfile \xff\n".as_slice(),
+    )
 }
