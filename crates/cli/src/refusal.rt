@@ -10,9 +10,9 @@ ghost use Rattle.cli.specs.Refusals.{line_fault_word, kind_word, code_line_word,
 
 use crate::answer::Refusal;
 use county_codes::CountyCode;
+use field_lines::LineFault;
 use grouping_judge::GroupingFault;
 use grouping_problem::ProblemFault;
-use field_lines::LineFault;
 use grouping_report::{push_code, push_grouping_fault, push_number};
 use pl94_counties::{File, Pl94Fault, Pl94Kind};
 use seat_lines::{CodeLineFault, CodeLineKind};

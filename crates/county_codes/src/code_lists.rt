@@ -39,10 +39,7 @@ pub fn unlisted_code(listed: &[CountyCode], codes: &[CountyCode]) -> Option<Coun
 }
 
 /// The codes of the counties.
-pub fn listed_codes(
-    alloc: Global,
-    counties: &[County],
-) -> Result<Vec<CountyCode>, AllocError>
+pub fn listed_codes(alloc: Global, counties: &[County]) -> Result<Vec<CountyCode>, AllocError>
     ensures { IfOk result (λ v. v.items ≡ codes_of counties.now) }
 {
     counties.iter().map(|county| county.code).collect(alloc)

@@ -2,8 +2,10 @@
 //! places. Any form of sets of places serves.
 #![tactic(auto)]
 
+mod lists;
 mod part;
 mod rows;
 
+pub use lists::place_list;
 pub use part::part_around;
 pub use rows::neighbour_rows;

@@ -5,6 +5,7 @@ use crate::sketch::{ONE_AND_FIVE, RING_OF_FOUR, STRANDING_PATH, Sketch};
 use anyhow::Result;
 use connected_groups::{GroupList, Stop, groups_from};
 use county_codes::listed_codes;
+use county_regions::place_list;
 use grouping_problem::Problem;
 use ordered_counties::{Ordered, Steps};
 use place_sets::CountySet;
@@ -21,10 +22,8 @@ const FEW_PEOPLE: Sketch = Sketch {
 pub(crate) fn show_places<C: CountySet>(rt: &HostRuntime, set: &C) -> Result<()>
     requires { 128 ≤ C.PLACES }
 {
-    for place in 0..128 {
-        if set.has(place) {
-            print!(rt; " {place}")?;
-        }
+    for place in place_list(rt.alloc(), 128, set)?.as_slice() {
+        print!(rt; " {place}")?;
     }
     println!(rt)?;
     Ok(())
