@@ -1,6 +1,6 @@
 //! What a command's files give: each is loaded and read, and the first fault met is refused.
 
-ghost use Rattle.std.specs.Prelude.{◌≡◌, ◌≤◌, ℕ, IfOk};
+ghost use Rattle.std.specs.Prelude.{◌≡◌, ◌≤◌, ℕ};
 ghost use Rattle.grouping_problem.specs.ProblemValue.{codes_of};
 ghost use Rattle.cli.specs.Answers.{Comes};
 ghost use Rattle.cli.specs.Course.{load_step};
@@ -10,11 +10,11 @@ use crate::answer::Refusal;
 use crate::refusal::{InputFile, refuse_codes, refuse_file, refuse_load};
 use adjacency_reader::{Link, apply_links, read_links, read_pairs, read_withdrawn};
 use command_words::{CommonWords, ProblemWords};
-use county_codes::{County, CountyCode, Grouping, Withdrawn};
+use county_codes::{County, CountyCode, Grouping, Withdrawn, listed_codes};
 use pl94_counties::read_counties;
 use seat_lines::read_grouping;
 use shelves::Shelf;
-use std::alloc::{AllocError, Global};
+use std::alloc::Global;
 
 /// The bytes of a file.
 fn load<H: Shelf>(alloc: Global, name: &str, shelf: &mut H) -> Result<Vec<u8>, Refusal>
@@ -45,13 +45,6 @@ pub(crate) fn load_counties<H: Shelf>(
         Ok(counties) => Ok(counties),
         Err(fault) => Err(refuse_file(alloc, fault)),
     }
-}
-
-/// The codes of the counties.
-fn codes(alloc: Global, counties: &[County]) -> Result<Vec<CountyCode>, AllocError>
-    ensures { IfOk result (λ v. v.items ≡ codes_of counties.now) }
-{
-    counties.iter().map(|county| county.code).collect(alloc)
 }
 
 /// The pairs that an adjacency file gives of the listed counties.
@@ -162,7 +155,7 @@ pub(crate) fn load_adjacency<H: Shelf>(
     ensures same { H.contents shelf.new ≡ H.contents shelf.old }
     ensures kept { H.stored shelf.new ≡ H.stored shelf.old }
 {
-    let listed = codes(alloc, counties)?;
+    let listed = listed_codes(alloc, counties)?;
     let pairs = load_pairs(alloc, &listed, words.adjacency, shelf)?;
     let links = load_links(alloc, words.links, shelf)?;
     let linked = apply_links(alloc, &pairs, &links)?;

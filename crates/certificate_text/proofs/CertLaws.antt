@@ -1,0 +1,85 @@
+-- A certificate is read part by part.
+use Rattle.std.proofs.Common.{◌≡◌, ℕ, ◌+◌, ◌≤◌, List, [], ◌∷◌, ◌++◌, length, Option, Some, None, Result, Ok, Err, refl, ap, sym, subst, ◌∙◌, append_assoc}
+use Rattle.grouping_laws.specs.Grouping.{Grouping}
+use Rattle.field_lines.specs.Raw.{RawLine}
+use Rattle.certificate_text.specs.Words.{line_words}
+use Rattle.certificate_text.specs.Lines as line
+use Rattle.certificate_text.specs.Lines.{most}
+use Rattle.certificate_text.specs.Items.{by_words, head_in, items_from, in_front, certificate_items}
+use Rattle.certificate_text.specs.Rest.{Rest, lines_of, IsMemory, TakesLine, FaultOf}
+use Rattle.certificate_text.specs.Reads.{items_at, Reads, Refuses}
+use Rattle.certificate_text.specs.Trees.{items_of_target}
+use Rattle.certificate_text.proofs.WordLaws.{bind_ok}
+use Rattle.certificate_text.proofs.FormLaws.{order_few}
+use Rattle.certificate_text.proofs.ReadLaws.{reads_then, reads_with, reads_refuse, reads_line, refuses_line}
+use Rattle.certificate_text.specs.declared.fault.TextFault.{TextFault}
+use Rattle.proof_trees.specs.declared.language.Language.{Language}
+use Rattle.certificate_text.specs.declared.item.Item.{Item}
+use Rattle.certificate_text.specs.declared.item.Item.TheVariants as item
+use Rattle.certificate_text.specs.declared.item.Wanted.{Wanted}
+use Rattle.certificate_text.specs.declared.item.Wanted.TheVariants as want
+
+-- an order that was read has few codes
+pub order_taken : (cs : List ℕ) (old new : Rest) → TakesLine (by_words line.order_on) cs old new → length cs ≤ most
+order_taken cs old new taken =
+    let w = bind_ok (line_words taken.piece.bytes taken.piece.ended) line.order_on cs taken.value in
+    order_few w.value cs w.then
+
+pub refuses_with : (a more : List Wanted) (x : Rest) (fault : TextFault) → Refuses a x fault → Refuses (a ++ more) x fault
+refuses_with a more x fault h mem later = ap (λ (w : List Wanted). items_at w x) (append_assoc a more later) ∙ h mem (more ++ later)
+
+module _ (text : List ℕ) (start a b c : Rest) (is : start ≡ record { number = 1; text = text }) (language : Language) (cs : List ℕ) (limit : ℕ)
+    (head : TakesLine (λ p. head_in p.bytes p.ended) language start a) (order : TakesLine (by_words line.order_on) cs a b) (limited : TakesLine (by_words line.limit_on) limit b c) where
+  abbrev after_limit : List Wanted
+  after_limit = want.Target ∷ want.Tree language (length cs) ∷ want.End ∷ []
+
+  abbrev head_items : List Item
+  head_items = (item.Head language ∷ []) ++ (item.Order cs ∷ []) ++ item.Limit limit ∷ []
+
+  head_read : Reads (want.Head ∷ []) start head_items after_limit c
+  head_read =
+      reads_then (want.Head ∷ []) (want.Limit ∷ after_limit) after_limit start b c ((item.Head language ∷ []) ++ item.Order cs ∷ []) (item.Limit limit ∷ [])
+      (reads_then (want.Head ∷ []) (want.Order language ∷ []) (want.Limit ∷ after_limit) start a b (item.Head language ∷ []) (item.Order cs ∷ [])
+      (reads_line want.Head (λ p. head_in p.bytes p.ended) item.Head (λ piece. refl) language start a head)
+      (reads_line (want.Order language) (by_words line.order_on) item.Order (λ piece. refl) cs a b order))
+      (reads_with (want.Limit ∷ []) [] after_limit b c (item.Limit limit ∷ []) (reads_line want.Limit (by_words line.limit_on) item.Limit (λ piece. refl) limit b c limited))
+
+  refused : (fault : TextFault) → Refuses (want.Head ∷ []) start fault → (IsMemory fault → ⊥) → certificate_items text ≡ Err fault
+  refused fault h mem = ap (items_at (want.Head ∷ [])) (sym is) ∙ h mem []
+
+  pub target_fault : (fault : TextFault) → Refuses (want.Target ∷ []) c fault → (IsMemory fault → ⊥) → certificate_items text ≡ Err fault
+  target_fault fault h = refused fault (reads_refuse (want.Head ∷ []) after_limit start c head_items fault head_read (λ mem more. h mem (want.Tree language (length cs) ∷ want.End ∷ more)))
+
+  module _ (target : Option Grouping) (d : Rest) (targeted : Reads (want.Target ∷ []) c (items_of_target target) [] d) where
+    target_read : Reads (want.Head ∷ []) start (head_items ++ items_of_target target) (want.Tree language (length cs) ∷ want.End ∷ []) d
+    target_read =
+        reads_then (want.Head ∷ []) after_limit (want.Tree language (length cs) ∷ want.End ∷ []) start c d head_items (items_of_target target) head_read
+        (reads_with (want.Target ∷ []) [] (want.Tree language (length cs) ∷ want.End ∷ []) c d (items_of_target target) targeted)
+
+    pub tree_fault : (levels : ℕ) → levels ≡ length cs → (fault : TextFault) → Refuses (want.Tree language levels ∷ []) d fault → (IsMemory fault → ⊥) → certificate_items text ≡ Err fault
+    tree_fault levels same fault h =
+        refused fault (reads_refuse (want.Head ∷ []) (want.Tree language (length cs) ∷ want.End ∷ []) start d (head_items ++ items_of_target target) fault target_read
+        (λ mem more. ap (λ (k : ℕ). items_at (want.Tree language k ∷ want.End ∷ more) d) (sym same) ∙ h mem (want.End ∷ more)))
+
+    module _ (levels : ℕ) (same : levels ≡ length cs) (items : List Item) (e : Rest) (tree : Reads (want.Tree language levels ∷ []) d items [] e) where
+      tree_read : Reads (want.Head ∷ []) start ((head_items ++ items_of_target target) ++ items) (want.End ∷ []) e
+      tree_read =
+          reads_then (want.Head ∷ []) (want.Tree language (length cs) ∷ want.End ∷ []) (want.End ∷ []) start d e (head_items ++ items_of_target target) items target_read
+          (subst (λ (k : ℕ). Reads (want.Tree language k ∷ want.End ∷ []) d items (want.End ∷ []) e) same (reads_with (want.Tree language levels ∷ []) [] (want.End ∷ []) d e items tree))
+
+      pub end_fault : (fault : TextFault) → ((IsMemory fault → ⊥) → FaultOf (by_words line.end_on) e.number (lines_of e) fault) → (IsMemory fault → ⊥) → certificate_items text ≡ Err fault
+      end_fault fault h =
+          refused fault (reads_refuse (want.Head ∷ []) (want.End ∷ []) start e ((head_items ++ items_of_target target) ++ items) fault tree_read
+          (refuses_line want.End (by_words line.end_on) (λ _. item.End) (λ piece. refl) e fault h))
+
+      module _ (f : Rest) (ended : TakesLine (by_words line.end_on) tt e f) where
+        end_read : Reads (want.Head ∷ []) start (((head_items ++ items_of_target target) ++ items) ++ item.End ∷ []) [] f
+        end_read =
+            reads_then (want.Head ∷ []) (want.End ∷ []) [] start e f ((head_items ++ items_of_target target) ++ items) (item.End ∷ []) tree_read
+            (reads_line want.End (by_words line.end_on) (λ _. item.End) (λ piece. refl) tt e f ended)
+
+        pub after_fault : (fault : TextFault) → items_at [] f ≡ Err fault → certificate_items text ≡ Err fault
+        after_fault fault h = ap (items_at (want.Head ∷ [])) (sym is) ∙ end_read.gives [] ∙ ap (in_front (((head_items ++ items_of_target target) ++ items) ++ item.End ∷ [])) h
+
+        pub certificate_read : items_at [] f ≡ Ok [] → certificate_items text ≡ Ok ((((head_items ++ items_of_target target) ++ items) ++ item.End ∷ []) ++ [])
+        certificate_read h = ap (items_at (want.Head ∷ [])) (sym is) ∙ end_read.gives [] ∙ ap (in_front (((head_items ++ items_of_target target) ++ items) ++ item.End ∷ [])) h

@@ -1,0 +1,98 @@
+-- A text spells one value at most, a value has one text at most, and no text begins another.
+use Rattle.std.proofs.Common.{◌≡◌, ℕ, List, [], ◌∷◌, ◌++◌, length, map, Option, Some, None, Result, Ok, Err, refl, ap, sym, subst, ◌∙◌, append-nil}
+use Rattle.field_lines.specs.Raw.{raw_lines_from}
+use Rattle.county_codes.specs.declared.group.Group.{Group}
+use Rattle.grouping_laws.specs.Grouping.{Grouping}
+use Rattle.proof_trees.specs.Tree.{Tree}
+use Rattle.proof_trees.specs.declared.language.Language.{Language}
+use Rattle.certificate_text.specs.Items.{items_from}
+use Rattle.certificate_text.specs.Spelling.{text_of}
+use Rattle.certificate_text.specs.Fits.{AllFit}
+use Rattle.certificate_text.specs.Spelled.{IsSpelling, IsTreeSpelling}
+use Rattle.certificate_text.specs.Trees.{Certificate, items_of_tree, items_of_target, items_of_certificate}
+use Rattle.certificate_text.specs.declared.fault.TextFault.{TextFault}
+use Rattle.certificate_text.specs.declared.item.Item.{Item}
+use Rattle.certificate_text.specs.declared.item.Item.TheVariants as item
+use Rattle.certificate_text.specs.declared.item.Wanted.{Wanted}
+use Rattle.certificate_text.specs.declared.item.Wanted.TheVariants as want
+use Rattle.certificate_text.proofs.TextBack.{items_back}
+use Rattle.certificate_text.proofs.TreeLaws.{heads, tree_back}
+use Rattle.certificate_text.proofs.PrefixLaws.{no_prefix}
+
+groups_back : (gs hs : List Group) (xs ys : List Item) → length gs ≡ length hs → map item.Grouped gs ++ xs ≡ map item.Grouped hs ++ ys → (gs ≡ hs) × (xs ≡ ys)
+groups_back [] [] xs ys e h = (refl, h)
+groups_back [] (b ∷ hs) xs ys e h = cc
+groups_back (a ∷ gs) [] xs ys e h = cc
+groups_back (a ∷ gs) (b ∷ hs) xs ys e h =
+    let first = heads (item.Grouped a) (item.Grouped b) (map item.Grouped gs ++ xs) (map item.Grouped hs ++ ys) h in
+    let long : length gs ≡ length hs = cc in
+    let later = groups_back gs hs xs ys long first.1 in
+    let same : a ≡ b = cc (first.0) in
+    (cc (same, later.0), later.1)
+
+target_back : (t u : Option Grouping) (xs ys : List Item) → items_of_target t ++ xs ≡ items_of_target u ++ ys → (t ≡ u) × (xs ≡ ys)
+target_back None None xs ys h = (refl, (heads _ _ _ _ h).1)
+target_back None (Some hs) xs ys h = cc ((heads _ _ _ _ h).0)
+target_back (Some gs) None xs ys h = cc ((heads _ _ _ _ h).0)
+target_back (Some gs) (Some hs) xs ys h =
+    let first = heads _ _ _ _ h in
+    let long : length gs ≡ length hs = cc (first.0) in
+    let groups = groups_back gs hs xs ys long first.1 in
+    (ap (λ (g : Grouping). Some g) groups.0, groups.1)
+
+made : Language → List ℕ → ℕ → Option Grouping → Tree → Certificate
+made language order limit target tree = record { round = record { order = order; limit = limit; target = target; language = language }; tree = tree }
+
+made_same : (l m : Language) (o p : List ℕ) (j k : ℕ) (g h : Option Grouping) (t u : Tree) → l ≡ m → o ≡ p → j ≡ k → g ≡ h → t ≡ u → made l o j g t ≡ made m p k h u
+made_same l m o p j k g h t u a b c d e =
+    ap (λ (x : Language). made x o j g t) a ∙ ap (λ (x : List ℕ). made m x j g t) b ∙ ap (λ (x : ℕ). made m p x g t) c ∙ ap (λ (x : Option Grouping). made m p k x t) d ∙ ap (λ (x : Tree). made m p k h x) e
+
+-- a certificate is told from its items
+pub certificate_back : (c d : Certificate) → items_of_certificate c ≡ items_of_certificate d → c ≡ d
+unfolding made
+certificate_back c d h =
+    let head = heads _ _ _ _ h in
+    let order = heads _ _ _ _ head.1 in
+    let limit = heads _ _ _ _ order.1 in
+    let target = target_back c.round.target d.round.target (items_of_tree c.tree ++ item.End ∷ []) (items_of_tree d.tree ++ item.End ∷ []) limit.1 in
+    let tree = tree_back c.tree d.tree (item.End ∷ []) (item.End ∷ []) target.1 in
+    let language_is : c.round.language ≡ d.round.language = cc (head.0) in
+    let order_is : c.round.order ≡ d.round.order = cc (order.0) in
+    let limit_is : c.round.limit ≡ d.round.limit = cc (limit.0) in
+    made_same c.round.language d.round.language c.round.order d.round.order c.round.limit d.round.limit c.round.target d.round.target c.tree d.tree language_is order_is limit_is target.0 tree.0
+
+pub tree_told : (t u : Tree) → items_of_tree t ≡ items_of_tree u → t ≡ u
+tree_told t u h = (tree_back t u [] [] (append-nil (items_of_tree t) ∙ h ∙ sym (append-nil (items_of_tree u)))).0
+
+-- items that fit and have the same text are the same
+same_items : (wanted : List Wanted) (text : List ℕ) (is js : List Item) → AllFit wanted is → AllFit wanted js → text ≡ text_of is → text ≡ text_of js → is ≡ js
+same_items wanted text is js f g e h =
+    let both : Ok is ≡ Ok js = sym (items_back wanted 1 is f) ∙ ap (λ (t : List ℕ). items_from wanted 1 (raw_lines_from 1 t)) (sym e ∙ h) ∙ items_back wanted 1 js g in
+    ok_same is js both
+  where
+    ok_same : (xs ys : List Item) → ◌≡◌ {A = Result (List Item) TextFault} (Ok xs) (Ok ys) → xs ≡ ys
+    ok_same xs ys e = cc
+
+read_from : (wanted : List Wanted) (text : List ℕ) (is : List Item) → AllFit wanted is → text ≡ text_of is → items_from wanted 1 (raw_lines_from 1 text) ≡ Ok is
+read_from wanted text is f e = ap (λ (t : List ℕ). items_from wanted 1 (raw_lines_from 1 t)) e ∙ items_back wanted 1 is f
+
+pub one_text : (t u : List ℕ) (c : Certificate) → IsSpelling t c → IsSpelling u c → t ≡ u
+one_text t u c a b = a.text_is ∙ sym b.text_is
+
+pub one_value : (t : List ℕ) (c d : Certificate) → IsSpelling t c → IsSpelling t d → c ≡ d
+one_value t c d a b = certificate_back c d (same_items (want.Head ∷ []) t (items_of_certificate c) (items_of_certificate d) a.fits b.fits a.text_is b.text_is)
+
+pub none_begins : (t rest : List ℕ) (c d : Certificate) → IsSpelling t c → IsSpelling (t ++ rest) d → rest ≡ []
+none_begins t rest c d a b =
+    no_prefix (want.Head ∷ []) 1 t rest (items_of_certificate c) (items_of_certificate d) (read_from (want.Head ∷ []) t (items_of_certificate c) a.fits a.text_is) (read_from (want.Head ∷ []) (t ++ rest) (items_of_certificate d) b.fits b.text_is)
+
+module _ (language : Language) (levels : ℕ) where
+  pub one_tree_text : (t u : List ℕ) (tree : Tree) → IsTreeSpelling language levels t tree → IsTreeSpelling language levels u tree → t ≡ u
+  one_tree_text t u tree a b = a.text_is ∙ sym b.text_is
+
+  pub one_tree : (t : List ℕ) (a b : Tree) → IsTreeSpelling language levels t a → IsTreeSpelling language levels t b → a ≡ b
+  one_tree t a b f g = tree_told a b (same_items (want.Tree language levels ∷ []) t (items_of_tree a) (items_of_tree b) f.fits g.fits f.text_is g.text_is)
+
+  pub no_tree_begins : (t rest : List ℕ) (a b : Tree) → IsTreeSpelling language levels t a → IsTreeSpelling language levels (t ++ rest) b → rest ≡ []
+  no_tree_begins t rest a b f g =
+      no_prefix (want.Tree language levels ∷ []) 1 t rest (items_of_tree a) (items_of_tree b) (read_from (want.Tree language levels ∷ []) t (items_of_tree a) f.fits f.text_is) (read_from (want.Tree language levels ∷ []) (t ++ rest) (items_of_tree b) g.fits g.text_is)

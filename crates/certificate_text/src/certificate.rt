@@ -1,0 +1,11 @@
+use crate::tree::Tree;
+use proof_trees::Round;
+
+/// A certificate: what it is about, and its tree.
+#[derive(Debug, Drop)]
+pub struct Certificate {
+    /// What it is about.
+    pub round: Round,
+    /// The tree.
+    pub tree: Tree,
+}

@@ -1,0 +1,41 @@
+//! Laws of the text. The functions do nothing, and their contracts are the laws.
+
+ghost use Rattle.std.specs.Prelude.{◌≡◌, ℕ, List, [], ◌++◌, Ok};
+ghost use Rattle.field_lines.specs.Raw.{RawLine, raw_lines_from};
+ghost use Rattle.proof_trees.specs.Tree.{Tree};
+ghost use Rattle.proof_trees.specs.declared.language.Language.{Language};
+ghost use Rattle.certificate_text.specs.declared.item.Item.{Item};
+ghost use Rattle.certificate_text.specs.declared.item.Wanted.{Wanted};
+ghost use Rattle.certificate_text.specs.Items.{items_from};
+ghost use Rattle.certificate_text.specs.Courses.{course_from, whole};
+ghost use Rattle.certificate_text.specs.Fits.{AllFit};
+ghost use Rattle.certificate_text.specs.Spelling.{text_of};
+ghost use Rattle.certificate_text.specs.Spelled.{IsSpelling, IsTreeSpelling};
+ghost use Rattle.certificate_text.specs.Trees.{Certificate};
+
+/// Items that fit are read from their text, items that are read fit, and the text they are read from is theirs.
+pub fn items_and_texts_agree()
+    ensures back { (wanted : List Wanted) (n : ℕ) (items : List Item) → AllFit wanted items → items_from wanted n (raw_lines_from n (text_of items)) ≡ Ok items }
+    ensures only { (wanted : List Wanted) (n : ℕ) (text : List ℕ) (items : List Item) → items_from wanted n (raw_lines_from n text) ≡ Ok items → AllFit wanted items }
+    ensures text { (wanted : List Wanted) (n : ℕ) (text : List ℕ) (items : List Item) → items_from wanted n (raw_lines_from n text) ≡ Ok items → text ≡ text_of items }
+{}
+
+/// The items of a text are those that come one at a time, where no fault ends them.
+pub fn items_come_in_turn()
+    ensures { (wanted : List Wanted) (n : ℕ) (lines : List RawLine) → whole (course_from wanted n lines).items (course_from wanted n lines).fault ≡ items_from wanted n lines }
+{}
+
+/// A certificate has one text at most, a text spells one certificate at most, and no certificate's text
+/// begins another's.
+pub fn certificates_have_one_text()
+    ensures one_text { (t u : List ℕ) (c : Certificate) → IsSpelling t c → IsSpelling u c → t ≡ u }
+    ensures one_value { (t : List ℕ) (c d : Certificate) → IsSpelling t c → IsSpelling t d → c ≡ d }
+    ensures no_prefix { (t rest : List ℕ) (c d : Certificate) → IsSpelling t c → IsSpelling (t ++ rest) d → rest ≡ [] }
+{}
+
+/// The same of trees, for a language and a number of counties.
+pub fn trees_have_one_text()
+    ensures one_text { (language : Language) (counties : ℕ) (t u : List ℕ) (tree : Tree) → IsTreeSpelling language counties t tree → IsTreeSpelling language counties u tree → t ≡ u }
+    ensures one_value { (language : Language) (counties : ℕ) (t : List ℕ) (a b : Tree) → IsTreeSpelling language counties t a → IsTreeSpelling language counties t b → a ≡ b }
+    ensures no_prefix { (language : Language) (counties : ℕ) (t rest : List ℕ) (a b : Tree) → IsTreeSpelling language counties t a → IsTreeSpelling language counties (t ++ rest) b → rest ≡ [] }
+{}

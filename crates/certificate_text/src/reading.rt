@@ -1,0 +1,270 @@
+//! Certificates and trees, read from their lines.
+
+ghost use Rattle.std.specs.Prelude.{◌≡◌, ◌<◌, ◌≤◌, ◌+◌, ℕ, List, [], ◌∷◌, ◌++◌, map, length, take, Option, Ok, Err, IfOk, IfErr, OnOk};
+ghost use Rattle.certificate_text.specs.Items.{allowances_wanted, groups_wanted, items_from, certificate_items, tree_items};
+ghost use Rattle.field_lines.specs.Raw.{raw_lines};
+ghost use Rattle.certificate_text.specs.declared.item.Wanted.{Wanted};
+ghost use Rattle.proof_trees.specs.Depth.{after_raise};
+ghost use Rattle.certificate_text.specs.Lines.{most};
+ghost use Rattle.certificate_text.specs.Reads.{ReadsAll, EndsUnless, Gives, IsUnlessMemory};
+ghost use Rattle.certificate_text.specs.Rest.{IsMemory};
+ghost use Rattle.certificate_text.specs.Spelled.{IsSpelling, IsTreeSpelling};
+ghost use Rattle.proof_trees.specs.Tree.{Tree as TreeValue};
+ghost use Rattle.certificate_text.specs.Trees.{tree_of, items_of_tree, list_of_takes, items_of_takes, items_of_target, Certificate as CertificateValue, certificate_of, items_of_certificate};
+ghost use Rattle.proof_trees.specs.RoundValue.{target_of};
+ghost use Rattle.certificate_text.specs.declared.item.Item.TheVariants as item;
+ghost use Rattle.certificate_text.specs.declared.item.Wanted.TheVariants as want;
+
+use crate::certificate::Certificate;
+use crate::cursor::Cursor;
+use crate::fault::{TextFault, TextKind};
+use crate::item::{Allowance, Opening};
+use crate::tree::{Branch, Leaf, Take, Tree};
+use county_codes::{Group, Grouping};
+use proof_trees::{Language, Round};
+use std::alloc::Global;
+
+/// Adds an item at the end, or answers that memory was refused, at a line.
+pub(crate) fn push_on<T: Drop>(items: &mut Vec<T>, item: T, line: u64) -> Result<(), TextFault>
+    ensures pushed { OnOk result (items.new.items ≡ items.old.items ++ item ∷ []) }
+    ensures refused { IfErr result (λ f. IsMemory f) }
+{
+    match items.push(item) {
+        Ok(()) => Ok(()),
+        Err(_) => Err(TextFault {
+            kind: TextKind::Memory,
+            line,
+        }),
+    }
+}
+
+/// So many lines of a bound leaf.
+fn allowances_at(
+    alloc: Global,
+    cursor: &mut Cursor,
+    count: u16,
+) -> Result<Vec<Allowance>, TextFault>
+    ensures read { ReadsAll (allowances_wanted count) (λ v. map item.Allows v.items) [] cursor.old result cursor.new }
+    ensures number { IfOk result (λ v. length v.items ≡ count) }
+    ensures rest { OnOk result (length cursor.new.text ≤ length cursor.old.text) }
+{
+    let mut allowances = Vec::new(alloc);
+    for done in 0..count {
+        let allowance = cursor.allowance(alloc)?;
+        push_on(&mut allowances, allowance, cursor.number())?;
+    }
+    Ok(allowances)
+}
+
+/// So many groups of a target.
+fn groups_at(alloc: Global, cursor: &mut Cursor, count: u16) -> Result<Vec<Group>, TextFault>
+    ensures read { ReadsAll (groups_wanted count) (λ v. map item.Grouped v.items) [] cursor.old result cursor.new }
+    ensures number { IfOk result (λ v. length v.items ≡ count) }
+{
+    let mut groups = Vec::new(alloc);
+    for done in 0..count {
+        let group = cursor.group(alloc)?;
+        push_on(&mut groups, group, cursor.number())?;
+    }
+    Ok(groups)
+}
+
+/// How many levels are left for the tree of a mark.
+pub(crate) fn levels_after(language: Language, levels: u16) -> u16
+    ensures { result ≡ after_raise language levels }
+{
+    match language {
+        Language::Plain => levels.saturating_sub(1),
+        Language::Wide => levels,
+    }
+}
+
+/// The groups that a branch takes, up to its mark.
+#[cycle(tree_lines)]
+fn takes_at(
+    alloc: Global,
+    cursor: &mut Cursor,
+    language: Language,
+    levels: u16,
+) -> Result<Vec<Take>, TextFault>
+    requires { 0 < levels }
+    ensures read { ReadsAll (want.Takes language levels ∷ []) (λ v. items_of_takes (list_of_takes v.items) ++ item.Mark ∷ []) (want.Tree language (after_raise language levels) ∷ []) cursor.old result cursor.new }
+    ensures rest { OnOk result (length cursor.new.text ≤ length cursor.old.text) }
+{
+    let mut takes = Vec::new(alloc);
+    'taking: while let Some(codes) = cursor.take(alloc)? {
+        let tree = tree_at(alloc, cursor, language, levels - 1)?;
+        push_on(&mut takes, Take { codes, tree }, cursor.number())?;
+    }
+    Ok(takes)
+}
+
+/// The tree that begins on the next line, whose branches may open so many levels.
+#[cycle(tree_lines)]
+fn tree_at(
+    alloc: Global,
+    cursor: &mut Cursor,
+    language: Language,
+    levels: u16,
+) -> Result<Tree, TextFault>
+    ensures read { ReadsAll (want.Tree language levels ∷ []) (λ t. items_of_tree (tree_of t)) [] cursor.old result cursor.new }
+    ensures rest { OnOk result (length cursor.new.text ≤ length cursor.old.text) }
+{
+    let mut branches = Vec::new(alloc);
+    let mut levels = levels;
+    'branching: loop {
+        match cursor.opening(language, levels)? {
+            Opening::Branch { county, limit } => {
+                let takes = takes_at(alloc, cursor, language, levels)?;
+                let branch = Branch {
+                    county,
+                    limit,
+                    takes,
+                };
+                push_on(&mut branches, branch, cursor.number())?;
+                levels = levels_after(language, levels);
+            }
+            Opening::Stuck(county) => {
+                return Ok(Tree {
+                    branches,
+                    leaf: Leaf::Stuck(county),
+                });
+            }
+            Opening::Seats => {
+                return Ok(Tree {
+                    branches,
+                    leaf: Leaf::Seats,
+                });
+            }
+            Opening::Bound(count) => {
+                let allowances = allowances_at(alloc, cursor, count)?;
+                return Ok(Tree {
+                    branches,
+                    leaf: Leaf::Bound(allowances),
+                });
+            }
+        }
+    }
+}
+
+/// The target, where there is one.
+fn target_at(alloc: Global, cursor: &mut Cursor) -> Result<Option<Grouping>, TextFault>
+    ensures { ReadsAll (want.Target ∷ []) (λ t. items_of_target (target_of t)) [] cursor.old result cursor.new }
+{
+    match cursor.target()? {
+        Some(count) => {
+            let groups = groups_at(alloc, cursor, count)?;
+            Ok(Some(Grouping { groups }))
+        }
+        None => Ok(None),
+    }
+}
+
+/// Nothing may be left.
+pub(crate) fn ended(cursor: &Cursor) -> Result<(), TextFault>
+    ensures { EndsUnless cursor.now result }
+{
+    if cursor.rest().is_empty() {
+        Ok(())
+    } else {
+        Err(TextFault {
+            kind: TextKind::AfterEnd,
+            line: cursor.number(),
+        })
+    }
+}
+
+/// The certificate of a text, by its items.
+fn certificate_at(alloc: Global, text: &[u8]) -> Result<Certificate, TextFault>
+    ensures { Gives (λ c. items_of_certificate (certificate_of c)) result (certificate_items text.now) }
+{
+    let mut cursor = Cursor::new(text);
+    let language = cursor.head()?;
+    let order = cursor.order(alloc)?;
+    let limit = cursor.limit()?;
+    let target = target_at(alloc, &mut cursor)?;
+    let tree = tree_at(alloc, &mut cursor, language, order.as_slice().len() as u16)?;
+    cursor.end()?;
+    ended(&cursor)?;
+    Ok(Certificate {
+        round: Round {
+            order,
+            limit,
+            target,
+            language,
+        },
+        tree,
+    })
+}
+
+/// The certificate that a text spells.
+///
+/// # Errors
+///
+/// The first fault of the text. `Memory` in the place of any answer.
+pub fn read(alloc: Global, text: &[u8]) -> Result<Certificate, TextFault>
+    // What is read is spelled so, and has its numbers in their ranges.
+    ensures found { IfOk result (λ c. IsSpelling text.now (certificate_of c)) }
+    // What is spelled so is read, unless memory is refused.
+    ensures only { (c : CertificateValue) → IsSpelling text.now c → IsUnlessMemory (λ d. certificate_of d) result c }
+    // Which fault it is.
+    ensures fault { IfErr result (λ f. (IsMemory f → ⊥) → certificate_items text.now ≡ Err f) }
+{
+    certificate_at(alloc, text)
+}
+
+/// The tree of a text, by its items.
+fn whole_tree(
+    alloc: Global,
+    text: &[u8],
+    language: Language,
+    counties: u16,
+) -> Result<Tree, TextFault>
+    ensures { Gives (λ t. items_of_tree (tree_of t)) result (tree_items language counties text.now) }
+{
+    let mut cursor = Cursor::new(text);
+    let tree = tree_at(alloc, &mut cursor, language, counties)?;
+    ended(&cursor)?;
+    Ok(tree)
+}
+
+/// The tree that a text spells, for an order of so many counties.
+///
+/// # Errors
+///
+/// The first fault of the text. `Memory` in the place of any answer.
+pub fn read_tree(
+    alloc: Global,
+    text: &[u8],
+    language: Language,
+    counties: u16,
+) -> Result<Tree, TextFault>
+    requires { counties ≤ most }
+    ensures found { IfOk result (λ t. IsTreeSpelling language counties text.now (tree_of t)) }
+    ensures only { (t : TreeValue) → IsTreeSpelling language counties text.now t → IsUnlessMemory (λ d. tree_of d) result t }
+    ensures fault { IfErr result (λ f. (IsMemory f → ⊥) → tree_items language counties text.now ≡ Err f) }
+{
+    whole_tree(alloc, text, language, counties)
+}
+
+/// The tree that a text begins with, for an order of so many counties, and the place of the bytes behind it.
+///
+/// # Errors
+///
+/// The first fault of the text up to the end of a tree. `Memory` in the place of any answer.
+pub fn front_tree(
+    alloc: Global,
+    text: &[u8],
+    language: Language,
+    counties: u16,
+) -> Result<(Tree, usize), TextFault>
+    requires { counties ≤ most }
+    ensures place { IfOk result (λ r. r.1 ≤ length text.now) }
+    ensures found { IfOk result (λ r. IsTreeSpelling language counties (take r.1 text.now) (tree_of r.0)) }
+    // The fault is met whatever is wanted behind the tree.
+    ensures fault { IfErr result (λ f. (IsMemory f → ⊥) → (more : List Wanted) → items_from (want.Tree language counties ∷ more) 1 (raw_lines text.now) ≡ Err f) }
+{
+    let mut cursor = Cursor::new(text);
+    let tree = tree_at(alloc, &mut cursor, language, counties)?;
+    Ok((tree, text.len() - cursor.rest().len()))
+}

@@ -1,0 +1,175 @@
+//! Texts and values that are made here.
+
+ghost use Rattle.std.specs.Prelude.{◌<◌, ◌≤◌};
+
+use crate::verdicts::certificate;
+use anyhow::{Context, Result};
+use certificate_text::{
+    Allowance, Branch, Leaf, Take, Tree, Weight, Weights, read_tree, write_tree,
+};
+use county_codes::{Codes, CountyCode};
+use proof_trees::Language;
+use std::alloc::Global;
+
+/// How many marks make a long text.
+const MARKS: u32 = 1_000_000;
+
+/// A certificate with this head and a branch and a mark so often.
+fn marked(alloc: Global, head: &[u8], branch: &[u8]) -> Result<String> {
+    let mut text = Vec::new(alloc);
+    text.extend_from_slice(head)?;
+    text.extend_from_slice(b"order 37001 37003\nlimit 2\ntarget none\n")?;
+    for _ in 0..MARKS {
+        text.extend_from_slice(branch)?;
+        text.extend_from_slice(b"mark\n")?;
+    }
+    text.extend_from_slice(b"seats\nend\n")?;
+    certificate(alloc, &text)
+}
+
+/// A wide text with a million marks.
+pub fn million_marks(alloc: Global) -> Result<String> {
+    marked(
+        alloc,
+        b"county-groups wide certificate 1\n",
+        b"branch 37001 1\n",
+    )
+}
+
+/// A plain text with a million marks.
+pub fn million_plain_marks(alloc: Global) -> Result<String> {
+    marked(alloc, b"county-groups certificate 1\n", b"branch 37001\n")
+}
+
+/// Numbers that look random, the same in each run.
+#[derive(Drop)]
+struct Dice {
+    state: u64,
+}
+
+impl Dice {
+    /// A number below another.
+    fn roll(&mut self, below: u32) -> u32
+        requires { 0 < below }
+        ensures { result < below }
+    {
+        self.state = self
+            .state
+            .wrapping_mul(6_364_136_223_846_793_005)
+            .wrapping_add(1_442_695_040_888_963_407);
+        ((self.state >> 33) % u64::from(below)) as u32
+    }
+
+    /// A code.
+    fn code(&mut self) -> Result<CountyCode> {
+        CountyCode::new(self.roll(100_000)).context("a code")
+    }
+
+    /// One to four codes.
+    fn codes(&mut self, alloc: Global) -> Result<Codes> {
+        let mut codes = Vec::new(alloc);
+        for _ in 0..1 + self.roll(4) {
+            codes.push(self.code()?)?;
+        }
+        Ok(Codes::new(codes))
+    }
+
+    /// Up to nine weights, their codes ascending.
+    fn weights(&mut self, alloc: Global) -> Result<Weights> {
+        let mut weights = Vec::new(alloc);
+        for ten in 0..self.roll(10) {
+            let county = CountyCode::new(10_000 * ten + self.roll(10_000)).context("a code")?;
+            let weight = 1 + self.roll(1_000_000);
+            weights.push(Weight { county, weight })?;
+        }
+        Ok(Weights::new(weights))
+    }
+
+    /// A line of a bound leaf.
+    fn allowance(&mut self, alloc: Global) -> Result<Allowance> {
+        if self.roll(2) == 0 {
+            return Ok(Allowance::Room);
+        }
+        let quota = 1 + self.roll(256_000_000);
+        let weights = self.weights(alloc)?;
+        Ok(Allowance::Weigh { quota, weights })
+    }
+
+    /// A leaf.
+    fn leaf(&mut self, alloc: Global) -> Result<Leaf> {
+        match self.roll(3) {
+            0 => Ok(Leaf::Stuck(self.code()?)),
+            1 => Ok(Leaf::Seats),
+            _ => {
+                let mut lines = Vec::new(alloc);
+                for _ in 0..self.roll(5) {
+                    lines.push(self.allowance(alloc)?)?;
+                }
+                Ok(Leaf::Bound(lines))
+            }
+        }
+    }
+
+    /// A branch, whose takes have trees of so many levels.
+    #[cycle(made)]
+    fn branch(&mut self, alloc: Global, language: Language, levels: u16) -> Result<Branch> {
+        let county = self.code()?;
+        let limit = match language {
+            Language::Plain => None,
+            Language::Wide => Some(1 + self.roll(128) as u16),
+        };
+        let mut takes = Vec::new(alloc);
+        for _ in 0..self.roll(3) {
+            let codes = self.codes(alloc)?;
+            let tree = self.tree(alloc, language, levels)?;
+            takes.push(Take { codes, tree })?;
+        }
+        Ok(Branch {
+            county,
+            limit,
+            takes,
+        })
+    }
+
+    /// A tree of so many levels.
+    #[cycle(made)]
+    fn tree(&mut self, alloc: Global, language: Language, levels: u16) -> Result<Tree> {
+        let mut branches = Vec::new(alloc);
+        let mut left = levels;
+        while left > 0 && self.roll(3) > 0 {
+            branches.push(self.branch(alloc, language, left - 1)?)?;
+            left -= 1;
+        }
+        let leaf = self.leaf(alloc)?;
+        Ok(Tree { branches, leaf })
+    }
+}
+
+/// Whether a tree's text is read and written as the same text again.
+fn comes_back(alloc: Global, tree: &Tree, language: Language, levels: u16) -> Result<bool>
+    requires { levels ≤ 128 }
+{
+    let text = write_tree(alloc, tree, language, levels)?;
+    let again = read_tree(alloc, &text, language, levels)?;
+    let second = write_tree(alloc, &again, language, levels)?;
+    Ok(text.as_slice() == second.as_slice())
+}
+
+/// How many trees of so many come back.
+pub fn round_trips(alloc: Global, trees: u32) -> Result<u32> {
+    let mut dice = Dice { state: 2026 };
+    let mut back = 0_u32;
+    for tree in 0..trees {
+        let language = if tree % 2 == 0 {
+            Language::Plain
+        } else {
+            Language::Wide
+        };
+        let levels = dice.roll(5) as u16;
+        let made = dice.tree(alloc, language, levels)?;
+        if comes_back(alloc, &made, language, levels)? {
+            back = back.saturating_add(1);
+        }
+    }
+    Ok(back)
+}

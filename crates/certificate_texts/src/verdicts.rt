@@ -1,0 +1,138 @@
+//! What is said of a case.
+
+use anyhow::Result;
+use certificate_text::{
+    ItemSource, Items, TextFault, TextKind, Words, front_tree, read, read_tree, write, write_tree,
+};
+use proof_trees::Language;
+use std::alloc::Global;
+
+/// A language, in a word.
+fn name_of(language: Language) -> &'static str {
+    match language {
+        Language::Plain => "plain",
+        Language::Wide => "wide",
+    }
+}
+
+/// What a comparison showed.
+fn outcome(equal: bool) -> &'static str {
+    if equal { "equal" } else { "DIFFERENT" }
+}
+
+/// How many items come, and the fault that ends them.
+fn count_items<S: ItemSource>(items: &mut S) -> (u64, Option<TextFault>) {
+    for count in 0..u64::MAX {
+        match items.next_item() {
+            Ok(Some(_item)) => {}
+            Ok(None) => return (count, None),
+            Err(fault) => return (count, Some(fault)),
+        }
+    }
+    (u64::MAX, None)
+}
+
+/// A fault, where it is also met item by item.
+fn fault_said(alloc: Global, fault: TextFault, met: Option<TextFault>) -> Result<String> {
+    let TextFault { kind, line } = fault;
+    if met == Some(fault) {
+        Ok(format!(in alloc; "{kind:?} line {line}")?)
+    } else {
+        Ok(format!(in alloc; "{kind:?} line {line}, and not so item by item")?)
+    }
+}
+
+/// A certificate, read, copied and written.
+pub fn certificate(alloc: Global, bytes: &[u8]) -> Result<String> {
+    let (lines, met) = count_items(&mut Items::of_certificate(alloc, bytes)?);
+    match read(alloc, bytes) {
+        Ok(certificate) => {
+            let name = name_of(certificate.round.language);
+            let again = write(alloc, &certificate.copy()?)?;
+            let outcome = outcome(again.as_slice() == bytes);
+            Ok(format!(in alloc; "{name} certificate of {lines} lines, written back {outcome}")?)
+        }
+        Err(fault) => fault_said(alloc, fault, met),
+    }
+}
+
+/// A tree, read, copied and written, for an order of three counties.
+fn tree(alloc: Global, bytes: &[u8], language: Language) -> Result<String> {
+    let (lines, met) = count_items(&mut Items::of_tree(alloc, bytes, language, 3)?);
+    match read_tree(alloc, bytes, language, 3) {
+        Ok(tree) => {
+            let again = write_tree(alloc, &tree.copy()?, language, 3)?;
+            let outcome = outcome(again.as_slice() == bytes);
+            Ok(format!(in alloc; "tree of {lines} lines, written back {outcome}")?)
+        }
+        Err(fault) => fault_said(alloc, fault, met),
+    }
+}
+
+/// A tree in front of other bytes, for an order of three counties.
+fn front(alloc: Global, bytes: &[u8], language: Language) -> Result<String> {
+    match front_tree(alloc, bytes, language, 3) {
+        Ok((tree, place)) => {
+            let again = write_tree(alloc, &tree, language, 3)?;
+            let (front, rest) = bytes.split_at(place);
+            let outcome = outcome(again.as_slice() == front);
+            let left = rest.len();
+            Ok(format!(in alloc; "tree in front of {left} bytes, written back {outcome}")?)
+        }
+        Err(fault) => {
+            let TextFault { kind, line } = fault;
+            Ok(format!(in alloc; "{kind:?} line {line}")?)
+        }
+    }
+}
+
+/// The words of a line: a name, a number up to 128, and codes.
+fn line_of(alloc: Global, bytes: &[u8]) -> std::result::Result<(u32, usize), TextKind> {
+    let mut words = Words::new(bytes, true)?;
+    words.named(b"line")?;
+    words.counted(2, 129)?;
+    let number = words.number(0, 128)?;
+    let codes = words.codes(alloc)?;
+    Ok((number, codes.as_slice().len()))
+}
+
+/// A line of words.
+fn words(alloc: Global, bytes: &[u8]) -> Result<String> {
+    let line = bytes.strip_suffix(b"\n").unwrap_or(bytes);
+    match line_of(alloc, line) {
+        Ok((number, codes)) => Ok(format!(in alloc; "number {number}, {codes} codes")?),
+        Err(kind) => Ok(format!(in alloc; "{kind:?}")?),
+    }
+}
+
+/// How many proper prefixes there are, and how many are cut short at one more than their LFs.
+fn prefixes(alloc: Global, bytes: &[u8]) -> Result<String> {
+    let mut cut = 0_usize;
+    for end in 0..bytes.len() {
+        let front = &bytes[..end];
+        let feeds = front.iter().filter(|byte| **byte == b'\n').count();
+        if let Err(fault) = read(alloc, front)
+            && fault.kind == TextKind::CutShort
+            && fault.line == (feeds as u64).saturating_add(1)
+        {
+            cut = cut.saturating_add(1);
+        }
+    }
+    let all = bytes.len();
+    Ok(format!(in alloc; "{cut} of {all} prefixes cut short")?)
+}
+
+/// What is said of the bytes of a case.
+pub fn verdict(alloc: Global, kind: &str, bytes: &[u8]) -> Result<String> {
+    match kind {
+        "certificate" => certificate(alloc, bytes),
+        "certificate cut" => certificate(alloc, bytes.strip_suffix(b"\n").unwrap_or(bytes)),
+        "prefixes" => prefixes(alloc, bytes),
+        "plain tree" => tree(alloc, bytes, Language::Plain),
+        "wide tree" => tree(alloc, bytes, Language::Wide),
+        "plain front" => front(alloc, bytes, Language::Plain),
+        "wide front" => front(alloc, bytes, Language::Wide),
+        "words" => words(alloc, bytes),
+        _ => Ok(String::from_str(alloc, "no such kind")?),
+    }
+}
