@@ -9,6 +9,7 @@ mod problems;
 mod regions;
 mod sets;
 mod sketch;
+mod states;
 
 use anyhow::Result;
 use place_sets::{ListSet, MaskSet, WideSet};
@@ -21,13 +22,17 @@ fn main(rt: HostRuntime) -> Result<()> {
     sets::show::<ListSet>(&rt)?;
     groups::show::<ListSet>(&rt)?;
     regions::show::<ListSet>(&rt)?;
+    states::show::<ListSet>(&rt)?;
     println!(rt; "-- masks")?;
     sets::show::<MaskSet>(&rt)?;
     groups::show::<MaskSet>(&rt)?;
     regions::show::<MaskSet>(&rt)?;
+    states::show::<MaskSet>(&rt)?;
     println!(rt; "-- wide masks")?;
     sets::show::<WideSet>(&rt)?;
     groups::show::<WideSet>(&rt)?;
     regions::show::<WideSet>(&rt)?;
-    sets::show_ends(&rt)
+    states::show::<WideSet>(&rt)?;
+    sets::show_ends(&rt)?;
+    states::show_rounds(&rt)
 }
