@@ -1,11 +1,10 @@
 -- A certificate is read part by part.
-use Rattle.std.proofs.Common.{◌≡◌, ℕ, ◌+◌, ◌≤◌, List, [], ◌∷◌, ◌++◌, length, Option, Some, None, Result, Ok, Err, refl, ap, sym, subst, ◌∙◌, append_assoc}
+use Rattle.std.proofs.Common.{◌≡◌, ℕ, ◌≤◌, List, [], ◌∷◌, ◌++◌, length, Option, Ok, Err, refl, ap, sym, subst, ◌∙◌, append_assoc}
 use Rattle.grouping_laws.specs.Grouping.{Grouping}
-use Rattle.field_lines.specs.Raw.{RawLine}
 use Rattle.certificate_text.specs.Words.{line_words}
 use Rattle.certificate_text.specs.Lines as line
 use Rattle.certificate_text.specs.Lines.{most}
-use Rattle.certificate_text.specs.Items.{by_words, head_in, items_from, in_front, certificate_items}
+use Rattle.certificate_text.specs.Items.{by_words, head_in, in_front, certificate_items}
 use Rattle.certificate_text.specs.Rest.{Rest, lines_of, IsMemory, TakesLine, FaultOf}
 use Rattle.certificate_text.specs.Reads.{items_at, Reads, Refuses}
 use Rattle.certificate_text.specs.Trees.{items_of_target}

@@ -1,7 +1,7 @@
 -- Copies of branches and takes, one after the other.
-use Rattle.std.proofs.Common.{◌≡◌, ℕ, ◌+◌, ◌<◌, List, [], ◌∷◌, ◌++◌, Vec, Global, Option, length, take, get_or, refl, ap, sym, ◌∙◌}
+use Rattle.std.proofs.Common.{◌≡◌, ℕ, ◌+◌, ◌<◌, List, [], ◌∷◌, ◌++◌, Vec, Global, length, take, get_or, refl, ap, sym, ◌∙◌}
 use Rattle.proof_trees.specs.Tree.{Tree, leaf, branch, Takes, no_take}
-use Rattle.certificate_text.specs.Trees.{leaf_of, tree_of, branch_onto, takes_of, take_onto, list_of_takes}
+use Rattle.certificate_text.specs.Trees.{leaf_of, tree_of, branch_onto, take_onto, list_of_takes}
 use Rattle.certificate_text.specs.declared.tree.Tree.{Tree as DeclaredTree, out-Tree, roll-Tree, roll-out-Tree}
 use Rattle.certificate_text.specs.declared.tree.Branch.{Branch, out-Branch, roll-Branch, roll-out-Branch}
 use Rattle.certificate_text.specs.declared.tree.Take.{Take}

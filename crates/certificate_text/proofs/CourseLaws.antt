@@ -2,7 +2,7 @@
 use Rattle.std.proofs.Common.{◌≡◌, ℕ, ◌+◌, List, [], ◌∷◌, ◌++◌, Option, Some, None, Result, Ok, Err, refl, ap, sym, ◌∙◌}
 use Rattle.field_lines.specs.Raw.{RawLine}
 use Rattle.certificate_text.specs.Rest.{Rest, lines_of, fault_at, TakesLine, FaultOf}
-use Rattle.certificate_text.specs.Items.{seen, item_on, wanted_after, in_front, items_from}
+use Rattle.certificate_text.specs.Items.{item_on, wanted_after, in_front, items_from}
 use Rattle.certificate_text.specs.Reads.{items_at}
 use Rattle.certificate_text.specs.Courses.{Course, nothing, only_fault, first, course_from, whole}
 use Rattle.certificate_text.specs.declared.fault.TextKind.{TextKind}

@@ -1,21 +1,21 @@
 -- What is read fits.
-use Rattle.std.proofs.Common.{◌≡◌, ℕ, ◌+◌, ◌<◌, ◌≤◌, cond, not, Bool, true, false, List, [], ◌∷◌, ◌++◌, length, map, drop, codes, Option, Some, None, Result, Ok, Err, refl, ap, sym, subst, ◌∙◌, arith, lit<}
+use Rattle.std.proofs.Common.{◌≡◌, ℕ, ◌+◌, ◌<◌, ◌≤◌, cond, not, Bool, true, false, List, [], ◌∷◌, ◌++◌, length, drop, codes, Option, Some, None, Result, Ok, Err, refl, ap, sym, subst, ◌∙◌, arith, lit<}
 use Rattle.std.specs.Prelude.{nat_lt}
-use Rattle.std.specs.List.{AllByRecursion, join_with_byte}
+use Rattle.std.specs.List.{join_with_byte}
 use Rattle.std.proofs.lemmas.Bool.{ltb-true, ltb-false}
 use Rattle.field_lines.specs.Chain.{◌>>=◌}
 use Rattle.field_lines.specs.Fault.{most_bytes}
 use Rattle.field_lines.specs.Raw.{RawLine}
-use Rattle.certificate_text.specs.Words.{words_of, line_bytes, line_words, is_canonical, code, pair}
+use Rattle.certificate_text.specs.Words.{line_bytes, line_words, code, pair}
 use Rattle.certificate_text.specs.Lines as line
 use Rattle.certificate_text.specs.Lines.{most, begins, named, counted, number_at, code_at, each, ascend, order_on, limit_on, target_on, group_on, branch_on, stuck_on, bound_on, opening_on, take_on, weigh_on, allowance_on}
 use Rattle.certificate_text.specs.Items.{by_words, head_in, seen, taken, item_on, wanted_after, in_front, items_from}
 use Rattle.certificate_text.specs.Rest.{fault_at}
 use Rattle.certificate_text.specs.Spelling.{five_digits, item_words}
-use Rattle.certificate_text.specs.Fits.{AreCodes, IsSet, FitsWeight, AreWeights, Fits, AllFit}
+use Rattle.certificate_text.specs.Fits.{AreCodes, IsSet, Fits, AllFit}
 use Rattle.certificate_text.proofs.WordLaws.{bind_ok}
-use Rattle.certificate_text.proofs.FormLaws.{named_ok, counted_ok, number_at_ok, code_at_ok, codes_ok, weights_ok, order_few, length_map, allowance_ok}
-use Rattle.certificate_text.proofs.TextLaws.{LineIs, item_ok, seen_ok, in_front_ok}
+use Rattle.certificate_text.proofs.FormLaws.{counted_ok, number_at_ok, code_at_ok, codes_ok, weights_ok, order_few, length_map}
+use Rattle.certificate_text.proofs.TextLaws.{item_ok, seen_ok, in_front_ok}
 use Rattle.certificate_text.specs.declared.fault.TextKind.{TextKind}
 use Rattle.certificate_text.specs.declared.fault.TextKind.TheVariants.{BadWord, NotCanonical, CutShort, TooDeep}
 use Rattle.certificate_text.specs.declared.fault.TextFault.{TextFault}
@@ -28,7 +28,7 @@ use Rattle.certificate_text.specs.declared.item.Allowance.TheVariants.{Room, Wei
 use Rattle.certificate_text.specs.declared.item.Opening.{Opening}
 use Rattle.certificate_text.specs.declared.item.Opening.TheVariants.{Branch, Stuck, Seats, Bound}
 use Rattle.certificate_text.specs.declared.item.Item.{Item}
-use Rattle.certificate_text.specs.declared.item.Item.TheVariants.{Head, Order, Limit, Target, Grouped, Opens, Takes, Mark, Allows, End}
+use Rattle.certificate_text.specs.declared.item.Item.TheVariants.{Head, Order, Limit, Target, Grouped, Opens, Allows, End}
 use Rattle.certificate_text.specs.declared.item.Wanted.{Wanted}
 use Rattle.certificate_text.specs.declared.item.Wanted.TheVariants as want
 

@@ -1,9 +1,9 @@
 -- What each form of line is read as, and how that is written: a line that is read is the item's, word by word.
-use Rattle.std.proofs.Common.{◌≡◌, ℕ, ◌+◌, ◌<◌, ◌≤◌, ◌^◌, ◌&&◌, cond, Bool, true, false, List, [], ◌∷◌, length, map, drop, codes, Option, Some, None, Result, Ok, Err, refl, ap, sym, subst, ◌∙◌, arith, lit<}
-use Rattle.std.specs.Prelude.{nat_le, nat_eq, nat_lt}
+use Rattle.std.proofs.Common.{◌≡◌, ℕ, ◌+◌, ◌<◌, ◌≤◌, ◌^◌, ◌&&◌, cond, Bool, true, false, List, [], ◌∷◌, length, map, drop, codes, Option, Some, None, Ok, Err, refl, ap, subst, ◌∙◌, arith, lit<}
+use Rattle.std.specs.Prelude.{nat_le, nat_lt}
 use Rattle.std.specs.Fmt.{decimal}
 use Rattle.std.specs.List.{AllByRecursion}
-use Rattle.std.specs.Cmp.Lexicographic.{pointwise, bytes_decides}
+use Rattle.std.specs.Cmp.Lexicographic.{bytes_decides}
 use Rattle.std.proofs.lemmas.Bool.{and_parts, leb-true}
 use Rattle.field_lines.specs.Chain.{◌>>=◌}
 use Rattle.county_codes.specs.declared.group.Group.{Group}
@@ -12,8 +12,7 @@ use Rattle.certificate_text.specs.Lines.{most, begins, named, counted, number_at
 use Rattle.certificate_text.specs.Spelling.{five_digits, weight_word, item_words}
 use Rattle.certificate_text.specs.Items.{taken}
 use Rattle.certificate_text.specs.Fits.{FitsWeight}
-use Rattle.certificate_text.proofs.WordLaws.{Bound, bind_ok, NumberIs, number_ok, CodeIs, code_ok, WeightIs, pair_ok, each_ok}
-use Rattle.certificate_text.specs.declared.fault.TextKind.{TextKind}
+use Rattle.certificate_text.proofs.WordLaws.{bind_ok, number_ok, code_ok, pair_ok, each_ok}
 use Rattle.certificate_text.specs.declared.fault.TextKind.TheVariants.{BadWord, NotCanonical, TooDeep}
 use Rattle.proof_trees.specs.declared.language.Language.{Language}
 use Rattle.proof_trees.specs.declared.language.Language.TheVariants.{Plain, Wide}
@@ -22,8 +21,7 @@ use Rattle.certificate_text.specs.declared.item.Allowance.{Allowance}
 use Rattle.certificate_text.specs.declared.item.Allowance.TheVariants.{Room, Weigh}
 use Rattle.certificate_text.specs.declared.item.Opening.{Opening}
 use Rattle.certificate_text.specs.declared.item.Opening.TheVariants.{Branch, Stuck, Seats, Bound as BoundLeaf}
-use Rattle.certificate_text.specs.declared.item.Item.{Item}
-use Rattle.certificate_text.specs.declared.item.Item.TheVariants.{Order, Limit, Target, Grouped, Opens, Takes, Mark, Allows, End}
+use Rattle.certificate_text.specs.declared.item.Item.TheVariants.{Order, Limit, Target, Grouped, Opens, Allows, End}
 
 -- which way a test went
 begins_ok : (name : List ℕ) (words : List (List ℕ)) → begins name words ≡ true → words ≡ name ∷ drop 1 words

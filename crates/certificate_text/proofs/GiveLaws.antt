@@ -1,5 +1,5 @@
 -- What is given is spelled, and what is spelled is given.
-use Rattle.std.proofs.Common.{◌≡◌, ℕ, List, [], ◌∷◌, Result, Ok, Err, refl, ap, sym, subst, ◌∙◌}
+use Rattle.std.proofs.Common.{◌≡◌, ℕ, List, Result, Ok, Err, refl, ap, sym, ◌∙◌}
 use Rattle.std.specs.Result.{IfOk, IfErr}
 use Rattle.field_lines.specs.Raw.{raw_lines}
 use Rattle.certificate_text.specs.Items.{items_from}

@@ -1,5 +1,5 @@
 -- Readings in loops and recursions, step by step.
-use Rattle.std.proofs.Common.{◌≡◌, ℕ, ◌+◌, ◌-◌, ◌<◌, ◌≤◌, cond, Bool, true, false, List, [], ◌∷◌, ◌++◌, length, map, Option, Some, None, Result, Ok, Err, refl, ap, sym, subst, ◌∙◌, append_assoc, append-nil, arith}
+use Rattle.std.proofs.Common.{◌≡◌, ℕ, ◌+◌, ◌-◌, ◌<◌, ◌≤◌, cond, List, [], ◌∷◌, ◌++◌, map, Option, Some, None, Result, refl, ap, sym, subst, ◌∙◌, append_assoc, arith}
 use Rattle.std.specs.Prelude.{nat_lt}
 use Rattle.std.proofs.lemmas.Bool.Decides.{nat_tests}
 use Rattle.field_lines.specs.Raw.{RawLine}
@@ -19,10 +19,9 @@ use Rattle.certificate_text.specs.declared.item.Item.{Item}
 use Rattle.certificate_text.specs.declared.item.Item.TheVariants as item
 use Rattle.certificate_text.specs.declared.item.Wanted.{Wanted}
 use Rattle.certificate_text.specs.declared.item.Wanted.TheVariants as want
-use Rattle.certificate_text.specs.declared.tree.Branch.{Branch, Branch', Row_of-Take}
-use Rattle.certificate_text.specs.declared.tree.Take.{Take, Take'}
-use Rattle.certificate_text.specs.declared.tree.Tree.{Tree as DeclaredTree}
-use Rattle.certificate_text.specs.Trees.{tree_of, takes_of, list_of_takes, items_of_tree, items_of_takes}
+use Rattle.certificate_text.specs.declared.tree.Branch.{Branch}
+use Rattle.certificate_text.specs.declared.tree.Take.{Take}
+use Rattle.certificate_text.specs.Trees.{list_of_takes, items_of_takes}
 use Rattle.certificate_text.proofs.TreeViews.{items_of_branch, items_of_branches, branches_more, items_of_take, takes_more}
 
 map_more : {X Y : Type 0} (f : X → Y) (xs : List X) (x : X) → map f (xs ++ x ∷ []) ≡ map f xs ++ f x ∷ []

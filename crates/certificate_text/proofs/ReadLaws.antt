@@ -1,8 +1,8 @@
 -- Readings one after the other.
-use Rattle.std.proofs.Common.{◌≡◌, ℕ, ◌==◌, ◌+◌, ◌-◌, ◌<◌, ◌≤◌, Bool, true, false, List, [], ◌∷◌, ◌++◌, length, map, Option, Some, None, Result, Ok, Err, refl, ap, sym, subst, ◌∙◌, append_assoc, append-nil, arith}
+use Rattle.std.proofs.Common.{◌≡◌, ℕ, ◌==◌, ◌+◌, ◌<◌, true, false, List, [], ◌∷◌, ◌++◌, length, Result, Ok, Err, refl, ap, sym, subst, ◌∙◌, append_assoc, append-nil, arith}
 use Rattle.std.proofs.lemmas.Bool.Decides.{nat_tests}
 use Rattle.std.proofs.lemmas.Grind.{flat_map-append}
-use Rattle.field_lines.specs.Raw.{RawLine, raw_lines_from, text_of as raw_text}
+use Rattle.field_lines.specs.Raw.{RawLine, text_of as raw_text}
 use Rattle.field_lines.proofs.TextLemmas.{text_of-raw_lines}
 use Rattle.certificate_text.specs.Rest.{Rest, lines_of, IsMemory, TakesLine, FaultOf, fault_at}
 use Rattle.certificate_text.specs.Items.{seen, item_on, wanted_after, in_front, items_from, allowances_wanted, groups_wanted}
@@ -12,7 +12,7 @@ use Rattle.certificate_text.specs.Fits.{AllFit}
 use Rattle.certificate_text.proofs.TextLaws.{item_ok, line_is}
 use Rattle.certificate_text.proofs.FitsLaws.{item_fits}
 use Rattle.certificate_text.specs.declared.fault.TextKind.{TextKind}
-use Rattle.certificate_text.specs.declared.fault.TextKind.TheVariants.{CutShort, AfterEnd}
+use Rattle.certificate_text.specs.declared.fault.TextKind.TheVariants.{AfterEnd}
 use Rattle.certificate_text.specs.declared.fault.TextFault.{TextFault}
 use Rattle.certificate_text.specs.declared.item.Item.{Item}
 use Rattle.certificate_text.specs.declared.item.Wanted.{Wanted}

@@ -1,32 +1,27 @@
 -- What fits is read from its spelling.
-use Rattle.std.proofs.Common.{◌≡◌, ℕ, ◌+◌, ◌-◌, ◌*◌, ◌<◌, ◌≤◌, ◌^◌, ◌==◌, ◌&&◌, cond, not, Bool, true, false, List, [], ◌∷◌, ◌++◌, length, map, drop, codes, Option, Some, None, Result, Ok, Err, refl, ap, sym, subst, ◌∙◌, arith, length-append, append_assoc, lit<}
+use Rattle.std.proofs.Common.{◌≡◌, ℕ, ◌+◌, ◌<◌, ◌≤◌, ◌^◌, ◌==◌, cond, Bool, true, false, List, [], ◌∷◌, ◌++◌, length, map, codes, Some, None, Ok, refl, ap, subst, ◌∙◌, arith, lit<}
 use Rattle.std.specs.Prelude.{nat_le, nat_lt, nat_eq}
 use Rattle.std.specs.Fmt.{decimal}
-use Rattle.std.specs.List.{AllByRecursion, list_all, join_with_byte, flat_map}
+use Rattle.std.specs.List.{AllByRecursion, list_all, join_with_byte}
 use Rattle.std.specs.Cmp.Lexicographic.{pointwise, bytes_decides}
 use Rattle.std.proofs.lemmas.Bool.{and_from, le-leb, ne_eqb}
 use Rattle.std.proofs.lemmas.Bool.Decides.{nat_tests}
-use Rattle.std.proofs.lemmas.Fmt.{decimal_nonempty, length-decimal-le}
 use Rattle.std.proofs.lemmas.List.Elements.{All-from_recursion}
 use Rattle.std.proofs.lemmas.List.Splits.{slice_split_none, slice_split_at}
 use Rattle.field_lines.specs.Chain.{◌>>=◌}
 use Rattle.field_lines.specs.Fault.{most_bytes}
-use Rattle.field_lines.specs.Raw.{RawLine, raw_lines_from, is_lf}
-use Rattle.field_lines.proofs.SplitLemmas.{numbered-ended}
-use Rattle.certificate_text.specs.Words.{words_of, has_bytes, is_printable, is_canonical, line_bytes, line_words, number, code, pair}
-use Rattle.certificate_text.specs.Lines.{most, begins, named, counted, number_at, code_at, each, ascend, order_on, limit_on, target_on, group_on, branch_on, stuck_on, bound_on, opening_on, take_on, weigh_on, allowance_on, end_on}
+use Rattle.certificate_text.specs.Words.{words_of, has_bytes, is_printable, is_canonical, line_bytes, line_words, code, pair}
+use Rattle.certificate_text.specs.Lines.{most, begins, counted, number_at, code_at, each, order_on, limit_on, target_on, group_on, branch_on, stuck_on, bound_on, opening_on, take_on, weigh_on, allowance_on}
 use Rattle.certificate_text.specs.Spelling.{five_digits, weight_word, item_words}
 use Rattle.certificate_text.specs.Fits.{AreCodes, IsSet, FitsWeight, AreWeights}
-use Rattle.certificate_text.proofs.BackLaws.{number_back, code_back, Digit, decimal_digits, code_digits, pair_back, each_back}
-use Rattle.certificate_text.specs.declared.fault.TextKind.{TextKind}
-use Rattle.certificate_text.specs.declared.fault.TextKind.TheVariants.{BadWord, NotCanonical, CutShort, TooDeep}
+use Rattle.certificate_text.proofs.BackLaws.{number_back, code_back, Digit, decimal_digits, pair_back, each_back}
 use Rattle.proof_trees.specs.declared.language.Language.{Language}
 use Rattle.proof_trees.specs.declared.language.Language.TheVariants.{Plain, Wide}
 use Rattle.certificate_text.specs.declared.weights.Weight.{Weight}
 use Rattle.county_codes.specs.declared.group.Group.{Group}
-use Rattle.certificate_text.specs.declared.item.Allowance.TheVariants.{Room, Weigh}
-use Rattle.certificate_text.specs.declared.item.Opening.TheVariants.{Branch, Stuck, Seats, Bound}
-use Rattle.certificate_text.specs.declared.item.Item.TheVariants.{Head, Order, Limit, Target, Grouped, Opens, Takes, Mark, Allows, End}
+use Rattle.certificate_text.specs.declared.item.Allowance.TheVariants.{Weigh}
+use Rattle.certificate_text.specs.declared.item.Opening.TheVariants.{Branch, Stuck, Bound}
+use Rattle.certificate_text.specs.declared.item.Item.TheVariants.{Order, Limit, Target, Grouped, Opens, Takes, Allows}
 
 -- a byte of a word: printed, and no blank
 pub record Shown (b : ℕ) : Type 0 where

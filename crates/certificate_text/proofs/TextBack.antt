@@ -1,22 +1,20 @@
 -- Items that fit are read from their text.
-use Rattle.std.proofs.Common.{◌≡◌, ℕ, ◌+◌, ◌*◌, ◌<◌, ◌≤◌, ◌^◌, ◌==◌, ◌&&◌, Bool, true, false, List, [], ◌∷◌, ◌++◌, length, map, codes, Option, Some, None, Result, Ok, Err, refl, ap, sym, subst, ◌∙◌, arith, length-append, append_assoc, lit<}
-use Rattle.std.specs.Prelude.{nat_le, nat_lt}
+use Rattle.std.proofs.Common.{◌≡◌, ℕ, ◌+◌, ◌*◌, ◌<◌, ◌≤◌, ◌^◌, ◌&&◌, Bool, true, false, List, [], ◌∷◌, ◌++◌, length, map, codes, Some, None, Result, Ok, Err, refl, ap, ◌∙◌, arith, length-append, append_assoc}
+use Rattle.std.specs.Prelude.{nat_le}
 use Rattle.std.specs.Fmt.{decimal}
-use Rattle.std.specs.List.{AllByRecursion, list_all, join_with_byte, slice_split}
+use Rattle.std.specs.List.{AllByRecursion, list_all, join_with_byte}
 use Rattle.std.proofs.lemmas.Bool.{and_parts, ne_eqb, leb-true}
-use Rattle.std.proofs.lemmas.Bool.Decides.{nat_tests}
 use Rattle.std.proofs.lemmas.Fmt.{decimal_nonempty, length-decimal-le}
 use Rattle.std.proofs.lemmas.List.Elements.{All-from_recursion}
 use Rattle.std.proofs.lemmas.List.Splits.{slice_split_at}
-use Rattle.field_lines.specs.Chain.{◌>>=◌}
 use Rattle.field_lines.specs.Fault.{most_bytes}
 use Rattle.field_lines.specs.Raw.{RawLine, raw_lines_from, numbered, is_lf}
 use Rattle.field_lines.proofs.SplitLemmas.{numbered-ended}
-use Rattle.certificate_text.specs.Words.{line_bytes, line_words}
+use Rattle.certificate_text.specs.Words.{line_bytes}
 use Rattle.certificate_text.specs.Lines as line
 use Rattle.certificate_text.specs.Lines.{most}
-use Rattle.certificate_text.specs.Items.{by_words, head_in, seen, taken, item_on, wanted_after, in_front, items_from}
-use Rattle.certificate_text.specs.Spelling.{five_digits, weight_word, item_words, item_line, text_of}
+use Rattle.certificate_text.specs.Items.{by_words, seen, taken, item_on, wanted_after, in_front, items_from}
+use Rattle.certificate_text.specs.Spelling.{five_digits, weight_word, item_words, text_of}
 use Rattle.certificate_text.specs.Fits.{AreCodes, IsSet, FitsWeight, AreWeights, Fits, AllFit}
 use Rattle.certificate_text.specs.Rest.{fault_at}
 use Rattle.certificate_text.proofs.BackLaws.{Digit, decimal_digits, code_digits}

@@ -1,27 +1,26 @@
 -- A text whose items are read is the text of those items.
-use Rattle.std.proofs.Common.{◌≡◌, ℕ, ◌+◌, cond, Bool, true, false, ◌&&◌, List, [], ◌∷◌, ◌++◌, codes, Option, Some, None, Result, Ok, Err, refl, ap, sym, subst, ◌∙◌, append-nil, not}
+use Rattle.std.proofs.Common.{◌≡◌, ℕ, ◌+◌, cond, Bool, true, false, List, [], ◌∷◌, ◌++◌, codes, Result, Ok, Err, refl, ap, sym, subst, ◌∙◌, not}
 use Rattle.std.specs.Prelude.{nat_lt, nat_eq, length}
-use Rattle.std.specs.List.{flat_map, join_with_byte}
+use Rattle.std.specs.List.{join_with_byte}
 use Rattle.std.specs.Cmp.Lexicographic.{pointwise, bytes_decides}
 use Rattle.std.proofs.lemmas.List.Splits.{join_with_byte-slice_split}
-use Rattle.field_lines.specs.Chain.{◌>>=◌}
 use Rattle.field_lines.specs.Fault.{most_bytes}
-use Rattle.field_lines.specs.Raw.{RawLine, raw_lines, raw_lines_from, bytes_of, text_of as raw_text}
+use Rattle.field_lines.specs.Raw.{RawLine, raw_lines_from, bytes_of, text_of as raw_text}
 use Rattle.field_lines.proofs.TextLemmas.{text_of-raw_lines}
 use Rattle.certificate_text.specs.Words.{words_of, line_bytes, line_words, is_canonical}
 use Rattle.certificate_text.specs.Lines as line
 use Rattle.certificate_text.specs.Items.{by_words, head_in, seen, taken, item_on, wanted_after, in_front, items_from}
 use Rattle.certificate_text.specs.Rest.{fault_at}
 use Rattle.certificate_text.specs.Spelling.{item_words, item_line, text_of}
-use Rattle.certificate_text.proofs.WordLaws.{Bound, bind_ok}
+use Rattle.certificate_text.proofs.WordLaws.{bind_ok}
 use Rattle.certificate_text.proofs.FormLaws.{order_ok, limit_ok, target_ok, group_ok, opening_ok, take_ok, allowance_ok, end_ok}
 use Rattle.certificate_text.specs.declared.fault.TextKind.{TextKind}
-use Rattle.certificate_text.specs.declared.fault.TextKind.TheVariants.{BadWord, BadHead, NotCanonical, CutShort, AfterEnd}
+use Rattle.certificate_text.specs.declared.fault.TextKind.TheVariants.{BadWord, BadHead, NotCanonical, CutShort}
 use Rattle.certificate_text.specs.declared.fault.TextFault.{TextFault}
 use Rattle.proof_trees.specs.declared.language.Language.{Language}
 use Rattle.proof_trees.specs.declared.language.Language.TheVariants.{Plain, Wide}
 use Rattle.certificate_text.specs.declared.item.Item.{Item}
-use Rattle.certificate_text.specs.declared.item.Item.TheVariants.{Head, Order, Limit, Target, Grouped, Opens, Takes, Mark, Allows, End}
+use Rattle.certificate_text.specs.declared.item.Item.TheVariants.{Head, Order, Limit, Target, Grouped, Opens, Allows, End}
 use Rattle.certificate_text.specs.declared.item.Wanted.{Wanted}
 use Rattle.certificate_text.specs.declared.item.Wanted.TheVariants as want
 

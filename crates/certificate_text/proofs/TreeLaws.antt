@@ -1,13 +1,9 @@
 -- A list of items begins with the items of one tree at most.
-use Rattle.std.proofs.Common.{◌≡◌, ℕ, List, [], ◌∷◌, ◌++◌, length, map, Option, refl, ap, sym, subst, ◌∙◌, append_assoc}
-use Rattle.certificate_text.specs.declared.weights.Weight.{Weight as DeclaredWeight}
-use Rattle.certificate_text.specs.declared.item.Allowance.{Allowance as DeclaredAllowance}
-use Rattle.certificate_text.specs.declared.item.Allowance.TheVariants.{Room, Weigh}
-use Rattle.certificate_text.specs.declared.item.Opening.TheVariants as opening
+use Rattle.std.proofs.Common.{◌≡◌, List, [], ◌∷◌, ◌++◌, length, map, refl, ap, sym, ◌∙◌, append_assoc}
 use Rattle.certificate_text.specs.declared.item.Item.{Item}
 use Rattle.certificate_text.specs.declared.item.Item.TheVariants as item
-use Rattle.proof_trees.specs.Tree.{Weight, Allowance, room, weigh, Leaf, stuck, seats, bound, Tree, leaf, branch, Takes, no_take, take}
-use Rattle.certificate_text.specs.Trees.{weight_of, declared_weight, allowance_of, declared_allowance, leaf_items, items_of_tree, items_of_takes}
+use Rattle.proof_trees.specs.Tree.{Weight, Allowance, room, weigh, stuck, seats, bound, Tree, leaf, branch, Takes, no_take, take}
+use Rattle.certificate_text.specs.Trees.{weight_of, declared_weight, allowance_of, declared_allowance, items_of_tree, items_of_takes}
 
 -- the heads and the tails of equal lists
 pub heads : (x y : Item) (xs ys : List Item) → x ∷ xs ≡ y ∷ ys → (x ≡ y) × (xs ≡ ys)

@@ -1,5 +1,5 @@
 -- Trees as lists of branches, and takes as lists.
-use Rattle.std.proofs.Common.{◌≡◌, ℕ, List, [], ◌∷◌, ◌++◌, map, length, arith, Vec, Global, Option, refl, ap, sym, subst, ◌∙◌, append_assoc, append-nil}
+use Rattle.std.proofs.Common.{◌≡◌, ℕ, List, [], ◌∷◌, ◌++◌, map, length, arith, Vec, Global, Option, refl, ap, sym, ◌∙◌, append_assoc, append-nil}
 use Rattle.certificate_text.specs.declared.item.Opening.TheVariants as opening
 use Rattle.certificate_text.specs.declared.item.Item.{Item}
 use Rattle.certificate_text.specs.declared.item.Item.TheVariants as item
@@ -11,7 +11,7 @@ use mathlib.Core.Former.{Count}
 use Rattle.certificate_text.specs.declared.tree.Tree.{Tree as DeclaredTree, Tree', Row_of-Branch, end_of-Branch, more_of-Branch, items-the_row-Branch, items_hidden-the_row-Branch-1, roll-Tree}
 use Rattle.certificate_text.specs.declared.tree.Branch.{Branch, Branch', Row_of-Take, end_of-Take, more_of-Take, items-the_row-Take, items_hidden-the_row-Take-0, roll-Branch}
 use Rattle.certificate_text.specs.declared.tree.Take.{Take, Take', roll-Take}
-use Rattle.proof_trees.specs.Tree.{Leaf, Tree, leaf, branch, Takes, no_take, take}
+use Rattle.proof_trees.specs.Tree.{Tree, leaf, branch, Takes, no_take}
 use Rattle.certificate_text.specs.Trees.{leaf_of, tree_of, branches_onto, branch_onto, takes_of, take_onto, list_of_takes, leaf_items, items_of_tree, items_of_takes, weight_of, declared_weight, allowance_of, declared_allowance}
 
 -- branches in front of a tree

@@ -1,20 +1,16 @@
 -- Trees and certificates, written part by part.
-use Rattle.std.proofs.Common.{◌≡◌, ℕ, ◌-◌, ◌≤◌, List, [], ◌∷◌, ◌++◌, length, map, Option, Some, None, Result, Ok, Err, refl, ap, sym, subst, ◌∙◌, append_assoc, append-nil}
+use Rattle.std.proofs.Common.{◌≡◌, ℕ, ◌-◌, ◌≤◌, List, [], ◌∷◌, ◌++◌, length, map, Option, refl, ap, sym, ◌∙◌}
 use Rattle.std.specs.List.{flat_map}
-use Rattle.county_codes.specs.declared.group.Group.{Group}
-use Rattle.grouping_laws.specs.Grouping.{Grouping}
 use Rattle.proof_trees.specs.declared.language.Language.{Language}
 use Rattle.proof_trees.specs.declared.language.Language.TheVariants.{Plain, Wide}
 use Rattle.proof_trees.specs.Tree.{bound}
 use Rattle.proof_trees.specs.Depth.{after_raise}
 use Rattle.certificate_text.specs.Lines.{most}
-use Rattle.certificate_text.specs.Items.{wanted_after, groups_wanted, allowances_wanted}
-use Rattle.certificate_text.specs.Spelling.{item_line, text_of}
-use Rattle.certificate_text.specs.Fits.{Fits, IsSet, AllFit}
-use Rattle.certificate_text.specs.Writes.{WroteLine, Wrote, DontFit, Writes}
-use Rattle.certificate_text.specs.Trees.{allowance_of, leaf_items, items_of_target, tree_of, leaf_of, items_of_tree, items_of_takes, list_of_takes}
-use Rattle.certificate_text.specs.declared.fault.WriteFault.{WriteFault}
-use Rattle.certificate_text.specs.declared.fault.WriteFault.TheVariants.{NoSpelling}
+use Rattle.certificate_text.specs.Items.{wanted_after, allowances_wanted}
+use Rattle.certificate_text.specs.Spelling.{item_line}
+use Rattle.certificate_text.specs.Fits.{Fits, IsSet}
+use Rattle.certificate_text.specs.Writes.{WroteLine, Wrote, DontFit}
+use Rattle.certificate_text.specs.Trees.{allowance_of, leaf_items, tree_of, leaf_of, items_of_tree, items_of_takes, list_of_takes}
 use Rattle.certificate_text.specs.declared.item.Allowance.{Allowance as DeclaredAllowance}
 use Rattle.certificate_text.specs.declared.item.Opening.TheVariants as opening
 use Rattle.certificate_text.specs.declared.item.Item.{Item}
@@ -25,7 +21,7 @@ use Rattle.certificate_text.specs.declared.tree.Tree.{Tree, out-Tree, roll-out-T
 use Rattle.certificate_text.specs.declared.tree.Branch.{Branch, out-Branch, roll-out-Branch}
 use Rattle.certificate_text.specs.declared.tree.Take.{Take, Take', out-Take, roll-out-Take}
 use Rattle.certificate_text.proofs.TreeViews.{items_of_branch, items_of_branches, items_of_take, bound_items, tree_items, made_branch, made_take}
-use Rattle.certificate_text.proofs.WriteLaws.{wrote_then, wrote_with, wrote_as, refused_with, refused_as, refused_more, refused_after, wrote_line, line_refused}
+use Rattle.certificate_text.proofs.WriteLaws.{wrote_then, wrote_with, wrote_as, refused_with, refused_as, refused_after, wrote_line, line_refused}
 
 -- one line, as a call writes it
 pub line_wrote : (w : Wanted) (i : Item) (x y : List ℕ) → WroteLine (Fits w i) i x y → Wrote (w ∷ []) (i ∷ []) (wanted_after w i) x y

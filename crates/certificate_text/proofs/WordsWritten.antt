@@ -1,14 +1,14 @@
 -- Lines of words as they are written.
-use Rattle.std.proofs.Common.{◌≡◌, ℕ, ◌≤◌, ◌&&◌, Bool, true, false, List, [], ◌∷◌, ◌++◌, length, map, All, codes, refl, ap, sym, subst, ◌∙◌, arith, append_assoc}
+use Rattle.std.proofs.Common.{◌≡◌, ℕ, ◌≤◌, ◌&&◌, Bool, true, List, [], ◌∷◌, ◌++◌, length, map, All, codes, refl, ap, sym, subst, ◌∙◌, append_assoc}
 use Rattle.std.specs.Prelude.{nat_le}
 use Rattle.std.specs.Fmt.{decimal}
 use Rattle.std.specs.List.{AllByRecursion, list_all, flat_map, join_with_byte}
 use Rattle.std.proofs.lemmas.Bool.{and_parts, and_from, le-leb, leb-true}
 use Rattle.std.proofs.lemmas.List.Elements.{recursion_from_All}
 use Rattle.field_lines.specs.Fault.{most_bytes}
-use Rattle.certificate_text.specs.Lines.{most, ascend}
+use Rattle.certificate_text.specs.Lines.{ascend}
 use Rattle.certificate_text.specs.Spelling.{five_digits, weight_word, item_words}
-use Rattle.certificate_text.specs.Fits.{AreCodes, IsSet, FitsWeight, AreWeights}
+use Rattle.certificate_text.specs.Fits.{AreCodes, FitsWeight, AreWeights}
 use Rattle.certificate_text.specs.declared.weights.Weight.{Weight}
 use Rattle.certificate_text.specs.declared.item.Allowance.TheVariants.{Weigh}
 use Rattle.certificate_text.specs.declared.item.Item.TheVariants.{Allows}

@@ -1,11 +1,10 @@
 -- What is written line by line.
-use Rattle.std.proofs.Common.{◌≡◌, ℕ, ◌+◌, ◌-◌, ◌<◌, ◌≤◌, suc, cond, List, [], ◌∷◌, ◌++◌, length, map, take, drop, get_or, Option, Result, Ok, Err, refl, ap, sym, subst, ◌∙◌, arith, append_assoc, append-nil, take_all}
+use Rattle.std.proofs.Common.{◌≡◌, ℕ, ◌+◌, ◌-◌, ◌<◌, ◌≤◌, suc, List, [], ◌∷◌, ◌++◌, length, map, take, drop, get_or, Result, Ok, Err, ap, sym, subst, ◌∙◌, arith, append_assoc, append-nil, take_all}
 use Rattle.std.specs.List.{flat_map, join_with_byte}
 use Rattle.std.proofs.lemmas.Grind.{flat_map-append}
 use Rattle.std.proofs.lemmas.List.{take_more, take-append-drop, map-append}
 use Rattle.std.proofs.Math.Seq.{drop-cons}
 use Rattle.certificate_text.specs.Items.{wanted_after}
-use Rattle.proof_trees.specs.Depth.{after_raise}
 use Rattle.certificate_text.specs.Spelling.{item_line, text_of}
 use Rattle.certificate_text.specs.Fits.{Fits, AllFit}
 use Rattle.certificate_text.specs.Writes.{Wrote, DontFit, Writes}

@@ -3,7 +3,6 @@ use Rattle.std.specs.Prelude.{◌≡◌, ℕ, ◌+◌, List, [], ◌∷◌, ◌+
 use Rattle.field_lines.specs.Raw.{RawLine, raw_lines}
 use Rattle.certificate_text.specs.Rest.{Rest, lines_of, fault_at, IsMemory, TakesLine, FaultOf}
 use Rattle.certificate_text.specs.Items.{item_on, wanted_after}
-use Rattle.certificate_text.specs.declared.fault.TextKind.{TextKind}
 use Rattle.certificate_text.specs.declared.fault.TextKind.TheVariants.{CutShort, AfterEnd}
 use Rattle.certificate_text.specs.declared.fault.TextFault.{TextFault}
 use Rattle.proof_trees.specs.declared.language.Language.{Language}

@@ -1,8 +1,7 @@
 -- Which items fit on a line, where something is wanted.
-use Rattle.std.specs.Prelude.{◌≡◌, ℕ, ◌<◌, ◌≤◌, true, List, [], ◌∷◌, ◌++◌, length, Option, Some, None}
+use Rattle.std.specs.Prelude.{◌≡◌, ℕ, ◌<◌, ◌≤◌, true, List, [], ◌∷◌, ◌++◌, length, Some, None}
 use Rattle.std.specs.List.{AllByRecursion, join_with_byte}
 use Rattle.field_lines.specs.Fault.{most_bytes}
-use Rattle.county_codes.specs.declared.group.Group.{Group}
 use Rattle.certificate_text.specs.Lines.{most, ascend}
 use Rattle.certificate_text.specs.Items.{wanted_after}
 use Rattle.certificate_text.specs.Spelling.{item_words}

@@ -1,5 +1,5 @@
 -- What a call reads of a text.
-use Rattle.std.specs.Prelude.{◌≡◌, ℕ, ◌<◌, List, [], ◌∷◌, ◌++◌, Result, Ok, Err}
+use Rattle.std.specs.Prelude.{◌≡◌, List, [], ◌++◌, Result, Ok, Err}
 use Rattle.certificate_text.specs.Rest.{Rest, lines_of, IsMemory}
 use Rattle.certificate_text.specs.Items.{in_front, items_from}
 use Rattle.certificate_text.specs.Spelling.{text_of}

@@ -1,5 +1,5 @@
 -- How items, and values that are made of them, are spelled.
-use Rattle.std.specs.Prelude.{ℕ, ◌+◌, ◌/◌, ◌%◌, List, [], ◌∷◌, ◌++◌, map, codes, decimal, Option, Some, None}
+use Rattle.std.specs.Prelude.{ℕ, ◌+◌, ◌/◌, ◌%◌, List, [], ◌∷◌, ◌++◌, map, codes, decimal, Some, None}
 use Rattle.std.specs.List.{flat_map, join_with_byte}
 use Rattle.proof_trees.specs.declared.language.Language.TheVariants.{Plain, Wide}
 use Rattle.certificate_text.specs.declared.weights.Weight.{Weight}

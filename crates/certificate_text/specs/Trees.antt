@@ -1,5 +1,5 @@
 -- The trees and certificates that values of the code stand for, and the items that they are spelled by.
-use Rattle.std.specs.Prelude.{ℕ, List, [], ◌∷◌, ◌++◌, map, length, Option, Some, None}
+use Rattle.std.specs.Prelude.{List, [], ◌∷◌, ◌++◌, map, length, Option, Some, None}
 use Rattle.grouping_laws.specs.Grouping.{Grouping}
 use Rattle.proof_trees.specs.Round.{Round}
 use Rattle.proof_trees.specs.RoundValue.{round_of}

@@ -1,5 +1,5 @@
 -- What a call writes at the end of a text.
-use Rattle.std.specs.Prelude.{◌≡◌, ℕ, List, [], ◌∷◌, ◌++◌, Result, Ok, Err}
+use Rattle.std.specs.Prelude.{◌≡◌, ℕ, List, ◌++◌, Result, Ok, Err}
 use Rattle.certificate_text.specs.Spelling.{item_line, text_of}
 use Rattle.certificate_text.specs.Fits.{AllFit}
 use Rattle.certificate_text.specs.declared.fault.WriteFault.{WriteFault}

@@ -1,4 +1,4 @@
-use Rattle.std.proofs.Common.{◌≡◌, ◌∙◌, ◌-◌, ◌≤◌, ℕ, List, [], ◌∷◌, ◌++◌, Option, Some, None, length, map, refl, ap, sym, subst, arith, rules}
+use Rattle.std.proofs.Common.{◌≡◌, ◌∙◌, ℕ, List, [], ◌∷◌, ◌++◌, Option, None, map, refl, ap, sym, subst, arith, rules}
 use Rattle.certificate_text.specs.Items.{by_words}
 use Rattle.proof_trees.specs.Depth.{after_raise}
 use Rattle.certificate_text.specs.Lines as line

@@ -1,4 +1,4 @@
-use Rattle.std.proofs.Common.{◌≡◌, ◌-◌, ◌+◌, List, [], ◌∷◌, ◌++◌, map, length, sym, subst, refl, arith, length-append}
+use Rattle.std.proofs.Common.{◌-◌, ◌+◌, List, [], ◌∷◌, map, sym, subst, refl, arith, length-append}
 use Rattle.county_codes.specs.declared.group.Group.{Group}
 use Rattle.std.proofs.lemmas.Result.{err_from_is_err_and}
 use Rattle.certificate_text.specs.Items.{by_words, groups_wanted}

@@ -1,8 +1,7 @@
-use Rattle.std.proofs.Common.{◌≡◌, ℕ, List, [], ◌∷◌, Option, Some, None, length, map, refl, ap, sym, subst}
+use Rattle.std.proofs.Common.{ℕ, [], ◌∷◌, Option, Some, None, map, refl, ap, sym, subst}
 use Rattle.certificate_text.specs.Items.{by_words, groups_wanted}
 use Rattle.certificate_text.specs.Lines as line
 use Rattle.certificate_text.specs.Rest.{TakesLine}
-use Rattle.certificate_text.specs.declared.item.Item.{Item}
 use Rattle.certificate_text.specs.declared.item.Item.TheVariants as item
 use Rattle.certificate_text.specs.declared.item.Wanted.TheVariants as want
 use Rattle.certificate_text.proofs.ReadLaws.{reads_then, reads_line}

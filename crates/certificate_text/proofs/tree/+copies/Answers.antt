@@ -1,5 +1,4 @@
-use Rattle.std.proofs.Common.{◌≡◌, ◌∙◌, ◌+◌, List, take, ap, sym, subst, arith, take_all}
-use Rattle.proof_trees.specs.Tree.{Tree, Takes}
+use Rattle.std.proofs.Common.{◌≡◌, ◌∙◌, List, take, ap, arith, take_all}
 use Rattle.certificate_text.specs.declared.tree.Branch.{Branch}
 use Rattle.certificate_text.specs.declared.tree.Take.{Take}
 use Rattle.certificate_text.proofs.TreeViews.{list_onto}

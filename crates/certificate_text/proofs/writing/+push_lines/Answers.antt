@@ -1,11 +1,10 @@
-use Rattle.std.proofs.Common.{◌≡◌, ◌∙◌, ◌≤◌, ◌+◌, ◌-◌, ◌++◌, ◌∷◌, [], ℕ, List, Option, length, take, refl, ap, sym, subst, arith, take_all}
+use Rattle.std.proofs.Common.{◌≡◌, ◌∙◌, ◌+◌, ◌++◌, ◌∷◌, [], ℕ, List, take, ap, sym, subst, arith, take_all}
 use Rattle.std.specs.List.{flat_map}
 use Rattle.std.proofs.lemmas.Result.{err_from_is_err_and}
 use Rattle.proof_trees.specs.Depth.{after_raise}
-use Rattle.certificate_text.specs.Fits.{Fits, IsSet}
+use Rattle.certificate_text.specs.Fits.{IsSet}
 use Rattle.certificate_text.specs.Writes.{WroteLine, Wrote, DontFit}
 use Rattle.certificate_text.specs.Trees.{tree_of, leaf_of, leaf_items, items_of_tree, items_of_takes, list_of_takes}
-use Rattle.certificate_text.specs.declared.item.Opening.TheVariants as opening
 use Rattle.certificate_text.specs.declared.item.Item.{Item}
 use Rattle.certificate_text.specs.declared.item.Item.TheVariants as item
 use Rattle.certificate_text.specs.declared.item.Wanted.TheVariants as want

@@ -1,4 +1,4 @@
-use Rattle.std.proofs.Common.{List, ℕ, All, ◌≤◌, subst, arith, take_all}
+use Rattle.std.proofs.Common.{List, All, ◌≤◌, subst, arith, take_all}
 use Rattle.std.proofs.lemmas.Grind.{common_steps}
 use Rattle.std.proofs.lemmas.List.Elements.{All-more}
 use Rattle.certificate_text.specs.declared.weights.Weight.{Weight}
