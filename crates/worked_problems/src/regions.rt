@@ -14,14 +14,15 @@ fn show_part<C: CountySet>(rt: &HostRuntime, ordered: &Ordered, out: &[u16]) -> 
     requires { 128 ≤ C.PLACES }
 {
     let alloc = rt.alloc();
+    let places = ordered.places();
     let near: Vec<C> = neighbour_rows(alloc, ordered)?;
     let mut region = C::empty(alloc)?;
-    for place in 0..ordered.places() {
+    for place in 0..places {
         if !out.contains(&place) {
             region = region.with(alloc, place)?;
         }
     }
-    if ordered.places() > 0 && region.has(0) {
+    if places > 0 && region.has(0) {
         let (part, rest) = part_around(alloc, ordered, &near, &region, 0)?;
         print!(rt; "part")?;
         show_places(rt, &part)?;
