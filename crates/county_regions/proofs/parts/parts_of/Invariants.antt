@@ -1,0 +1,11 @@
+use Rattle.std.proofs.Common.{map, length}
+use Rattle.place_sets.specs.CountySet.{places_of}
+use Rattle.county_regions.specs.Rows.{problem_at}
+use Rattle.county_regions.proofs.PartLists.{IsParted}
+use Rattle.county_regions.proofs.parts.parts_of.Given as goal
+
+abbrev pub invariant-loop-place : goal.invariant-loop-place
+invariant-loop-place g l = IsParted (problem_at l.ordered) (g.C.CountySet.test l.region) (g.C.CountySet.test l.rest) (map (λ s. places_of (length l.ordered.order) (g.C.CountySet.test s)) l.parts.items)
+
+abbrev pub decreases-loop-place : goal.decreases-loop-place
+decreases-loop-place g l = length (places_of (length l.ordered.order) (g.C.CountySet.test l.rest))
