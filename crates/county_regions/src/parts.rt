@@ -1,4 +1,4 @@
-ghost use Rattle.std.specs.Prelude.{◌≡◌, ℕ, true, ◌<◌, ◌≤◌, length, map, IfOk};
+ghost use Rattle.std.specs.Prelude.{◌≡◌, ℕ, true, ◌<◌, ◌≤◌, length, map, All, IfOk};
 ghost use Rattle.grouping_laws.specs.Parts.{AreParts};
 ghost use Rattle.place_sets.specs.CountySet.{places_of};
 ghost use Rattle.county_regions.specs.Rows.{problem_at, AreRows};
@@ -19,9 +19,10 @@ pub fn parts_of<C: CountySet>(
     requires fits { length ordered.now.order ≤ C.PLACES }
     requires rows { AreRows C C.test (problem_at ordered.now) (length ordered.now.order) near.now }
     requires below { (x : ℕ) → C.test region.now x ≡ true → x < length ordered.now.order }
-    ensures { IfOk
+    ensures parts { IfOk
         result
         (λ v. AreParts (problem_at ordered.now) (C.test region.now) (map (λ s. places_of (length ordered.now.order) (C.test s)) v.items)) }
+    ensures inside { IfOk result (λ v. All (λ s. (x : ℕ) → C.test s x ≡ true → C.test region.now x ≡ true) v.items) }
 {
     let mut parts = Vec::new(alloc);
     let mut rest = region.copy(alloc)?;

@@ -58,3 +58,6 @@ pub returns-clause-part : goal.returns-clause-part
 returns-clause-part g c =
     let test = g.C.CountySet.test in
     filled_part (problem_at c.args.ordered.now) (length c.args.ordered.now.order) (test c.args.region.now) (test c.loop-next.part) (test c.loop-next.rest) (test c.loop-next.front) c.loop-next.invariant.filled (λ x. c.in_default.ensures.least x (omega arith))
+
+pub returns-clause-inside : goal.returns-clause-inside
+returns-clause-inside g c = c.loop-next.invariant.filled.inside
