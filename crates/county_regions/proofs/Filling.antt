@@ -17,11 +17,11 @@ use Rattle.growing_sets.specs.Growing.{later}
 use Rattle.growing_sets.proofs.StartSets.{starts_as}
 use Rattle.place_sets.proofs.PlaceSums.{total_all}
 
-and_parts : (a b : Bool) → (a && b) ≡ true → (a ≡ true) × (b ≡ true)
+pub and_parts : (a b : Bool) → (a && b) ≡ true → (a ≡ true) × (b ≡ true)
 and_parts true b e = (refl, e)
 and_parts false b e = absurd (false≢true e)
 
-and_join : (a b : Bool) → a ≡ true → b ≡ true → (a && b) ≡ true
+pub and_join : (a b : Bool) → a ≡ true → b ≡ true → (a && b) ≡ true
 and_join true b e f = f
 and_join false b e f = absurd (false≢true e)
 

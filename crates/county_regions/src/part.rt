@@ -21,6 +21,8 @@ pub fn part_around<C: CountySet>(
     requires below { (x : ℕ) → C.test region.now x ≡ true → x < length ordered.now.order }
     requires there { C.test region.now place ≡ true }
     ensures part { IfOk result (λ r. IsPart (problem_at ordered.now) (C.test region.now) (places_of (length ordered.now.order) (C.test r.0))) }
+    ensures inside { IfOk result (λ r. (x : ℕ) → C.test r.0 x ≡ true → C.test region.now x ≡ true) }
+    ensures around { IfOk result (λ r. C.test r.0 place ≡ true) }
     ensures rest { IfOk result (λ r. (x : ℕ) → C.test r.1 x ≡ (C.test region.now x && not (C.test r.0 x))) }
 {
     let mut part = C::empty(alloc)?.with(alloc, place)?;

@@ -1,11 +1,14 @@
-use Rattle.std.proofs.Common.{length}
+use Rattle.std.proofs.Common.{◌≡◌, true, length}
 use Rattle.place_sets.specs.CountySet.{places_of}
 use Rattle.county_regions.specs.Rows.{problem_at}
 use Rattle.county_regions.proofs.Filling.{IsFilled}
 use Rattle.county_regions.proofs.part.part_around.Given as goal
 
 abbrev pub invariant-loop-next : goal.invariant-loop-next
-invariant-loop-next g l = IsFilled (problem_at l.ordered) (length l.ordered.order) (g.C.CountySet.test l.region) (g.C.CountySet.test l.part) (g.C.CountySet.test l.rest) (g.C.CountySet.test l.front)
+invariant-loop-next g l = record {
+  filled : IsFilled (problem_at l.ordered) (length l.ordered.order) (g.C.CountySet.test l.region) (g.C.CountySet.test l.part) (g.C.CountySet.test l.rest) (g.C.CountySet.test l.front);
+  around : g.C.CountySet.test l.part l.place ≡ true;
+}
 
 abbrev pub decreases-loop-next : goal.decreases-loop-next
 decreases-loop-next g l = length (places_of (length l.ordered.order) (g.C.CountySet.test l.rest))

@@ -1,0 +1,80 @@
+use Rattle.std.proofs.Common.{◌≡◌, ℕ, ◌+◌, ◌++◌, ◌<◌, Bool, true, false, List, refl, sym, ap, ◌∙◌, subst, length, arith}
+use Rattle.std.specs.Cmp.Lexicographic.{slice_cmp}
+use Rattle.std.specs.Ordering.{nat_cmp, is_lt}
+use Rattle.std.specs.List.Sorted.{IsSortedBy}
+use Rattle.std.proofs.lemmas.List.Sorted.{length_permutation}
+use Rattle.ordered_counties.specs.OrderedValue.{problem_at}
+use Rattle.growing_sets.specs.Growing.{only, AreKept, sort_key}
+use Rattle.growing_sets.specs.Listing.{lists_of, AreBelow, IsListed}
+use Rattle.growing_sets.proofs.Keys.{all_moved}
+use Rattle.proof_trees.specs.StateValue.{state_of}
+use Rattle.proof_trees.specs.State.{open_to}
+use Rattle.proof_trees.specs.Groups.{IsSetAt}
+use Rattle.grouping_laws.specs.Places.{places_below}
+use Rattle.fitting_groups.specs.Keeping.{others}
+use Rattle.fitting_groups.proofs.Deciding.{decided}
+use Rattle.fitting_groups.proofs.Starting.{starts_open, no_steps, steps_at, kept_groups}
+use Rattle.fitting_groups.proofs.lists.groups_at.Goals as goal
+
+pub returns-clause-groups : goal.returns-clause-groups
+returns-clause-groups g c =
+    let test = g.C.CountySet.test in
+    let p = problem_at c.args.ordered.now in
+    let n = length c.args.ordered.now.order in
+    let s = state_of test c.args.state.now in
+    let limit = c.args.limit in
+    let at = c.args.place in
+    let region = test c.in_ok-region.region in
+    let k = decided c.args.language p n limit false s c.places-places.ensures.problem refl c.requires.rest in
+    let listed = c.in_ok-search.ensures.listed k.0 k.1 in
+    let more = listed.more ∙ ap (λ (z : List g.row.C.Denot). z ++ listed.added) c.new-sets.ensures.items in
+    let kept : AreKept p n limit k.0 (only at) (others region at) (lists_of n test c.search.new.groups.items) = subst (λ (z : List g.row.C.Denot). AreKept p n limit k.0 (only at) (others region at) (lists_of n test z)) (sym more) listed.kept in
+    let up : IsSortedBy (λ g' h. is_lt (slice_cmp nat_cmp (sort_key g') (sort_key h))) (lists_of n test c.in_ok-sorted.field-0.items) =
+    c.in_ok-sorted.ensures.sorted n (subst (λ (z : List g.row.C.Denot). AreBelow n test z) (sym more) listed.below) in
+    kept_groups g.row.C.Denot test c.args.language p n limit at s (only at) (others region at) k.0 c.search.new.groups.items c.in_ok-sorted.field-0.items k.1 (starts_open n at limit s region c.requires.rest c.in_ok-region.ensures c.requires.there) kept c.in_ok-sorted.ensures.same up
+
+pub returns-clause-below : goal.returns-clause-below
+returns-clause-below g c =
+    let test = g.C.CountySet.test in
+    let p = problem_at c.args.ordered.now in
+    let n = length c.args.ordered.now.order in
+    let s = state_of test c.args.state.now in
+    let k = decided c.args.language p n c.args.limit false s c.places-places.ensures.problem refl c.requires.rest in
+    let listed = c.in_ok-search.ensures.listed k.0 k.1 in
+    let more = listed.more ∙ ap (λ (z : List g.row.C.Denot). z ++ listed.added) c.new-sets.ensures.items in
+    all_moved (λ (z : g.row.C.Denot). (x : ℕ) → test z x ≡ true → x < n) c.search.new.groups.items c.in_ok-sorted.field-0.items c.in_ok-sorted.ensures.same
+    (subst (λ (z : List g.row.C.Denot). AreBelow n test z) (sym more) listed.below)
+
+pub returns-clause-counted : goal.returns-clause-counted
+returns-clause-counted g c =
+    let same = length_permutation c.search.new.groups.items c.in_ok-sorted.field-0.items c.in_ok-sorted.ensures.same in
+    omega (arith, c.in_ok-search.ensures.counted, same, ap length c.new-sets.ensures.items)
+
+pub returns-in_err-region-clause-steps : goal.returns-in_err-region-clause-steps
+returns-in_err-region-clause-steps g c =
+    let test = g.C.CountySet.test in
+    no_steps (IsSetAt (problem_at c.args.ordered.now) (places_below (length c.args.ordered.now.order)) (state_of test c.args.state.now) c.args.place c.args.limit) c.args.steps.now.used c.args.steps.now.used refl
+
+pub returns-in_err-search-clause-steps : goal.returns-in_err-search-clause-steps
+returns-in_err-search-clause-steps g c =
+    let test = g.C.CountySet.test in
+    let n = length c.args.ordered.now.order in
+    let s = state_of test c.args.state.now in
+    let region = test c.in_ok-region.region in
+    steps_at (problem_at c.args.ordered.now) n c.args.limit c.args.place s (only c.args.place) (others region c.args.place) c.args.steps.now.used c.search.new.steps.used (starts_open n c.args.place c.args.limit s region c.requires.rest c.in_ok-region.ensures c.requires.there) c.search.ensures.steps
+
+pub returns-in_err-sorted-clause-steps : goal.returns-in_err-sorted-clause-steps
+returns-in_err-sorted-clause-steps g c =
+    let test = g.C.CountySet.test in
+    let n = length c.args.ordered.now.order in
+    let s = state_of test c.args.state.now in
+    let region = test c.in_ok-region.region in
+    steps_at (problem_at c.args.ordered.now) n c.args.limit c.args.place s (only c.args.place) (others region c.args.place) c.args.steps.now.used c.search.new.steps.used (starts_open n c.args.place c.args.limit s region c.requires.rest c.in_ok-region.ensures c.requires.there) c.search.ensures.steps
+
+pub returns-clause-steps : goal.returns-clause-steps
+returns-clause-steps g c =
+    let test = g.C.CountySet.test in
+    let n = length c.args.ordered.now.order in
+    let s = state_of test c.args.state.now in
+    let region = test c.in_ok-region.region in
+    steps_at (problem_at c.args.ordered.now) n c.args.limit c.args.place s (only c.args.place) (others region c.args.place) c.args.steps.now.used c.search.new.steps.used (starts_open n c.args.place c.args.limit s region c.requires.rest c.in_ok-region.ensures c.requires.there) c.search.ensures.steps

@@ -1,0 +1,12 @@
+//! The groups of counties that fit a state of a proof tree, found by growing connected sets of places: those that
+//! have a county, for a branch, and those of one size, for a line of a bound leaf. Any form of sets of places
+//! serves.
+#![tactic(auto)]
+
+mod grow;
+mod lists;
+mod sorting;
+mod stop;
+
+pub use lists::groups_at;
+pub use stop::Stop;

@@ -1,0 +1,141 @@
+ghost use Rattle.std.specs.Prelude.{◌≡◌, ℕ, ◌+◌, true, false, ◌<◌, ◌≤◌, Bool, List, OnOk, IfOk, IsErrOf, length};
+ghost use Rattle.grouping_laws.specs.Places.{places_below};
+ghost use Rattle.ordered_counties.specs.OrderedValue.{problem_at};
+ghost use Rattle.county_regions.specs.Rows.{AreRows};
+ghost use Rattle.growing_sets.specs.Growing.{only};
+ghost use Rattle.growing_sets.specs.Listing.{lists_of, AreBelow, HasMost, IsListed, HasStepped, OneStepEach};
+ghost use Rattle.proof_trees.specs.Round.{Round};
+ghost use Rattle.proof_trees.specs.State.{open_to};
+ghost use Rattle.proof_trees.specs.StateValue.{state_of};
+ghost use Rattle.proof_trees.specs.Groups.{IsSetAt, AreGroupsAt};
+ghost use Rattle.fitting_groups.specs.Keeping.{Decides, others};
+ghost use Rattle.fitting_groups.specs.declared.stop.Stop.{Stop};
+
+use crate::grow::{Ground, grow};
+use crate::sorting::sorted;
+use crate::stop::Stop;
+use ordered_counties::{Ordered, Steps};
+use place_sets::CountySet;
+use proof_trees::{Language, State};
+use state_tests::open_places;
+use std::alloc::{AllocError, Global};
+
+/// The set of one place.
+fn only_place<C: CountySet>(alloc: Global, place: u16) -> Result<C, AllocError>
+    requires { place < C.PLACES }
+    ensures { IfOk result (λ s. (x : ℕ) → C.test s x ≡ only place x) }
+{
+    C::empty(alloc)?.with(alloc, place)
+}
+
+/// The greatest people of a place of the set; 0 where there is none.
+fn most_in<C: CountySet>(ordered: &Ordered, set: &C) -> u32
+    requires { (x : ℕ) → C.test set.now x ≡ true → x < length ordered.now.order }
+    ensures { HasMost (problem_at ordered.now) (C.test set.now) result }
+{
+    let mut most = 0;
+    let mut from = 0;
+    while let Some(place) = set.next(from) {
+        most = most.max(ordered.people(place));
+        from = u32::from(place) + 1;
+    }
+    most
+}
+
+/// Puts the connected sets of the region that have the place and at most `limit` places, and are kept, behind the
+/// groups.
+fn search<C: CountySet>(
+    alloc: Global,
+    ordered: &Ordered,
+    near: &[C],
+    language: Language,
+    state: &State<C>,
+    region: C,
+    place: u16,
+    limit: u16,
+    exact: bool,
+    steps: &mut Steps,
+    groups: &mut Vec<C>,
+) -> Result<(), Stop>
+    requires fits { length ordered.now.order ≤ C.PLACES }
+    requires rows { AreRows C C.test (problem_at ordered.now) (length ordered.now.order) near.now }
+    requires places { length state.now.least.items ≡ length ordered.now.order }
+    requires rest { (x : ℕ) → C.test state.now.rest x ≡ true → x < length ordered.now.order }
+    requires some { 1 ≤ limit }
+    requires below { (x : ℕ) → C.test region x ≡ true → x < length ordered.now.order }
+    requires there { C.test region place ≡ true }
+    ensures listed { OnOk
+        result
+        ((keep : List ℕ → Bool)
+        → Decides language (problem_at ordered.now) (length ordered.now.order) limit exact (state_of C.test state.now) keep
+        → IsListed C C.test (problem_at ordered.now) (length ordered.now.order) limit keep (only place) (others (C.test region) place) groups.old.items groups.new.items) }
+    ensures steps { HasStepped (problem_at ordered.now) (length ordered.now.order) limit (only place) (others (C.test region) place) steps.old.used steps.new.used }
+    ensures counted { OnOk result (steps.old.used + length groups.new.items ≤ steps.new.used + length groups.old.items) }
+    ensures limit { steps.new.limit ≡ steps.old.limit }
+    ensures stopped { IsErrOf result Stop.StepLimit → steps.new.used ≡ steps.new.limit }
+{
+    let _places = ordered.places();
+    let problem = ordered.problem();
+    let _at_most = problem.total_people();
+    let set = only_place(alloc, place)?;
+    let free = region.without(place);
+    let ground = Ground {
+        ordered,
+        near,
+        language,
+        state,
+        limit,
+        exact,
+        least: problem.district_bounds(1).0,
+        most: most_in(ordered, &free),
+    };
+    let beside = near[usize::from(place)].copy(alloc)?;
+    let front = beside.intersection(&free);
+    let people = u64::from(ordered.people(place));
+    grow(alloc, &ground, set, people, front, free, steps, groups)
+}
+
+/// The groups that fit the state, have the county at the place and have at most `limit` counties, each once, by
+/// size, and groups of one size by their lists of places: what the takes of a branch have to be.
+///
+/// `near` are the rows of the order (`neighbour_rows`). A step is taken for each connected set of open counties that
+/// is met, each with the place and at most `limit` counties; sets that stay below the fewest people that suit a
+/// seat are passed over, and in a wide language those that leave a part behind that can't be filled. So there are
+/// at least as many steps as groups, and at most as many as such sets. `StepLimit` comes only where all steps are
+/// used, `Memory` only where a growth was refused; the steps that were taken stay taken.
+pub fn groups_at<C: CountySet>(
+    alloc: Global,
+    ordered: &Ordered,
+    near: &[C],
+    language: Language,
+    state: &State<C>,
+    place: u16,
+    limit: u16,
+    steps: &mut Steps,
+) -> Result<Vec<C>, Stop>
+    requires fits { length ordered.now.order ≤ C.PLACES }
+    requires rows { AreRows C C.test (problem_at ordered.now) (length ordered.now.order) near.now }
+    requires places { length state.now.least.items ≡ length ordered.now.order }
+    requires rest { (x : ℕ) → C.test state.now.rest x ≡ true → x < length ordered.now.order }
+    requires there { open_to (state_of C.test state.now) limit place ≡ true }
+    requires some { 1 ≤ limit }
+    ensures groups { IfOk
+        result
+        (λ v. (round : Round)
+        → round.order ≡ places_below (length ordered.now.order)
+        → round.language ≡ language
+        → AreGroupsAt (problem_at ordered.now) round (state_of C.test state.now) place limit (lists_of (length ordered.now.order) C.test v.items)) }
+    ensures below { IfOk result (λ v. AreBelow (length ordered.now.order) C.test v.items) }
+    ensures steps { OneStepEach (IsSetAt (problem_at ordered.now) (places_below (length ordered.now.order)) (state_of C.test state.now) place limit) steps.old.used steps.new.used }
+    ensures counted { IfOk result (λ v. steps.old.used + length v.items ≤ steps.new.used) }
+    ensures limit { steps.new.limit ≡ steps.old.limit }
+    ensures stopped { IsErrOf result Stop.StepLimit → steps.new.used ≡ steps.new.limit }
+{
+    let _places = ordered.places();
+    let region = open_places(alloc, state, limit)?;
+    let mut sets = Vec::new(alloc);
+    search(
+        alloc, ordered, near, language, state, region, place, limit, false, steps, &mut sets,
+    )?;
+    Ok(sorted(sets)?)
+}

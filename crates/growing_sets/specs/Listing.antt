@@ -1,0 +1,35 @@
+-- What a search puts behind the sets that were there, and the steps that it takes.
+use Rattle.std.specs.Prelude.{ℕ, ◌+◌, ◌≡◌, ◌≢◌, ◌<◌, ◌≤◌, Bool, true, List, ◌++◌, map, length, All, AllPairs}
+use Rattle.grouping_laws.specs.Problem.{Problem}
+use Rattle.place_sets.specs.CountySet.{places_of}
+use Rattle.growing_sets.specs.Growing.{AreKept, IsExtension}
+
+-- the lists of places of sets
+abbrev pub lists_of : {C : Type 0} → ℕ → (C → ℕ → Bool) → List C → List (List ℕ)
+lists_of n test sets = map (λ s. places_of n (test s)) sets
+
+-- each set has only places below n
+abbrev pub AreBelow : {C : Type 0} → ℕ → (C → ℕ → Bool) → List C → Type 0
+AreBelow n test sets = All (λ s. (x : ℕ) → test s x ≡ true → x < n) sets
+
+-- no free place has more people than that
+abbrev pub HasMost : Problem → (ℕ → Bool) → ℕ → Type 0
+HasMost p free most = (c : ℕ) → free c ≡ true → p.people c ≤ most
+
+-- Sets are put behind those that were there: the extensions that pass the test.
+pub record IsListed (C : Type 0) (test : C → ℕ → Bool) (p : Problem) (n limit : ℕ) (keep : List ℕ → Bool) (set free : ℕ → Bool) (old new : List C) : Type 0 where
+  pub added : List C
+  pub more : new ≡ old ++ added
+  pub kept : AreKept p n limit keep set free (lists_of n test added)
+  pub below : AreBelow n test added
+
+-- each step is one for a list of its own that is one of those
+pub record OneStepEach (IsOne : List ℕ → Type 0) (before after : ℕ) : Type 0 where
+  pub sets : List (List ℕ)
+  pub each : All IsOne sets
+  pub once : AllPairs (λ g h. g ≢ h) sets
+  pub steps : after ≡ before + length sets
+
+-- each step is one for an extension of its own
+abbrev pub HasStepped : Problem → ℕ → ℕ → (ℕ → Bool) → (ℕ → Bool) → ℕ → ℕ → Type 0
+HasStepped p n limit set free before after = OneStepEach (IsExtension p n limit set free) before after

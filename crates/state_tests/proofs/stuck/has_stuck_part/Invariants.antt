@@ -1,0 +1,13 @@
+use Rattle.std.proofs.Common.{length, List, ℕ}
+use Rattle.place_sets.specs.CountySet.{places_of}
+use Rattle.county_regions.specs.Rows.{problem_at}
+use Rattle.county_regions.proofs.PartLists.{IsParted}
+use Rattle.proof_trees.specs.StateValue.{state_of}
+use Rattle.state_tests.proofs.StuckLemmas.{IsPassed}
+use Rattle.state_tests.proofs.stuck.has_stuck_part.Given as goal
+
+abbrev pub invariant-loop-place : goal.invariant-loop-place
+invariant-loop-place g l = IsPassed (problem_at l.ordered) (state_of (g.C.CountySet.test) l.state) (g.C.CountySet.test l.fn.region) (g.C.CountySet.test l.free) (g.C.CountySet.test l.rest)
+
+abbrev pub decreases-loop-place : goal.decreases-loop-place
+decreases-loop-place g l = length (places_of (length l.ordered.order) (g.C.CountySet.test l.rest))

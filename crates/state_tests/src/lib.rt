@@ -1,0 +1,12 @@
+//! Tests of a state of a proof tree, by the places of an order: whether a part of the rest can be filled, whether a
+//! group fits, whether a stuck or a seats leaf is valid, and what a line of a bound leaf allows. What a checker
+//! and a search ask alike. Any form of sets of places serves.
+#![tactic(auto)]
+
+mod fitting;
+mod stuck;
+mod sums;
+
+pub use fitting::{fits, is_open, open_places};
+pub use stuck::{has_stuck_part, is_live, is_stuck, is_stuck_at};
+pub use sums::{people_in, weight_in};

@@ -1,0 +1,130 @@
+ghost use Rattle.std.specs.Prelude.{◌≡◌, ℕ, true, false, ◌<◌, ◌≤◌, List, length, get_or, IfOk, IsTrue, ◌↔◌};
+ghost use Rattle.grouping_laws.specs.Sets.{member};
+ghost use Rattle.grouping_laws.specs.Parts.{IsPart};
+ghost use Rattle.place_sets.specs.CountySet.{places_of};
+ghost use Rattle.ordered_counties.specs.OrderedValue.{problem_at};
+ghost use Rattle.county_regions.specs.Rows.{AreRows};
+ghost use Rattle.proof_trees.specs.StateValue.{state_of};
+ghost use Rattle.proof_trees.specs.Stuck.{CannotFill};
+ghost use Rattle.proof_trees.specs.Fitting.{IsLive};
+ghost use Rattle.proof_trees.specs.Leaves.{IsStuck};
+ghost use Rattle.state_tests.specs.Cut.{CutOff};
+
+use crate::sums::people_in;
+use county_regions::part_around;
+use ordered_counties::Ordered;
+use place_sets::CountySet;
+use proof_trees::State;
+use std::alloc::{AllocError, Global};
+
+/// Whether some county of the set asks for a group of more counties than that.
+pub(crate) fn asks_more<C: CountySet>(state: &State<C>, set: &C, size: u32) -> bool
+    requires below { (x : ℕ) → C.test set.now x ≡ true → x < length state.now.least.items }
+    ensures { IsTrue result ↔ ((c : ℕ) × (C.test set.now c ≡ true) × (size < get_or state.now.least.items c 0)) }
+{
+    let mut from = 0;
+    while let Some(place) = set.next(from) {
+        if u32::from(state.least[usize::from(place)]) > size {
+            return true;
+        }
+        from = u32::from(place) + 1;
+    }
+    false
+}
+
+/// Whether no groups can fill the set: its people suit no number of seats, or one of its counties asks for a
+/// group of more counties than the set has.
+pub fn is_stuck<C: CountySet>(ordered: &Ordered, state: &State<C>, part: &C) -> bool
+    requires places { length state.now.least.items ≡ length ordered.now.order }
+    requires below { (x : ℕ) → C.test part.now x ≡ true → x < length ordered.now.order }
+    ensures { IsTrue result ↔ CannotFill (problem_at ordered.now) (state_of C.test state.now) (places_of (length ordered.now.order) (C.test part.now)) }
+{
+    let _places = ordered.places();
+    let people = people_in(ordered, part);
+    if ordered.problem().seats_range(people).is_none() {
+        return true;
+    }
+    asks_more(state, part, part.size())
+}
+
+/// Whether the set has none of the free places and can't be filled.
+fn is_cut_off<C: CountySet>(ordered: &Ordered, state: &State<C>, part: &C, free: &C) -> bool
+    requires places { length state.now.least.items ≡ length ordered.now.order }
+    requires below { (x : ℕ) → C.test part.now x ≡ true → x < length ordered.now.order }
+    ensures { IsTrue result
+        ↔ (((x : ℕ) → C.test part.now x ≡ true → C.test free.now x ≡ false)
+        × CannotFill (problem_at ordered.now) (state_of C.test state.now) (places_of (length ordered.now.order) (C.test part.now))) }
+{
+    if part.meets(free) {
+        return false;
+    }
+    is_stuck(ordered, state, part)
+}
+
+/// Whether some connected part of the region that has none of the free places can't be filled.
+pub fn has_stuck_part<C: CountySet>(
+    alloc: Global,
+    ordered: &Ordered,
+    near: &[C],
+    state: &State<C>,
+    region: C,
+    free: &C,
+) -> Result<bool, AllocError>
+    requires fits { length ordered.now.order ≤ C.PLACES }
+    requires rows { AreRows C C.test (problem_at ordered.now) (length ordered.now.order) near.now }
+    requires places { length state.now.least.items ≡ length ordered.now.order }
+    requires below { (x : ℕ) → C.test region x ≡ true → x < length ordered.now.order }
+    ensures { IfOk result (λ stuck. IsTrue stuck ↔ CutOff (problem_at ordered.now) (state_of C.test state.now) (C.test region) (C.test free.now)) }
+{
+    let mut rest = region;
+    while let Some(place) = rest.next(0) {
+        let (part, left) = part_around(alloc, ordered, near, &rest, place)?;
+        if is_cut_off(ordered, state, &part, free) {
+            return Ok(true);
+        }
+        rest = left;
+    }
+    Ok(false)
+}
+
+/// Whether a group of the rest is live: no connected part of the rest without it is stuck.
+pub fn is_live<C: CountySet>(
+    alloc: Global,
+    ordered: &Ordered,
+    near: &[C],
+    state: &State<C>,
+    group: &C,
+) -> Result<bool, AllocError>
+    requires fits { length ordered.now.order ≤ C.PLACES }
+    requires rows { AreRows C C.test (problem_at ordered.now) (length ordered.now.order) near.now }
+    requires places { length state.now.least.items ≡ length ordered.now.order }
+    requires below { (x : ℕ) → C.test state.now.rest x ≡ true → x < length ordered.now.order }
+    ensures { IfOk
+        result
+        (λ live. IsTrue live ↔ IsLive (problem_at ordered.now) (state_of C.test state.now) (places_of (length ordered.now.order) (C.test group.now))) }
+{
+    let left = state.rest.copy(alloc)?.minus(group);
+    let none = C::empty(alloc)?;
+    let stuck = has_stuck_part(alloc, ordered, near, state, left, &none)?;
+    Ok(!stuck)
+}
+
+/// Whether a stuck leaf that names the county at the place, one of the rest, is valid: the connected part of the
+/// rest around it is stuck.
+pub fn is_stuck_at<C: CountySet>(
+    alloc: Global,
+    ordered: &Ordered,
+    near: &[C],
+    state: &State<C>,
+    place: u16,
+) -> Result<bool, AllocError>
+    requires fits { length ordered.now.order ≤ C.PLACES }
+    requires rows { AreRows C C.test (problem_at ordered.now) (length ordered.now.order) near.now }
+    requires places { length state.now.least.items ≡ length ordered.now.order }
+    requires below { (x : ℕ) → C.test state.now.rest x ≡ true → x < length ordered.now.order }
+    requires there { C.test state.now.rest place ≡ true }
+    ensures { IfOk result (λ stuck. IsTrue stuck ↔ IsStuck (problem_at ordered.now) (state_of C.test state.now) place) }
+{
+    let (part, _left) = part_around(alloc, ordered, near, &state.rest, place)?;
+    Ok(is_stuck(ordered, state, &part))
+}

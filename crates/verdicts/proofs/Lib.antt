@@ -1,0 +1,10 @@
+pub mod Ends
+pub mod Leaves
+pub mod Trees
+pub mod GroupingFaults
+pub mod Verdicts
+pub mod Costs
+pub mod Work
+pub mod WorkCost
+pub mod BoundWork
+pub mod Examples

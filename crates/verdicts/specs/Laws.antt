@@ -1,0 +1,43 @@
+-- What the definitions keep to.
+use Rattle.std.specs.Prelude.{ℕ, ◌+◌, ◌≡◌, ◌≤◌, ◌<◌, Some, None}
+use Rattle.grouping_laws.specs.Problem.{Problem}
+use Rattle.grouping_laws.specs.Grouping.{Grouping, IsBest, IsImpossible}
+use Rattle.proof_trees.specs.Round.{Round}
+use Rattle.proof_trees.specs.State.{State}
+use Rattle.proof_trees.specs.Tree.{Tree}
+use Rattle.proof_trees.specs.Proving.{Proves}
+use Rattle.proof_trees.specs.Certificate.{IsCertificate}
+use Rattle.verdicts.specs.Fault.{Fault}
+use Rattle.verdicts.specs.End.{End, fine, faulty}
+use Rattle.verdicts.specs.Lines.{tree_lines}
+use Rattle.verdicts.specs.Trees.{TreeEnds}
+use Rattle.verdicts.specs.Verdict.{Verdict, Best, Impossible, No, shown, IsVerdict}
+use Rattle.verdicts.specs.Cost.{TreeCosts, CertificateCosts}
+
+-- How a tree ends.
+pub record TreesEnd : Type 0 where
+  -- a tree without a fault is a proof, and the lines behind it begin where its lines end
+  pub proves : (tree : Tree) (p : Problem) (round : Round) (s : State) (line next : ℕ) → TreeEnds tree p round s line (fine next) → Proves tree p round s × (next ≡ line + tree_lines tree)
+  -- a proof has no fault
+  pub ends : (tree : Tree) (p : Problem) (round : Round) (s : State) (line : ℕ) → Proves tree p round s → TreeEnds tree p round s line (fine (line + tree_lines tree))
+  -- a tree has one end
+  pub one : (tree : Tree) (p : Problem) (round : Round) (s : State) (line : ℕ) (x y : End) → TreeEnds tree p round s line x → TreeEnds tree p round s line y → x ≡ y
+  -- so one with a fault is no proof
+  pub refuses : (tree : Tree) (p : Problem) (round : Round) (s : State) (line at : ℕ) (fault : Fault) → TreeEnds tree p round s line (faulty fault at) → ¬ Proves tree p round s
+  -- the line of a fault is one of the tree's
+  pub inside : (tree : Tree) (p : Problem) (round : Round) (s : State) (line at : ℕ) (fault : Fault) → TreeEnds tree p round s line (faulty fault at) → (line ≤ at) × (at < line + tree_lines tree)
+
+-- What a verdict shows.
+pub record VerdictsShow : Type 0 where
+  pub best : (p : Problem) (round : Round) (tree : Tree) (target : Grouping) → IsVerdict p round tree (Best target) → IsCertificate p round tree × (round.target ≡ Some target) × IsBest p target
+  pub impossible : (p : Problem) (round : Round) (tree : Tree) → IsVerdict p round tree Impossible → IsCertificate p round tree × (round.target ≡ None) × IsImpossible p
+  pub no : (p : Problem) (round : Round) (tree : Tree) (fault : Fault) (line : ℕ) → IsVerdict p round tree (No fault line) → ¬ IsCertificate p round tree
+  -- a certificate has the verdict of its target
+  pub yes : (p : Problem) (round : Round) (tree : Tree) → IsCertificate p round tree → IsVerdict p round tree (shown round.target)
+  -- there is one verdict
+  pub one : (p : Problem) (round : Round) (tree : Tree) (x y : Verdict) → IsVerdict p round tree x → IsVerdict p round tree y → x ≡ y
+
+-- There is one cost.
+pub record CostsAreOne : Type 0 where
+  pub tree : (tree : Tree) (p : Problem) (round : Round) (s : State) (m n : ℕ) → TreeCosts tree p round s m → TreeCosts tree p round s n → m ≡ n
+  pub certificate : (p : Problem) (round : Round) (tree : Tree) (m n : ℕ) → CertificateCosts p round tree m → CertificateCosts p round tree n → m ≡ n

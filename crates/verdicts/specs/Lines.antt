@@ -1,0 +1,30 @@
+-- How many lines a tree has in a text.
+use Rattle.std.specs.Prelude.{ℕ, ◌+◌, length, Option, Some, None}
+use Rattle.grouping_laws.specs.Grouping.{Grouping}
+use Rattle.proof_trees.specs.Tree.{Leaf, stuck, seats, bound, Tree, leaf, branch, Takes, no_take, take}
+use Rattle.proof_trees.specs.Round.{Round}
+
+abbrev pub leaf_lines : Leaf → ℕ
+leaf_lines (stuck county) = 1
+leaf_lines seats = 1
+leaf_lines (bound lines) = 1 + length lines
+
+-- a line for each branch, each take and each mark
+abbrev mutual
+  pub tree_lines : Tree → ℕ
+  tree_lines (leaf l) = leaf_lines l
+  tree_lines (branch county limit takes raised) = 1 + (takes_lines takes + tree_lines raised)
+
+  -- with the line of the mark
+  pub takes_lines : Takes → ℕ
+  takes_lines no_take = 1
+  takes_lines (take codes tree others) = 1 + (tree_lines tree + takes_lines others)
+
+-- a line for each group of the target
+abbrev pub group_lines : Option Grouping → ℕ
+group_lines None = 0
+group_lines (Some target) = length target
+
+-- head, order, limit, target, its groups, the tree, and the end
+abbrev pub certificate_lines : Round → Tree → ℕ
+certificate_lines round tree = 4 + (group_lines round.target + (tree_lines tree + 1))

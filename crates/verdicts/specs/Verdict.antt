@@ -1,0 +1,69 @@
+-- The verdict of a certificate whose text can be read.
+use Rattle.std.specs.Prelude.{ℕ, ◌+◌, ◌≡◌, ◌≢◌, ◌≤◌, ◌<◌, length, All, Contains, Option, Some, None, ⊤}
+use Rattle.county_codes.specs.declared.group.Group.{Group}
+use Rattle.grouping_judge.specs.declared.grouping_fault.GroupingFault.{GroupingFault}
+use Rattle.grouping_judge.specs.declared.grouping_fault.GroupingFault.TheVariants.{Memory}
+use Rattle.grouping_laws.specs.Problem.{Problem}
+use Rattle.grouping_laws.specs.Grouping.{Grouping, Lawful}
+use Rattle.grouping_laws.specs.GroupsFrom.{IsOrder}
+use Rattle.grouping_judge.specs.Judging.{IsFault}
+use Rattle.proof_trees.specs.Round.{Round}
+use Rattle.proof_trees.specs.State.{empty_state}
+use Rattle.proof_trees.specs.Tree.{Tree}
+use Rattle.verdicts.specs.Fault.{Fault, WrongOrder, LimitTooSmall, TargetFault}
+use Rattle.verdicts.specs.End.{End, fine, faulty, LineEnds, LinesEnd, Then}
+use Rattle.verdicts.specs.Lines.{group_lines}
+use Rattle.verdicts.specs.Trees.{TreeEnds}
+
+abbrev pub IsOrderFault : Problem → Round → Fault → Type 0
+IsOrderFault p round fault = (fault ≡ WrongOrder) × (¬ IsOrder p round.order)
+
+-- no group of the target, if there is one, is above the limit
+abbrev pub IsLargeEnough : ℕ → Option Grouping → Type 0
+IsLargeEnough limit None = ⊤
+IsLargeEnough limit (Some target) = All (λ g. length g.codes ≤ limit) target
+
+abbrev pub IsLimitFault : ℕ → Option Grouping → Fault → Type 0
+IsLimitFault limit None fault = ⊥
+IsLimitFault limit (Some target) fault = (fault ≡ LimitTooSmall) × ((g : Group) × Contains target g × (limit < length g.codes))
+
+-- the target, if there is one, is lawful
+abbrev pub IsLawfulTarget : Problem → Option Grouping → Type 0
+IsLawfulTarget p None = ⊤
+IsLawfulTarget p (Some target) = Lawful p target
+
+-- the fault of the target is its first one
+abbrev pub IsTargetFault : Problem → Option Grouping → Fault → Type 0
+IsTargetFault p None fault = ⊥
+IsTargetFault p (Some target) fault = (kind : GroupingFault) × (fault ≡ TargetFault kind) × IsFault p target kind × (kind ≢ Memory)
+
+-- The order stands on line 2, the limit on line 3, the target on line 4 with its groups behind it, and then the tree.
+abbrev pub CertificateEnds : Problem → Round → Tree → End → Type 0
+CertificateEnds p round tree end =
+    Then (LineEnds (IsOrder p round.order) (IsOrderFault p round) 2)
+    (λ third after_order. Then (LineEnds (IsLargeEnough round.limit round.target) (IsLimitFault round.limit round.target) third)
+    (λ fourth after_limit. Then (LinesEnd (1 + group_lines round.target) (IsLawfulTarget p round.target) (IsTargetFault p round.target) fourth)
+    (TreeEnds tree p round (empty_state p))
+    after_limit)
+    after_order)
+    end
+
+-- what is said of a certificate
+pub data Verdict : Type 0 where
+  Best : (target : Grouping) → Verdict
+  Impossible : Verdict
+  No : Fault → (line : ℕ) → Verdict
+
+-- the verdict without a fault
+abbrev pub shown : Option Grouping → Verdict
+shown None = Impossible
+shown (Some target) = Best target
+
+-- the verdict that an end gives
+abbrev pub verdict_of : Option Grouping → End → Verdict
+verdict_of target (fine next) = shown target
+verdict_of target (faulty fault line) = No fault line
+
+-- the first fault decides, and without one the target is best or, where there is none, no grouping is lawful
+abbrev pub IsVerdict : Problem → Round → Tree → Verdict → Type 0
+IsVerdict p round tree verdict = (end : End) × CertificateEnds p round tree end × (verdict ≡ verdict_of round.target end)

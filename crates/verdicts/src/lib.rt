@@ -1,0 +1,25 @@
+//! What is said of a certificate: that its target is best, that no grouping is lawful, or its first fault with
+//! its line; and what saying so costs. Definitions, and their laws as theorems.
+//!
+//! The certificate is a value of `proof_trees` whose lines are counted as its text would have them: the head
+//! is line 1, the order stands on line 2. Of a branch, a take, a mark or a leaf the first line at fault counts,
+//! and lines behind it are not judged. In a bound leaf the lines are judged up to the first that allows fewer
+//! groups than the target has; lines behind that are a fault of the line that opens the leaf, whatever they
+//! hold. A county of a `weigh` line is wrong only where it is none of the problem; one that is not open weighs
+//! nothing.
+//!
+//! What is wrong with the words of a text, and which values have no text, is said by the crate of the text: a
+//! tree without a text has the first text fault that its lines would meet, and comes before all that is said
+//! here.
+//!
+//! The definitions stand in `specs/`: `Fault`, `End` (how lines end), `Lines` (how many a value has), `Leaves`,
+//! `Branches`, `Trees`, `Verdict`, `Cost`, and `Work`, `WorkCost` and `BoundWork` for what a loop over lines
+//! has left.
+#![tactic(auto)]
+
+mod laws;
+
+pub use laws::{
+    bound_lines_carry, bound_lines_cost, costs_are_one, first_faults, lines_carry, lines_cost,
+    trees_end, verdicts_show,
+};
