@@ -11,11 +11,12 @@ use Rattle.grouping_laws.proofs.Elements.{Has, has_from_contains, contains_from_
 use Rattle.growing_sets.proofs.PlaceLists.{often_placed, placed_below}
 use Rattle.proof_trees.specs.declared.language.Language.{Language}
 use Rattle.proof_trees.specs.declared.language.Language.TheVariants.{Plain, Wide}
-use Rattle.proof_trees.specs.State.{State, open_to, without}
+use Rattle.proof_trees.specs.State.{State, open_to}
+use Rattle.proof_trees.specs.Regions.{without}
 use Rattle.proof_trees.specs.Stuck.{CannotFill}
 use Rattle.proof_trees.specs.Fitting.{Fits, IsKept, IsLive}
 use Rattle.proof_trees.proofs.Decided.{leaves_are_decided}
-use Rattle.proof_trees.proofs.Living.{without_in}
+use Rattle.proof_trees.proofs.WithoutGroup.{without_in}
 use Rattle.state_tests.proofs.FitLemmas.{below_listed}
 use Rattle.fitting_groups.specs.Keeping.{IsAsked, Decides}
 

@@ -10,7 +10,8 @@ use Rattle.growing_sets.specs.Growing.{IsExtension, IsGrowth, IsWhole, AreKept}
 use Rattle.growing_sets.proofs.Growing.{none_kept, leaf_only}
 use Rattle.proof_trees.specs.declared.language.Language.{Language}
 use Rattle.proof_trees.specs.declared.language.Language.TheVariants.{Plain, Wide}
-use Rattle.proof_trees.specs.State.{State, without}
+use Rattle.proof_trees.specs.State.{State}
+use Rattle.proof_trees.specs.Regions.{without}
 use Rattle.proof_trees.specs.Stuck.{StuckPart}
 use Rattle.proof_trees.specs.Fitting.{Fits}
 use Rattle.state_tests.specs.Cut.{CutOff}

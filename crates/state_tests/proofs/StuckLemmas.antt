@@ -14,7 +14,8 @@ use Rattle.grouping_laws.proofs.Elements.{Has, has_append}
 use Rattle.grouping_laws.proofs.Seated.{set_from_stands, first_code}
 use Rattle.growing_sets.proofs.PlaceLists.{placed, placed_test}
 use Rattle.county_regions.proofs.PartLists.{IsParted, parted_start, parted_more, parted_part}
-use Rattle.proof_trees.specs.State.{State, without}
+use Rattle.proof_trees.specs.State.{State}
+use Rattle.proof_trees.specs.Regions.{without}
 use Rattle.proof_trees.specs.Fitting.{IsDead, IsLive}
 use Rattle.proof_trees.specs.Stuck.{CannotFill}
 use Rattle.proof_trees.proofs.Decided.{cannot_either, part_same}

@@ -7,10 +7,11 @@ use Rattle.grouping_laws.proofs.Elements.{Has, has_from_contains, contains_from_
 use Rattle.proof_trees.specs.Round.{Round}
 use Rattle.proof_trees.specs.State.{State, close, raise, empty_state}
 use Rattle.proof_trees.specs.Groups.{AreGroupsAt, IsSetAt, IsSetWithin}
-use Rattle.proof_trees.specs.Tree.{Allowance, room, weigh, Leaf, stuck, seats, bound, Tree, leaf, branch, Takes, no_take, take, groups_of}
+use Rattle.proof_trees.specs.Tree.{Allowance, room, weigh, Leaf, bound, Tree, leaf, branch, Takes, no_take, take, groups_of, stuck, seats}
 use Rattle.proof_trees.specs.BoundLines.{allowance, IsFair}
 use Rattle.proof_trees.specs.Proving.{limit_of, CanBranch, NamesLimit, Proves, EachProves}
-use Rattle.proof_trees.proofs.Decided.{leaves_are_decided, head_before, tail_pairs}
+use Rattle.proof_trees.proofs.Decided.{leaves_are_decided}
+use Rattle.proof_trees.proofs.Kept.{head_before, tail_pairs}
 use Rattle.verdicts.specs.Leaves.{IsEven}
 use Rattle.verdicts.specs.Branches.{IsNext, behind}
 use Rattle.verdicts.specs.Verdict.{IsLargeEnough, IsLawfulTarget}

@@ -9,7 +9,7 @@ use Rattle.grouping_laws.proofs.Elements.{has_all, has_from_contains}
 use Rattle.proof_trees.specs.declared.language.Language.{Language}
 use Rattle.proof_trees.specs.Round.{Round}
 use Rattle.proof_trees.specs.State.{State}
-use Rattle.proof_trees.specs.Tree.{Allowance, room, weigh, Leaf, stuck, seats, bound}
+use Rattle.proof_trees.specs.Tree.{Allowance, room, weigh, Leaf, bound, stuck, seats}
 use Rattle.proof_trees.specs.BoundLines.{IsFair, Bounds, allowance}
 use Rattle.proof_trees.specs.Leaves.{IsStuck, IsOffSeats, IsValidLeaf}
 use Rattle.verdicts.specs.Fault.{Fault, BoundLength, BoundWithoutTarget}

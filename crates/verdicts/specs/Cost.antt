@@ -6,7 +6,7 @@ use Rattle.grouping_laws.specs.GroupsFrom.{IsOrder, IsBefore}
 use Rattle.proof_trees.specs.Round.{Round}
 use Rattle.proof_trees.specs.State.{State, close, raise, empty_state}
 use Rattle.proof_trees.specs.Groups.{AreGroupsAt, IsSetAt, IsSetWithin}
-use Rattle.proof_trees.specs.Tree.{Allowance, room, weigh, Leaf, stuck, seats, bound, Tree, leaf, branch, Takes, no_take, take, groups_of}
+use Rattle.proof_trees.specs.Tree.{Allowance, room, weigh, Leaf, bound, Tree, leaf, branch, Takes, no_take, take, groups_of, stuck, seats}
 use Rattle.proof_trees.specs.BoundLines.{allowance, IsFair}
 use Rattle.proof_trees.specs.Proving.{limit_of, CanBranch, NamesLimit, Proves, EachProves}
 use Rattle.verdicts.specs.Leaves.{IsEven}

@@ -7,7 +7,7 @@ use Rattle.proof_trees.specs.declared.language.Language.{Language}
 use Rattle.proof_trees.specs.Round.{Round}
 use Rattle.proof_trees.specs.State.{State}
 use Rattle.proof_trees.specs.Fitting.{Fits}
-use Rattle.proof_trees.specs.Tree.{Weight, Allowance, room, weigh, Leaf, stuck, seats, bound}
+use Rattle.proof_trees.specs.Tree.{Weight, Allowance, room, weigh, Leaf, bound, stuck, seats}
 use Rattle.proof_trees.specs.BoundLines.{weight_of, allowance, IsFair, Bounds}
 use Rattle.proof_trees.specs.Leaves.{IsStuck, IsOffSeats}
 use Rattle.verdicts.specs.Fault.{Fault, WrongCounty, LightGroup, BoundOver, BoundLength, NotStuck, SeatsOpen, BoundWithoutTarget}

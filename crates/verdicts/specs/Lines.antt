@@ -1,7 +1,7 @@
 -- How many lines a tree has in a text.
 use Rattle.std.specs.Prelude.{ℕ, ◌+◌, length, Option, Some, None}
 use Rattle.grouping_laws.specs.Grouping.{Grouping}
-use Rattle.proof_trees.specs.Tree.{Leaf, stuck, seats, bound, Tree, leaf, branch, Takes, no_take, take}
+use Rattle.proof_trees.specs.Tree.{Leaf, bound, Tree, leaf, branch, Takes, no_take, take, stuck, seats}
 use Rattle.proof_trees.specs.Round.{Round}
 
 abbrev pub leaf_lines : Leaf → ℕ
