@@ -1,6 +1,6 @@
 //! Tests of a state of a proof tree, by the places of an order: whether a part of the rest can be filled, whether a
-//! group fits, whether a stuck or a seats leaf is valid, and what a line of a bound leaf allows. What a checker
-//! and a search ask alike. Any form of sets of places serves.
+//! group fits or is live, and whether a stuck leaf is valid. What a checker and a search ask alike. Any form of
+//! sets of places serves.
 #![tactic(auto)]
 
 mod fitting;
