@@ -135,7 +135,7 @@ begins p n i s [] x = absurd (omega (arith, x.connected.some_county))
 begins p n i s (c ∷ cs) x = (c, (cs, refl), x.inside c (ap (λ b. b || member cs c) (eq-eqb c c refl)))
 
 -- distinct lists of places, sorted by their keys, stand by size and then by lists of places
-keys_before : (n : ℕ) (sets groups : List (List ℕ)) → AllPairs (λ g h. g ≡ h → ⊥) sets → IsPermutation sets groups → IsSortedBy (λ g h. is_lt (slice_cmp nat_cmp (sort_key g) (sort_key h))) groups
+pub keys_before : (n : ℕ) (sets groups : List (List ℕ)) → AllPairs (λ g h. g ≡ h → ⊥) sets → IsPermutation sets groups → IsSortedBy (λ g h. is_lt (slice_cmp nat_cmp (sort_key g) (sort_key h))) groups
     → ((g : List ℕ) → Contains groups g → filter (member g) (places_below n) ≡ g) → AllPairs (IsBefore (places_below n)) groups
 keys_before n sets groups once moved sorted ordered = λ i j d l m. before (get_or groups i d) (get_or groups j d) (below (get_or groups i d) (Contains-get_or groups i d (omega arith))) (below (get_or groups j d) (Contains-get_or groups j d m)) (sorted_before groups sorted distinct i j d l m)
   where
