@@ -26,7 +26,7 @@ module _ {X : Type 0} (items : X → List Item) (wanted : List Wanted) (text : L
   gives_fault (Err fault) h = h
 
 -- a fault that can't be other than that memory was refused
-memory_only : (kind : TextKind) → ((kind ≡ Memory → ⊥) → ⊥) → kind ≡ Memory
+pub memory_only : (kind : TextKind) → ((kind ≡ Memory → ⊥) → ⊥) → kind ≡ Memory
 memory_only Memory h = refl
 memory_only BadHead h = absurd (h (λ e. cc))
 memory_only BadWord h = absurd (h (λ e. cc))

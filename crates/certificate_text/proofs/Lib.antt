@@ -12,6 +12,7 @@ pub mod TextBack
 pub mod CertLaws
 pub mod FitsLaws
 pub mod PrefixLaws
+pub mod FrontLaws
 pub mod GiveLaws
 pub mod WriteLaws
 pub mod CourseLaws

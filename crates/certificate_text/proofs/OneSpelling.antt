@@ -1,5 +1,5 @@
 -- A text spells one value at most, a value has one text at most, and no text begins another.
-use Rattle.std.proofs.Common.{◌≡◌, ℕ, List, [], ◌∷◌, ◌++◌, length, map, Option, Some, None, Result, Ok, refl, ap, sym, ◌∙◌, append-nil}
+use Rattle.std.proofs.Common.{◌≡◌, ℕ, List, [], ◌∷◌, ◌++◌, length, map, Option, Some, None, Result, Ok, refl, ap, sym, subst, ◌∙◌, append-nil}
 use Rattle.field_lines.specs.Raw.{raw_lines_from}
 use Rattle.county_codes.specs.declared.group.Group.{Group}
 use Rattle.grouping_laws.specs.Grouping.{Grouping}
@@ -17,7 +17,7 @@ use Rattle.certificate_text.specs.declared.item.Wanted.{Wanted}
 use Rattle.certificate_text.specs.declared.item.Wanted.TheVariants as want
 use Rattle.certificate_text.proofs.TextBack.{items_back}
 use Rattle.certificate_text.proofs.TreeLaws.{heads, tree_back}
-use Rattle.certificate_text.proofs.PrefixLaws.{no_prefix}
+use Rattle.certificate_text.proofs.PrefixLaws.{no_prefix, one_begins}
 
 groups_back : (gs hs : List Group) (xs ys : List Item) → length gs ≡ length hs → map item.Grouped gs ++ xs ≡ map item.Grouped hs ++ ys → (gs ≡ hs) × (xs ≡ ys)
 groups_back [] [] xs ys e h = (refl, h)
@@ -96,3 +96,13 @@ module _ (language : Language) (levels : ℕ) where
   pub no_tree_begins : (t rest : List ℕ) (a b : Tree) → IsTreeSpelling language levels t a → IsTreeSpelling language levels (t ++ rest) b → rest ≡ []
   no_tree_begins t rest a b f g =
       no_prefix (want.Tree language levels ∷ []) 1 t rest (items_of_tree a) (items_of_tree b) (read_from (want.Tree language levels ∷ []) t (items_of_tree a) f.fits f.text_is) (read_from (want.Tree language levels ∷ []) (t ++ rest) (items_of_tree b) g.fits g.text_is)
+
+  -- a text has one front at most that spells a tree
+  pub one_front : (t x u y : List ℕ) (a b : Tree) → t ++ x ≡ u ++ y → IsTreeSpelling language levels t a → IsTreeSpelling language levels u b → t ≡ u
+  one_front t x u y a b e f g =
+      one_begins (t ≡ u) t x u y e (λ m h. sym (ends t u m a b f g h)) (λ m h. ends u t m b a g f h)
+    where
+      ends : (v w m : List ℕ) (c d : Tree) → IsTreeSpelling language levels v c → IsTreeSpelling language levels w d → w ≡ v ++ m → w ≡ v
+      ends v w m c d k l h =
+          let none : m ≡ [] = no_tree_begins v m c d k (subst (λ (s : List ℕ). IsTreeSpelling language levels s d) h l) in
+          h ∙ ap (λ (s : List ℕ). v ++ s) none ∙ append-nil v

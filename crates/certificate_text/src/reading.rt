@@ -261,6 +261,8 @@ pub fn front_tree(
     requires { counties ≤ most }
     ensures place { IfOk result (λ r. r.1 ≤ length text.now) }
     ensures found { IfOk result (λ r. IsTreeSpelling language counties (take r.1 text.now) (tree_of r.0)) }
+    // A front that spells a tree is read, and its length is the place, unless memory is refused.
+    ensures only { (front rest : List ℕ) (t : TreeValue) → text.now ≡ front ++ rest → IsTreeSpelling language counties front t → IsUnlessMemory {V = TreeValue × ℕ} (λ r. (tree_of r.0, r.1)) result (t, length front) }
     // The fault is met whatever is wanted behind the tree.
     ensures fault { IfErr result (λ f. (IsMemory f → ⊥) → (more : List Wanted) → items_from (want.Tree language counties ∷ more) 1 (raw_lines text.now) ≡ Err f) }
 {

@@ -29,7 +29,7 @@ length_below : (n : ℕ) → length (places_below n) ≡ n
 length_below zero = refl
 length_below (suc n) = ap suc (length-map (places_below n) suc ∙ length_below n)
 
-few : (n : ℕ) (t : ℕ → Bool) → length (places_of n t) ≤ n
+pub few : (n : ℕ) (t : ℕ → Bool) → length (places_of n t) ≤ n
 few n t = omega (arith, total_all (λ x. 1) n t, total_ones (places_of n t), total_ones (places_below n), length_below n)
 
 -- what the loop keeps: the part is connected, the front is what may join it, the rest is the region without it

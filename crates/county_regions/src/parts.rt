@@ -22,6 +22,7 @@ pub fn parts_of<C: CountySet>(
     ensures parts { IfOk
         result
         (λ v. AreParts (problem_at ordered.now) (C.test region.now) (map (λ s. places_of (length ordered.now.order) (C.test s)) v.items)) }
+    ensures few { IfOk result (λ v. length v.items ≤ length ordered.now.order) }
     ensures inside { IfOk result (λ v. All (λ s. (x : ℕ) → C.test s x ≡ true → C.test region.now x ≡ true) v.items) }
 {
     let mut parts = Vec::new(alloc);

@@ -1,3 +1,4 @@
 pub mod Keeping
 pub mod Deciding
 pub mod Starting
+pub mod Sizes

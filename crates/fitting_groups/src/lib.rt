@@ -8,5 +8,5 @@ mod lists;
 mod sorting;
 mod stop;
 
-pub use lists::groups_at;
+pub use lists::{groups_at, groups_of};
 pub use stop::Stop;

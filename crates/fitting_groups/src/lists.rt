@@ -7,7 +7,7 @@ ghost use Rattle.growing_sets.specs.Listing.{lists_of, AreBelow, HasMost, IsList
 ghost use Rattle.proof_trees.specs.Round.{Round};
 ghost use Rattle.proof_trees.specs.State.{open_to};
 ghost use Rattle.proof_trees.specs.StateValue.{state_of};
-ghost use Rattle.proof_trees.specs.Groups.{IsSetAt, AreGroupsAt};
+ghost use Rattle.proof_trees.specs.Groups.{IsSetAt, AreGroupsAt, IsSetWithin, AreGroupsOf};
 ghost use Rattle.fitting_groups.specs.Keeping.{Decides, others};
 ghost use Rattle.fitting_groups.specs.declared.stop.Stop.{Stop};
 
@@ -137,5 +137,49 @@ pub fn groups_at<C: CountySet>(
     search(
         alloc, ordered, near, language, state, region, place, limit, false, steps, &mut sets,
     )?;
+    Ok(sorted(sets)?)
+}
+
+/// The groups of so many counties that fit the state, each once, by their lists of places: what a `weigh` line of a
+/// bound leaf asks of.
+///
+/// A step is taken for each connected set of at most so many open counties that is met, as in `groups_at`, the sets
+/// that begin with one place after those that begin with an earlier one.
+pub fn groups_of<C: CountySet>(
+    alloc: Global,
+    ordered: &Ordered,
+    near: &[C],
+    language: Language,
+    state: &State<C>,
+    size: u16,
+    steps: &mut Steps,
+) -> Result<Vec<C>, Stop>
+    requires fits { length ordered.now.order ≤ C.PLACES }
+    requires rows { AreRows C C.test (problem_at ordered.now) (length ordered.now.order) near.now }
+    requires places { length state.now.least.items ≡ length ordered.now.order }
+    requires rest { (x : ℕ) → C.test state.now.rest x ≡ true → x < length ordered.now.order }
+    requires some { 1 ≤ size }
+    ensures groups { IfOk
+        result
+        (λ v. (round : Round)
+        → round.order ≡ places_below (length ordered.now.order)
+        → round.language ≡ language
+        → AreGroupsOf (problem_at ordered.now) round (state_of C.test state.now) size (lists_of (length ordered.now.order) C.test v.items)) }
+    ensures below { IfOk result (λ v. AreBelow (length ordered.now.order) C.test v.items) }
+    ensures steps { OneStepEach (IsSetWithin (problem_at ordered.now) (places_below (length ordered.now.order)) (state_of C.test state.now) size) steps.old.used steps.new.used }
+    ensures counted { IfOk result (λ v. steps.old.used + length v.items ≤ steps.new.used) }
+    ensures limit { steps.new.limit ≡ steps.old.limit }
+    ensures stopped { IsErrOf result Stop.StepLimit → steps.new.used ≡ steps.new.limit }
+{
+    let _places = ordered.places();
+    let mut region = open_places(alloc, state, size)?;
+    let mut sets = Vec::new(alloc);
+    while let Some(place) = region.next(0) {
+        let left = region.copy(alloc)?;
+        search(
+            alloc, ordered, near, language, state, left, place, size, true, steps, &mut sets,
+        )?;
+        region = region.without(place);
+    }
     Ok(sorted(sets)?)
 }

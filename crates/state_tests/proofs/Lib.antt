@@ -1,3 +1,4 @@
 pub mod SumLemmas
 pub mod StuckLemmas
 pub mod FitLemmas
+pub mod SeatLemmas

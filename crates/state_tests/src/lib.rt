@@ -4,9 +4,11 @@
 #![tactic(auto)]
 
 mod fitting;
+mod seats;
 mod stuck;
 mod sums;
 
 pub use fitting::{fits, is_open, open_places};
+pub use seats::is_off_seats;
 pub use stuck::{has_stuck_part, is_live, is_stuck, is_stuck_at};
 pub use sums::{people_in, weight_in};

@@ -1,9 +1,10 @@
 use Rattle.std.proofs.Common.{◌≡◌, ℕ, ◌<◌, true, List, [], ◌∷◌, map, length, arith, sym, ap, ◌∙◌, subst, ⊎_elim, All}
 use Rattle.std.proofs.lemmas.List.Elements.{All-append}
 use Rattle.grouping_laws.proofs.Elements.{all_from_has}
-use Rattle.std.proofs.lemmas.List.{map-append}
+use Rattle.std.proofs.lemmas.List.{map-append, length-append}
 use Rattle.place_sets.specs.CountySet.{places_of}
 use Rattle.county_regions.specs.Rows.{problem_at}
+use Rattle.county_regions.proofs.Filling.{few}
 use Rattle.county_regions.proofs.PartLists.{IsParted, parted_start, parted_inside, parted_more, parted_fewer, parted_all}
 use Rattle.county_regions.proofs.parts.parts_of.Goals as goal
 
@@ -13,7 +14,7 @@ loop-place-init g c =
     let n = length c.args.ordered.now.order in
     let parted = subst (IsParted (problem_at c.args.ordered.now) (test c.args.region.now) (test c.in_ok-rest.rest)) (sym (ap (map (λ s. places_of n (test s))) c.new-parts.ensures.items))
     (parted_start (problem_at c.args.ordered.now) (g.C.CountySet.test c.args.region.now) (g.C.CountySet.test c.in_ok-rest.rest) c.in_ok-rest.ensures.places) in
-    record { parted = parted; inside = subst (All (λ (s : g.row.C.Denot). (x : ℕ) → test s x ≡ true → test c.args.region.now x ≡ true)) (sym c.new-parts.ensures.items) (all_from_has (λ (s : g.row.C.Denot). (x : ℕ) → test s x ≡ true → test c.args.region.now x ≡ true) [] (λ y (i : ⊥). absurd i)) }
+    record { parted = parted; inside = subst (All (λ (s : g.row.C.Denot). (x : ℕ) → test s x ≡ true → test c.args.region.now x ≡ true)) (sym c.new-parts.ensures.items) (all_from_has (λ (s : g.row.C.Denot). (x : ℕ) → test s x ≡ true → test c.args.region.now x ≡ true) [] (λ y (i : ⊥). absurd i)); few = omega (arith, few n (test c.in_ok-rest.rest), ap length c.new-parts.ensures.items) }
 
 pub loop-place-smaller : goal.loop-place-smaller
 loop-place-smaller g c =
@@ -35,10 +36,17 @@ loop-place-preserved g c =
     let parted = subst (IsParted p (test c.args.region.now) (test c.in_ok-part.left)) (sym (ap (map (λ s. places_of n (test s))) c.in_ok-push.ensures.items ∙ map-append (λ s. places_of n (test s)) old _)) more in
     let Lies : g.row.C.Denot → Type 0 = λ s. (x : ℕ) → test s x ≡ true → test c.args.region.now x ≡ true in
     let lies : Lies c.in_ok-part.part = λ x e. parted_inside p (test c.args.region.now) (test c.loop-place.rest) (map (λ s. places_of n (test s)) old) c.loop-place.invariant.parted x (c.in_ok-part.ensures.inside x e) in
+    let is = c.in-Some.ensures.least.1 in
+    let there = c.requires.below c.in-Some.place (parted_inside p (test c.args.region.now) (test c.loop-place.rest) (map (λ s. places_of n (test s)) old) c.loop-place.invariant.parted c.in-Some.place is) in
+    let fewer = parted_fewer n c.in-Some.place (test c.loop-place.rest) (test c.in_ok-part.part) (test c.in_ok-part.left) there is c.in_ok-part.ensures.around c.in_ok-part.ensures.rest in
     record {
       parted = parted;
+      few = omega (arith, c.loop-place.invariant.few, fewer, ap length c.in_ok-push.ensures.items, length-append old (c.in_ok-part.part ∷ []));
       inside = subst (All Lies) (sym c.in_ok-push.ensures.items) (All-append Lies old (c.in_ok-part.part ∷ []) c.loop-place.invariant.inside (all_from_has Lies (c.in_ok-part.part ∷ []) (λ y i. ⊎_elim (λ e. subst Lies e lies) (λ (k : ⊥). absurd k) i)));
     }
 
 pub returns-clause-parts : goal.returns-clause-parts
 returns-clause-parts g c = parted_all (problem_at c.args.ordered.now) (g.C.CountySet.test c.args.region.now) (g.C.CountySet.test c.loop-place.rest) _ c.loop-place.invariant.parted (λ x. c.in_default.ensures.least x (omega arith))
+
+pub returns-clause-few : goal.returns-clause-few
+returns-clause-few g c = omega (arith, c.loop-place.invariant.few)

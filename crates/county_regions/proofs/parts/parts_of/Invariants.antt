@@ -1,4 +1,4 @@
-use Rattle.std.proofs.Common.{◌≡◌, ℕ, true, map, length, All}
+use Rattle.std.proofs.Common.{◌≡◌, ◌+◌, ◌≤◌, ℕ, true, map, length, All}
 use Rattle.place_sets.specs.CountySet.{places_of}
 use Rattle.county_regions.specs.Rows.{problem_at}
 use Rattle.county_regions.proofs.PartLists.{IsParted}
@@ -8,6 +8,7 @@ abbrev pub invariant-loop-place : goal.invariant-loop-place
 invariant-loop-place g l = record {
   parted : IsParted (problem_at l.ordered) (g.C.CountySet.test l.region) (g.C.CountySet.test l.rest) (map (λ s. places_of (length l.ordered.order) (g.C.CountySet.test s)) l.parts.items);
   inside : All (λ s. (x : ℕ) → g.C.CountySet.test s x ≡ true → g.C.CountySet.test l.region x ≡ true) l.parts.items;
+  few : length l.parts.items + length (places_of (length l.ordered.order) (g.C.CountySet.test l.rest)) ≤ length l.ordered.order;
 }
 
 abbrev pub decreases-loop-place : goal.decreases-loop-place

@@ -1,0 +1,46 @@
+use Rattle.std.proofs.Common.{◌≡◌, ℕ, ◌+◌, ◌||◌, nat_lt, None, List, ap, ◌∙◌, subst, sym, map, length}
+use Rattle.std.proofs.lemmas.Bool.{false≢true}
+use Rattle.place_sets.specs.CountySet.{places_of}
+use Rattle.grouping_problem.specs.ProblemValue.{ProblemValue}
+use Rattle.ordered_counties.specs.OrderedValue.{problem_at}
+use Rattle.proof_trees.specs.StateValue.{state_of}
+use Rattle.state_tests.specs.Sums.{AreSums, IsSums}
+use Rattle.state_tests.proofs.SeatLemmas.{closed_none, parts_none, off_by}
+use Rattle.state_tests.proofs.seats.is_off_seats.Goals as goal
+
+pub returns-in_default : goal.returns-in_default
+returns-in_default g c =
+    let test = g.C.CountySet.test in
+    let p = problem_at c.args.ordered.now in
+    let n = length c.args.ordered.now.order in
+    let s = state_of test c.args.state.now in
+    let sets = c.args.state.now.closed.items in
+    let same : map (λ (z : g.row.C.Denot). places_of n (test z)) c.deref.result.now ≡ s.closed =
+    ap (map (λ (z : g.row.C.Denot). places_of n (test z))) c.deref.ensures.value ∙ ap (λ m. map (λ (z : g.row.C.Denot). places_of m (test z)) sets) (sym c.requires.places) in
+    (λ e. absurd (false≢true e), λ v. absurd (closed_none p s (subst (λ z. IsSums p z None) same c.in_default.ensures) v))
+
+pub returns-in_default-seat_sums : goal.returns-in_default-seat_sums
+returns-in_default-seat_sums g c =
+    let test = g.C.CountySet.test in
+    let p = problem_at c.args.ordered.now in
+    let n = length c.args.ordered.now.order in
+    let s = state_of test c.args.state.now in
+    let places = λ (z : g.row.C.Denot). places_of n (test z) in
+    (λ e. absurd (false≢true e), λ v. absurd (parts_none p s (map places c.in_ok-parts.parts.items) c.in_ok-parts.ensures.parts (subst (λ z. IsSums p (map places z) None) c.deref-2.ensures.value c.in_default-seat_sums.ensures) v))
+
+pub returns : goal.returns
+returns g c =
+    let test = g.C.CountySet.test in
+    let p = problem_at c.args.ordered.now in
+    let n = length c.args.ordered.now.order in
+    let s = state_of test c.args.state.now in
+    let sets = c.args.state.now.closed.items in
+    let places = λ (z : g.row.C.Denot). places_of n (test z) in
+    let closed = c.in-Some.closed in
+    let rest = c.in-Some-seat_sums.rest in
+    let same : map places c.deref.result.now ≡ s.closed = ap (map places) c.deref.ensures.value ∙ ap (λ m. map (λ (z : g.row.C.Denot). places_of m (test z)) sets) (sym c.requires.places) in
+    let first : AreSums p s.closed closed.0 closed.1 = subst (λ z. AreSums p z closed.0 closed.1) same c.in-Some.ensures in
+    let second : AreSums p (map places c.in_ok-parts.parts.items) rest.0 rest.1 = subst (λ z. AreSums p (map places z) rest.0 rest.1) c.deref-2.ensures.value c.in-Some-seat_sums.ensures in
+    let seats : c.from-seats.result ≡ p.seats_left = c.from-seats.ensures ∙ (c.seats_left.ensures.value ∙ ap (λ (v : ProblemValue). v.seats_left) c.problem.ensures.value) in
+    off_by p s (map places c.in_ok-parts.parts.items) closed.0 closed.1 rest.0 rest.1 c.is_outside.result c.in_ok-parts.ensures.parts first second
+    (c.is_outside.ensures ∙ ap (λ z. nat_lt z (closed.0 + rest.0) || nat_lt (closed.1 + rest.1) z) seats)
