@@ -37,7 +37,10 @@ kind_word kinds.BadNumber = codes "BadNumber"
 kind_word kinds.DoubleRecord = codes "DoubleRecord"
 kind_word kinds.NoRecord = codes "NoRecord"
 kind_word kinds.DoubleCounty = codes "DoubleCounty"
+kind_word kinds.DoubleBlock = codes "DoubleBlock"
 kind_word kinds.NoCounties = codes "NoCounties"
+kind_word kinds.NoBlocks = codes "NoBlocks"
+kind_word kinds.TooMany = codes "TooMany"
 kind_word (kinds.Lower fault) = line_fault_word fault
 kind_word kinds.Memory = codes "Memory"
 

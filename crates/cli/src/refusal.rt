@@ -43,7 +43,10 @@ fn word_of_kind(kind: Pl94Kind) -> &'static [u8]
         Pl94Kind::DoubleRecord => b"DoubleRecord",
         Pl94Kind::NoRecord => b"NoRecord",
         Pl94Kind::DoubleCounty => b"DoubleCounty",
+        Pl94Kind::DoubleBlock => b"DoubleBlock",
         Pl94Kind::NoCounties => b"NoCounties",
+        Pl94Kind::NoBlocks => b"NoBlocks",
+        Pl94Kind::TooMany => b"TooMany",
         Pl94Kind::Lower(fault) => word_of_line_fault(fault),
         Pl94Kind::Memory => b"Memory",
     }

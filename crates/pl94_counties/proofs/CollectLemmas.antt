@@ -9,9 +9,10 @@ use Rattle.std.specs.BTreeMap.{insert_entry}
 use Rattle.field_lines.specs.Cut.{Line, cut}
 use Rattle.field_lines.specs.declared.fault.LineFault.{LineFault}
 use Rattle.pl94_counties.specs.declared.fault.Pl94Kind.{Pl94Kind}
+use Rattle.pl94_counties.specs.declared.fault.Pl94Kind.TheVariants.{TooMany}
 use Rattle.pl94_counties.specs.declared.fault.File.{File}
 use Rattle.pl94_counties.specs.declared.fault.Pl94Fault.{Pl94Fault}
-use Rattle.pl94_counties.specs.Numbered.{people_of, Given, people_by_number, has_number, by_number, entries_on, entry_of, line_fault, first_fault, at_line, unless_fault, with_given, cut_fault}
+use Rattle.pl94_counties.specs.Numbered.{people_of, Given, Rule, people_by_number, has_number, by_number, entries_on, entry_of, line_fault, first_fault, at_line, unless_fault, with_given, cut_fault}
 use Rattle.std.proofs.lemmas.List.{append-nil}
 use Rattle.std.proofs.lemmas.List.Elements.{filter_map-append}
 use Rattle.std.proofs.lemmas.List.Sums.{fold-append}
@@ -78,62 +79,63 @@ is_placed n es = placed_after n [] es
 -- ---- line by line
 
 -- the entries after further lines, each in turn, or the first fault
-abbrev pub collect_from : (List ℕ → Given) → Pl94Kind → File → List (ℕ × ℕ) → List Line → Option LineFault → Result (List (ℕ × ℕ)) Pl94Fault
-collect_from read double file placed [] None = Ok placed
-collect_from read double file placed [] (Some fault) = Err (cut_fault file fault)
-collect_from read double file placed (l ∷ ls) fault = elim (with_given double placed (read l.bytes)) as (λ _. Result (List (ℕ × ℕ)) Pl94Fault) [
-  | Ok more ↦ collect_from read double file more ls fault
+abbrev pub collect_from : (List ℕ → Given) → Rule → File → List (ℕ × ℕ) → List Line → Option LineFault → Result (List (ℕ × ℕ)) Pl94Fault
+collect_from read rule file placed [] None = Ok placed
+collect_from read rule file placed [] (Some fault) = Err (cut_fault file fault)
+collect_from read rule file placed (l ∷ ls) fault = elim (with_given rule placed (read l.bytes)) as (λ _. Result (List (ℕ × ℕ)) Pl94Fault) [
+  | Ok more ↦ collect_from read rule file more ls fault
   | Err kind ↦ Err (record { kind = kind; file = file; line = l.number })
 ]
 
-module _ (read : List ℕ → Given) (double : Pl94Kind) (file : File) (fault : Option LineFault) where
+module _ (read : List ℕ → Given) (rule : Rule) (file : File) (fault : Option LineFault) where
   -- what is answered after the lines before, over the others
   abbrev After : List Line → List Line → Type 0
-  After before ls = collect_from read double file (by_number (entries_on read before)) ls fault ≡ unless_fault file (first_fault read double before ls) fault (by_number (entries_on read (before ++ ls)))
+  After before ls = collect_from read rule file (by_number (entries_on read before)) ls fault ≡ unless_fault file (first_fault read rule before ls) fault (by_number (entries_on read (before ++ ls)))
 
   entries_push : (before : List Line) (l : Line) → entries_on read (before ++ l ∷ []) ≡ entries_on read before ++ entries_on read (l ∷ [])
   entries_push before l = filter_map-append (λ (m : Line). entry_of (read m.bytes)) before (l ∷ [])
 
-  after_nil : (f : Option LineFault) (before : List Line) → collect_from read double file (by_number (entries_on read before)) [] f ≡ unless_fault file None f (by_number (entries_on read (before ++ [])))
+  after_nil : (f : Option LineFault) (before : List Line) → collect_from read rule file (by_number (entries_on read before)) [] f ≡ unless_fault file None f (by_number (entries_on read (before ++ [])))
   after_nil None before = ap (λ (b : List Line). Ok (by_number (entries_on read b))) (sym (append-nil before))
   after_nil (Some f) before = refl
 
-  choose : (number : ℕ) (more entries : List (ℕ × ℕ)) (ls : List Line) (later : Option (Pl94Kind × ℕ)) (b d : Bool) → b ≡ d
-      → collect_from read double file more ls fault ≡ unless_fault file later fault entries
-      → (elim (if b then Err double else Ok more) as (λ _. Result (List (ℕ × ℕ)) Pl94Fault) [
-        | Ok more ↦ collect_from read double file more ls fault
+  choose : (number : ℕ) (more entries : List (ℕ × ℕ)) (ls : List Line) (later : Option (Pl94Kind × ℕ)) (b d full : Bool) → b ≡ d
+      → collect_from read rule file more ls fault ≡ unless_fault file later fault entries
+      → (elim (if b then Err rule.double else if full then Err TooMany else Ok more) as (λ _. Result (List (ℕ × ℕ)) Pl94Fault) [
+        | Ok more ↦ collect_from read rule file more ls fault
         | Err kind ↦ Err (record { kind = kind; file = file; line = number })
-      ]) ≡ unless_fault file (at_line number (if d then Some double else None) later) fault entries
-  choose number more entries ls later true true same rest = refl
-  choose number more entries ls later true false same rest = cc
-  choose number more entries ls later false true same rest = cc
-  choose number more entries ls later false false same rest = rest
+      ]) ≡ unless_fault file (at_line number (if d then Some rule.double else if full then Some TooMany else None) later) fault entries
+  choose number more entries ls later true true full same rest = refl
+  choose number more entries ls later true false full same rest = cc
+  choose number more entries ls later false true full same rest = cc
+  choose number more entries ls later false false true same rest = refl
+  choose number more entries ls later false false false same rest = rest
 
   after_line : (before : List Line) (l : Line) (ls : List Line) → After (before ++ l ∷ []) ls → (g : Given) → read l.bytes ≡ g
-      → (elim (with_given double (by_number (entries_on read before)) g) as (λ _. Result (List (ℕ × ℕ)) Pl94Fault) [
-        | Ok more ↦ collect_from read double file more ls fault
+      → (elim (with_given rule (by_number (entries_on read before)) g) as (λ _. Result (List (ℕ × ℕ)) Pl94Fault) [
+        | Ok more ↦ collect_from read rule file more ls fault
         | Err kind ↦ Err (record { kind = kind; file = file; line = l.number })
-      ]) ≡ unless_fault file (at_line l.number (line_fault double (entries_on read before) g) (first_fault read double (before ++ l ∷ []) ls)) fault (by_number (entries_on read (before ++ l ∷ ls)))
+      ]) ≡ unless_fault file (at_line l.number (line_fault rule (entries_on read before) g) (first_fault read rule (before ++ l ∷ []) ls)) fault (by_number (entries_on read (before ++ l ∷ ls)))
   after_line before l ls ih (Err kind) is = refl
   after_line before l ls ih (Ok None) is =
       let same : entries_on read (before ++ l ∷ []) ≡ entries_on read before =
       entries_push before l ∙ ap (λ (g : Given). entries_on read before ++ cons_option (entry_of g) []) is ∙ append-nil (entries_on read before) in
-      ap (λ (es : List (ℕ × ℕ)). collect_from read double file (by_number es) ls fault) (sym same)
+      ap (λ (es : List (ℕ × ℕ)). collect_from read rule file (by_number es) ls fault) (sym same)
       ∙ ih
-      ∙ ap (λ (b : List Line). unless_fault file (first_fault read double (before ++ l ∷ []) ls) fault (by_number (entries_on read b))) (append_assoc before (l ∷ []) ls)
+      ∙ ap (λ (b : List Line). unless_fault file (first_fault read rule (before ++ l ∷ []) ls) fault (by_number (entries_on read b))) (append_assoc before (l ∷ []) ls)
   after_line before l ls ih (Ok (Some e)) is =
       let pushed : entries_on read (before ++ l ∷ []) ≡ entries_on read before ++ e ∷ [] =
       entries_push before l ∙ ap (λ (g : Given). entries_on read before ++ cons_option (entry_of g) []) is in
       let placed : by_number (entries_on read (before ++ l ∷ [])) ≡ insert_entry nat_cmp (by_number (entries_on read before)) e.0 e.1 =
       ap by_number pushed ∙ fold-append (λ (p : List (ℕ × ℕ)) (f : ℕ × ℕ). insert_entry nat_cmp p f.0 f.1) [] (entries_on read before) (e ∷ []) in
-      choose l.number _ _ ls _ _ _ (is_placed e.0 (entries_on read before)) (
-      ap (λ (es : List (ℕ × ℕ)). collect_from read double file es ls fault) (sym placed)
+      choose l.number _ _ ls _ _ _ _ (is_placed e.0 (entries_on read before)) (
+      ap (λ (es : List (ℕ × ℕ)). collect_from read rule file es ls fault) (sym placed)
       ∙ ih
-      ∙ ap (λ (b : List Line). unless_fault file (first_fault read double (before ++ l ∷ []) ls) fault (by_number (entries_on read b))) (append_assoc before (l ∷ []) ls))
+      ∙ ap (λ (b : List Line). unless_fault file (first_fault read rule (before ++ l ∷ []) ls) fault (by_number (entries_on read b))) (append_assoc before (l ∷ []) ls))
 
   pub collected_after : (before ls : List Line) → After before ls
   collected_after before [] = after_nil fault before
   collected_after before (l ∷ ls) = after_line before l ls (collected_after (before ++ l ∷ []) ls) (read l.bytes) refl
 
-pub collected : (read : List ℕ → Given) (double : Pl94Kind) (file : File) (text : List ℕ) → collect_from read double file [] (cut text).lines (cut text).fault ≡ people_by_number read double file text
-collected read double file text = collected_after read double file (cut text).fault [] (cut text).lines
+pub collected : (read : List ℕ → Given) (rule : Rule) (file : File) (text : List ℕ) → collect_from read rule file [] (cut text).lines (cut text).fault ≡ people_by_number read rule file text
+collected read rule file text = collected_after read rule file (cut text).fault [] (cut text).lines

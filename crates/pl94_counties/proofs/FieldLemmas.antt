@@ -33,29 +33,35 @@ left_after_skip view rest s n (Some x) u ran =
     let skipped = left_after view rest s ran.0 t ran.1.1 in
     ap (λ l. drop 1 l) (sym ran.1.2 ∙ skipped) ∙ drop-drop 1 (length ran.0) (rest s) ∙ ap (λ k. drop (k + 1) (rest s)) ran.2
 
--- what is left of fields after the third, the fifth, the eighth and the thirteenth, one after the other
-pub record LeftOf (fields after3 after5 after8 after13 : List (List ℕ)) : Type 0 where
+-- what is left of fields after the third, the fifth, the eighth, the tenth and the thirteenth, one after the other
+pub record LeftOf (fields after3 after5 after8 after10 after13 : List (List ℕ)) : Type 0 where
   pub third : after3 ≡ drop 3 fields
   pub fifth : after5 ≡ drop 5 fields
   pub eighth : after8 ≡ drop 8 fields
+  pub tenth : after10 ≡ drop 10 fields
   pub thirteenth : after13 ≡ drop 13 fields
 
-pub left_of : (fields after3 after5 after8 after13 : List (List ℕ)) → after3 ≡ drop 3 fields → after5 ≡ drop 2 after3 → after8 ≡ drop 3 after5 → after13 ≡ drop 5 after8 → LeftOf fields after3 after5 after8 after13
-left_of fields after3 after5 after8 after13 is3 is5 is8 is13 =
+pub left_of : (fields after3 after5 after8 after10 after13 : List (List ℕ)) → after3 ≡ drop 3 fields → after5 ≡ drop 2 after3 → after8 ≡ drop 3 after5 → after10 ≡ drop 2 after8 → after13 ≡ drop 3 after10 → LeftOf fields after3 after5 after8 after10 after13
+left_of fields after3 after5 after8 after10 after13 is3 is5 is8 is10 is13 =
     let fifth : after5 ≡ drop 5 fields = is5 ∙ ap (λ l. drop 2 l) is3 ∙ drop-drop 2 3 fields in
     let eighth : after8 ≡ drop 8 fields = is8 ∙ ap (λ l. drop 3 l) fifth ∙ drop-drop 3 5 fields in
-    record { third = is3; fifth = fifth; eighth = eighth; thirteenth = is13 ∙ ap (λ l. drop 5 l) eighth ∙ drop-drop 5 8 fields }
+    let tenth : after10 ≡ drop 10 fields = is10 ∙ ap (λ l. drop 2 l) eighth ∙ drop-drop 2 8 fields in
+    record { third = is3; fifth = fifth; eighth = eighth; tenth = tenth; thirteenth = is13 ∙ ap (λ l. drop 3 l) tenth ∙ drop-drop 3 10 fields }
 
 -- a field that was taken from what is left after n fields
 pub taken_from : (n i : ℕ) (fields left : List (List ℕ)) (o : Option (List ℕ)) → o ≡ slice_get left i → left ≡ drop n fields → slice_get fields (n + i) ≡ o
 taken_from n i fields left o taken is = sym (taken ∙ ap (λ l. slice_get l i) is ∙ slice_get-drop n i fields)
 
 -- ---- the fields of a line of geo
-pub geo_fields_from : (line a b n s k : _) → field 3 line ≡ Some a → field 5 line ≡ Some b → field 8 line ≡ Some n → field 13 line ≡ Some s → field 15 line ≡ Some k
-    → geo_fields line ≡ Some (record { level = a; component = b; record_number = n; of_state = s; county = k })
+pub geo_fields_from : (line a b n g s k : _) → field 3 line ≡ Some a → field 5 line ≡ Some b → field 8 line ≡ Some n → field 10 line ≡ Some g → field 13 line ≡ Some s → field 15 line ≡ Some k
+    → geo_fields line ≡ Some (record { level = a; component = b; record_number = n; geocode = g; of_state = s; county = k })
 unfolding geo_fields
-geo_fields_from line a b n s k e1 e2 e3 e4 e5 = rw (e1, e2, e3, e4, e5) refl
+geo_fields_from line a b n g s k e1 e2 e3 e4 e5 e6 = rw (e1, e2, e3, e4, e5, e6) refl
 
-pub geo_fields_few : (line a b n s : _) → field 3 line ≡ Some a → field 5 line ≡ Some b → field 8 line ≡ Some n → field 13 line ≡ Some s → field 15 line ≡ None → geo_fields line ≡ None
+pub geo_fields_few : (line a b n g s : _) → field 3 line ≡ Some a → field 5 line ≡ Some b → field 8 line ≡ Some n → field 10 line ≡ Some g → field 13 line ≡ Some s → field 15 line ≡ None → geo_fields line ≡ None
 unfolding geo_fields
-geo_fields_few line a b n s e1 e2 e3 e4 e5 = rw (e1, e2, e3, e4, e5) refl
+geo_fields_few line a b n g s e1 e2 e3 e4 e5 e6 = rw (e1, e2, e3, e4, e5, e6) refl
+
+pub geo_fields_fewer : (line a b n g : _) → field 3 line ≡ Some a → field 5 line ≡ Some b → field 8 line ≡ Some n → field 10 line ≡ Some g → field 13 line ≡ None → geo_fields line ≡ None
+unfolding geo_fields
+geo_fields_fewer line a b n g e1 e2 e3 e4 e5 = rw (e1, e2, e3, e4, e5) refl

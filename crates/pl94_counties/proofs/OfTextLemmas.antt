@@ -1,5 +1,5 @@
 -- The faults of the county list are those that texts can have.
-use Rattle.std.proofs.Common.{◌≡◌, ◌≢◌, ℕ, Bool, true, false, List, [], ◌∷◌, ◌++◌, Option, Some, None, Result, Ok, Err, nat_lt, length, if◌then◌else◌, codes, refl, subst}
+use Rattle.std.proofs.Common.{◌≡◌, ◌≢◌, ℕ, Bool, true, false, List, [], ◌∷◌, ◌++◌, Option, Some, None, Result, Ok, Err, nat_lt, length, if◌then◌else◌, refl, subst}
 use Rattle.std.specs.List.{slice_get, filter_map, cons_option}
 use Rattle.field_lines.specs.Raw.{RawLine, raw_lines}
 use Rattle.field_lines.specs.Fault.{most_lines, most_bytes}
@@ -7,15 +7,17 @@ use Rattle.field_lines.specs.Cut.{Line, cut, fault_in}
 use Rattle.field_lines.specs.declared.fault.LineFault.{LineFault}
 use Rattle.field_lines.specs.declared.fault.LineFault.TheVariants.{LineTooLong, TooManyLines}
 use Rattle.pl94_counties.specs.declared.fault.Pl94Kind.{Pl94Kind}
-use Rattle.pl94_counties.specs.declared.fault.Pl94Kind.TheVariants.{TooFewFields, BadCode, BadNumber, DoubleRecord, NoRecord, DoubleCounty, NoCounties, Lower, Memory}
+use Rattle.pl94_counties.specs.declared.fault.Pl94Kind.TheVariants.{TooFewFields, BadCode, BadNumber, DoubleRecord, NoRecord, DoubleCounty, DoubleBlock, NoCounties, NoBlocks, TooMany, Lower, Memory}
 use Rattle.pl94_counties.specs.declared.fault.File.{File}
 use Rattle.pl94_counties.specs.declared.fault.File.TheVariants.{Geo, Segment1}
 use Rattle.pl94_counties.specs.declared.fault.Pl94Fault.{Pl94Fault}
+use Rattle.pl94_counties.specs.declared.geo.Area.{Area}
+use Rattle.pl94_counties.specs.declared.geo.Area.TheVariants as areas
 use Rattle.pl94_counties.specs.Fields.{field, small_number, GeoFields, geo_fields}
-use Rattle.pl94_counties.specs.Numbered.{Given, people_of, has_number, line_fault, at_line, entries_on, first_fault, cut_fault, unless_fault, people_by_number}
-use Rattle.pl94_counties.specs.Segment.{record_on, record_list}
-use Rattle.pl94_counties.specs.Geo.{county_code, is_line_of, joined, county_on}
-use Rattle.pl94_counties.specs.Counties.{found_list}
+use Rattle.pl94_counties.specs.Numbered.{Given, Rule, people_of, has_number, is_full, by_number, line_fault, at_line, entries_on, first_fault, cut_fault, unless_fault, people_by_number}
+use Rattle.pl94_counties.specs.Segment.{record_on, record_rule, record_list}
+use Rattle.pl94_counties.specs.Geo.{area_code, rule_of, is_line_of, joined, area_on}
+use Rattle.pl94_counties.specs.Areas.{found_list}
 use Rattle.pl94_counties.specs.OfText.{IsOfText}
 use Rattle.pl94_counties.proofs.LawLemmas.{record_of_numbers, record_in_fields, with_people, joined_of}
 
@@ -38,7 +40,7 @@ of_record : (line : List ℕ) (kind : Pl94Kind) → record_on line ≡ Err kind 
 unfolding record_on
 of_record line kind is = of_fields (field 5 line) (field 6 line) kind is
 
--- ---- county lines
+-- ---- lines of areas
 of_people : (code : ℕ) (q : Option ℕ) (kind : Pl94Kind) → with_people code q ≡ Err kind → IsOfText kind
 of_people code None kind is = is_kind NoRecord kind is tt
 of_people code (Some p) kind is = absurd cc
@@ -48,35 +50,36 @@ of_joined records None m kind is = is_kind BadCode kind is tt
 of_joined records (Some code) None kind is = is_kind BadNumber kind is tt
 of_joined records (Some code) (Some number) kind is = of_people code (people_of number records) kind is
 
-module _ (state : ℕ) (records : List (ℕ × ℕ)) (kind : Pl94Kind) where
-  of_choice : (g : GeoFields) (b : Bool) → (if b then joined state records g else Ok None) ≡ Err kind → IsOfText kind
-  of_choice g true is = of_joined records (county_code state g.county) (small_number g.record_number) kind is
+module _ (area : Area) (state : ℕ) (records : List (ℕ × ℕ)) (kind : Pl94Kind) where
+  of_choice : (g : GeoFields) (b : Bool) → (if b then joined area state records g else Ok None) ≡ Err kind → IsOfText kind
+  of_choice g true is = of_joined records (area_code area state g) (small_number g.record_number) kind is
   of_choice g false is = absurd cc
 
   of_geo_fields : (o : Option GeoFields) → (elim o as (λ _. Given) [
-    | Some g ↦ if is_line_of (codes "050") state g then joined state records g else Ok None
+    | Some g ↦ if is_line_of area state g then joined area state records g else Ok None
     | None ↦ Err TooFewFields
   ]) ≡ Err kind → IsOfText kind
   of_geo_fields None is = is_kind TooFewFields kind is tt
-  of_geo_fields (Some g) is = of_choice g (is_line_of (codes "050") state g) is
+  of_geo_fields (Some g) is = of_choice g (is_line_of area state g) is
 
-  of_county : (line : List ℕ) → county_on state records line ≡ Err kind → IsOfText kind
-  unfolding county_on
-  of_county line is = of_geo_fields (geo_fields line) is
+  of_area : (line : List ℕ) → area_on area state records line ≡ Err kind → IsOfText kind
+  unfolding area_on
+  of_area line is = of_geo_fields (geo_fields line) is
 
 -- ---- the first line at fault
-module _ (read : List ℕ → Given) (double : Pl94Kind) (own : (line : List ℕ) (kind : Pl94Kind) → read line ≡ Err kind → IsOfText kind) (own_double : IsOfText double) where
+module _ (read : List ℕ → Given) (rule : Rule) (own : (line : List ℕ) (kind : Pl94Kind) → read line ≡ Err kind → IsOfText kind) (own_double : IsOfText rule.double) where
   some_kind : (k kind : Pl94Kind) → ◌≡◌ {A = Option Pl94Kind} (Some k) (Some kind) → IsOfText k → IsOfText kind
   some_kind k kind is of = let same : k ≡ kind = cc in subst IsOfText same of
 
-  of_double : (b : Bool) (kind : Pl94Kind) → (if b then Some double else None) ≡ Some kind → IsOfText kind
-  of_double true kind is = some_kind double kind is own_double
-  of_double false kind is = absurd cc
+  of_double : (b full : Bool) (kind : Pl94Kind) → (if b then Some rule.double else if full then Some TooMany else None) ≡ Some kind → IsOfText kind
+  of_double true full kind is = some_kind rule.double kind is own_double
+  of_double false true kind is = some_kind TooMany kind is tt
+  of_double false false kind is = absurd cc
 
-  of_line : (earlier : List (ℕ × ℕ)) (line : List ℕ) (g : Given) (kind : Pl94Kind) → read line ≡ g → line_fault double earlier g ≡ Some kind → IsOfText kind
+  of_line : (earlier : List (ℕ × ℕ)) (line : List ℕ) (g : Given) (kind : Pl94Kind) → read line ≡ g → line_fault rule earlier g ≡ Some kind → IsOfText kind
   of_line earlier line (Err k) kind gives is = some_kind k kind is (own line k gives)
   of_line earlier line (Ok None) kind gives is = absurd cc
-  of_line earlier line (Ok (Some e)) kind gives is = of_double (has_number e.0 earlier) kind is
+  of_line earlier line (Ok (Some e)) kind gives is = of_double (has_number e.0 earlier) (is_full rule.most (length (by_number earlier))) kind is
 
   of_first : (number : ℕ) (o : Option Pl94Kind) (later : Option (Pl94Kind × ℕ)) (f : Pl94Kind × ℕ) → ((kind : Pl94Kind) → o ≡ Some kind → IsOfText kind) → (later ≡ Some f → IsOfText f.0) → at_line number o later ≡ Some f → IsOfText f.0
   of_first number (Some kind) later f here after is =
@@ -84,10 +87,10 @@ module _ (read : List ℕ → Given) (double : Pl94Kind) (own : (line : List ℕ
       subst (λ (p : Pl94Kind × ℕ). IsOfText p.0) same (here kind refl)
   of_first number None later f here after is = after is
 
-  of_first_fault : (before ls : List Line) (f : Pl94Kind × ℕ) → first_fault read double before ls ≡ Some f → IsOfText f.0
+  of_first_fault : (before ls : List Line) (f : Pl94Kind × ℕ) → first_fault read rule before ls ≡ Some f → IsOfText f.0
   of_first_fault before [] f is = absurd cc
-  of_first_fault before (l ∷ ls) f is = of_first l.number (line_fault double (entries_on read before) (read l.bytes)) (first_fault read double (before ++ l ∷ []) ls) f
-      (λ (kind : Pl94Kind) (at : line_fault double (entries_on read before) (read l.bytes) ≡ Some kind). of_line (entries_on read before) l.bytes (read l.bytes) kind refl at)
+  of_first_fault before (l ∷ ls) f is = of_first l.number (line_fault rule (entries_on read before) (read l.bytes)) (first_fault read rule (before ++ l ∷ []) ls) f
+      (λ (kind : Pl94Kind) (at : line_fault rule (entries_on read before) (read l.bytes) ≡ Some kind). of_line (entries_on read before) l.bytes (read l.bytes) kind refl at)
       (of_first_fault (before ++ l ∷ []) ls f) is
 
 -- ---- the cut
@@ -114,11 +117,11 @@ of_outcome file (Some f) last entries fault here after is = let same : ◌≡◌
 of_outcome file None (Some f) entries fault here after is = let same : cut_fault file f ≡ fault = cc in subst (λ (g : Pl94Fault). IsOfText g.kind) same (after f refl)
 of_outcome file None None entries fault here after is = absurd cc
 
-of_text : (read : List ℕ → Given) (double : Pl94Kind) (file : File) (text : List ℕ) (fault : Pl94Fault)
-    → ((line : List ℕ) (kind : Pl94Kind) → read line ≡ Err kind → IsOfText kind) → IsOfText double
-    → people_by_number read double file text ≡ Err fault → IsOfText fault.kind
-of_text read double file text fault own own_double is = of_outcome file (first_fault read double [] (cut text).lines) (cut text).fault _ fault
-    (of_first_fault read double own own_double [] (cut text).lines) (of_pieces (raw_lines text)) is
+of_text : (read : List ℕ → Given) (rule : Rule) (file : File) (text : List ℕ) (fault : Pl94Fault)
+    → ((line : List ℕ) (kind : Pl94Kind) → read line ≡ Err kind → IsOfText kind) → IsOfText rule.double
+    → people_by_number read rule file text ≡ Err fault → IsOfText fault.kind
+of_text read rule file text fault own own_double is = of_outcome file (first_fault read rule [] (cut text).lines) (cut text).fault _ fault
+    (of_first_fault read rule own own_double [] (cut text).lines) (of_pieces (raw_lines text)) is
 
 -- a reader's fault is that of a text, or memory was refused
 unless_memory : {Y : Type 0} (fault : Pl94Fault) (given : Result Y Pl94Fault) → (fault.kind ≢ Memory → given ≡ Err fault) → (given ≡ Err fault → IsOfText fault.kind) → (k : Pl94Kind) → fault.kind ≡ k → IsOfText k
@@ -130,11 +133,18 @@ unless_memory fault given answers of BadNumber is = tt
 unless_memory fault given answers of DoubleRecord is = tt
 unless_memory fault given answers of NoRecord is = tt
 unless_memory fault given answers of DoubleCounty is = tt
+unless_memory fault given answers of DoubleBlock is = tt
 unless_memory fault given answers of NoCounties is = tt
+unless_memory fault given answers of NoBlocks is = tt
+unless_memory fault given answers of TooMany is = tt
 
 pub of_segment : (text : List ℕ) (fault : Pl94Fault) → (fault.kind ≢ Memory → record_list text ≡ Err fault) → IsOfText fault.kind
-of_segment text fault answers = unless_memory fault (record_list text) answers (of_text record_on DoubleRecord Segment1 text fault of_record tt) fault.kind refl
+of_segment text fault answers = unless_memory fault (record_list text) answers (of_text record_on record_rule Segment1 text fault of_record tt) fault.kind refl
 
-pub of_geo : (state : ℕ) (records : List (ℕ × ℕ)) (text : List ℕ) (fault : Pl94Fault) → (fault.kind ≢ Memory → found_list state records text ≡ Err fault) → IsOfText fault.kind
-of_geo state records text fault answers = unless_memory fault (found_list state records text) answers
-    (of_text (county_on state records) DoubleCounty Geo text fault (λ (line : List ℕ) (kind : Pl94Kind) (is : county_on state records line ≡ Err kind). of_county state records kind line is) tt) fault.kind refl
+of_rule : (area : Area) → IsOfText (rule_of area).double
+of_rule areas.County = tt
+of_rule areas.Block = tt
+
+pub of_geo : (area : Area) (state : ℕ) (records : List (ℕ × ℕ)) (text : List ℕ) (fault : Pl94Fault) → (fault.kind ≢ Memory → found_list area state records text ≡ Err fault) → IsOfText fault.kind
+of_geo area state records text fault answers = unless_memory fault (found_list area state records text) answers
+    (of_text (area_on area state records) (rule_of area) Geo text fault (λ (line : List ℕ) (kind : Pl94Kind) (is : area_on area state records line ≡ Err kind). of_area area state records kind line is) (of_rule area)) fault.kind refl

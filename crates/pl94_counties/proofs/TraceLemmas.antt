@@ -4,10 +4,10 @@ use Rattle.std.specs.Ordering.{nat_cmp, is_eq}
 use Rattle.std.specs.BTreeMap.{insert_entry}
 use Rattle.field_lines.specs.Cut.{Line}
 use Rattle.field_lines.specs.declared.fault.LineFault.{LineFault}
-use Rattle.pl94_counties.specs.declared.fault.Pl94Kind.{Pl94Kind}
+use Rattle.pl94_counties.specs.declared.fault.Pl94Kind.TheVariants.{TooMany}
 use Rattle.pl94_counties.specs.declared.fault.File.{File}
 use Rattle.pl94_counties.specs.declared.fault.Pl94Fault.{Pl94Fault}
-use Rattle.pl94_counties.specs.Numbered.{people_of, Given, with_given}
+use Rattle.pl94_counties.specs.Numbered.{people_of, Given, Rule, is_full, with_given}
 use Rattle.pl94_counties.proofs.CollectLemmas.{collect_from, people_of-insert_entry, tied_same, tied_is}
 
 -- ---- members of a list
@@ -27,37 +27,38 @@ contains_cases {X} y xs x c = by c.0 c.1 c.2
     by zero lt is = inl is
     by (suc k) lt is = let below : suc k < suc (length xs) = lt in let within : k < length xs = omega arith in inr (k, within, is)
 
-module _ (read : List ℕ → Given) (double : Pl94Kind) (file : File) (fault : Option LineFault) (all : List (ℕ × ℕ)) where
+module _ (read : List ℕ → Given) (rule : Rule) (file : File) (fault : Option LineFault) (all : List (ℕ × ℕ)) where
   -- the entries before, and what is left of the lines, give all the entries
   abbrev pub Collects : List (ℕ × ℕ) → List Line → Type 0
-  Collects placed ls = collect_from read double file placed ls fault ≡ Ok all
+  Collects placed ls = collect_from read rule file placed ls fault ≡ Ok all
 
   -- a line gave nothing, or an entry whose number is new
   abbrev Steps : List (ℕ × ℕ) → Line → List Line → Type 0
   Steps placed l ls = ((read l.bytes ≡ Ok None) × Collects placed ls)
       ⊎ ((e : ℕ × ℕ) × (read l.bytes ≡ Ok (Some e)) × (people_of e.0 placed ≡ None) × Collects (insert_entry nat_cmp placed e.0 e.1) ls)
 
-  new_entry : (placed : List (ℕ × ℕ)) (l : Line) (ls : List Line) (e : ℕ × ℕ) (o : Option ℕ) → read l.bytes ≡ Ok (Some e) → people_of e.0 placed ≡ o
-      → (elim (if is_some o then Err double else Ok (insert_entry nat_cmp placed e.0 e.1)) as (λ _. Result (List (ℕ × ℕ)) Pl94Fault) [
-        | Ok more ↦ collect_from read double file more ls fault
+  new_entry : (placed : List (ℕ × ℕ)) (l : Line) (ls : List Line) (e : ℕ × ℕ) (o : Option ℕ) (full : Bool) → read l.bytes ≡ Ok (Some e) → people_of e.0 placed ≡ o
+      → (elim (if is_some o then Err rule.double else if full then Err TooMany else Ok (insert_entry nat_cmp placed e.0 e.1)) as (λ _. Result (List (ℕ × ℕ)) Pl94Fault) [
+        | Ok more ↦ collect_from read rule file more ls fault
         | Err kind ↦ Err (record { kind = kind; file = file; line = l.number })
       ]) ≡ Ok all → Steps placed l ls
-  new_entry placed l ls e None is absent rest = inr (e, is, absent, rest)
-  new_entry placed l ls e (Some p) is there rest = cc
+  new_entry placed l ls e None false is absent rest = inr (e, is, absent, rest)
+  new_entry placed l ls e None true is absent rest = cc
+  new_entry placed l ls e (Some p) full is there rest = cc
 
   stepped_by : (placed : List (ℕ × ℕ)) (l : Line) (ls : List Line) (g : Given) → read l.bytes ≡ g
-      → (elim (with_given double placed g) as (λ _. Result (List (ℕ × ℕ)) Pl94Fault) [
-        | Ok more ↦ collect_from read double file more ls fault
+      → (elim (with_given rule placed g) as (λ _. Result (List (ℕ × ℕ)) Pl94Fault) [
+        | Ok more ↦ collect_from read rule file more ls fault
         | Err kind ↦ Err (record { kind = kind; file = file; line = l.number })
       ]) ≡ Ok all → Steps placed l ls
   stepped_by placed l ls (Err kind) is rest = cc
   stepped_by placed l ls (Ok None) is rest = inl (is, rest)
-  stepped_by placed l ls (Ok (Some e)) is rest = new_entry placed l ls e (people_of e.0 placed) is refl rest
+  stepped_by placed l ls (Ok (Some e)) is rest = new_entry placed l ls e (people_of e.0 placed) (is_full rule.most (length placed)) is refl rest
 
   stepped : (placed : List (ℕ × ℕ)) (l : Line) (ls : List Line) → Collects placed (l ∷ ls) → Steps placed l ls
   stepped placed l ls rest = stepped_by placed l ls (read l.bytes) refl rest
 
-  ended : (placed : List (ℕ × ℕ)) (f : Option LineFault) → collect_from read double file placed [] f ≡ Ok all → placed ≡ all
+  ended : (placed : List (ℕ × ℕ)) (f : Option LineFault) → collect_from read rule file placed [] f ≡ Ok all → placed ≡ all
   ended placed None is = cc
   ended placed (Some f) is = cc
 

@@ -1,30 +1,28 @@
--- The counties of a state.
-use Rattle.std.specs.Prelude.{ℕ, List, [], ◌∷◌, Result, Ok, Err, map}
+-- The counties and the blocks of a state.
+use Rattle.std.specs.Prelude.{ℕ, nat_le, List, Option, Some, None, Result, map, if◌then◌else◌}
+use Rattle.std.specs.Result.{result_map_both}
 use Rattle.county_codes.specs.declared.county.County.{County}
-use Rattle.pl94_counties.specs.declared.fault.Pl94Kind.TheVariants.{DoubleCounty, NoCounties}
-use Rattle.pl94_counties.specs.declared.fault.File.TheVariants.{Geo}
+use Rattle.pl94_counties.specs.declared.blocks.Block.{Block}
 use Rattle.pl94_counties.specs.declared.fault.Pl94Fault.{Pl94Fault}
-use Rattle.field_lines.specs.Chain.{◌>>=◌}
-use Rattle.pl94_counties.specs.Numbered.{people_by_number}
-use Rattle.pl94_counties.specs.Segment.{record_list}
-use Rattle.pl94_counties.specs.Geo.{county_on}
+use Rattle.pl94_counties.specs.declared.geo.Area.TheVariants as areas
+use Rattle.pl94_counties.specs.Areas.{area_list}
 
--- the people of each county of the state by its code, or the first fault of geo
-abbrev pub found_list : ℕ → List (ℕ × ℕ) → List ℕ → Result (List (ℕ × ℕ)) Pl94Fault
-found_list state records geo = people_by_number (county_on state records) DoubleCounty Geo geo
+-- a county of a code and its people
+abbrev pub county_of : ℕ → ℕ → County
+county_of code people = record { code = code; people = people }
 
--- entries as counties
-abbrev pub listed : List (ℕ × ℕ) → List County
-listed entries = map (λ e. record { code = e.0; people = e.1 }) entries
+-- the county of a code, if it is one of a county
+abbrev pub county_in : ℕ → ℕ → Option County
+county_in code people = if nat_le code 99999 then Some (county_of code people) else None
 
--- the entries as counties; none is a fault
-abbrev pub some_counties : List (ℕ × ℕ) → Result (List County) Pl94Fault
-some_counties [] = Err (record { kind = NoCounties; file = Geo; line = 0 })
-some_counties (e ∷ es) = Ok (listed (e ∷ es))
+-- a block of a code and its people
+abbrev pub block_of : ℕ → ℕ → Block
+block_of code people = record { code = code; people = people }
 
--- the counties of a state by code, or the first fault: all of segment 1 before geo
+-- the counties of a state by code, or the first fault
 abbrev pub county_list : List ℕ → List ℕ → ℕ → Result (List County) Pl94Fault
-county_list geo segment1 state = do
-  records ← record_list segment1
-  found ← found_list state records geo
-  some_counties found
+county_list geo segment1 state = result_map_both (λ entries. map (λ e. county_of e.0 e.1) entries) (λ fault. fault) (area_list areas.County geo segment1 state)
+
+-- the blocks of a state by code, or the first fault
+abbrev pub block_list : List ℕ → List ℕ → ℕ → Result (List Block) Pl94Fault
+block_list geo segment1 state = result_map_both (λ entries. map (λ e. block_of e.0 e.1) entries) (λ fault. fault) (area_list areas.Block geo segment1 state)

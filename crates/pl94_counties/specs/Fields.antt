@@ -22,19 +22,21 @@ pub record GeoFields : Type 0 where
   pub level : List ℕ
   pub component : List ℕ
   pub record_number : List ℕ
+  pub geocode : List ℕ
   pub of_state : List ℕ
   pub county : List ℕ
 
--- SUMLEV, GEOCOMP, LOGRECNO, STATE and COUNTY of a line, if it has fifteen fields
+-- SUMLEV, GEOCOMP, LOGRECNO, GEOCODE, STATE and COUNTY of a line, if it has fifteen fields
 unfoldable pub geo_fields : List ℕ → Option GeoFields
 geo_fields line = do
   level ← field 3 line
   component ← field 5 line
   record_number ← field 8 line
+  geocode ← field 10 line
   of_state ← field 13 line
   county ← field 15 line
-  Some (record { level = level; component = component; record_number = record_number; of_state = of_state; county = county })
+  Some (record { level = level; component = component; record_number = record_number; geocode = geocode; of_state = of_state; county = county })
 
 -- the fields that a `GeoLine` refers to
 abbrev pub fields_shown : GeoLine → GeoFields
-fields_shown g = record { level = g.level.now; component = g.component.now; record_number = g.record_number.now; of_state = g.state.now; county = g.county.now }
+fields_shown g = record { level = g.level.now; component = g.component.now; record_number = g.record_number.now; geocode = g.geocode.now; of_state = g.state.now; county = g.county.now }

@@ -1,10 +1,10 @@
--- Which counties the list has, said of the lines of both files.
+-- Which counties and blocks the list has, said of the lines of both files.
 use Rattle.std.specs.Prelude.{◌≡◌, ℕ, ◌==◌, Bool, false, List, [], ◌∷◌, Some, Contains, filter, codes}
 use Rattle.std.specs.Option.{option_and_then, option_map_or}
 use Rattle.field_lines.specs.Cut.{Line}
-use Rattle.county_codes.specs.declared.county.County.{County}
+use Rattle.pl94_counties.specs.declared.geo.Area.{Area}
 use Rattle.pl94_counties.specs.Fields.{field, small_number, GeoFields, geo_fields}
-use Rattle.pl94_counties.specs.Geo.{state_digits, county_code}
+use Rattle.pl94_counties.specs.Geo.{state_digits, level_of, area_code}
 
 -- a line of segment 1 has this LOGRECNO and this P0010001
 pub record IsRecordLine (line : List ℕ) (number people : ℕ) : Type 0 where
@@ -21,25 +21,26 @@ pub record StandsOnce (segment1 : List Line) (number people : ℕ) : Type 0 wher
   pub only : filter (λ l. has_logrecno number l.bytes) segment1 ≡ line ∷ []
   pub is_record : IsRecordLine line.bytes number people
 
--- a line of geo is a county line of the state, with this code and this LOGRECNO
-pub record IsCountyLine (state : ℕ) (line : List ℕ) (code number : ℕ) : Type 0 where
+-- a line of geo is for such an area of the state, with this code and this LOGRECNO
+pub record IsAreaLine (area : Area) (state : ℕ) (line : List ℕ) (code number : ℕ) : Type 0 where
   pub fields : GeoFields
   pub has_fields : geo_fields line ≡ Some fields
-  pub level : fields.level ≡ codes "050"
+  pub level : fields.level ≡ level_of area
   pub component : fields.component ≡ codes "00"
   pub of_state : fields.of_state ≡ state_digits state
-  pub code_is : county_code state fields.county ≡ Some code
+  pub code_is : area_code area state fields ≡ Some code
   pub number_is : small_number fields.record_number ≡ Some number
 
--- a county comes from a county line of geo, and has the people of the one record with the line's LOGRECNO
-pub record IsJoined (geo segment1 : List Line) (state : ℕ) (county : County) : Type 0 where
+-- a code comes from a line of geo that is for such an area, and has the people of the one record with the line's LOGRECNO
+pub record IsJoined (area : Area) (geo segment1 : List Line) (state code people : ℕ) : Type 0 where
   pub line : Line
   pub number : ℕ
   pub stands : Contains geo line
-  pub of_county : IsCountyLine state line.bytes county.code number
-  pub of_record : StandsOnce segment1 number county.people
+  pub of_area : IsAreaLine area state line.bytes code number
+  pub of_record : StandsOnce segment1 number people
 
--- if a line of geo is a county line, its county is listed with the people of the one record with the line's LOGRECNO
-abbrev pub IsListed : List Line → ℕ → List County → Line → Type 0
-IsListed segment1 state counties line = (code number : ℕ) → IsCountyLine state line.bytes code number
-    → (people : ℕ) × StandsOnce segment1 number people × Contains counties (record { code = code; people = people })
+-- If a line of geo is for such an area, what is made of its code is listed, with the people of the one record with the
+-- line's LOGRECNO.
+abbrev pub IsListed : {X : Type 0} → (ℕ → ℕ → X) → Area → List Line → ℕ → List X → Line → Type 0
+IsListed made area segment1 state list line = (code number : ℕ) → IsAreaLine area state line.bytes code number
+    → (people : ℕ) × StandsOnce segment1 number people × Contains list (made code people)

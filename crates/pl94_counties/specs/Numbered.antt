@@ -1,5 +1,5 @@
 -- People by number, one number on a line: what the lines of a text give, and its first fault.
-use Rattle.std.specs.Prelude.{◌≡◌, ◌≢◌, ℕ, ◌==◌, Bool, List, [], ◌∷◌, ◌++◌, Option, Some, None, Result, Ok, Err, is_some, fold, if◌then◌else◌}
+use Rattle.std.specs.Prelude.{◌≡◌, ◌≢◌, ℕ, ◌==◌, nat_le, Bool, false, List, [], ◌∷◌, ◌++◌, length, Option, Some, None, Result, Ok, Err, is_some, fold, if◌then◌else◌}
 use Rattle.std.specs.List.{list_any, filter_map}
 use Rattle.std.specs.Map.{lookup}
 use Rattle.std.specs.Option.{option_map}
@@ -10,13 +10,23 @@ use Rattle.field_lines.specs.Cut.{Line, cut}
 use Rattle.field_lines.specs.Values as values
 use Rattle.field_lines.specs.declared.fault.LineFault.{LineFault}
 use Rattle.pl94_counties.specs.declared.fault.Pl94Kind.{Pl94Kind}
-use Rattle.pl94_counties.specs.declared.fault.Pl94Kind.TheVariants.{Lower, Memory}
+use Rattle.pl94_counties.specs.declared.fault.Pl94Kind.TheVariants.{TooMany, Lower, Memory}
 use Rattle.pl94_counties.specs.declared.fault.File.{File}
 use Rattle.pl94_counties.specs.declared.fault.Pl94Fault.{Pl94Fault}
 
 -- what one line gives: a number with its people, nothing, or what is wrong with the line
 abbrev pub Given : Type 0
 Given = Result (Option (ℕ × ℕ)) Pl94Kind
+
+-- which numbers may stand on lines: what is wrong where a number stood before, and how many there may be
+pub record Rule : Type 0 where
+  pub double : Pl94Kind
+  pub most : Option ℕ
+
+-- whether there are as many numbers as there may be
+abbrev pub is_full : Option ℕ → ℕ → Bool
+is_full None count = false
+is_full (Some most) count = nat_le most count
 
 -- a line that always has a number
 abbrev pub entry_given : Result (ℕ × ℕ) Pl94Kind → Given
@@ -37,25 +47,35 @@ abbrev pub people_of : ℕ → List (ℕ × ℕ) → Option ℕ
 people_of number entries = lookup (is_at (nat_cmp number)) entries
 
 -- entries by number with what a further line gives, unless it is at fault after them
-abbrev pub with_given : Pl94Kind → List (ℕ × ℕ) → Given → Result (List (ℕ × ℕ)) Pl94Kind
-with_given double placed (Err kind) = Err kind
-with_given double placed (Ok None) = Ok placed
-with_given double placed (Ok (Some e)) = if is_some (people_of e.0 placed) then Err double else Ok (insert_entry nat_cmp placed e.0 e.1)
+abbrev pub with_given : Rule → List (ℕ × ℕ) → Given → Result (List (ℕ × ℕ)) Pl94Kind
+with_given rule placed (Err kind) = Err kind
+with_given rule placed (Ok None) = Ok placed
+with_given rule placed (Ok (Some e)) =
+    if is_some (people_of e.0 placed) then Err rule.double
+    else if is_full rule.most (length placed) then Err TooMany
+    else Ok (insert_entry nat_cmp placed e.0 e.1)
 
 -- a further line was added to entries, or is at fault after them, unless memory was refused
-abbrev pub Adds : Pl94Kind → List (ℕ × ℕ) → Given → Result (Unit {0}) Pl94Kind → List (ℕ × ℕ) → Type 0
-Adds double old given (Ok done) new = with_given double old given ≡ Ok new
-Adds double old given (Err kind) new = kind ≢ Memory → with_given double old given ≡ Err kind
+abbrev pub Adds : Rule → List (ℕ × ℕ) → Given → Result (Unit {0}) Pl94Kind → List (ℕ × ℕ) → Type 0
+Adds rule old given (Ok done) new = with_given rule old given ≡ Ok new
+Adds rule old given (Err kind) new = kind ≢ Memory → with_given rule old given ≡ Err kind
 
 -- whether one of the entries has the number
 abbrev pub has_number : ℕ → List (ℕ × ℕ) → Bool
 has_number number entries = list_any (λ e. number == e.0) entries
 
--- what is wrong with a line after the entries of the lines before it: a number among them is `double`
-abbrev pub line_fault : Pl94Kind → List (ℕ × ℕ) → Given → Option Pl94Kind
-line_fault double earlier (Err kind) = Some kind
-line_fault double earlier (Ok None) = None
-line_fault double earlier (Ok (Some e)) = if has_number e.0 earlier then Some double else None
+-- the entries by number, each put in its place
+abbrev pub by_number : List (ℕ × ℕ) → List (ℕ × ℕ)
+by_number entries = fold (λ placed e. insert_entry nat_cmp placed e.0 e.1) [] entries
+
+-- what is wrong with a line after the entries of the lines before it: its number is among theirs, or there are enough
+abbrev pub line_fault : Rule → List (ℕ × ℕ) → Given → Option Pl94Kind
+line_fault rule earlier (Err kind) = Some kind
+line_fault rule earlier (Ok None) = None
+line_fault rule earlier (Ok (Some e)) =
+    if has_number e.0 earlier then Some rule.double
+    else if is_full rule.most (length (by_number earlier)) then Some TooMany
+    else None
 
 -- what is wrong with a line and its number, or else the later fault
 abbrev pub at_line : ℕ → Option Pl94Kind → Option (Pl94Kind × ℕ) → Option (Pl94Kind × ℕ)
@@ -63,14 +83,10 @@ at_line number (Some kind) later = Some (kind, number)
 at_line number None later = later
 
 -- what is wrong with the first line at fault, and its number; `before` are the lines before the others
-abbrev pub first_fault : (List ℕ → Given) → Pl94Kind → List Line → List Line → Option (Pl94Kind × ℕ)
-first_fault read double before [] = None
-first_fault read double before (l ∷ ls) =
-    at_line l.number (line_fault double (entries_on read before) (read l.bytes)) (first_fault read double (before ++ l ∷ []) ls)
-
--- the entries by number, each put in its place
-abbrev pub by_number : List (ℕ × ℕ) → List (ℕ × ℕ)
-by_number entries = fold (λ placed e. insert_entry nat_cmp placed e.0 e.1) [] entries
+abbrev pub first_fault : (List ℕ → Given) → Rule → List Line → List Line → Option (Pl94Kind × ℕ)
+first_fault read rule before [] = None
+first_fault read rule before (l ∷ ls) =
+    at_line l.number (line_fault rule (entries_on read before) (read l.bytes)) (first_fault read rule (before ++ l ∷ []) ls)
 
 -- memory was refused
 abbrev pub IsMemory : Pl94Fault → Type 0
@@ -89,6 +105,6 @@ abbrev pub unless_fault : File → Option (Pl94Kind × ℕ) → Option LineFault
 unless_fault file first fault entries = values.unless_fault (option_map (fault_on file) first) (option_map (cut_fault file) fault) entries
 
 -- the people by number of a whole text, or its first fault
-abbrev pub people_by_number : (List ℕ → Given) → Pl94Kind → File → List ℕ → Result (List (ℕ × ℕ)) Pl94Fault
-people_by_number read double file text =
-    unless_fault file (first_fault read double [] (cut text).lines) (cut text).fault (by_number (entries_on read (cut text).lines))
+abbrev pub people_by_number : (List ℕ → Given) → Rule → File → List ℕ → Result (List (ℕ × ℕ)) Pl94Fault
+people_by_number read rule file text =
+    unless_fault file (first_fault read rule [] (cut text).lines) (cut text).fault (by_number (entries_on read (cut text).lines))

@@ -1,93 +1,36 @@
-ghost use Rattle.std.specs.Prelude.{◌≡◌, ◌≤◌, Ok, Some, IfOk, IfErr, map, All};
+ghost use Rattle.std.specs.Prelude.{◌≡◌, ◌≤◌, IfOk, IfErr, map, All};
+ghost use Rattle.std.specs.List.{filter_map};
 ghost use Rattle.std.specs.List.Sorted.{IsStrictlyIncreasing};
 ghost use Rattle.field_lines.specs.Values.{GivesUnless};
-ghost use Rattle.pl94_counties.specs.Geo.{county_on};
-ghost use Rattle.pl94_counties.specs.Numbered.{Adds, IsMemory};
-ghost use Rattle.pl94_counties.specs.declared.fault.Pl94Kind.TheVariants.{DoubleCounty};
 ghost use Rattle.field_lines.specs.Cut.{cut};
+ghost use Rattle.pl94_counties.specs.Numbered.{IsMemory};
 ghost use Rattle.pl94_counties.specs.Joined.{IsJoined, IsListed};
 ghost use Rattle.pl94_counties.specs.OfText.{IsOfText};
-ghost use Rattle.pl94_counties.specs.Counties.{found_list, listed, county_list};
+ghost use Rattle.pl94_counties.specs.Counties.{county_of, county_in, county_list};
+ghost use Rattle.pl94_counties.specs.declared.geo.Area.TheVariants as areas;
 
+use crate::areas::read_areas;
 use crate::fault::{File, Pl94Fault, Pl94Kind};
-use crate::geo::county_in;
-use crate::segment::read_records;
+use crate::geo::Area;
 use county_codes::{County, CountyCode};
-use field_lines::Lines;
 use std::alloc::{AllocError, Global};
 use std::collections::BTreeMap;
 
-/// Puts a county beside those of the lines before.
-fn put_county(
-    found: &mut BTreeMap<CountyCode, u32>,
-    code: CountyCode,
-    people: u32,
-) -> Result<(), Pl94Kind>
-    ensures { Adds DoubleCounty found.old.entries (Ok (Some (code, people))) result found.new.entries }
+/// The county of a code, if it is one.
+fn county(code: u64, people: u32) -> Option<County>
+    ensures { result ≡ county_in code people }
 {
-    match found.insert(code, people) {
-        Ok(None) => Ok(()),
-        Ok(Some(_)) => Err(Pl94Kind::DoubleCounty),
-        Err(_) => Err(Pl94Kind::Memory),
-    }
-}
-
-/// Adds what a line of geo gives to the counties of the lines before.
-fn add_line(
-    found: &mut BTreeMap<CountyCode, u32>,
-    state: u8,
-    records: &BTreeMap<u32, u32>,
-    line: &[u8],
-) -> Result<(), Pl94Kind>
-    requires { state ≤ 99 }
-    ensures { Adds DoubleCounty found.old.entries (county_on state records.now.entries line.now) result found.new.entries }
-{
-    match county_in(state, records, line)? {
-        Some((code, people)) => put_county(found, code, people),
-        None => Ok(()),
-    }
-}
-
-/// The people of each county of the state by its code, or the first fault of geo.
-fn join(
-    alloc: Global,
-    text: &[u8],
-    state: u8,
-    records: &BTreeMap<u32, u32>,
-) -> Result<BTreeMap<CountyCode, u32>, Pl94Fault>
-    requires { state ≤ 99 }
-    ensures { GivesUnless IsMemory (λ m. m.entries) result (found_list state records.now.entries text.now) }
-{
-    let mut found = BTreeMap::new(alloc);
-    let mut lines = Lines::new(text);
-    loop {
-        match lines.next_line() {
-            Ok(Some((line_number, line))) => {
-                if let Err(kind) = add_line(&mut found, state, records, line) {
-                    return Err(Pl94Fault {
-                        kind,
-                        file: File::Geo,
-                        line: line_number,
-                    });
-                }
-            }
-            Ok(None) => return Ok(found),
-            Err(fault) => return Err(Pl94Fault::of_cut(fault, File::Geo)),
-        }
-    }
+    let code = CountyCode::new(u32::try_from(code).ok()?)?;
+    Some(County { code, people })
 }
 
 /// The entries as counties.
-fn list(alloc: Global, found: &BTreeMap<CountyCode, u32>) -> Result<Vec<County>, AllocError>
-    ensures value { IfOk result (λ v. v.items ≡ listed found.now.entries) }
-    ensures ascending { IsStrictlyIncreasing (map (λ c. c.code) (listed found.now.entries)) }
+fn list(alloc: Global, found: &BTreeMap<u64, u32>) -> Result<Vec<County>, AllocError>
+    ensures { IfOk result (λ v. v.items ≡ filter_map (λ e. county_in e.0 e.1) found.now.entries) }
 {
     found
         .iter()
-        .map(|(code, people)| County {
-            code: *code,
-            people: *people,
-        })
+        .filter_map(|(code, people)| county(*code, *people))
         .collect(alloc)
 }
 
@@ -116,18 +59,10 @@ pub fn read_counties(
     ensures value { GivesUnless IsMemory (λ v. v.items) result (county_list geo.now segment1.now state) }
     ensures of_text { IfErr result (λ f. IsOfText f.kind) }
     ensures ascending { IfOk result (λ v. IsStrictlyIncreasing (map (λ c. c.code) v.items)) }
-    ensures from_lines { IfOk result (λ v. All (IsJoined (cut geo.now).lines (cut segment1.now).lines state) v.items) }
-    ensures each_line { IfOk result (λ v. All (IsListed (cut segment1.now).lines state v.items) (cut geo.now).lines) }
+    ensures from_lines { IfOk result (λ v. All (λ c. IsJoined areas.County (cut geo.now).lines (cut segment1.now).lines state c.code c.people) v.items) }
+    ensures each_line { IfOk result (λ v. All (IsListed county_of areas.County (cut segment1.now).lines state v.items) (cut geo.now).lines) }
 {
-    let records = read_records(alloc, segment1)?;
-    let found = join(alloc, geo, state, &records)?;
-    if found.is_empty() {
-        return Err(Pl94Fault {
-            kind: Pl94Kind::NoCounties,
-            file: File::Geo,
-            line: 0,
-        });
-    }
+    let found = read_areas(alloc, Area::County, geo, segment1, state)?;
     let counties = list(alloc, &found).map_err(|_| Pl94Fault {
         kind: Pl94Kind::Memory,
         file: File::Geo,

@@ -1,0 +1,5 @@
+pub mod RowLemmas
+pub mod NamingLemmas
+pub mod ListingLemmas
+pub mod KindLemmas
+pub mod GivingLemmas

@@ -1,0 +1,117 @@
+ghost use Rattle.std.specs.Prelude.{◌≡◌, ◌<◌, ℕ, IfOk, All, is_none, nat_lt, ◌&&◌, not, map};
+ghost use Rattle.std.specs.List.{filter_map};
+ghost use Rattle.std.specs.List.Sorted.{IsStrictlyIncreasing, IsStrictlySortedBy};
+ghost use Rattle.std.specs.Ordering.{nat_cmp};
+ghost use Rattle.std.specs.BTreeMap.{get};
+ghost use Rattle.baf_auditor.specs.Findings.{plan_of, AreCodes, IsUnknown, IsTwice, IsUnassigned};
+ghost use Rattle.baf_auditor.specs.Naming.{has_district};
+ghost use Rattle.baf_auditor.specs.Listing.{kept};
+
+use crate::assignments::Assignment;
+use crate::listed::listed_blocks;
+use crate::named::{Named, named_blocks};
+use county_codes::Grouping;
+use grouping_problem::Problem;
+use pl94_counties::Block;
+use std::alloc::{AllocError, Global};
+use std::collections::BTreeMap;
+
+/// A code, where it is kept.
+fn keep(is_kept: bool, code: u64) -> Option<u64>
+    ensures { result ≡ kept is_kept code }
+{
+    if is_kept { Some(code) } else { None }
+}
+
+/// A code that isn't listed.
+fn unlisted(listed: &BTreeMap<u64, u32>, code: u64) -> Option<u64>
+    ensures { result ≡ kept (is_none (get nat_cmp listed.now code)) code }
+{
+    keep(listed.get(&code).is_none(), code)
+}
+
+/// The code of a listed block with people that no line gives to a district.
+fn unassigned(named: &BTreeMap<u64, Named>, code: u64, people: u32) -> Option<u64>
+    ensures { result ≡ kept (nat_lt 0 people && not (has_district (get nat_cmp named.now code))) code }
+{
+    let assigned = named.get(&code).is_some_and(|named| named.assigned);
+    keep(people > 0 && !assigned, code)
+}
+
+/// The codes that lines name and that aren't listed.
+fn unknown_codes(
+    alloc: Global,
+    named: &BTreeMap<u64, Named>,
+    listed: &BTreeMap<u64, u32>,
+) -> Result<Vec<u64>, AllocError>
+    ensures codes { IfOk result (λ v. v.items ≡ filter_map (λ e. kept (is_none (get nat_cmp listed.now e.0)) e.0) named.now.entries) }
+    ensures ordered { IsStrictlySortedBy nat_cmp (map (λ e. e.0) named.now.entries) }
+{
+    named
+        .iter()
+        .filter_map(|(code, _)| unlisted(listed, *code))
+        .collect(alloc)
+}
+
+/// The codes that two or more lines name.
+fn twice_codes(alloc: Global, named: &BTreeMap<u64, Named>) -> Result<Vec<u64>, AllocError>
+    ensures codes { IfOk result (λ v. v.items ≡ filter_map (λ e. kept e.1.twice e.0) named.now.entries) }
+    ensures ordered { IsStrictlySortedBy nat_cmp (map (λ e. e.0) named.now.entries) }
+{
+    named
+        .iter()
+        .filter_map(|(code, named)| keep(named.twice, *code))
+        .collect(alloc)
+}
+
+/// The codes of listed blocks with people that no line gives to a district.
+fn unassigned_codes(
+    alloc: Global,
+    named: &BTreeMap<u64, Named>,
+    listed: &BTreeMap<u64, u32>,
+) -> Result<Vec<u64>, AllocError>
+    ensures codes { IfOk result (λ v. v.items ≡ filter_map (λ e. kept (nat_lt 0 e.1 && not (has_district (get nat_cmp named.now e.0))) e.0) listed.now.entries) }
+    ensures ordered { IsStrictlySortedBy nat_cmp (map (λ e. e.0) listed.now.entries) }
+{
+    listed
+        .iter()
+        .filter_map(|(code, people)| unassigned(named, *code, *people))
+        .collect(alloc)
+}
+
+/// The blocks that findings name alone, each list by code.
+#[derive(Debug, Drop)]
+pub(crate) struct BlockKinds {
+    /// Named by a line and not listed.
+    pub(crate) unknown: Vec<u64>,
+    /// Named by two or more lines.
+    pub(crate) twice: Vec<u64>,
+    /// Listed, with people, and given to no district.
+    pub(crate) unassigned: Vec<u64>,
+}
+
+/// What is found of single blocks, by the lines that name them.
+pub(crate) fn block_kinds(
+    alloc: Global,
+    problem: &Problem,
+    grouping: &Grouping,
+    blocks: &[Block],
+    lines: &[Assignment],
+) -> Result<BlockKinds, AllocError>
+    requires fits { All (λ block. block.code < 1000000000000000) blocks.now }
+    requires ascending { IsStrictlyIncreasing (map (λ block. block.code) blocks.now) }
+    ensures unknown { IfOk result (λ k. AreCodes (IsUnknown (plan_of problem.now grouping.now.groups.items blocks.now lines.now)) k.unknown.items) }
+    ensures twice { IfOk result (λ k. AreCodes (IsTwice (plan_of problem.now grouping.now.groups.items blocks.now lines.now)) k.twice.items) }
+    ensures unassigned { IfOk result (λ k. AreCodes (IsUnassigned (plan_of problem.now grouping.now.groups.items blocks.now lines.now)) k.unassigned.items) }
+{
+    let named = named_blocks(alloc, lines)?;
+    let listed = listed_blocks(alloc, problem, grouping, blocks)?;
+    let unknown = unknown_codes(alloc, &named, &listed)?;
+    let twice = twice_codes(alloc, &named)?;
+    let unassigned = unassigned_codes(alloc, &named, &listed)?;
+    Ok(BlockKinds {
+        unknown,
+        twice,
+        unassigned,
+    })
+}

@@ -1,0 +1,43 @@
+ghost use Rattle.std.specs.Prelude.{◌≡◌, ◌≤◌, ◌+◌, ℕ, List, IfOk, OnOk, length};
+ghost use Rattle.std.specs.Ordering.{nat_cmp};
+ghost use Rattle.std.specs.BTreeMap.{get, btree_map_len};
+ghost use Rattle.baf_auditor.specs.Giving.{by_label, after_given, giving};
+
+use crate::assignments::Assignment;
+use crate::label::Label;
+use std::alloc::{AllocError, Global};
+use std::collections::BTreeMap;
+
+/// Adds the listed block that a line gives to a district.
+fn add_given(
+    given: &mut BTreeMap<(Label, u64), u32>,
+    listed: &BTreeMap<u64, u32>,
+    line: &Assignment,
+) -> Result<(), AllocError>
+    ensures entries { OnOk result ((key : List ℕ × ℕ) → get by_label given.new key ≡ after_given (λ code. get nat_cmp listed.now code) key (get by_label given.old key) line.now) }
+    ensures few { OnOk result (btree_map_len given.new ≤ btree_map_len given.old + 1) }
+{
+    if !line.label.assigns() {
+        return Ok(());
+    }
+    if let Some(people) = listed.get(&line.block).copied() {
+        given.insert((line.label.copy()?, line.block), people)?;
+    }
+    Ok(())
+}
+
+/// The listed blocks that lines give to districts, each once by label and code, with its people.
+pub(crate) fn given_blocks(
+    alloc: Global,
+    listed: &BTreeMap<u64, u32>,
+    lines: &[Assignment],
+) -> Result<BTreeMap<(Label, u64), u32>, AllocError>
+    ensures entries { IfOk result (λ m. (key : List ℕ × ℕ) → get by_label m key ≡ giving (λ code. get nat_cmp listed.now code) lines.now key) }
+    ensures few { IfOk result (λ m. btree_map_len m ≤ length lines.now) }
+{
+    let mut given = BTreeMap::new(alloc);
+    for line in lines {
+        add_given(&mut given, listed, line)?;
+    }
+    Ok(given)
+}

@@ -1,0 +1,33 @@
+-- The areas of a state, counties or blocks.
+use Rattle.std.specs.Prelude.{ℕ, List, [], ◌∷◌, Result, Ok, Err}
+use Rattle.pl94_counties.specs.declared.fault.Pl94Kind.{Pl94Kind}
+use Rattle.pl94_counties.specs.declared.fault.Pl94Kind.TheVariants.{NoCounties, NoBlocks}
+use Rattle.pl94_counties.specs.declared.fault.File.TheVariants.{Geo}
+use Rattle.pl94_counties.specs.declared.fault.Pl94Fault.{Pl94Fault}
+use Rattle.pl94_counties.specs.declared.geo.Area.{Area}
+use Rattle.pl94_counties.specs.declared.geo.Area.TheVariants.{County, Block}
+use Rattle.field_lines.specs.Chain.{◌>>=◌}
+use Rattle.pl94_counties.specs.Numbered.{people_by_number}
+use Rattle.pl94_counties.specs.Segment.{record_list}
+use Rattle.pl94_counties.specs.Geo.{rule_of, area_on}
+
+-- the people of each area of the state by its code, or the first fault of geo
+abbrev pub found_list : Area → ℕ → List (ℕ × ℕ) → List ℕ → Result (List (ℕ × ℕ)) Pl94Fault
+found_list area state records geo = people_by_number (area_on area state records) (rule_of area) Geo geo
+
+-- what is wrong where no line is for such an area
+abbrev pub no_areas : Area → Pl94Kind
+no_areas County = NoCounties
+no_areas Block = NoBlocks
+
+-- the entries; none is a fault
+abbrev pub some_areas : Area → List (ℕ × ℕ) → Result (List (ℕ × ℕ)) Pl94Fault
+some_areas area [] = Err (record { kind = no_areas area; file = Geo; line = 0 })
+some_areas area (e ∷ es) = Ok (e ∷ es)
+
+-- the people of each area of a state by its code, or the first fault: all of segment 1 before geo
+abbrev pub area_list : Area → List ℕ → List ℕ → ℕ → Result (List (ℕ × ℕ)) Pl94Fault
+area_list area geo segment1 state = do
+  records ← record_list segment1
+  found ← found_list area state records geo
+  some_areas area found

@@ -1,0 +1,68 @@
+ghost use Rattle.std.specs.Prelude.{◌≡◌, ◌≤◌, ◌<◌, ◌^◌, IfOk, IfErr, map, All, length};
+ghost use Rattle.std.specs.List.Sorted.{IsStrictlyIncreasing};
+ghost use Rattle.field_lines.specs.Values.{GivesUnless};
+ghost use Rattle.field_lines.specs.Cut.{cut};
+ghost use Rattle.pl94_counties.specs.Numbered.{IsMemory};
+ghost use Rattle.pl94_counties.specs.Joined.{IsJoined, IsListed};
+ghost use Rattle.pl94_counties.specs.OfText.{IsOfText};
+ghost use Rattle.pl94_counties.specs.Counties.{block_of, block_list};
+ghost use Rattle.pl94_counties.specs.declared.geo.Area.TheVariants as areas;
+
+use crate::areas::read_areas;
+use crate::fault::{File, Pl94Fault, Pl94Kind};
+use crate::geo::Area;
+use std::alloc::{AllocError, Global};
+use std::collections::BTreeMap;
+
+/// A census block and its people: the total population of the 2020 census.
+#[derive(Clone, Copy, Debug, PartialEq, Eq)]
+pub struct Block {
+    /// The fifteen digits of the block's GEOCODE as a number: state, county, tract and block.
+    pub code: u64,
+    /// People, 0 to 4,294,967,295.
+    pub people: u32,
+}
+
+/// The entries as blocks.
+fn list(alloc: Global, found: &BTreeMap<u64, u32>) -> Result<Vec<Block>, AllocError>
+    ensures { IfOk result (λ v. v.items ≡ map (λ e. block_of e.0 e.1) found.now.entries) }
+{
+    found
+        .iter()
+        .map(|(code, people)| Block {
+            code: *code,
+            people: *people,
+        })
+        .collect(alloc)
+}
+
+/// The blocks of a state by code, with their people, from the files of which `read_counties` gives the counties. A block
+/// line of geo has SUMLEV (field 3) `750`, GEOCOMP and STATE as a county line has them; its code is GEOCODE (field 10,
+/// fifteen digits), and its COUNTY isn't looked at. Its people are found as a county's are.
+///
+/// # Errors
+///
+/// As `read_counties`, with `DoubleBlock` and `NoBlocks` in the place of `DoubleCounty` and `NoCounties`. `TooMany`
+/// answers at the block line after the 2,000,000th, where none of the kinds before it does.
+pub fn read_blocks(
+    alloc: Global,
+    geo: &[u8],
+    segment1: &[u8],
+    state: u8,
+) -> Result<Vec<Block>, Pl94Fault>
+    requires { state ≤ 99 }
+    ensures value { GivesUnless IsMemory (λ v. v.items) result (block_list geo.now segment1.now state) }
+    ensures of_text { IfErr result (λ f. IsOfText f.kind) }
+    ensures ascending { IfOk result (λ v. IsStrictlyIncreasing (map (λ b. b.code) v.items)) }
+    ensures small { IfOk result (λ v. All (λ b. b.code < 1000000000000000) v.items) }
+    ensures from_lines { IfOk result (λ v. All (λ b. IsJoined areas.Block (cut geo.now).lines (cut segment1.now).lines state b.code b.people) v.items) }
+    ensures each_line { IfOk result (λ v. All (IsListed block_of areas.Block (cut segment1.now).lines state v.items) (cut geo.now).lines) }
+{
+    let found = read_areas(alloc, Area::Block, geo, segment1, state)?;
+    let blocks = list(alloc, &found).map_err(|_| Pl94Fault {
+        kind: Pl94Kind::Memory,
+        file: File::Geo,
+        line: 0,
+    })?;
+    Ok(blocks)
+}
