@@ -1,4 +1,4 @@
-use Rattle.std.proofs.Common.{◌≡◌, ℕ, ◌≤◌, subst, sym, length, get_or, arith}
+use Rattle.std.proofs.Common.{ℕ, ◌≤◌, subst, sym, length, get_or, arith}
 use Rattle.std.proofs.lemmas.Bool.{false≢true}
 use Rattle.place_sets.specs.Lists.{total}
 use Rattle.place_sets.specs.CountySet.{places_of}

@@ -1,4 +1,4 @@
-use Rattle.std.proofs.Common.{◌≡◌, ℕ, ◌<◌, ◌≤◌, length, get_or}
+use Rattle.std.proofs.Common.{ℕ, ◌<◌, ◌≤◌, length, get_or}
 use Rattle.place_sets.specs.Lists.{total}
 use Rattle.place_sets.specs.CountySet.{places_of}
 use Rattle.state_tests.proofs.bounds.weigh_enough.Given as goal
