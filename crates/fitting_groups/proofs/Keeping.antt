@@ -1,18 +1,16 @@
 -- What is kept and what is passed over.
-use Rattle.std.proofs.Common.{◌≡◌, ℕ, ◌≤◌, ◌<◌, Bool, true, false, ◌&&◌, ◌||◌, not, List, [], filter, length, refl, sym, ap, ◌∙◌, subst, arith, inl, inr}
+use Rattle.std.proofs.Common.{◌≡◌, ℕ, Bool, true, false, ◌&&◌, ◌||◌, not, List, [], refl, sym, ap, ◌∙◌}
 use Rattle.std.specs.Prelude.{IsTrue, ◌↔◌}
 use Rattle.std.proofs.lemmas.Bool.{false≢true, and_parts, and_from}
 use Rattle.place_sets.specs.CountySet.{places_of}
 use Rattle.grouping_laws.specs.Sets.{member}
-use Rattle.grouping_laws.specs.Problem.{Problem, Suits, people_of, Connected}
-use Rattle.grouping_laws.specs.Parts.{IsPart}
+use Rattle.grouping_laws.specs.Problem.{Problem, Suits, people_of}
 use Rattle.growing_sets.specs.Growing.{IsExtension, IsGrowth, IsWhole, AreKept}
 use Rattle.growing_sets.proofs.Growing.{none_kept, leaf_only}
 use Rattle.proof_trees.specs.declared.language.Language.{Language}
-use Rattle.proof_trees.specs.declared.language.Language.TheVariants.{Plain, Wide}
+use Rattle.proof_trees.specs.declared.language.Language.TheVariants.{Wide}
 use Rattle.proof_trees.specs.State.{State}
 use Rattle.proof_trees.specs.Regions.{without}
-use Rattle.proof_trees.specs.Stuck.{StuckPart}
 use Rattle.proof_trees.specs.Fitting.{Fits}
 use Rattle.state_tests.specs.Cut.{CutOff}
 use Rattle.fitting_groups.specs.Keeping.{IsAsked, Decides, NoneFits}

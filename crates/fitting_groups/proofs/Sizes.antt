@@ -1,5 +1,5 @@
 -- The sets of one size, found from one place after another.
-use Rattle.std.proofs.Common.{◌≡◌, ◌≢◌, ℕ, ◌+◌, ◌≤◌, ◌<◌, Bool, true, false, nat_le, ◌&&◌, not, ◌==◌, List, [], ◌∷◌, ◌++◌, map, filter, length, refl, sym, ap, ◌∙◌, subst, arith, inl, inr, ⊎_elim, All, AllPairs, Contains}
+use Rattle.std.proofs.Common.{◌≡◌, ℕ, ◌+◌, ◌≤◌, ◌<◌, Bool, true, false, nat_le, ◌&&◌, not, ◌==◌, List, [], ◌∷◌, ◌++◌, refl, sym, ap, ◌∙◌, subst, arith, inl, inr, ⊎_elim, AllPairs, Contains}
 use Rattle.std.specs.Prelude.{◌↔◌, ◌⊎◌}
 use Rattle.std.specs.Cmp.Lexicographic.{slice_cmp}
 use Rattle.std.specs.Ordering.{nat_cmp, is_lt}
@@ -13,7 +13,7 @@ use Rattle.grouping_laws.specs.Places.{places_below}
 use Rattle.grouping_laws.specs.GroupsFrom.{BeginsWith, IsBefore}
 use Rattle.grouping_laws.proofs.Elements.{Has, has_all, all_from_has, has_append, has_left, has_right, has_from_contains, contains_from_has}
 use Rattle.place_sets.specs.CountySet.{places_of}
-use Rattle.growing_sets.specs.Growing.{only, IsExtension, AreKept, sort_key}
+use Rattle.growing_sets.specs.Growing.{only, IsExtension, sort_key}
 use Rattle.growing_sets.specs.Listing.{lists_of, AreBelow, IsListed, OneStepEach, HasStepped}
 use Rattle.growing_sets.proofs.Distinct.{Distinct, distinct_append, distinct_pairs, distinct_from_pairs}
 use Rattle.proof_trees.specs.declared.language.Language.{Language}

@@ -1,17 +1,16 @@
 -- Groups that fit.
-use Rattle.std.proofs.Common.{◌≡◌, ℕ, ◌≤◌, ◌<◌, Bool, true, false, nat_lt, nat_le, ◌&&◌, not, List, length, refl, sym, ap, ◌∙◌, arith, inl, inr, subst, Result, Ok, Err}
+use Rattle.std.proofs.Common.{◌≡◌, ℕ, ◌≤◌, ◌<◌, Bool, true, false, nat_le, not, length, refl, sym, ◌∙◌, arith, inl, inr, subst, Result, Ok, Err}
 use Rattle.std.specs.Prelude.{IsTrue, IfOk, ◌↔◌, ◌⊎◌}
-use Rattle.std.proofs.lemmas.Bool.{false≢true, and_parts, and_from, leb-true, le-leb, lt-ltb, cases_lt}
+use Rattle.std.proofs.lemmas.Bool.{false≢true, and_parts, and_from, leb-true, le-leb, cases_lt}
 use Rattle.place_sets.specs.CountySet.{places_of}
 use Rattle.place_sets.specs.Lists.{places_below}
-use Rattle.place_sets.proofs.PlaceSets.{member-places_of}
 use Rattle.place_sets.proofs.PlaceSums.{every}
 use Rattle.grouping_laws.specs.Sets.{member, Inside}
-use Rattle.grouping_laws.specs.Problem.{Problem, Suits, people_of, Connected, LawfulGroup}
+use Rattle.grouping_laws.specs.Problem.{Problem, Suits, people_of, Connected}
 use Rattle.growing_sets.proofs.PlaceLists.{placed, placed_test, placed_below, often_placed}
 use Rattle.proof_trees.specs.declared.language.Language.{Language}
 use Rattle.proof_trees.specs.State.{State, open_to}
-use Rattle.proof_trees.specs.Fitting.{IsLive, IsKept, Fits}
+use Rattle.proof_trees.specs.Fitting.{IsKept, Fits}
 
 -- all places below the bound are listed
 pub below_listed : (n x : ℕ) → x < n → member (places_below n) x ≡ true

@@ -1,5 +1,5 @@
 -- Seats of closed groups and parts, added up.
-use Rattle.std.proofs.Common.{◌≡◌, ℕ, ◌+◌, ◌*◌, ◌≤◌, ◌<◌, Bool, true, false, nat_lt, ◌||◌, Option, Some, None, List, [], ◌∷◌, ◌++◌, map, length, get_or, take, refl, sym, ap, ◌∙◌, subst, arith, inl, inr, ⊎_elim, Contains}
+use Rattle.std.proofs.Common.{◌≡◌, ℕ, ◌+◌, ◌<◌, Bool, true, false, nat_lt, ◌||◌, Some, None, List, [], ◌∷◌, ◌++◌, map, length, get_or, take, refl, sym, ap, ◌∙◌, subst, arith, inl, inr, Contains}
 use Rattle.std.specs.Prelude.{IsTrue, ◌↔◌, ◌⊎◌}
 use Rattle.std.specs.List.{AllZip}
 use Rattle.std.proofs.lemmas.Bool.{false≢true, ltb-true, lt-ltb}
@@ -8,7 +8,7 @@ use Rattle.place_sets.proofs.Sums.{total-append}
 use Rattle.grouping_laws.specs.Sets.{total}
 use Rattle.grouping_laws.specs.Problem.{Problem, Suits, people_of}
 use Rattle.grouping_laws.specs.Parts.{AreParts}
-use Rattle.grouping_laws.specs.Ranges.{IsLeast, IsMost, SuitAll}
+use Rattle.grouping_laws.specs.Ranges.{IsLeast, IsMost}
 use Rattle.grouping_laws.specs.SeatWindow.{IsRun}
 use Rattle.grouping_laws.proofs.Elements.{Has, has_left, has_from_contains}
 use Rattle.proof_trees.specs.State.{State}

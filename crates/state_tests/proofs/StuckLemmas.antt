@@ -1,13 +1,13 @@
 -- Parts that are passed one after another, none of them stuck.
-use Rattle.std.proofs.Common.{◌≡◌, ℕ, ◌≤◌, ◌<◌, Bool, true, false, nat_lt, ◌&&◌, not, Option, Some, None, List, [], ◌∷◌, ◌++◌, length, refl, sym, ap, ◌∙◌, arith, inl, inr, ⊎_elim, subst}
-use Rattle.std.specs.Prelude.{is_some, IsTrue, ◌↔◌, ◌⊎◌}
+use Rattle.std.proofs.Common.{◌≡◌, ℕ, ◌<◌, Bool, true, false, ◌&&◌, not, Option, Some, None, List, [], ◌∷◌, ◌++◌, length, refl, sym, ap, ◌∙◌, arith, inl, inr, ⊎_elim, subst}
+use Rattle.std.specs.Prelude.{is_some, IsTrue, ◌↔◌}
 use mathlib.Core.Path.{fun_ext}
 use Rattle.place_sets.proofs.PlaceSets.{member-places_of}
 use Rattle.std.proofs.lemmas.Bool.{false≢true, lt-ltb}
-use Rattle.place_sets.specs.CountySet.{places_of, Meets}
-use Rattle.grouping_laws.specs.Sets.{member, stands, digit}
+use Rattle.place_sets.specs.CountySet.{places_of}
+use Rattle.grouping_laws.specs.Sets.{member, digit}
 use Rattle.grouping_laws.specs.Problem.{Problem, Suits, people_of}
-use Rattle.grouping_laws.specs.Parts.{IsPart, AreParts}
+use Rattle.grouping_laws.specs.Parts.{IsPart}
 use Rattle.grouping_laws.specs.SeatWindow.{IsRun}
 use Rattle.grouping_laws.proofs.Digits.{true_digit}
 use Rattle.grouping_laws.proofs.Elements.{Has, has_append}

@@ -3,11 +3,13 @@
 //! sets of places serves.
 #![tactic(auto)]
 
+mod bounds;
 mod fitting;
 mod seats;
 mod stuck;
 mod sums;
 
+pub use bounds::{room, weigh_enough};
 pub use fitting::{fits, is_open, open_places};
 pub use seats::is_off_seats;
 pub use stuck::{has_stuck_part, is_live, is_stuck, is_stuck_at};

@@ -1,4 +1,4 @@
-use Rattle.std.proofs.Common.{◌≡◌, ℕ, ◌<◌, true, List, [], ◌∷◌, map, length, arith, sym, ap, ◌∙◌, subst, ⊎_elim, All}
+use Rattle.std.proofs.Common.{◌≡◌, ℕ, true, [], ◌∷◌, map, length, arith, sym, ap, ◌∙◌, subst, ⊎_elim, All}
 use Rattle.std.proofs.lemmas.List.Elements.{All-append}
 use Rattle.grouping_laws.proofs.Elements.{all_from_has}
 use Rattle.std.proofs.lemmas.List.{map-append, length-append}

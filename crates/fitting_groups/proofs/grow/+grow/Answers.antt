@@ -1,4 +1,4 @@
-use Rattle.std.proofs.Common.{◌≡◌, ◌+◌, ℕ, ◌∙◌, ◌<◌, ◌||◌, ◌&&◌, get_or, List, refl, sym, ap, subst, length, Bool, arith, rules}
+use Rattle.std.proofs.Common.{◌≡◌, ◌+◌, ℕ, ◌∙◌, ◌<◌, ◌||◌, ◌&&◌, get_or, refl, sym, ap, subst, length, Bool, arith, rules}
 use mathlib.Core.Path.{fun_ext}
 use Rattle.growing_sets.specs.Growing.{IsGrowth, IsMove, IsFront, IsWhole}
 use Rattle.growing_sets.specs.Listing.{HasMost, IsListed, HasStepped}
@@ -11,7 +11,6 @@ use Rattle.place_sets.specs.CountySet.{places_of}
 use Rattle.place_sets.proofs.PlaceSums.{total_all}
 use Rattle.ordered_counties.specs.OrderedValue.{problem_at}
 use Rattle.proof_trees.specs.StateValue.{state_of}
-use Rattle.fitting_groups.specs.Keeping.{Decides}
 use Rattle.fitting_groups.proofs.Keeping.{none_fits, kept_suits, kept_test}
 use Rattle.fitting_groups.proofs.grow.+grow.Goals as goal
 

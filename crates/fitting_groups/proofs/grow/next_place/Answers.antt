@@ -1,4 +1,4 @@
-use Rattle.std.proofs.Common.{◌≡◌, ℕ, ◌≤◌, ◌<◌, ◌⊎◌, inl, Bool, true, false, Option, Some, None, MatchOption, length, rules, tests, arith}
+use Rattle.std.proofs.Common.{◌≡◌, ℕ, ◌≤◌, ◌<◌, ◌⊎◌, inl, Bool, true, false, Option, Some, None, MatchOption, length, tests, arith}
 use Rattle.place_sets.specs.CountySet.{IsNext, places_of}
 use Rattle.fitting_groups.proofs.grow.next_place.Goals as goal
 

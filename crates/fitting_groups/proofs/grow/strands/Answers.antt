@@ -1,4 +1,4 @@
-use Rattle.std.proofs.Common.{◌≡◌, ◌∙◌, ◌&&◌, not, ap, sym, subst, length}
+use Rattle.std.proofs.Common.{◌∙◌, ◌&&◌, not, ap, sym, subst, length}
 use Rattle.std.specs.Prelude.{IsTrue, ◌↔◌}
 use Rattle.ordered_counties.specs.OrderedValue.{problem_at}
 use Rattle.proof_trees.specs.declared.language.Language.{Language}

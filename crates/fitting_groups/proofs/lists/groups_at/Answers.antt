@@ -1,14 +1,13 @@
-use Rattle.std.proofs.Common.{◌≡◌, ℕ, ◌+◌, ◌++◌, ◌<◌, Bool, true, false, List, refl, sym, ap, ◌∙◌, subst, length, arith}
+use Rattle.std.proofs.Common.{◌≡◌, ℕ, ◌++◌, ◌<◌, true, false, List, refl, sym, ap, ◌∙◌, subst, length, arith}
 use Rattle.std.specs.Cmp.Lexicographic.{slice_cmp}
 use Rattle.std.specs.Ordering.{nat_cmp, is_lt}
 use Rattle.std.specs.List.Sorted.{IsSortedBy}
 use Rattle.std.proofs.lemmas.List.Sorted.{length_permutation}
 use Rattle.ordered_counties.specs.OrderedValue.{problem_at}
 use Rattle.growing_sets.specs.Growing.{only, AreKept, sort_key}
-use Rattle.growing_sets.specs.Listing.{lists_of, AreBelow, IsListed}
+use Rattle.growing_sets.specs.Listing.{lists_of, AreBelow}
 use Rattle.growing_sets.proofs.Keys.{all_moved}
 use Rattle.proof_trees.specs.StateValue.{state_of}
-use Rattle.proof_trees.specs.State.{open_to}
 use Rattle.proof_trees.specs.Groups.{IsSetAt}
 use Rattle.grouping_laws.specs.Places.{places_below}
 use Rattle.fitting_groups.specs.Keeping.{others}

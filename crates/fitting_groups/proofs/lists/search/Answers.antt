@@ -1,4 +1,4 @@
-use Rattle.std.proofs.Common.{◌≡◌, ℕ, Bool, List, ◌&&◌, ◌||◌, ◌==◌, not, ap, ◌∙◌, sym, subst, length}
+use Rattle.std.proofs.Common.{◌≡◌, ℕ, Bool, ◌&&◌, ap, ◌∙◌, sym, subst, length}
 use mathlib.Core.Path.{fun_ext}
 use Rattle.grouping_laws.specs.Problem.{people_of}
 use Rattle.place_sets.specs.CountySet.{places_of}
@@ -9,11 +9,9 @@ use Rattle.growing_sets.specs.Listing.{IsListed, HasStepped}
 use Rattle.growing_sets.proofs.StartSets.{starts}
 use Rattle.growing_sets.proofs.People.{people_only}
 use Rattle.growing_sets.proofs.Listing.{on_ok}
-use Rattle.proof_trees.specs.StateValue.{state_of}
-use Rattle.proof_trees.specs.RegionGrowth.{IsStartIn}
 use Rattle.proof_trees.proofs.RegionGrowthLemmas.{regions_are_grown}
 use Rattle.fitting_groups.specs.Keeping.{others}
-use Rattle.fitting_groups.proofs.Starting.{starts_in, front_in}
+use Rattle.fitting_groups.proofs.Starting.{front_in}
 use Rattle.fitting_groups.proofs.lists.search.Goals as goal
 
 pub grow-requires-clause-growth : goal.grow-requires-clause-growth

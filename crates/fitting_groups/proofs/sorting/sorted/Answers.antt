@@ -1,4 +1,4 @@
-use Rattle.std.proofs.Common.{◌≡◌, ℕ, ◌<◌, true, List, rules}
+use Rattle.std.proofs.Common.{◌≡◌, ℕ, ◌<◌, true, rules}
 use Rattle.std.specs.Cmp.Lexicographic.{slice_cmp}
 use Rattle.std.specs.Ordering.{nat_cmp, is_lt}
 use Rattle.std.specs.List.Sorted.{IsSortedBy}
@@ -6,7 +6,6 @@ use Rattle.std.proofs.lemmas.Cmp.{nat_list_cmp_total}
 use Rattle.std.proofs.lemmas.Fn.{always_returns_same}
 use Rattle.std.proofs.lemmas.List.Sorted.{ranks_by}
 use Rattle.place_sets.specs.CountySet.{sized}
-use Rattle.growing_sets.specs.Listing.{AreBelow}
 use Rattle.growing_sets.proofs.Keys.{lists_sorted, all_moved}
 use Rattle.fitting_groups.proofs.sorting.sorted.Goals as goal
 

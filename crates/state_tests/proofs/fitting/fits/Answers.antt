@@ -1,13 +1,12 @@
-use Rattle.std.proofs.Common.{◌≡◌, ℕ, refl, ap, ◌∙◌, subst, sym, length, arith}
+use Rattle.std.proofs.Common.{refl, ap, ◌∙◌, subst, sym, length, arith}
 use Rattle.std.specs.Prelude.{IsTrue, ◌↔◌}
 use Rattle.place_sets.specs.CountySet.{places_of}
 use Rattle.place_sets.proofs.PlaceSums.{total_all}
-use Rattle.grouping_laws.specs.Problem.{Suits, people_of}
+use Rattle.grouping_laws.specs.Problem.{Suits}
 use Rattle.grouping_laws.specs.SeatWindow.{IsRun, seat_run}
 use Rattle.grouping_laws.proofs.WindowLemmas.{window_law}
 use Rattle.grouping_problem.specs.ProblemValue.{ProblemValue, problem_of}
 use Rattle.ordered_counties.specs.OrderedValue.{problem_at}
-use Rattle.proof_trees.specs.declared.language.Language.{Language}
 use Rattle.proof_trees.specs.declared.language.Language.TheVariants.{Plain, Wide}
 use Rattle.proof_trees.specs.StateValue.{state_of}
 use Rattle.proof_trees.specs.State.{open_to}

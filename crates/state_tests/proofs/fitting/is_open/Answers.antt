@@ -1,4 +1,4 @@
-use Rattle.std.proofs.Common.{◌≡◌, length}
+use Rattle.std.proofs.Common.{length}
 use Rattle.std.proofs.lemmas.Bool.{false≢true}
 use Rattle.place_sets.specs.CountySet.{places_of}
 use Rattle.proof_trees.specs.StateValue.{state_of}

@@ -1,4 +1,4 @@
-use Rattle.std.proofs.Common.{◌≡◌, ℕ, ◌+◌, ◌||◌, nat_lt, None, List, ap, ◌∙◌, subst, sym, map, length}
+use Rattle.std.proofs.Common.{◌≡◌, ◌+◌, ◌||◌, nat_lt, None, ap, ◌∙◌, subst, sym, map, length}
 use Rattle.std.proofs.lemmas.Bool.{false≢true}
 use Rattle.place_sets.specs.CountySet.{places_of}
 use Rattle.grouping_problem.specs.ProblemValue.{ProblemValue}

@@ -1,4 +1,4 @@
-use Rattle.std.proofs.Common.{◌≡◌, ℕ, ◌+◌, ◌<◌, Some, List, [], ◌∷◌, ◌++◌, ap, ◌∙◌, subst, sym, map, take, length, arith}
+use Rattle.std.proofs.Common.{◌+◌, Some, subst, sym, map, take, length}
 use Rattle.place_sets.specs.CountySet.{places_of}
 use Rattle.grouping_laws.specs.Problem.{Suits, people_of}
 use Rattle.grouping_laws.specs.SeatWindow.{IsRun}

@@ -1,4 +1,4 @@
-use Rattle.std.proofs.Common.{ℕ, List, map, take, length}
+use Rattle.std.proofs.Common.{map, take, length}
 use Rattle.place_sets.specs.CountySet.{places_of}
 use Rattle.ordered_counties.specs.OrderedValue.{problem_at}
 use Rattle.state_tests.specs.Sums.{AreSums}

@@ -1,7 +1,6 @@
-use Rattle.std.proofs.Common.{length, List, ℕ}
+use Rattle.std.proofs.Common.{length}
 use Rattle.place_sets.specs.CountySet.{places_of}
 use Rattle.county_regions.specs.Rows.{problem_at}
-use Rattle.county_regions.proofs.PartLists.{IsParted}
 use Rattle.proof_trees.specs.StateValue.{state_of}
 use Rattle.state_tests.proofs.StuckLemmas.{IsPassed}
 use Rattle.state_tests.proofs.stuck.has_stuck_part.Given as goal

@@ -1,4 +1,4 @@
-use Rattle.std.proofs.Common.{◌≡◌, ◌∙◌, ◌&&◌, not, ap, length}
+use Rattle.std.proofs.Common.{◌∙◌, ◌&&◌, not, ap, length}
 use Rattle.ordered_counties.specs.OrderedValue.{problem_at}
 use Rattle.proof_trees.specs.StateValue.{state_of}
 use Rattle.state_tests.proofs.StuckLemmas.{live_by}

@@ -1,5 +1,4 @@
-use Rattle.std.proofs.Common.{◌≡◌, ℕ, ap, ◌∙◌, subst, sym, length}
-use Rattle.place_sets.specs.CountySet.{places_of}
+use Rattle.std.proofs.Common.{ap, ◌∙◌, subst, sym, length}
 use Rattle.grouping_laws.specs.Problem.{Suits}
 use Rattle.grouping_laws.specs.SeatWindow.{IsRun, seat_run}
 use Rattle.grouping_laws.proofs.WindowLemmas.{window_law}

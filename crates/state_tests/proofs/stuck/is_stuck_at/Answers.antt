@@ -1,4 +1,4 @@
-use Rattle.std.proofs.Common.{◌≡◌, length}
+use Rattle.std.proofs.Common.{length}
 use Rattle.place_sets.specs.CountySet.{places_of}
 use Rattle.growing_sets.proofs.PlaceLists.{placed}
 use Rattle.ordered_counties.specs.OrderedValue.{problem_at}

@@ -1,4 +1,4 @@
-use Rattle.std.proofs.Common.{◌≡◌, ◌+◌, ap, ◌∙◌, sym, length, arith}
+use Rattle.std.proofs.Common.{◌+◌, ap, ◌∙◌, sym, length, arith}
 use Rattle.place_sets.specs.Lists.{total}
 use Rattle.place_sets.specs.CountySet.{places_of}
 use Rattle.place_sets.proofs.PlaceSums.{total_all}

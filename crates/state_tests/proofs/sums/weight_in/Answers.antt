@@ -1,4 +1,4 @@
-use Rattle.std.proofs.Common.{◌≡◌, ℕ, ◌+◌, ap, ◌∙◌, sym, length, get_or, arith}
+use Rattle.std.proofs.Common.{ℕ, ◌+◌, ap, ◌∙◌, sym, length, get_or, arith}
 use Rattle.place_sets.specs.Lists.{total}
 use Rattle.place_sets.specs.CountySet.{places_of}
 use Rattle.state_tests.proofs.SumLemmas.{sum_next, sum_all}
