@@ -8,10 +8,16 @@ use certificate_text::{
 use county_codes::{Codes, CountyCode, Group};
 use proof_trees::Language;
 use std::alloc::Global;
+use std::fmt::Display;
 
 /// A certificate that has a text.
 const TEXT: &[u8] =
     b"county-groups certificate 1\norder 37001\nlimit 1\ntarget 1\ngroup 1 37001\nbound 1\nroom\nend\n";
+
+/// A name, and what is said of it.
+fn named<D: Display>(alloc: Global, name: &str, said: &D) -> Result<String> {
+    Ok(format!(in alloc; "{name}: {said}")?)
+}
 
 /// What is said of a value that was to be written.
 fn said(
@@ -24,7 +30,7 @@ fn said(
             let bytes = text.len();
             Ok(format!(in alloc; "{name}: {bytes} bytes")?)
         }
-        Err(fault) => Ok(format!(in alloc; "{name}: {fault}")?),
+        Err(fault) => named(alloc, name, &fault),
     }
 }
 

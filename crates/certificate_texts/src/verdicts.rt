@@ -20,12 +20,17 @@ fn outcome(equal: bool) -> &'static str {
     if equal { "equal" } else { "DIFFERENT" }
 }
 
+/// Whether an item comes, or the fault that ends them.
+fn comes<S: ItemSource>(items: &mut S) -> std::result::Result<bool, TextFault> {
+    Ok(items.next_item()?.is_some())
+}
+
 /// How many items come, and the fault that ends them.
 fn count_items<S: ItemSource>(items: &mut S) -> (u64, Option<TextFault>) {
     for count in 0..u64::MAX {
-        match items.next_item() {
-            Ok(Some(_item)) => {}
-            Ok(None) => return (count, None),
+        match comes(items) {
+            Ok(true) => {}
+            Ok(false) => return (count, None),
             Err(fault) => return (count, Some(fault)),
         }
     }
@@ -105,16 +110,26 @@ fn words(alloc: Global, bytes: &[u8]) -> Result<String> {
     }
 }
 
+/// How many LFs there are.
+fn feeds(bytes: &[u8]) -> u64 {
+    bytes.iter().filter(|byte| **byte == b'\n').count() as u64
+}
+
+/// Whether a text is cut short on the line after its LFs.
+fn is_cut_short(alloc: Global, text: &[u8]) -> bool {
+    match read(alloc, text) {
+        Ok(_certificate) => false,
+        Err(fault) => {
+            fault.kind == TextKind::CutShort && fault.line == feeds(text).saturating_add(1)
+        }
+    }
+}
+
 /// How many proper prefixes there are, and how many are cut short at one more than their LFs.
 fn prefixes(alloc: Global, bytes: &[u8]) -> Result<String> {
     let mut cut = 0_usize;
     for end in 0..bytes.len() {
-        let front = &bytes[..end];
-        let feeds = front.iter().filter(|byte| **byte == b'\n').count();
-        if let Err(fault) = read(alloc, front)
-            && fault.kind == TextKind::CutShort
-            && fault.line == (feeds as u64).saturating_add(1)
-        {
+        if is_cut_short(alloc, &bytes[..end]) {
             cut = cut.saturating_add(1);
         }
     }
