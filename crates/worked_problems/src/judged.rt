@@ -6,6 +6,7 @@ use crate::sketch::{
 use anyhow::Result;
 use grouping_judge::{Counts, compare, judge};
 use grouping_problem::Problem;
+use std::alloc::Global;
 
 /// Prints counts by size.
 fn show_counts(rt: &HostRuntime, counts: &Counts) -> Result<()> {
@@ -28,20 +29,28 @@ fn show_verdict(rt: &HostRuntime, problem: &Problem, sets: &[(u16, &[u32])]) -> 
     }
 }
 
+/// The counts of a lawful grouping of the three pairs, judged from its copy.
+fn counts_of(alloc: Global, sets: &[(u16, &[u32])]) -> Result<Counts> {
+    let path = THREE_PAIRS.problem(alloc)?;
+    let grouping = grouping(alloc, sets)?;
+    Ok(judge(alloc, &path, &grouping.copy()?)?)
+}
+
+/// Prints how counts stand to others.
+fn show_order(rt: &HostRuntime, first: &Counts, second: &Counts) -> Result<()> {
+    println!(rt; "{:?}", compare(first, second))?;
+    Ok(())
+}
+
 /// Prints how the counts of one and five stand to those of three pairs.
 fn show_three_pairs(rt: &HostRuntime) -> Result<()> {
-    let alloc = rt.alloc();
-    let path = THREE_PAIRS.problem(alloc)?;
-    let one_and_five = grouping(alloc, &[(1, &[1]), (2, &[3, 5, 7, 9, 11])])?;
-    let pairs = grouping(alloc, &[(1, &[1, 3]), (1, &[5, 7]), (1, &[9, 11])])?;
-    let first = judge(alloc, &path, &one_and_five)?;
-    let second = judge(alloc, &path, &pairs.copy()?)?;
+    let first = counts_of(rt.alloc(), &[(1, &[1]), (2, &[3, 5, 7, 9, 11])])?;
+    let second = counts_of(rt.alloc(), &[(1, &[1, 3]), (1, &[5, 7]), (1, &[9, 11])])?;
     show_counts(rt, &first)?;
     show_counts(rt, &second)?;
-    println!(rt; "{:?}", compare(&first, &second))?;
-    println!(rt; "{:?}", compare(&second, &first))?;
-    println!(rt; "{:?}", compare(&first.copy()?, &first))?;
-    Ok(())
+    show_order(rt, &first, &second)?;
+    show_order(rt, &second, &first)?;
+    show_order(rt, &first.copy()?, &first)
 }
 
 /// Prints each fault of a grouping, and the first of several.
@@ -51,10 +60,15 @@ fn show_faults(rt: &HostRuntime) -> Result<()> {
     show_verdict(rt, &ring, &[(1, &[1, 5]), (1, &[3, 7])])?;
     show_verdict(rt, &ring, &[(1, &[1, 3]), (1, &[])])?;
     show_verdict(rt, &ring, &[(1, &[1, 3]), (1, &[5, 9])])?;
-    show_verdict(rt, &ring, &[(1, &[1, 3]), (1, &[5, 3, 1])])?;
-    show_verdict(rt, &ring, &[(1, &[1]), (1, &[5])])?;
-    show_verdict(rt, &ring, &[(1, &[1, 3]), (2, &[5, 7])])?;
-    show_verdict(rt, &ring, &[(9, &[1, 5, 1]), (9, &[9]), (9, &[])])
+    show_more_faults(rt, &ring)
+}
+
+/// Prints more faults of a grouping.
+fn show_more_faults(rt: &HostRuntime, ring: &Problem) -> Result<()> {
+    show_verdict(rt, ring, &[(1, &[1, 3]), (1, &[5, 3, 1])])?;
+    show_verdict(rt, ring, &[(1, &[1]), (1, &[5])])?;
+    show_verdict(rt, ring, &[(1, &[1, 3]), (2, &[5, 7])])?;
+    show_verdict(rt, ring, &[(9, &[1, 5, 1]), (9, &[9]), (9, &[])])
 }
 
 /// Prints verdicts where counties are withdrawn.

@@ -2,6 +2,8 @@
 //! The gate runs it and compares what it prints with `stdout`, which was written by hand from the rules.
 #![tactic(auto)]
 
+ghost use Rattle.std.specs.Prelude.{◌≤◌};
+
 mod groups;
 mod judged;
 mod orders;
@@ -12,27 +14,28 @@ mod sketch;
 mod states;
 
 use anyhow::Result;
-use place_sets::{ListSet, MaskSet, WideSet};
+use place_sets::{CountySet, ListSet, MaskSet, WideSet};
+
+/// Prints what calls over one form of sets answer.
+fn show_sets<C: CountySet>(rt: &HostRuntime) -> Result<()>
+    requires { 128 ≤ C.PLACES }
+{
+    sets::show::<C>(rt)?;
+    groups::show::<C>(rt)?;
+    regions::show::<C>(rt)?;
+    states::show::<C>(rt)
+}
 
 fn main(rt: HostRuntime) -> Result<()> {
     problems::show(&rt)?;
     judged::show(&rt)?;
     orders::show(&rt)?;
     println!(rt; "-- lists")?;
-    sets::show::<ListSet>(&rt)?;
-    groups::show::<ListSet>(&rt)?;
-    regions::show::<ListSet>(&rt)?;
-    states::show::<ListSet>(&rt)?;
+    show_sets::<ListSet>(&rt)?;
     println!(rt; "-- masks")?;
-    sets::show::<MaskSet>(&rt)?;
-    groups::show::<MaskSet>(&rt)?;
-    regions::show::<MaskSet>(&rt)?;
-    states::show::<MaskSet>(&rt)?;
+    show_sets::<MaskSet>(&rt)?;
     println!(rt; "-- wide masks")?;
-    sets::show::<WideSet>(&rt)?;
-    groups::show::<WideSet>(&rt)?;
-    regions::show::<WideSet>(&rt)?;
-    states::show::<WideSet>(&rt)?;
+    show_sets::<WideSet>(&rt)?;
     sets::show_ends(&rt)?;
     states::show_rounds(&rt)
 }

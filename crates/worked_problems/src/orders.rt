@@ -5,29 +5,42 @@ use anyhow::{Context, Result};
 use grouping_problem::Problem;
 use ordered_counties::{Ordered, Steps, allot};
 
-/// Prints the counties of an order, by their places, or why it is none.
-fn show_order(rt: &HostRuntime, problem: &Problem, numbers: &[u32]) -> Result<()> {
-    let order = codes(rt.alloc(), numbers)?;
-    let ordered = match Ordered::build(rt.alloc(), problem, &order) {
-        Ok(ordered) => ordered,
-        Err(fault) => {
-            println!(rt; "{fault}")?;
-            return Ok(());
-        }
-    };
+/// Prints the county at a place.
+fn show_place(rt: &HostRuntime, ordered: &Ordered, place: u16) -> Result<()> {
+    if place >= ordered.places() {
+        return Ok(());
+    }
+    let (code, people) = (ordered.code(place), ordered.people(place));
+    println!(rt;
+        "place {place}: {code} of {people}, touches place 0: {}",
+        ordered.touch(place, 0)
+    )?;
+    Ok(())
+}
+
+/// Prints the counties of an order, by their places.
+fn show_places(rt: &HostRuntime, ordered: &Ordered) -> Result<()> {
     println!(rt;
         "{} places for {} seats",
         ordered.places(),
         ordered.problem().chamber()
     )?;
     for place in 0..ordered.places() {
-        let (code, people) = (ordered.code(place), ordered.people(place));
-        println!(rt;
-            "place {place}: {code} of {people}, touches place 0: {}",
-            ordered.touch(place, 0)
-        )?;
+        show_place(rt, ordered, place)?;
     }
     Ok(())
+}
+
+/// Prints the counties of an order, by their places, or why it is none.
+fn show_order(rt: &HostRuntime, problem: &Problem, numbers: &[u32]) -> Result<()> {
+    let order = codes(rt.alloc(), numbers)?;
+    match Ordered::build(rt.alloc(), problem, &order) {
+        Ok(ordered) => show_places(rt, &ordered),
+        Err(fault) => {
+            println!(rt; "{fault}")?;
+            Ok(())
+        }
+    }
 }
 
 /// Prints the seats that are allotted to numbers of people.
@@ -61,25 +74,34 @@ fn show_steps(rt: &HostRuntime, limit: u64) -> Result<()> {
     Ok(())
 }
 
-/// Prints orders, seats and steps.
-pub(crate) fn show(rt: &HostRuntime) -> Result<()> {
+/// Prints orders of the stranding path.
+fn show_orders(rt: &HostRuntime) -> Result<()> {
     let path = STRANDING_PATH.problem(rt.alloc())?;
     show_order(rt, &path, &[5, 1, 3])?;
     show_order(rt, &path, &[1, 3, 3])?;
     show_order(rt, &path, &[1, 3])?;
-    show_order(rt, &path, &[1, 3, 5, 7])?;
+    show_order(rt, &path, &[1, 3, 5, 7])
+}
+
+/// Prints the seats allotted where no county is left.
+fn show_no_seats(rt: &HostRuntime, chamber: u16) -> Result<()> {
+    let none = Sketch {
+        people: &[(1, 100)],
+        pairs: &[],
+        withdrawn: &[(1, &[1])],
+        chamber,
+    };
+    show_seats(rt, &none.problem(rt.alloc())?, &[])
+}
+
+/// Prints orders, seats and steps.
+pub(crate) fn show(rt: &HostRuntime) -> Result<()> {
+    show_orders(rt)?;
     let apart = THIRTY_NINE_SEATS.problem(rt.alloc())?;
     show_seats(rt, &apart, &[1950, 1950])?;
     show_seats(rt, &apart, &[1950])?;
-    for chamber in [1, 2] {
-        let none = Sketch {
-            people: &[(1, 100)],
-            pairs: &[],
-            withdrawn: &[(1, &[1])],
-            chamber,
-        };
-        show_seats(rt, &none.problem(rt.alloc())?, &[])?;
-    }
+    show_no_seats(rt, 1)?;
+    show_no_seats(rt, 2)?;
     show_steps(rt, 0)?;
     show_steps(rt, 2)
 }

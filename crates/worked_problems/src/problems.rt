@@ -43,14 +43,8 @@ fn show_chamber(rt: &HostRuntime, chamber: u16) -> Result<()> {
     Ok(())
 }
 
-/// Prints a problem as it is read back.
-fn show_problem(rt: &HostRuntime, problem: &Problem) -> Result<()> {
-    let (people, chamber, left) = (
-        problem.total_people(),
-        problem.chamber(),
-        problem.seats_left(),
-    );
-    println!(rt; "people {people}, chamber {chamber}, seats left {left}")?;
+/// Prints the counties and the withdrawn sets of a problem.
+fn show_lists(rt: &HostRuntime, problem: &Problem) -> Result<()> {
     for county in problem.counties() {
         println!(rt; "county {} of {}", county.code, county.people)?;
     }
@@ -59,12 +53,29 @@ fn show_problem(rt: &HostRuntime, problem: &Problem) -> Result<()> {
         let codes = set.codes.into_vec();
         println!(rt; "withdrawn: {} seats, {} counties", set.seats, codes.len())?;
     }
+    Ok(())
+}
+
+/// Prints which counties of a problem are adjacent.
+fn show_pairs(rt: &HostRuntime, problem: &Problem) -> Result<()> {
     for (a, b) in [(1, 3), (3, 1), (3, 5), (1, 1)] {
         if let (Some(a), Some(b)) = (code(a), code(b)) {
             println!(rt; "{a} and {b} adjacent: {}", problem.adjacent(a, b))?;
         }
     }
     Ok(())
+}
+
+/// Prints a problem as it is read back.
+fn show_problem(rt: &HostRuntime, problem: &Problem) -> Result<()> {
+    let (people, chamber, left) = (
+        problem.total_people(),
+        problem.chamber(),
+        problem.seats_left(),
+    );
+    println!(rt; "people {people}, chamber {chamber}, seats left {left}")?;
+    show_lists(rt, problem)?;
+    show_pairs(rt, problem)
 }
 
 /// Prints the people of the counties at a problem's numbers.
@@ -169,13 +180,8 @@ fn show_codes(rt: &HostRuntime) -> Result<()> {
     Ok(())
 }
 
-/// Prints windows, a problem read back, and each fault.
-pub(crate) fn show(rt: &HostRuntime) -> Result<()> {
-    show_codes(rt)?;
-    show_chamber(rt, 120)?;
-    show_chamber(rt, 50)?;
-    let apart = THIRTY_NINE_SEATS.problem(rt.alloc())?;
-    show_seats(rt, &apart, 1950)?;
+/// Prints a problem with a withdrawn set, and its copy.
+fn show_built(rt: &HostRuntime) -> Result<()> {
     let withdrawn = Sketch {
         people: &[(5, 100), (1, 100), (3, 100)],
         pairs: &[(3, 1), (1, 1), (3, 5)],
@@ -184,7 +190,16 @@ pub(crate) fn show(rt: &HostRuntime) -> Result<()> {
     };
     let built = withdrawn.problem(rt.alloc())?;
     show_problem(rt, &built)?;
-    show_problem(rt, &built.copy()?)?;
+    show_problem(rt, &built.copy()?)
+}
+
+/// Prints windows, a problem read back, and each fault.
+pub(crate) fn show(rt: &HostRuntime) -> Result<()> {
+    show_codes(rt)?;
+    show_chamber(rt, 120)?;
+    show_chamber(rt, 50)?;
+    show_seats(rt, &THIRTY_NINE_SEATS.problem(rt.alloc())?, 1950)?;
+    show_built(rt)?;
     show_people(rt, &STRANDING_PATH.problem(rt.alloc())?)?;
     show_limits(rt)?;
     show_withdrawn_faults(rt)

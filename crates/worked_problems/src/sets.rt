@@ -39,34 +39,79 @@ fn show_relations<C: CountySet>(rt: &HostRuntime, one: &C, other: &C) -> Result<
     Ok(())
 }
 
+/// Odd places, out of order, and 5 twice.
+const ODD: &[u16] = &[5, 11, 3, 5];
+
+/// Low places.
+const LOW: &[u16] = &[0, 2, 3, 8];
+
+/// Prints a set and what is next in it.
+fn show_set<C: CountySet>(rt: &HostRuntime) -> Result<()>
+    requires { 128 ≤ C.PLACES }
+{
+    let odd: C = set_of(rt.alloc(), ODD)?;
+    println!(rt; "{} places", odd.size())?;
+    show_places(rt, &odd)?;
+    show_next(rt, &odd)
+}
+
+/// Prints a union, and how it stands to one of its sides.
+fn show_union<C: CountySet>(rt: &HostRuntime) -> Result<()>
+    requires { 128 ≤ C.PLACES }
+{
+    let alloc = rt.alloc();
+    let odd: C = set_of(alloc, ODD)?;
+    let both = odd.union(alloc, &set_of(alloc, LOW)?)?;
+    show_places(rt, &both)?;
+    show_relations(rt, &odd, &both)?;
+    show_relations(rt, &both, &odd)
+}
+
+/// Prints a union without one side, and in common with the other.
+fn show_parts<C: CountySet>(rt: &HostRuntime) -> Result<()>
+    requires { 128 ≤ C.PLACES }
+{
+    let alloc = rt.alloc();
+    let (odd, low): (C, C) = (set_of(alloc, ODD)?, set_of(alloc, LOW)?);
+    let both = odd.union(alloc, &low)?;
+    show_places(rt, &both.copy(alloc)?.minus(&odd))?;
+    show_places(rt, &both.copy(alloc)?.intersection(&low))
+}
+
+/// Prints a set without a place of it and one that it lacks.
+fn show_without<C: CountySet>(rt: &HostRuntime) -> Result<()>
+    requires { 128 ≤ C.PLACES }
+{
+    let alloc = rt.alloc();
+    let odd: C = set_of(alloc, ODD)?;
+    let rest = odd.copy(alloc)?.without(3).without(4);
+    show_places(rt, &rest)?;
+    show_relations(rt, &rest, &set_of(alloc, LOW)?)
+}
+
+/// Prints how sets of one size, and no places, stand to others.
+fn show_sizes<C: CountySet>(rt: &HostRuntime) -> Result<()>
+    requires { 128 ≤ C.PLACES }
+{
+    let alloc = rt.alloc();
+    let one: C = set_of(alloc, &[1, 8])?;
+    show_relations(rt, &one, &set_of(alloc, &[1, 9])?)?;
+    show_relations(rt, &C::empty(alloc)?, &one)
+}
+
 /// Prints what each call answers on sets of a few places.
 pub(crate) fn show<C: CountySet>(rt: &HostRuntime) -> Result<()>
     requires { 128 ≤ C.PLACES }
 {
-    let alloc = rt.alloc();
-    // Put in out of order, and 5 twice.
-    let odd: C = set_of(alloc, &[5, 11, 3, 5])?;
-    println!(rt; "{} places", odd.size())?;
-    show_places(rt, &odd)?;
-    show_next(rt, &odd)?;
-    let low: C = set_of(alloc, &[0, 2, 3, 8])?;
-    let both = odd.union(alloc, &low)?;
-    show_places(rt, &both)?;
-    show_relations(rt, &odd, &both)?;
-    show_relations(rt, &both, &odd)?;
-    show_places(rt, &both.copy(alloc)?.minus(&odd))?;
-    show_places(rt, &both.copy(alloc)?.intersection(&low))?;
-    let rest = odd.copy(alloc)?.without(3).without(4);
-    show_places(rt, &rest)?;
-    show_relations(rt, &rest, &low)?;
-    let one: C = set_of(alloc, &[1, 8])?;
-    let other: C = set_of(alloc, &[1, 9])?;
-    show_relations(rt, &one, &other)?;
-    show_relations(rt, &C::empty(alloc)?, &one)
+    show_set::<C>(rt)?;
+    show_union::<C>(rt)?;
+    show_parts::<C>(rt)?;
+    show_without::<C>(rt)?;
+    show_sizes::<C>(rt)
 }
 
-/// Prints the last places of each form, and sets with places in both halves of a wide one.
-pub(crate) fn show_ends(rt: &HostRuntime) -> Result<()> {
+/// Prints the last place of a list.
+fn show_last_of_list(rt: &HostRuntime) -> Result<()> {
     let alloc = rt.alloc();
     let last = ListSet::empty(alloc)?.with(alloc, 65_535)?;
     println!(rt;
@@ -75,10 +120,25 @@ pub(crate) fn show_ends(rt: &HostRuntime) -> Result<()> {
         last.next(7),
         last.without(65_535).size()
     )?;
+    Ok(())
+}
+
+/// Prints the last place of a mask.
+fn show_last_of_mask(rt: &HostRuntime) -> Result<()> {
+    let alloc = rt.alloc();
     let last = MaskSet::empty(alloc)?.with(alloc, 127)?;
     println!(rt; "{} {:?} {:?}", last.has(127), last.next(7), last.next(128))?;
-    let ends = WideSet::empty(alloc)?.with(alloc, 255)?.with(alloc, 127)?;
-    let start = WideSet::empty(alloc)?.with(alloc, 128)?;
+    Ok(())
+}
+
+/// The last places of both halves of a wide mask.
+fn wide_ends(alloc: Global) -> Result<WideSet> {
+    Ok(WideSet::empty(alloc)?.with(alloc, 255)?.with(alloc, 127)?)
+}
+
+/// Prints the places of both halves of a wide mask.
+fn show_halves(rt: &HostRuntime) -> Result<()> {
+    let ends = wide_ends(rt.alloc())?;
     println!(rt; "{} {} {}", ends.has(255), ends.has(128), ends.size())?;
     println!(rt;
         "{:?} {:?} {:?}",
@@ -86,7 +146,23 @@ pub(crate) fn show_ends(rt: &HostRuntime) -> Result<()> {
         ends.next(128),
         ends.next(256)
     )?;
-    show_relations(rt, &ends, &ends.without(127))?;
-    show_relations(rt, &ends, &ends.without(255))?;
+    Ok(())
+}
+
+/// Prints how the halves of a wide mask stand to the whole.
+fn show_half_relations(rt: &HostRuntime) -> Result<()> {
+    let alloc = rt.alloc();
+    let start = WideSet::empty(alloc)?.with(alloc, 128)?;
+    let ends = wide_ends(alloc)?;
+    show_relations(rt, &ends, &wide_ends(alloc)?.without(127))?;
+    show_relations(rt, &ends, &wide_ends(alloc)?.without(255))?;
     show_relations(rt, &start, &ends)
+}
+
+/// Prints the last places of each form, and sets with places in both halves of a wide one.
+pub(crate) fn show_ends(rt: &HostRuntime) -> Result<()> {
+    show_last_of_list(rt)?;
+    show_last_of_mask(rt)?;
+    show_halves(rt)?;
+    show_half_relations(rt)
 }

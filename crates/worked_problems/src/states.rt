@@ -1,13 +1,14 @@
 //! States of proof trees, and rounds.
-ghost use Rattle.std.specs.Prelude.{◌≤◌};
+ghost use Rattle.std.specs.Prelude.{◌≤◌, length};
 
 use crate::groups::show_places;
 use crate::sketch::{STRANDING_PATH, codes, grouping};
 use anyhow::Result;
-use county_codes::{Codes, listed_codes};
+use county_codes::{Codes, Grouping, listed_codes};
 use ordered_counties::Ordered;
 use place_sets::CountySet;
 use proof_trees::{Language, Round, State};
+use std::alloc::Global;
 
 /// Prints a state: its rest, what each place asks for, and its closed groups.
 fn show_state<C: CountySet>(rt: &HostRuntime, state: &State<C>) -> Result<()>
@@ -23,47 +24,84 @@ fn show_state<C: CountySet>(rt: &HostRuntime, state: &State<C>) -> Result<()>
     Ok(())
 }
 
-/// Prints states of the stranding path: at first, with its middle county raised past 1, and with its first
-/// county closed alone.
-pub(crate) fn show<C: CountySet>(rt: &HostRuntime) -> Result<()>
-    requires { 128 ≤ C.PLACES }
+/// Prints a state with its first county closed alone.
+fn show_closed<C: CountySet>(rt: &HostRuntime, state: State<C>) -> Result<()>
+    requires fits { 128 ≤ C.PLACES }
+    requires few { length state.least.items ≤ 128 }
 {
-    let alloc = rt.alloc();
-    let path = STRANDING_PATH.problem(alloc)?;
-    let order = listed_codes(alloc, path.counties())?;
-    let ordered = Ordered::build(alloc, &path, &order)?;
-    let _places = ordered.places();
-    let mut state: State<C> = State::empty(alloc, &ordered)?;
-    show_state(rt, &state)?;
-    if state.least.len() > 1 {
-        state.raise(1, 1);
-    }
-    show_state(rt, &state.copy(alloc)?)?;
     if state.least.len() > 0 {
-        let group = C::empty(alloc)?.with(alloc, 0)?;
+        let group = C::empty(rt.alloc())?.with(rt.alloc(), 0)?;
         show_state(rt, &state.close(group)?)?;
     }
     Ok(())
 }
 
+/// Prints a state with its second county raised past 1.
+fn show_raised<C: CountySet>(rt: &HostRuntime, state: State<C>) -> Result<()>
+    requires fits { 128 ≤ C.PLACES }
+    requires few { length state.least.items ≤ 128 }
+{
+    let mut state = state;
+    if state.least.len() > 1 {
+        state.raise(1, 1);
+    }
+    show_state(rt, &state.copy(rt.alloc())?)?;
+    show_closed(rt, state)
+}
+
+/// Prints the first state of an order, and those that come of it.
+fn show_states<C: CountySet>(rt: &HostRuntime, ordered: &Ordered) -> Result<()>
+    requires { 128 ≤ C.PLACES }
+{
+    let _places = ordered.places();
+    let state: State<C> = State::empty(rt.alloc(), ordered)?;
+    show_state(rt, &state)?;
+    show_raised(rt, state)
+}
+
+/// Prints states of the stranding path: at first, with its middle county raised past 1, and with its first
+/// county closed alone.
+pub(crate) fn show<C: CountySet>(rt: &HostRuntime) -> Result<()>
+    requires { 128 ≤ C.PLACES }
+{
+    let path = STRANDING_PATH.problem(rt.alloc())?;
+    let order = listed_codes(rt.alloc(), path.counties())?;
+    let ordered = Ordered::build(rt.alloc(), &path, &order)?;
+    show_states::<C>(rt, &ordered)
+}
+
+/// The copy of a round with a target, or without one.
+fn round_copy(alloc: Global, target: Option<Grouping>) -> Result<Round> {
+    let round = Round {
+        order: Codes::new(codes(alloc, &[1, 3, 5])?),
+        limit: 3,
+        target,
+        language: Language::Wide,
+    };
+    Ok(round.copy()?)
+}
+
+/// How many groups a round's target has.
+fn groups_in(round: &Round) -> usize {
+    match &round.target {
+        Some(target) => target.groups.len(),
+        None => 0,
+    }
+}
+
+/// Prints a round.
+fn show_round(rt: &HostRuntime, round: &Round) -> Result<()> {
+    let (language, limit, groups) = (round.language, round.limit, groups_in(round));
+    println!(rt;
+        "{language:?}, limit {limit}, {} counties, {groups} groups",
+        round.order.as_slice().len()
+    )?;
+    Ok(())
+}
+
 /// Prints copies of rounds with a target and without one.
 pub(crate) fn show_rounds(rt: &HostRuntime) -> Result<()> {
-    let alloc = rt.alloc();
-    let together = grouping(alloc, &[(2, &[1, 3, 5])])?;
-    for target in [Some(together), None] {
-        let round = Round {
-            order: Codes::new(codes(alloc, &[1, 3, 5])?),
-            limit: 3,
-            target,
-            language: Language::Wide,
-        };
-        let copy = round.copy()?;
-        let groups = copy.target.as_ref().map_or(0, |target| target.groups.len());
-        let (language, limit) = (copy.language, copy.limit);
-        println!(rt;
-            "{language:?}, limit {limit}, {} counties, {groups} groups",
-            copy.order.as_slice().len()
-        )?;
-    }
-    Ok(())
+    let together = grouping(rt.alloc(), &[(2, &[1, 3, 5])])?;
+    show_round(rt, &round_copy(rt.alloc(), Some(together))?)?;
+    show_round(rt, &round_copy(rt.alloc(), None)?)
 }
