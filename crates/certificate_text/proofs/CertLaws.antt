@@ -1,28 +1,19 @@
 -- A certificate is read part by part.
-use Rattle.std.proofs.Common.{◌≡◌, ℕ, ◌≤◌, List, [], ◌∷◌, ◌++◌, length, Option, Ok, Err, refl, ap, sym, subst, ◌∙◌, append_assoc}
+use Rattle.std.proofs.Common.{◌≡◌, ℕ, List, [], ◌∷◌, ◌++◌, length, Option, Ok, Err, refl, ap, sym, subst, ◌∙◌, append_assoc}
 use Rattle.grouping_laws.specs.Grouping.{Grouping}
-use Rattle.certificate_text.specs.Words.{line_words}
-use Rattle.certificate_text.specs.Lines as line
-use Rattle.certificate_text.specs.Lines.{most}
-use Rattle.certificate_text.specs.Items.{by_words, head_in, in_front, certificate_items}
-use Rattle.certificate_text.specs.Rest.{Rest, lines_of, IsMemory, TakesLine, FaultOf}
-use Rattle.certificate_text.specs.Reads.{items_at, Reads, Refuses}
+use Rattle.certificate_lines.specs.Lines as line
+use Rattle.certificate_lines.specs.Lines.{most}
+use Rattle.certificate_lines.specs.Items.{by_words, head_in, in_front, certificate_items}
+use Rattle.certificate_lines.specs.Rest.{Rest, lines_of, IsMemory, TakesLine, FaultOf}
+use Rattle.certificate_lines.specs.Reads.{items_at, Reads, Refuses}
 use Rattle.certificate_text.specs.Trees.{items_of_target}
-use Rattle.certificate_text.proofs.WordLaws.{bind_ok}
-use Rattle.certificate_text.proofs.FormLaws.{order_few}
-use Rattle.certificate_text.proofs.ReadLaws.{reads_then, reads_with, reads_refuse, reads_line, refuses_line}
-use Rattle.certificate_text.specs.declared.fault.TextFault.{TextFault}
+use Rattle.certificate_lines.proofs.ReadLaws.{reads_then, reads_with, reads_refuse, reads_line, refuses_line}
+use Rattle.certificate_lines.specs.declared.fault.TextFault.{TextFault}
 use Rattle.proof_trees.specs.declared.language.Language.{Language}
-use Rattle.certificate_text.specs.declared.item.Item.{Item}
-use Rattle.certificate_text.specs.declared.item.Item.TheVariants as item
-use Rattle.certificate_text.specs.declared.item.Wanted.{Wanted}
-use Rattle.certificate_text.specs.declared.item.Wanted.TheVariants as want
-
--- an order that was read has few codes
-pub order_taken : (cs : List ℕ) (old new : Rest) → TakesLine (by_words line.order_on) cs old new → length cs ≤ most
-order_taken cs old new taken =
-    let w = bind_ok (line_words taken.piece.bytes taken.piece.ended) line.order_on cs taken.value in
-    order_few w.value cs w.then
+use Rattle.certificate_lines.specs.declared.item.Item.{Item}
+use Rattle.certificate_lines.specs.declared.item.Item.TheVariants as item
+use Rattle.certificate_lines.specs.declared.item.Wanted.{Wanted}
+use Rattle.certificate_lines.specs.declared.item.Wanted.TheVariants as want
 
 pub refuses_with : (a more : List Wanted) (x : Rest) (fault : TextFault) → Refuses a x fault → Refuses (a ++ more) x fault
 refuses_with a more x fault h mem later = ap (λ (w : List Wanted). items_at w x) (append_assoc a more later) ∙ h mem (more ++ later)

@@ -1,15 +1,15 @@
 -- The items of a text one at a time.
 use Rattle.std.proofs.Common.{◌≡◌, ℕ, ◌+◌, List, [], ◌∷◌, ◌++◌, Option, Some, None, Result, Ok, Err, refl, ap, sym, ◌∙◌}
 use Rattle.field_lines.specs.Raw.{RawLine}
-use Rattle.certificate_text.specs.Rest.{Rest, lines_of, fault_at, TakesLine, FaultOf}
-use Rattle.certificate_text.specs.Items.{item_on, wanted_after, in_front, items_from}
-use Rattle.certificate_text.specs.Reads.{items_at}
-use Rattle.certificate_text.specs.Courses.{Course, nothing, only_fault, first, course_from, whole}
-use Rattle.certificate_text.specs.declared.fault.TextKind.{TextKind}
-use Rattle.certificate_text.specs.declared.fault.TextKind.TheVariants.{AfterEnd}
-use Rattle.certificate_text.specs.declared.fault.TextFault.{TextFault}
-use Rattle.certificate_text.specs.declared.item.Item.{Item}
-use Rattle.certificate_text.specs.declared.item.Wanted.{Wanted}
+use Rattle.certificate_lines.specs.Rest.{Rest, lines_of, fault_at, TakesLine, FaultOf}
+use Rattle.certificate_lines.specs.Items.{item_on, wanted_after, in_front, items_from}
+use Rattle.certificate_lines.specs.Reads.{items_at}
+use Rattle.certificate_lines.specs.Courses.{Course, nothing, only_fault, first, course_from, whole}
+use Rattle.certificate_lines.specs.declared.fault.TextKind.{TextKind}
+use Rattle.certificate_lines.specs.declared.fault.TextKind.TheVariants.{AfterEnd}
+use Rattle.certificate_lines.specs.declared.fault.TextFault.{TextFault}
+use Rattle.certificate_lines.specs.declared.item.Item.{Item}
+use Rattle.certificate_lines.specs.declared.item.Wanted.{Wanted}
 
 -- what a line leads to
 abbrev course_by : Wanted → ℕ → List RawLine → List Wanted → Result Item TextKind → Course

@@ -4,24 +4,24 @@ use Rattle.std.specs.Prelude.{nat_lt, nat_le, drop}
 use Rattle.field_lines.specs.Chain.{◌>>=◌}
 use Rattle.field_lines.specs.Fault.{most_bytes}
 use Rattle.field_lines.specs.Raw.{RawLine, raw_lines_from}
-use Rattle.certificate_text.specs.Words.{words_of, is_canonical, line_bytes, line_words}
-use Rattle.certificate_text.specs.Lines as line
-use Rattle.certificate_text.specs.Lines.{begins, named, counted}
-use Rattle.certificate_text.specs.Rest.{fault_at, IsMemory}
-use Rattle.certificate_text.specs.Items.{by_words, seen, item_on, in_front, items_from}
-use Rattle.certificate_text.specs.Reads.{Refuses}
-use Rattle.certificate_text.specs.Spelling.{text_of}
-use Rattle.certificate_text.specs.Fits.{AllFit}
+use Rattle.certificate_lines.specs.Words.{words_of, is_canonical, line_bytes, line_words}
+use Rattle.certificate_lines.specs.Lines as line
+use Rattle.certificate_lines.specs.Lines.{begins, named, counted}
+use Rattle.certificate_lines.specs.Rest.{fault_at, IsMemory}
+use Rattle.certificate_lines.specs.Items.{by_words, seen, item_on, in_front, items_from}
+use Rattle.certificate_lines.specs.Reads.{Refuses}
+use Rattle.certificate_lines.specs.Spelling.{text_of}
+use Rattle.certificate_lines.specs.Fits.{AllFit}
 use Rattle.certificate_text.proofs.PrefixLaws.{items_then}
 use Rattle.certificate_text.proofs.GiveLaws.{memory_only}
 use Rattle.certificate_text.proofs.TextBack.{line_by}
-use Rattle.certificate_text.specs.declared.fault.TextFault.{TextFault}
-use Rattle.certificate_text.specs.declared.fault.TextKind.{TextKind}
-use Rattle.certificate_text.specs.declared.fault.TextKind.TheVariants.{BadWord, NotCanonical, CutShort, AfterEnd}
-use Rattle.certificate_text.specs.declared.item.Item.{Item}
-use Rattle.certificate_text.specs.declared.item.Item.TheVariants.{End}
-use Rattle.certificate_text.specs.declared.item.Wanted.{Wanted}
-use Rattle.certificate_text.specs.declared.item.Wanted.TheVariants as want
+use Rattle.certificate_lines.specs.declared.fault.TextFault.{TextFault}
+use Rattle.certificate_lines.specs.declared.fault.TextKind.{TextKind}
+use Rattle.certificate_lines.specs.declared.fault.TextKind.TheVariants.{BadWord, NotCanonical, CutShort, AfterEnd}
+use Rattle.certificate_lines.specs.declared.item.Item.{Item}
+use Rattle.certificate_lines.specs.declared.item.Item.TheVariants.{End}
+use Rattle.certificate_lines.specs.declared.item.Wanted.{Wanted}
+use Rattle.certificate_lines.specs.declared.item.Wanted.TheVariants as want
 
 -- any answer but that bytes stand after the end
 abbrev Other : {X : Type 0} → Result X TextKind → Type 0

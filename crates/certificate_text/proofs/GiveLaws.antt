@@ -2,19 +2,19 @@
 use Rattle.std.proofs.Common.{◌≡◌, ℕ, List, Result, Ok, Err, refl, ap, sym, ◌∙◌}
 use Rattle.std.specs.Result.{IfOk, IfErr}
 use Rattle.field_lines.specs.Raw.{raw_lines}
-use Rattle.certificate_text.specs.Items.{items_from}
-use Rattle.certificate_text.specs.Rest.{IsMemory}
-use Rattle.certificate_text.specs.Reads.{Gives, IsUnlessMemory}
-use Rattle.certificate_text.specs.declared.fault.TextKind.{TextKind}
-use Rattle.certificate_text.specs.declared.fault.TextKind.TheVariants.{BadHead, BadWord, BadNumber, NotCanonical, CutShort, AfterEnd, TooDeep, ReadFault, Memory}
-use Rattle.certificate_text.specs.Spelling.{text_of}
-use Rattle.certificate_text.specs.Fits.{AllFit}
-use Rattle.certificate_text.proofs.TextLaws.{text_ok}
+use Rattle.certificate_lines.specs.Items.{items_from}
+use Rattle.certificate_lines.specs.Rest.{IsMemory}
+use Rattle.certificate_lines.specs.Reads.{Gives, IsUnlessMemory}
+use Rattle.certificate_lines.specs.declared.fault.TextKind.{TextKind}
+use Rattle.certificate_lines.specs.declared.fault.TextKind.TheVariants.{BadHead, BadWord, BadNumber, NotCanonical, CutShort, AfterEnd, TooDeep, ReadFault, Memory}
+use Rattle.certificate_lines.specs.Spelling.{text_of}
+use Rattle.certificate_lines.specs.Fits.{AllFit}
+use Rattle.certificate_lines.proofs.TextLaws.{text_ok}
 use Rattle.certificate_text.proofs.TextBack.{items_back}
-use Rattle.certificate_text.proofs.FitsLaws.{items_fit}
-use Rattle.certificate_text.specs.declared.fault.TextFault.{TextFault}
-use Rattle.certificate_text.specs.declared.item.Item.{Item}
-use Rattle.certificate_text.specs.declared.item.Wanted.{Wanted}
+use Rattle.certificate_lines.proofs.FitsLaws.{items_fit}
+use Rattle.certificate_lines.specs.declared.fault.TextFault.{TextFault}
+use Rattle.certificate_lines.specs.declared.item.Item.{Item}
+use Rattle.certificate_lines.specs.declared.item.Wanted.{Wanted}
 
 module _ {X : Type 0} (items : X → List Item) (wanted : List Wanted) (text : List ℕ) where
   pub gives_found : (P : X → Type 0) → ((x : X) → AllFit wanted (items x) → text ≡ text_of (items x) → P x) → (r : Result X TextFault) → Gives items r (items_from wanted 1 (raw_lines text)) → IfOk r P

@@ -3,22 +3,22 @@ use Rattle.std.proofs.Common.{◌≡◌, ℕ, ◌+◌, ◌-◌, ◌<◌, ◌≤�
 use Rattle.std.specs.Prelude.{nat_lt}
 use Rattle.std.proofs.lemmas.Bool.Decides.{nat_tests}
 use Rattle.field_lines.specs.Raw.{RawLine}
-use Rattle.certificate_text.specs.Lines as line
-use Rattle.certificate_text.specs.Rest.{Rest, lines_of, IsMemory, TakesLine, FaultOf}
-use Rattle.certificate_text.specs.Items.{by_words, seen, taken, item_on, wanted_after}
+use Rattle.certificate_lines.specs.Lines as line
+use Rattle.certificate_lines.specs.Rest.{Rest, lines_of, IsMemory, TakesLine, FaultOf}
+use Rattle.certificate_lines.specs.Items.{by_words, seen, taken, item_on, wanted_after}
 use Rattle.proof_trees.specs.Depth.{after_raise}
-use Rattle.certificate_text.specs.Reads.{Reads, Refuses}
-use Rattle.certificate_text.proofs.ReadLaws.{reads_none, reads_then, reads_with, reads_refuse, reads_line, refuses_line}
-use Rattle.certificate_text.specs.declared.fault.TextKind.{TextKind}
-use Rattle.certificate_text.specs.declared.fault.TextFault.{TextFault}
+use Rattle.certificate_lines.specs.Reads.{Reads, Refuses}
+use Rattle.certificate_lines.proofs.ReadLaws.{reads_none, reads_then, reads_with, reads_refuse, reads_line, refuses_line}
+use Rattle.certificate_lines.specs.declared.fault.TextKind.{TextKind}
+use Rattle.certificate_lines.specs.declared.fault.TextFault.{TextFault}
 use Rattle.proof_trees.specs.declared.language.Language.{Language}
 use Rattle.proof_trees.specs.declared.language.Language.TheVariants.{Plain, Wide}
-use Rattle.certificate_text.specs.declared.item.Opening.{Opening}
-use Rattle.certificate_text.specs.declared.item.Opening.TheVariants as opening
-use Rattle.certificate_text.specs.declared.item.Item.{Item}
-use Rattle.certificate_text.specs.declared.item.Item.TheVariants as item
-use Rattle.certificate_text.specs.declared.item.Wanted.{Wanted}
-use Rattle.certificate_text.specs.declared.item.Wanted.TheVariants as want
+use Rattle.certificate_lines.specs.declared.item.Opening.{Opening}
+use Rattle.certificate_lines.specs.declared.item.Opening.TheVariants as opening
+use Rattle.certificate_lines.specs.declared.item.Item.{Item}
+use Rattle.certificate_lines.specs.declared.item.Item.TheVariants as item
+use Rattle.certificate_lines.specs.declared.item.Wanted.{Wanted}
+use Rattle.certificate_lines.specs.declared.item.Wanted.TheVariants as want
 use Rattle.certificate_text.specs.declared.tree.Branch.{Branch}
 use Rattle.certificate_text.specs.declared.tree.Take.{Take}
 use Rattle.certificate_text.specs.Trees.{list_of_takes, items_of_takes}

@@ -5,16 +5,16 @@ use Rattle.county_codes.specs.declared.group.Group.{Group}
 use Rattle.grouping_laws.specs.Grouping.{Grouping}
 use Rattle.proof_trees.specs.Tree.{Tree}
 use Rattle.proof_trees.specs.declared.language.Language.{Language}
-use Rattle.certificate_text.specs.Items.{items_from}
-use Rattle.certificate_text.specs.Spelling.{text_of}
-use Rattle.certificate_text.specs.Fits.{AllFit}
+use Rattle.certificate_lines.specs.Items.{items_from}
+use Rattle.certificate_lines.specs.Spelling.{text_of}
+use Rattle.certificate_lines.specs.Fits.{AllFit}
 use Rattle.certificate_text.specs.Spelled.{IsSpelling, IsTreeSpelling}
 use Rattle.certificate_text.specs.Trees.{Certificate, items_of_tree, items_of_target, items_of_certificate}
-use Rattle.certificate_text.specs.declared.fault.TextFault.{TextFault}
-use Rattle.certificate_text.specs.declared.item.Item.{Item}
-use Rattle.certificate_text.specs.declared.item.Item.TheVariants as item
-use Rattle.certificate_text.specs.declared.item.Wanted.{Wanted}
-use Rattle.certificate_text.specs.declared.item.Wanted.TheVariants as want
+use Rattle.certificate_lines.specs.declared.fault.TextFault.{TextFault}
+use Rattle.certificate_lines.specs.declared.item.Item.{Item}
+use Rattle.certificate_lines.specs.declared.item.Item.TheVariants as item
+use Rattle.certificate_lines.specs.declared.item.Wanted.{Wanted}
+use Rattle.certificate_lines.specs.declared.item.Wanted.TheVariants as want
 use Rattle.certificate_text.proofs.TextBack.{items_back}
 use Rattle.certificate_text.proofs.TreeLaws.{heads, tree_back}
 use Rattle.certificate_text.proofs.PrefixLaws.{no_prefix, one_begins}

@@ -10,18 +10,18 @@ use Rattle.std.proofs.lemmas.List.Elements.{All-from_recursion}
 use Rattle.std.proofs.lemmas.List.Splits.{slice_split_none, slice_split_at}
 use Rattle.field_lines.specs.Chain.{◌>>=◌}
 use Rattle.field_lines.specs.Fault.{most_bytes}
-use Rattle.certificate_text.specs.Words.{words_of, has_bytes, is_printable, is_canonical, line_bytes, line_words, code, pair}
-use Rattle.certificate_text.specs.Lines.{most, begins, counted, number_at, code_at, each, order_on, limit_on, target_on, group_on, branch_on, stuck_on, bound_on, opening_on, take_on, weigh_on, allowance_on}
-use Rattle.certificate_text.specs.Spelling.{five_digits, weight_word, item_words}
-use Rattle.certificate_text.specs.Fits.{AreCodes, IsSet, FitsWeight, AreWeights}
+use Rattle.certificate_lines.specs.Words.{words_of, has_bytes, is_printable, is_canonical, line_bytes, line_words, code, pair}
+use Rattle.certificate_lines.specs.Lines.{most, begins, counted, number_at, code_at, each, order_on, limit_on, target_on, group_on, branch_on, stuck_on, bound_on, opening_on, take_on, weigh_on, allowance_on}
+use Rattle.certificate_lines.specs.Spelling.{five_digits, weight_word, item_words}
+use Rattle.certificate_lines.specs.Fits.{AreCodes, IsSet, FitsWeight, AreWeights}
 use Rattle.certificate_text.proofs.BackLaws.{number_back, code_back, Digit, decimal_digits, pair_back, each_back}
 use Rattle.proof_trees.specs.declared.language.Language.{Language}
 use Rattle.proof_trees.specs.declared.language.Language.TheVariants.{Plain, Wide}
-use Rattle.certificate_text.specs.declared.weights.Weight.{Weight}
+use Rattle.certificate_lines.specs.declared.weights.Weight.{Weight}
 use Rattle.county_codes.specs.declared.group.Group.{Group}
-use Rattle.certificate_text.specs.declared.item.Allowance.TheVariants.{Weigh}
-use Rattle.certificate_text.specs.declared.item.Opening.TheVariants.{Branch, Stuck, Bound}
-use Rattle.certificate_text.specs.declared.item.Item.TheVariants.{Order, Limit, Target, Grouped, Opens, Takes, Allows}
+use Rattle.certificate_lines.specs.declared.item.Allowance.TheVariants.{Weigh}
+use Rattle.certificate_lines.specs.declared.item.Opening.TheVariants.{Branch, Stuck, Bound}
+use Rattle.certificate_lines.specs.declared.item.Item.TheVariants.{Order, Limit, Target, Grouped, Opens, Takes, Allows}
 
 -- a byte of a word: printed, and no blank
 pub record Shown (b : ℕ) : Type 0 where

@@ -10,27 +10,27 @@ use Rattle.std.proofs.lemmas.List.Splits.{slice_split_at}
 use Rattle.field_lines.specs.Fault.{most_bytes}
 use Rattle.field_lines.specs.Raw.{RawLine, raw_lines_from, numbered, is_lf}
 use Rattle.field_lines.proofs.SplitLemmas.{numbered-ended}
-use Rattle.certificate_text.specs.Words.{line_bytes}
-use Rattle.certificate_text.specs.Lines as line
-use Rattle.certificate_text.specs.Lines.{most}
-use Rattle.certificate_text.specs.Items.{by_words, seen, taken, item_on, wanted_after, in_front, items_from}
-use Rattle.certificate_text.specs.Spelling.{five_digits, weight_word, item_words, text_of}
-use Rattle.certificate_text.specs.Fits.{AreCodes, IsSet, FitsWeight, AreWeights, Fits, AllFit}
-use Rattle.certificate_text.specs.Rest.{fault_at}
+use Rattle.certificate_lines.specs.Words.{line_bytes}
+use Rattle.certificate_lines.specs.Lines as line
+use Rattle.certificate_lines.specs.Lines.{most}
+use Rattle.certificate_lines.specs.Items.{by_words, seen, taken, item_on, wanted_after, in_front, items_from}
+use Rattle.certificate_lines.specs.Spelling.{five_digits, weight_word, item_words, text_of}
+use Rattle.certificate_lines.specs.Fits.{AreCodes, IsSet, FitsWeight, AreWeights, Fits, AllFit}
+use Rattle.certificate_lines.specs.Rest.{fault_at}
 use Rattle.certificate_text.proofs.BackLaws.{Digit, decimal_digits, code_digits}
 use Rattle.certificate_text.proofs.SpellLaws.{Shown, IsWord, Printed, printed_line, line_words_back, order_back, limit_back, group_back, take_back, plain_back, wide_back, stuck_back, bound_back, weigh_back, target_back}
-use Rattle.certificate_text.specs.declared.fault.TextKind.{TextKind}
-use Rattle.certificate_text.specs.declared.fault.TextFault.{TextFault}
+use Rattle.certificate_lines.specs.declared.fault.TextKind.{TextKind}
+use Rattle.certificate_lines.specs.declared.fault.TextFault.{TextFault}
 use Rattle.proof_trees.specs.declared.language.Language.{Language}
 use Rattle.proof_trees.specs.declared.language.Language.TheVariants.{Plain, Wide}
-use Rattle.certificate_text.specs.declared.weights.Weight.{Weight}
+use Rattle.certificate_lines.specs.declared.weights.Weight.{Weight}
 use Rattle.county_codes.specs.declared.group.Group.{Group}
-use Rattle.certificate_text.specs.declared.item.Allowance.TheVariants.{Room, Weigh}
-use Rattle.certificate_text.specs.declared.item.Opening.TheVariants.{Branch, Stuck, Seats, Bound}
-use Rattle.certificate_text.specs.declared.item.Item.{Item}
-use Rattle.certificate_text.specs.declared.item.Item.TheVariants.{Head, Order, Limit, Target, Grouped, Opens, Takes, Mark, Allows, End}
-use Rattle.certificate_text.specs.declared.item.Wanted.{Wanted}
-use Rattle.certificate_text.specs.declared.item.Wanted.TheVariants as want
+use Rattle.certificate_lines.specs.declared.item.Allowance.TheVariants.{Room, Weigh}
+use Rattle.certificate_lines.specs.declared.item.Opening.TheVariants.{Branch, Stuck, Seats, Bound}
+use Rattle.certificate_lines.specs.declared.item.Item.{Item}
+use Rattle.certificate_lines.specs.declared.item.Item.TheVariants.{Head, Order, Limit, Target, Grouped, Opens, Takes, Mark, Allows, End}
+use Rattle.certificate_lines.specs.declared.item.Wanted.{Wanted}
+use Rattle.certificate_lines.specs.declared.item.Wanted.TheVariants as want
 
 -- a short word, of at most 20 bytes
 record IsShort (word : List ℕ) : Type 0 where

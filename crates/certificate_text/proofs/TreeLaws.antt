@@ -1,7 +1,7 @@
 -- A list of items begins with the items of one tree at most.
 use Rattle.std.proofs.Common.{◌≡◌, List, [], ◌∷◌, ◌++◌, length, map, refl, ap, sym, ◌∙◌, append_assoc}
-use Rattle.certificate_text.specs.declared.item.Item.{Item}
-use Rattle.certificate_text.specs.declared.item.Item.TheVariants as item
+use Rattle.certificate_lines.specs.declared.item.Item.{Item}
+use Rattle.certificate_lines.specs.declared.item.Item.TheVariants as item
 use Rattle.proof_trees.specs.Tree.{Weight, Allowance, room, weigh, stuck, seats, bound, Tree, leaf, branch, Takes, no_take, take}
 use Rattle.certificate_text.specs.Trees.{weight_of, declared_weight, allowance_of, declared_allowance, items_of_tree, items_of_takes}
 

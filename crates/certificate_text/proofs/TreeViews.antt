@@ -1,12 +1,12 @@
 -- Trees as lists of branches, and takes as lists.
 use Rattle.std.proofs.Common.{◌≡◌, ℕ, List, [], ◌∷◌, ◌++◌, map, length, arith, Vec, Global, Option, refl, ap, sym, ◌∙◌, append_assoc, append-nil}
-use Rattle.certificate_text.specs.declared.item.Opening.TheVariants as opening
-use Rattle.certificate_text.specs.declared.item.Item.{Item}
-use Rattle.certificate_text.specs.declared.item.Item.TheVariants as item
+use Rattle.certificate_lines.specs.declared.item.Opening.TheVariants as opening
+use Rattle.certificate_lines.specs.declared.item.Item.{Item}
+use Rattle.certificate_lines.specs.declared.item.Item.TheVariants as item
 use Rattle.certificate_text.specs.declared.tree.Leaf.{Leaf as DeclaredLeaf}
-use Rattle.certificate_text.specs.declared.weights.Weight.{Weight as DeclaredWeight}
-use Rattle.certificate_text.specs.declared.item.Allowance.{Allowance as DeclaredAllowance}
-use Rattle.certificate_text.specs.declared.item.Allowance.TheVariants.{Room, Weigh}
+use Rattle.certificate_lines.specs.declared.weights.Weight.{Weight as DeclaredWeight}
+use Rattle.certificate_lines.specs.declared.item.Allowance.{Allowance as DeclaredAllowance}
+use Rattle.certificate_lines.specs.declared.item.Allowance.TheVariants.{Room, Weigh}
 use mathlib.Core.Former.{Count}
 use Rattle.certificate_text.specs.declared.tree.Tree.{Tree as DeclaredTree, Tree', Row_of-Branch, end_of-Branch, more_of-Branch, items-the_row-Branch, items_hidden-the_row-Branch-1, roll-Tree}
 use Rattle.certificate_text.specs.declared.tree.Branch.{Branch, Branch', Row_of-Take, end_of-Take, more_of-Take, items-the_row-Take, items_hidden-the_row-Take-0, roll-Branch}

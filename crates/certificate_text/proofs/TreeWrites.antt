@@ -5,18 +5,18 @@ use Rattle.proof_trees.specs.declared.language.Language.{Language}
 use Rattle.proof_trees.specs.declared.language.Language.TheVariants.{Plain, Wide}
 use Rattle.proof_trees.specs.Tree.{bound}
 use Rattle.proof_trees.specs.Depth.{after_raise}
-use Rattle.certificate_text.specs.Lines.{most}
-use Rattle.certificate_text.specs.Items.{wanted_after, allowances_wanted}
-use Rattle.certificate_text.specs.Spelling.{item_line}
-use Rattle.certificate_text.specs.Fits.{Fits, IsSet}
-use Rattle.certificate_text.specs.Writes.{WroteLine, Wrote, DontFit}
+use Rattle.certificate_lines.specs.Lines.{most}
+use Rattle.certificate_lines.specs.Items.{wanted_after, allowances_wanted}
+use Rattle.certificate_lines.specs.Spelling.{item_line}
+use Rattle.certificate_lines.specs.Fits.{Fits, IsSet}
+use Rattle.certificate_lines.specs.Writes.{WroteLine, Wrote, DontFit}
 use Rattle.certificate_text.specs.Trees.{allowance_of, leaf_items, tree_of, leaf_of, items_of_tree, items_of_takes, list_of_takes}
-use Rattle.certificate_text.specs.declared.item.Allowance.{Allowance as DeclaredAllowance}
-use Rattle.certificate_text.specs.declared.item.Opening.TheVariants as opening
-use Rattle.certificate_text.specs.declared.item.Item.{Item}
-use Rattle.certificate_text.specs.declared.item.Item.TheVariants as item
-use Rattle.certificate_text.specs.declared.item.Wanted.{Wanted}
-use Rattle.certificate_text.specs.declared.item.Wanted.TheVariants as want
+use Rattle.certificate_lines.specs.declared.item.Allowance.{Allowance as DeclaredAllowance}
+use Rattle.certificate_lines.specs.declared.item.Opening.TheVariants as opening
+use Rattle.certificate_lines.specs.declared.item.Item.{Item}
+use Rattle.certificate_lines.specs.declared.item.Item.TheVariants as item
+use Rattle.certificate_lines.specs.declared.item.Wanted.{Wanted}
+use Rattle.certificate_lines.specs.declared.item.Wanted.TheVariants as want
 use Rattle.certificate_text.specs.declared.tree.Tree.{Tree, out-Tree, roll-out-Tree}
 use Rattle.certificate_text.specs.declared.tree.Branch.{Branch, out-Branch, roll-out-Branch}
 use Rattle.certificate_text.specs.declared.tree.Take.{Take, Take', out-Take, roll-out-Take}

@@ -1,17 +1,17 @@
 -- What is written line by line.
 use Rattle.std.proofs.Common.{◌≡◌, ℕ, ◌+◌, ◌-◌, ◌<◌, ◌≤◌, suc, List, [], ◌∷◌, ◌++◌, length, map, take, drop, get_or, Result, Ok, Err, ap, sym, subst, ◌∙◌, arith, append_assoc, append-nil, take_all}
-use Rattle.std.specs.List.{flat_map, join_with_byte}
+use Rattle.std.specs.List.{flat_map}
 use Rattle.std.proofs.lemmas.Grind.{flat_map-append}
 use Rattle.std.proofs.lemmas.List.{take_more, take-append-drop, map-append}
 use Rattle.std.proofs.Math.Seq.{drop-cons}
-use Rattle.certificate_text.specs.Items.{wanted_after}
-use Rattle.certificate_text.specs.Spelling.{item_line, text_of}
-use Rattle.certificate_text.specs.Fits.{Fits, AllFit}
-use Rattle.certificate_text.specs.Writes.{Wrote, DontFit, Writes}
-use Rattle.certificate_text.specs.declared.fault.WriteFault.{WriteFault}
+use Rattle.certificate_lines.specs.Items.{wanted_after}
+use Rattle.certificate_lines.specs.Spelling.{item_line, text_of}
+use Rattle.certificate_lines.specs.Fits.{Fits, AllFit}
+use Rattle.certificate_lines.specs.Writes.{Wrote, DontFit, Writes}
+use Rattle.certificate_lines.specs.declared.fault.WriteFault.{WriteFault}
 use Rattle.certificate_text.proofs.LoopLaws.{runs, runs_more}
-use Rattle.certificate_text.specs.declared.item.Item.{Item}
-use Rattle.certificate_text.specs.declared.item.Wanted.{Wanted}
+use Rattle.certificate_lines.specs.declared.item.Item.{Item}
+use Rattle.certificate_lines.specs.declared.item.Wanted.{Wanted}
 
 pub wrote_none : (w : List Wanted) (x : List ℕ) → Wrote w [] w x x
 wrote_none w x = record { text = sym (append-nil x); fits = λ more later h. h; rest = λ more later h. h }
@@ -138,8 +138,3 @@ module _ {X : Type 0} (view : X → List Item) (xs : List X) (a b c : List Wante
       refused_more a (flat_map view xs) behind
       (refused_as a (flat_map view (take i xs) ++ (view x ++ flat_map view (drop (i + 1) xs))) (flat_map view xs) whole
       (refused_after a b start old (flat_map view (take i xs)) (view x ++ flat_map view (drop (i + 1) xs)) before (refused_more b (view x) (flat_map view (drop (i + 1) xs)) unfit)))
-
--- words, each after a blank, as they are joined
-pub joined : {X : Type 0} (word : X → List ℕ) (first : List ℕ) (xs : List X) → join_with_byte 32 (first ∷ map word xs) ≡ first ++ flat_map (λ x. 32 ∷ word x) xs
-joined word first [] = sym (append-nil first)
-joined word first (x ∷ xs) = ap (λ (l : List ℕ). first ++ 32 ∷ l) (joined word (word x) xs)

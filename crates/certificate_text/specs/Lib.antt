@@ -1,12 +1,2 @@
-pub mod Words
-pub mod Lines
-pub mod Left
-pub mod Rest
-pub mod Items
-pub mod Spelling
 pub mod Trees
-pub mod Reads
-pub mod Fits
 pub mod Spelled
-pub mod Writes
-pub mod Courses

@@ -1,9 +1,9 @@
 -- What is spelled by a text.
 use Rattle.std.specs.Prelude.{◌≡◌, ℕ, List, [], ◌∷◌}
 use Rattle.proof_trees.specs.declared.language.Language.{Language}
-use Rattle.certificate_text.specs.declared.item.Wanted.TheVariants as want
-use Rattle.certificate_text.specs.Fits.{AllFit}
-use Rattle.certificate_text.specs.Spelling.{text_of}
+use Rattle.certificate_lines.specs.declared.item.Wanted.TheVariants as want
+use Rattle.certificate_lines.specs.Fits.{AllFit}
+use Rattle.certificate_lines.specs.Spelling.{text_of}
 use Rattle.proof_trees.specs.Tree.{Tree}
 use Rattle.certificate_text.specs.Trees.{Certificate, items_of_tree, items_of_certificate}
 

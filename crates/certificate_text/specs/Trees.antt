@@ -5,12 +5,12 @@ use Rattle.proof_trees.specs.Round.{Round}
 use Rattle.proof_trees.specs.RoundValue.{round_of}
 use Rattle.proof_trees.specs.Tree.{Weight, Allowance, room, weigh, Leaf, stuck, seats, bound, Tree, leaf, branch, Takes, no_take, take}
 use Rattle.certificate_text.specs.declared.certificate.Certificate.{Certificate as DeclaredCertificate}
-use Rattle.certificate_text.specs.declared.weights.Weight.{Weight as DeclaredWeight}
-use Rattle.certificate_text.specs.declared.item.Allowance.{Allowance as DeclaredAllowance}
-use Rattle.certificate_text.specs.declared.item.Allowance.TheVariants.{Room, Weigh}
-use Rattle.certificate_text.specs.declared.item.Opening.TheVariants as opening
-use Rattle.certificate_text.specs.declared.item.Item.{Item}
-use Rattle.certificate_text.specs.declared.item.Item.TheVariants as item
+use Rattle.certificate_lines.specs.declared.weights.Weight.{Weight as DeclaredWeight}
+use Rattle.certificate_lines.specs.declared.item.Allowance.{Allowance as DeclaredAllowance}
+use Rattle.certificate_lines.specs.declared.item.Allowance.TheVariants.{Room, Weigh}
+use Rattle.certificate_lines.specs.declared.item.Opening.TheVariants as opening
+use Rattle.certificate_lines.specs.declared.item.Item.{Item}
+use Rattle.certificate_lines.specs.declared.item.Item.TheVariants as item
 use Rattle.certificate_text.specs.declared.tree.Leaf.{Leaf as DeclaredLeaf}
 use Rattle.certificate_text.specs.declared.tree.Leaf.TheVariants.{Stuck, Seats, Bound}
 use Rattle.certificate_text.specs.declared.tree.Tree.{Tree as DeclaredTree, Tree', Row_of-Branch, end_of-Branch, more_of-Branch}

@@ -5,24 +5,9 @@ ghost use Rattle.proof_trees.specs.Tree.{Tree as TreeValue, Takes};
 ghost use Rattle.certificate_text.specs.Trees.{tree_of, branch_onto, take_onto, leaf_of, certificate_of};
 
 use crate::certificate::Certificate;
-use crate::item::Allowance;
 use crate::tree::{Branch, Leaf, Take, Tree};
+use certificate_lines::Allowance;
 use std::alloc::{AllocError, Global};
-
-impl Allowance {
-    /// An equal line, or an error where memory was refused.
-    pub fn copy(&self) -> Result<Allowance, AllocError>
-        ensures { IfOk result (λ line. line ≡ self.now) }
-    {
-        match self {
-            Allowance::Room => Ok(Allowance::Room),
-            Allowance::Weigh { quota, weights } => Ok(Allowance::Weigh {
-                quota: *quota,
-                weights: weights.copy()?,
-            }),
-        }
-    }
-}
 
 /// Equal lines of a bound leaf.
 fn copy_lines(alloc: Global, lines: &[Allowance]) -> Result<Vec<Allowance>, AllocError>

@@ -4,12 +4,12 @@ ghost use Rattle.std.specs.Prelude.{◌≡◌, ℕ, List, [], ◌++◌, Ok};
 ghost use Rattle.field_lines.specs.Raw.{RawLine, raw_lines_from};
 ghost use Rattle.proof_trees.specs.Tree.{Tree};
 ghost use Rattle.proof_trees.specs.declared.language.Language.{Language};
-ghost use Rattle.certificate_text.specs.declared.item.Item.{Item};
-ghost use Rattle.certificate_text.specs.declared.item.Wanted.{Wanted};
-ghost use Rattle.certificate_text.specs.Items.{items_from};
-ghost use Rattle.certificate_text.specs.Courses.{course_from, whole};
-ghost use Rattle.certificate_text.specs.Fits.{AllFit};
-ghost use Rattle.certificate_text.specs.Spelling.{text_of};
+ghost use Rattle.certificate_lines.specs.declared.item.Item.{Item};
+ghost use Rattle.certificate_lines.specs.declared.item.Wanted.{Wanted};
+ghost use Rattle.certificate_lines.specs.Items.{items_from};
+ghost use Rattle.certificate_lines.specs.Courses.{course_from, whole};
+ghost use Rattle.certificate_lines.specs.Fits.{AllFit};
+ghost use Rattle.certificate_lines.specs.Spelling.{text_of};
 ghost use Rattle.certificate_text.specs.Spelled.{IsSpelling, IsTreeSpelling};
 ghost use Rattle.certificate_text.specs.Trees.{Certificate};
 

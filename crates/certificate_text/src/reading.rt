@@ -1,42 +1,26 @@
 //! Certificates and trees, read from their lines.
 
 ghost use Rattle.std.specs.Prelude.{◌≡◌, ◌<◌, ◌≤◌, ◌+◌, ℕ, List, [], ◌∷◌, ◌++◌, map, length, take, Option, Ok, Err, IfOk, IfErr, OnOk};
-ghost use Rattle.certificate_text.specs.Items.{allowances_wanted, groups_wanted, items_from, certificate_items, tree_items};
+ghost use Rattle.certificate_lines.specs.Items.{allowances_wanted, groups_wanted, items_from, certificate_items, tree_items};
 ghost use Rattle.field_lines.specs.Raw.{raw_lines};
-ghost use Rattle.certificate_text.specs.declared.item.Wanted.{Wanted};
+ghost use Rattle.certificate_lines.specs.declared.item.Wanted.{Wanted};
 ghost use Rattle.proof_trees.specs.Depth.{after_raise};
-ghost use Rattle.certificate_text.specs.Lines.{most};
-ghost use Rattle.certificate_text.specs.Reads.{ReadsAll, EndsUnless, Gives, IsUnlessMemory};
-ghost use Rattle.certificate_text.specs.Rest.{IsMemory};
+ghost use Rattle.certificate_lines.specs.Lines.{most};
+ghost use Rattle.certificate_lines.specs.Reads.{ReadsAll, EndsUnless, Gives, IsUnlessMemory};
+ghost use Rattle.certificate_lines.specs.Rest.{IsMemory};
 ghost use Rattle.certificate_text.specs.Spelled.{IsSpelling, IsTreeSpelling};
 ghost use Rattle.proof_trees.specs.Tree.{Tree as TreeValue};
 ghost use Rattle.certificate_text.specs.Trees.{tree_of, items_of_tree, list_of_takes, items_of_takes, items_of_target, Certificate as CertificateValue, certificate_of, items_of_certificate};
 ghost use Rattle.proof_trees.specs.RoundValue.{target_of};
-ghost use Rattle.certificate_text.specs.declared.item.Item.TheVariants as item;
-ghost use Rattle.certificate_text.specs.declared.item.Wanted.TheVariants as want;
+ghost use Rattle.certificate_lines.specs.declared.item.Item.TheVariants as item;
+ghost use Rattle.certificate_lines.specs.declared.item.Wanted.TheVariants as want;
 
 use crate::certificate::Certificate;
-use crate::cursor::Cursor;
-use crate::fault::{TextFault, TextKind};
-use crate::item::{Allowance, Opening};
 use crate::tree::{Branch, Leaf, Take, Tree};
+use certificate_lines::{Allowance, Cursor, Opening, TextFault, ended, levels_after, push_on};
 use county_codes::{Group, Grouping};
 use proof_trees::{Language, Round};
 use std::alloc::Global;
-
-/// Adds an item at the end, or answers that memory was refused, at a line.
-pub(crate) fn push_on<T: Drop>(items: &mut Vec<T>, item: T, line: u64) -> Result<(), TextFault>
-    ensures pushed { OnOk result (items.new.items ≡ items.old.items ++ item ∷ []) }
-    ensures refused { IfErr result (λ f. IsMemory f) }
-{
-    match items.push(item) {
-        Ok(()) => Ok(()),
-        Err(_) => Err(TextFault {
-            kind: TextKind::Memory,
-            line,
-        }),
-    }
-}
 
 /// So many lines of a bound leaf.
 fn allowances_at(
@@ -67,16 +51,6 @@ fn groups_at(alloc: Global, cursor: &mut Cursor, count: u16) -> Result<Vec<Group
         push_on(&mut groups, group, cursor.number())?;
     }
     Ok(groups)
-}
-
-/// How many levels are left for the tree of a mark.
-pub(crate) fn levels_after(language: Language, levels: u16) -> u16
-    ensures { result ≡ after_raise language levels }
-{
-    match language {
-        Language::Plain => levels.saturating_sub(1),
-        Language::Wide => levels,
-    }
 }
 
 /// The groups that a branch takes, up to its mark.
@@ -157,20 +131,6 @@ fn target_at(alloc: Global, cursor: &mut Cursor) -> Result<Option<Grouping>, Tex
             Ok(Some(Grouping { groups }))
         }
         None => Ok(None),
-    }
-}
-
-/// Nothing may be left.
-pub(crate) fn ended(cursor: &Cursor) -> Result<(), TextFault>
-    ensures { EndsUnless cursor.now result }
-{
-    if cursor.rest().is_empty() {
-        Ok(())
-    } else {
-        Err(TextFault {
-            kind: TextKind::AfterEnd,
-            line: cursor.number(),
-        })
     }
 }
 

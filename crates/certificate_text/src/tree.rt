@@ -1,4 +1,4 @@
-use crate::item::Allowance;
+use certificate_lines::Allowance;
 use county_codes::{Codes, CountyCode};
 
 /// Why no lawful grouping that agrees with a state is greater.

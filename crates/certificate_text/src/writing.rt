@@ -1,31 +1,26 @@
 //! Certificates and trees, written as their lines.
 
 ghost use Rattle.std.specs.Prelude.{◌≡◌, ◌<◌, ◌≤◌, ◌-◌, ℕ, List, [], ◌∷◌, ◌++◌, map, length, IfOk, IfErr, OnOk};
-ghost use Rattle.certificate_text.specs.Items.{wanted_after, groups_wanted, allowances_wanted};
+ghost use Rattle.certificate_lines.specs.Items.{wanted_after, groups_wanted, allowances_wanted};
 ghost use Rattle.proof_trees.specs.Depth.{after_raise};
 ghost use Rattle.certificate_text.specs.Spelled.{IsSpelling, IsTreeSpelling};
-ghost use Rattle.certificate_text.specs.Fits.{Fits, IsSet, AreCodes};
-ghost use Rattle.certificate_text.specs.Lines.{most};
-ghost use Rattle.certificate_text.specs.Writes.{WritesLine, Writes};
+ghost use Rattle.certificate_lines.specs.Fits.{Fits, IsSet, AreCodes};
+ghost use Rattle.certificate_lines.specs.Lines.{most};
+ghost use Rattle.certificate_lines.specs.Writes.{WritesLine, Writes};
 ghost use Rattle.certificate_text.specs.Trees.{tree_of, items_of_tree, list_of_takes, items_of_takes, leaf_of, leaf_items, items_of_target, certificate_of};
 ghost use Rattle.proof_trees.specs.RoundValue.{target_of};
 ghost use Rattle.proof_trees.specs.declared.language.Language.{Language};
-ghost use Rattle.certificate_text.specs.declared.item.Item.TheVariants as item;
-ghost use Rattle.certificate_text.specs.declared.item.Opening.TheVariants as opening;
-ghost use Rattle.certificate_text.specs.declared.item.Wanted.TheVariants as want;
-ghost use Rattle.certificate_text.specs.declared.fault.WriteFault.TheVariants as write_fault;
+ghost use Rattle.certificate_lines.specs.declared.item.Item.TheVariants as item;
+ghost use Rattle.certificate_lines.specs.declared.item.Opening.TheVariants as opening;
+ghost use Rattle.certificate_lines.specs.declared.item.Wanted.TheVariants as want;
+ghost use Rattle.certificate_lines.specs.declared.fault.WriteFault.TheVariants as write_fault;
 
 use crate::certificate::Certificate;
-use crate::fault::WriteFault;
-use crate::item::Allowance;
-use crate::lines::MOST;
-use crate::reading::levels_after;
 use crate::tree::{Leaf, Take, Tree};
-use crate::writing_lines::{
-    push_allowance, push_branch, push_group, push_head, push_limit, push_order, push_take,
-    push_target_line,
+use certificate_lines::{
+    Allowance, MOST, WriteFault, levels_after, push_allowance, push_branch, push_code_line,
+    push_group, push_head, push_limit, push_number_line, push_order, push_take, push_target_line,
 };
-use crate::writing_words::{push_code_line, push_number_line};
 use county_codes::{Group, Grouping};
 use proof_trees::Language;
 use std::alloc::Global;

@@ -20,22 +20,41 @@ use std::fs;
 /// How many trees are made.
 const TREES: u32 = 10_000;
 
-fn main(rt: HostRuntime) -> Result<()> {
+/// Prints what is said of each case of the file.
+fn show_cases(rt: &HostRuntime) -> Result<()> {
     let alloc = rt.alloc();
-    let text = fs::read(&rt, "cases")?;
+    let text = fs::read(rt, "cases")?;
     for case in &cases_of(alloc, &text)? {
         let Case { kind, name, bytes } = case;
         let said = verdict(alloc, kind, bytes)?;
         println!(rt; "{name}: {said}")?;
     }
+    Ok(())
+}
+
+/// Prints what is said of a million marks.
+fn show_marks(rt: &HostRuntime) -> Result<()> {
+    let alloc = rt.alloc();
     let said = million_marks(alloc)?;
     println!(rt; "a wide text of a million marks: {said}")?;
     let said = million_plain_marks(alloc)?;
     println!(rt; "a plain text of a million marks: {said}")?;
-    for said in &without_spelling(alloc)? {
+    Ok(())
+}
+
+/// Prints what is said of values without a spelling.
+fn show_unspelled(rt: &HostRuntime) -> Result<()> {
+    for said in &without_spelling(rt.alloc())? {
         println!(rt; "{said}")?;
     }
-    let back = round_trips(alloc, TREES)?;
+    Ok(())
+}
+
+fn main(rt: HostRuntime) -> Result<()> {
+    show_cases(&rt)?;
+    show_marks(&rt)?;
+    show_unspelled(&rt)?;
+    let back = round_trips(rt.alloc(), TREES)?;
     println!(rt; "{back} of {TREES} trees read back as they were written")?;
     Ok(())
 }

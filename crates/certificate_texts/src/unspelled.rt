@@ -1,5 +1,7 @@
 //! Values that no text spells.
 
+ghost use Rattle.std.specs.Prelude.{◌≤◌};
+
 use anyhow::{Context, Result};
 use certificate_text::{
     Allowance, Branch, Certificate, Leaf, Take, Tree, Weight, Weights, WriteFault, read, write,
@@ -99,65 +101,126 @@ fn bound(alloc: Global, count: u32) -> Result<Tree> {
     Ok(lone(alloc, Leaf::Bound(lines)))
 }
 
+/// A certificate whose limit is this.
+fn limited(alloc: Global, limit: u16) -> Result<String> {
+    let mut certificate = read(alloc, TEXT)?;
+    certificate.round.limit = limit;
+    let name = format!(in alloc; "limit {limit}")?;
+    said(alloc, &name, write(alloc, &certificate))
+}
+
+/// A certificate whose order has so many codes.
+fn ordered(alloc: Global, count: u32) -> Result<String> {
+    let mut certificate = read(alloc, TEXT)?;
+    certificate.round.order = codes(alloc, count)?;
+    let name = format!(in alloc; "order of {count} codes")?;
+    said(alloc, &name, write(alloc, &certificate))
+}
+
+/// A certificate whose target has one more group, of so many codes.
+fn grouped(alloc: Global, count: u32) -> Result<String> {
+    let mut certificate: Certificate = read(alloc, TEXT)?;
+    if let Some(target) = &mut certificate.round.target {
+        target.groups.push(Group {
+            seats: 1,
+            codes: codes(alloc, count)?,
+        })?;
+    }
+    let name = format!(in alloc; "group of {count} codes")?;
+    said(alloc, &name, write(alloc, &certificate))
+}
+
 /// Certificates at a limit and one past it.
 fn certificates(alloc: Global, lines: &mut Vec<String>) -> Result<()> {
     for limit in [128, 129] {
-        let mut certificate = read(alloc, TEXT)?;
-        certificate.round.limit = limit;
-        let name = format!(in alloc; "limit {limit}")?;
-        lines.push(said(alloc, &name, write(alloc, &certificate))?)?;
+        lines.push(limited(alloc, limit)?)?;
     }
     for count in [128, 129] {
-        let mut certificate = read(alloc, TEXT)?;
-        certificate.round.order = codes(alloc, count)?;
-        let name = format!(in alloc; "order of {count} codes")?;
-        lines.push(said(alloc, &name, write(alloc, &certificate))?)?;
+        lines.push(ordered(alloc, count)?)?;
     }
     for count in [1, 0] {
-        let mut certificate: Certificate = read(alloc, TEXT)?;
-        if let Some(target) = &mut certificate.round.target {
-            target.groups.push(Group {
-                seats: 1,
-                codes: codes(alloc, count)?,
-            })?;
-        }
-        let name = format!(in alloc; "group of {count} codes")?;
-        lines.push(said(alloc, &name, write(alloc, &certificate))?)?;
+        lines.push(grouped(alloc, count)?)?;
     }
     Ok(())
 }
 
+/// A tree in a language with so many levels.
+fn tree_said(
+    alloc: Global,
+    name: &str,
+    tree: &Tree,
+    language: Language,
+    levels: u16,
+) -> Result<String>
+    requires { levels ≤ 128 }
+{
+    said(alloc, name, write_tree(alloc, tree, language, levels))
+}
+
+/// A branch with a limit, or without one.
+fn branch_said(
+    alloc: Global,
+    language: (Language, &str),
+    limit: (Option<u16>, &str),
+) -> Result<String> {
+    let name = format!(in alloc; "{} branch {}", language.1, limit.1)?;
+    tree_said(alloc, &name, &branched(alloc, limit.0, 1)?, language.0, 1)
+}
+
+/// A take of so many codes, in a tree of one level or none.
+fn take_said(alloc: Global, levels: u16, count: u32) -> Result<String>
+    requires { levels ≤ 128 }
+{
+    let name = format!(in alloc; "take of {count} codes, {levels} levels")?;
+    tree_said(
+        alloc,
+        &name,
+        &branched(alloc, None, count)?,
+        Language::Plain,
+        levels,
+    )
+}
+
 /// Branches at a limit and one past it.
 fn branches(alloc: Global, lines: &mut Vec<String>) -> Result<()> {
-    for (language, name) in [(Language::Plain, "plain"), (Language::Wide, "wide")] {
-        for (limit, limited) in [
+    for language in [(Language::Plain, "plain"), (Language::Wide, "wide")] {
+        for limit in [
             (None, "without a limit"),
             (Some(128), "of at most 128"),
             (Some(129), "of at most 129"),
         ] {
-            let name = format!(in alloc; "{name} branch {limited}")?;
-            let tree = branched(alloc, limit, 1)?;
-            lines.push(said(alloc, &name, write_tree(alloc, &tree, language, 1))?)?;
+            lines.push(branch_said(alloc, language, limit)?)?;
         }
     }
-    for (counties, count) in [(1, 128), (1, 129), (1, 0), (0, 1)] {
-        let name = format!(in alloc; "take of {count} codes, {counties} levels")?;
-        let tree = branched(alloc, None, count)?;
-        lines.push(said(
-            alloc,
-            &name,
-            write_tree(alloc, &tree, Language::Plain, counties),
-        )?)?;
+    for count in [128, 129, 0] {
+        lines.push(take_said(alloc, 1, count)?)?;
     }
+    lines.push(take_said(alloc, 0, 1)?)?;
     Ok(())
+}
+
+/// A bound leaf of so many lines.
+fn bound_said(alloc: Global, count: u32) -> Result<String> {
+    let name = format!(in alloc; "bound of {count} lines")?;
+    tree_said(alloc, &name, &bound(alloc, count)?, Language::Plain, 0)
+}
+
+/// A line of weights.
+fn weights_said(
+    alloc: Global,
+    name: &str,
+    quota: u32,
+    weight: u32,
+    places: &[u32],
+) -> Result<String> {
+    let tree = weighed(alloc, quota, weight, places)?;
+    tree_said(alloc, name, &tree, Language::Plain, 0)
 }
 
 /// Lines of a bound leaf at a limit and one past it.
 fn bounds(alloc: Global, lines: &mut Vec<String>) -> Result<()> {
     for count in [128, 129] {
-        let name = format!(in alloc; "bound of {count} lines")?;
-        let tree = bound(alloc, count)?;
-        lines.push(said(alloc, &name, write_tree(alloc, &tree, Language::Plain, 0))?)?;
+        lines.push(bound_said(alloc, count)?)?;
     }
     for (quota, weight, places, name) in [
         (1, 1, &[1, 2], "weights"),
@@ -168,8 +231,7 @@ fn bounds(alloc: Global, lines: &mut Vec<String>) -> Result<()> {
         (1, 1, &[2, 2], "equal codes"),
         (1, 1, &[2, 1], "falling codes"),
     ] {
-        let tree = weighed(alloc, quota, weight, places)?;
-        lines.push(said(alloc, name, write_tree(alloc, &tree, Language::Plain, 0))?)?;
+        lines.push(weights_said(alloc, name, quota, weight, places)?)?;
     }
     Ok(())
 }
@@ -185,8 +247,7 @@ fn long_lines(alloc: Global, lines: &mut Vec<String>) -> Result<()> {
         (10, "65,536 bytes"),
         (100, "65,537 bytes"),
     ] {
-        let tree = weighed(alloc, quota, 1, &places)?;
-        lines.push(said(alloc, name, write_tree(alloc, &tree, Language::Plain, 0))?)?;
+        lines.push(weights_said(alloc, name, quota, 1, &places)?)?;
     }
     Ok(())
 }

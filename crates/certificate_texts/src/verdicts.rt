@@ -2,7 +2,8 @@
 
 use anyhow::Result;
 use certificate_text::{
-    ItemSource, Items, TextFault, TextKind, Words, front_tree, read, read_tree, write, write_tree,
+    Certificate, ItemSource, Items, TextFault, TextKind, Words, front_tree, read, read_tree, write,
+    write_tree,
 };
 use proof_trees::Language;
 use std::alloc::Global;
@@ -47,14 +48,19 @@ fn fault_said(alloc: Global, fault: TextFault, met: Option<TextFault>) -> Result
     }
 }
 
+/// A certificate's text, written back from a copy, and whether it is the same.
+fn certificate_back(alloc: Global, certificate: &Certificate, bytes: &[u8]) -> Result<bool> {
+    let again = write(alloc, &certificate.copy()?)?;
+    Ok(again.as_slice() == bytes)
+}
+
 /// A certificate, read, copied and written.
 pub fn certificate(alloc: Global, bytes: &[u8]) -> Result<String> {
     let (lines, met) = count_items(&mut Items::of_certificate(alloc, bytes)?);
     match read(alloc, bytes) {
         Ok(certificate) => {
             let name = name_of(certificate.round.language);
-            let again = write(alloc, &certificate.copy()?)?;
-            let outcome = outcome(again.as_slice() == bytes);
+            let outcome = outcome(certificate_back(alloc, &certificate, bytes)?);
             Ok(format!(in alloc; "{name} certificate of {lines} lines, written back {outcome}")?)
         }
         Err(fault) => fault_said(alloc, fault, met),

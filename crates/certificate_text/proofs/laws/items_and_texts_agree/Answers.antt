@@ -1,7 +1,7 @@
 use Rattle.field_lines.specs.Raw.{raw_lines_from}
 use Rattle.certificate_text.proofs.TextBack.{items_back}
-use Rattle.certificate_text.proofs.FitsLaws.{items_fit}
-use Rattle.certificate_text.proofs.TextLaws.{text_ok}
+use Rattle.certificate_lines.proofs.FitsLaws.{items_fit}
+use Rattle.certificate_lines.proofs.TextLaws.{text_ok}
 use Rattle.certificate_text.proofs.laws.items_and_texts_agree.Goals as goal
 
 pub returns : goal.returns

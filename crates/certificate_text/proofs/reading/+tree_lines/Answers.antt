@@ -1,15 +1,15 @@
 use Rattle.std.proofs.Common.{◌≡◌, ◌∙◌, ℕ, List, [], ◌∷◌, ◌++◌, Option, None, map, refl, ap, sym, subst, arith, rules}
-use Rattle.certificate_text.specs.Items.{by_words}
+use Rattle.certificate_lines.specs.Items.{by_words}
 use Rattle.proof_trees.specs.Depth.{after_raise}
-use Rattle.certificate_text.specs.Lines as line
-use Rattle.certificate_text.specs.Rest.{TakesLine}
-use Rattle.certificate_text.specs.Reads.{Reads}
+use Rattle.certificate_lines.specs.Lines as line
+use Rattle.certificate_lines.specs.Rest.{TakesLine}
+use Rattle.certificate_lines.specs.Reads.{Reads}
 use Rattle.certificate_text.specs.Trees.{tree_of, items_of_tree, items_of_takes, list_of_takes}
-use Rattle.certificate_text.specs.declared.item.Opening.{Opening}
-use Rattle.certificate_text.specs.declared.item.Opening.TheVariants as opening
-use Rattle.certificate_text.specs.declared.item.Item.{Item}
-use Rattle.certificate_text.specs.declared.item.Item.TheVariants as item
-use Rattle.certificate_text.specs.declared.item.Wanted.TheVariants as want
+use Rattle.certificate_lines.specs.declared.item.Opening.{Opening}
+use Rattle.certificate_lines.specs.declared.item.Opening.TheVariants as opening
+use Rattle.certificate_lines.specs.declared.item.Item.{Item}
+use Rattle.certificate_lines.specs.declared.item.Item.TheVariants as item
+use Rattle.certificate_lines.specs.declared.item.Wanted.TheVariants as want
 use Rattle.certificate_text.specs.declared.tree.Branch.{Branch}
 use Rattle.certificate_text.specs.declared.tree.Take.{Take}
 use Rattle.certificate_text.specs.declared.tree.Leaf.TheVariants.{Stuck, Seats, Bound}

@@ -1,11 +1,12 @@
 use Rattle.std.proofs.Common.{◌≡◌, ◌∙◌, ◌≤◌, ◌∷◌, ◌++◌, [], Ok, List, length, ap, arith, append_assoc, append-nil}
 use Rattle.std.proofs.lemmas.Result.{err_from_is_err_and}
 use Rattle.proof_trees.specs.RoundValue.{target_of}
-use Rattle.certificate_text.specs.Lines.{most}
+use Rattle.certificate_lines.specs.Lines.{most}
 use Rattle.certificate_text.specs.Trees.{tree_of, items_of_tree, items_of_target}
-use Rattle.certificate_text.specs.declared.item.Item.{Item}
-use Rattle.certificate_text.specs.declared.item.Item.TheVariants as item
-use Rattle.certificate_text.proofs.CertLaws.{order_taken, target_fault, tree_fault, end_fault, after_fault, certificate_read}
+use Rattle.certificate_lines.specs.declared.item.Item.{Item}
+use Rattle.certificate_lines.specs.declared.item.Item.TheVariants as item
+use Rattle.certificate_lines.proofs.ReadLaws.{order_taken}
+use Rattle.certificate_text.proofs.CertLaws.{target_fault, tree_fault, end_fault, after_fault, certificate_read}
 use Rattle.certificate_text.proofs.reading.certificate_at.Goals as goal
 
 pub overflow_cast-as_slice : goal.overflow_cast-as_slice

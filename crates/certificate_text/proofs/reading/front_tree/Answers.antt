@@ -3,14 +3,14 @@ use Rattle.std.proofs.Math.Seq.{take-append_seam}
 use Rattle.std.proofs.lemmas.Result.{err_from_is_err_and}
 use Rattle.proof_trees.specs.declared.language.Language.{Language}
 use Rattle.proof_trees.specs.Tree.{Tree as TreeValue}
-use Rattle.certificate_text.specs.Rest.{Rest}
-use Rattle.certificate_text.specs.Reads.{Reads, items_at}
-use Rattle.certificate_text.specs.Spelling.{text_of}
+use Rattle.certificate_lines.specs.Rest.{Rest}
+use Rattle.certificate_lines.specs.Reads.{Reads, items_at}
+use Rattle.certificate_lines.specs.Spelling.{text_of}
 use Rattle.certificate_text.specs.Spelled.{IsTreeSpelling}
-use Rattle.certificate_text.specs.Fits.{AllFit}
+use Rattle.certificate_lines.specs.Fits.{AllFit}
 use Rattle.certificate_text.specs.Trees.{tree_of, items_of_tree}
-use Rattle.certificate_text.specs.declared.item.Item.{Item}
-use Rattle.certificate_text.specs.declared.item.Wanted.TheVariants as want
+use Rattle.certificate_lines.specs.declared.item.Item.{Item}
+use Rattle.certificate_lines.specs.declared.item.Wanted.TheVariants as want
 use Rattle.certificate_text.proofs.FrontLaws.{memory_refused}
 use Rattle.certificate_text.proofs.OneSpelling.{one_front, one_tree}
 use Rattle.certificate_text.proofs.reading.front_tree.Goals as goal

@@ -1,10 +1,10 @@
 use Rattle.std.proofs.Common.{ℕ, [], ◌∷◌, Option, Some, None, map, refl, ap, sym, subst}
-use Rattle.certificate_text.specs.Items.{by_words, groups_wanted}
-use Rattle.certificate_text.specs.Lines as line
-use Rattle.certificate_text.specs.Rest.{TakesLine}
-use Rattle.certificate_text.specs.declared.item.Item.TheVariants as item
-use Rattle.certificate_text.specs.declared.item.Wanted.TheVariants as want
-use Rattle.certificate_text.proofs.ReadLaws.{reads_then, reads_line}
+use Rattle.certificate_lines.specs.Items.{by_words, groups_wanted}
+use Rattle.certificate_lines.specs.Lines as line
+use Rattle.certificate_lines.specs.Rest.{TakesLine}
+use Rattle.certificate_lines.specs.declared.item.Item.TheVariants as item
+use Rattle.certificate_lines.specs.declared.item.Wanted.TheVariants as want
+use Rattle.certificate_lines.proofs.ReadLaws.{reads_then, reads_line}
 use Rattle.certificate_text.proofs.LoopLaws.{reads_as}
 use Rattle.certificate_text.proofs.reading.target_at.Goals as goal
 

@@ -2,12 +2,12 @@ use Rattle.std.proofs.Common.{◌≡◌, ◌∙◌, ◌+◌, ◌++◌, ◌∷◌
 use Rattle.std.specs.List.{flat_map}
 use Rattle.std.proofs.lemmas.Result.{err_from_is_err_and}
 use Rattle.proof_trees.specs.Depth.{after_raise}
-use Rattle.certificate_text.specs.Fits.{IsSet}
-use Rattle.certificate_text.specs.Writes.{WroteLine, Wrote, DontFit}
+use Rattle.certificate_lines.specs.Fits.{IsSet}
+use Rattle.certificate_lines.specs.Writes.{WroteLine, Wrote, DontFit}
 use Rattle.certificate_text.specs.Trees.{tree_of, leaf_of, leaf_items, items_of_tree, items_of_takes, list_of_takes}
-use Rattle.certificate_text.specs.declared.item.Item.{Item}
-use Rattle.certificate_text.specs.declared.item.Item.TheVariants as item
-use Rattle.certificate_text.specs.declared.item.Wanted.TheVariants as want
+use Rattle.certificate_lines.specs.declared.item.Item.{Item}
+use Rattle.certificate_lines.specs.declared.item.Item.TheVariants as item
+use Rattle.certificate_lines.specs.declared.item.Wanted.TheVariants as want
 use Rattle.certificate_text.specs.declared.tree.Tree.{out-Tree}
 use Rattle.certificate_text.specs.declared.tree.Branch.{Branch, out-Branch}
 use Rattle.certificate_text.specs.declared.tree.Take.{Take, out-Take}

@@ -1,7 +1,7 @@
 use Rattle.std.proofs.Common.{◌≤◌, ◌+◌, ◌*◌, [], ◌∷◌, take}
 use Rattle.std.specs.List.{flat_map}
-use Rattle.certificate_text.specs.Writes.{Wrote}
-use Rattle.certificate_text.specs.declared.item.Wanted.TheVariants as want
+use Rattle.certificate_lines.specs.Writes.{Wrote}
+use Rattle.certificate_lines.specs.declared.item.Wanted.TheVariants as want
 use Rattle.certificate_text.proofs.TreeViews.{items_of_branch, items_of_take}
 use Rattle.certificate_text.proofs.writing.+push_lines.Given as goal
 

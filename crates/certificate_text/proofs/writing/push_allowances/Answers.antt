@@ -1,10 +1,10 @@
 use Rattle.std.proofs.Common.{◌-◌, ℕ, length, refl}
 use Rattle.std.proofs.lemmas.Result.{err_from_is_err_and}
-use Rattle.certificate_text.specs.Fits.{Fits}
-use Rattle.certificate_text.specs.declared.item.Allowance.{Allowance}
-use Rattle.certificate_text.specs.declared.item.Allowance.TheVariants.{Room, Weigh}
-use Rattle.certificate_text.specs.declared.item.Item.TheVariants as item
-use Rattle.certificate_text.specs.declared.item.Wanted.TheVariants as want
+use Rattle.certificate_lines.specs.Fits.{Fits}
+use Rattle.certificate_lines.specs.declared.item.Allowance.{Allowance}
+use Rattle.certificate_lines.specs.declared.item.Allowance.TheVariants.{Room, Weigh}
+use Rattle.certificate_lines.specs.declared.item.Item.TheVariants as item
+use Rattle.certificate_lines.specs.declared.item.Wanted.TheVariants as want
 use Rattle.certificate_text.proofs.WriteLaws.{run_goes, run_stops}
 use Rattle.certificate_text.proofs.writing.push_allowances.Goals as goal
 

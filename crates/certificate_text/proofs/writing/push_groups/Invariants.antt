@@ -1,7 +1,7 @@
 use Rattle.std.proofs.Common.{◌-◌, length, map, take}
-use Rattle.certificate_text.specs.Items.{groups_wanted}
-use Rattle.certificate_text.specs.Writes.{Wrote}
-use Rattle.certificate_text.specs.declared.item.Item.TheVariants as item
+use Rattle.certificate_lines.specs.Items.{groups_wanted}
+use Rattle.certificate_lines.specs.Writes.{Wrote}
+use Rattle.certificate_lines.specs.declared.item.Item.TheVariants as item
 use Rattle.certificate_text.proofs.writing.push_groups.Given as goal
 
 abbrev pub invariant-loop-group : goal.invariant-loop-group

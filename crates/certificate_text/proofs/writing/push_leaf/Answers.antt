@@ -1,12 +1,12 @@
 use Rattle.std.proofs.Common.{◌≡◌, ◌≤◌, ◌++◌, ℕ, List, [], length, map, subst, arith}
 use Rattle.std.proofs.lemmas.Result.{err_from_is_err_and}
-use Rattle.certificate_text.specs.Lines.{most}
-use Rattle.certificate_text.specs.Items.{allowances_wanted}
-use Rattle.certificate_text.specs.Spelling.{item_line}
-use Rattle.certificate_text.specs.Writes.{Wrote, DontFit}
-use Rattle.certificate_text.specs.declared.item.Allowance.{Allowance}
-use Rattle.certificate_text.specs.declared.item.Opening.TheVariants as opening
-use Rattle.certificate_text.specs.declared.item.Item.TheVariants as item
+use Rattle.certificate_lines.specs.Lines.{most}
+use Rattle.certificate_lines.specs.Items.{allowances_wanted}
+use Rattle.certificate_lines.specs.Spelling.{item_line}
+use Rattle.certificate_lines.specs.Writes.{Wrote, DontFit}
+use Rattle.certificate_lines.specs.declared.item.Allowance.{Allowance}
+use Rattle.certificate_lines.specs.declared.item.Opening.TheVariants as opening
+use Rattle.certificate_lines.specs.declared.item.Item.TheVariants as item
 use Rattle.certificate_text.proofs.TreeWrites.{bound_wrote, bound_refused}
 use Rattle.certificate_text.proofs.writing.push_leaf.Goals as goal
 

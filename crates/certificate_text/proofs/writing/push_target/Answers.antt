@@ -1,10 +1,10 @@
 use Rattle.std.proofs.Common.{◌≡◌, ℕ, List, [], ◌∷◌, length, map, Some, subst, arith}
 use Rattle.county_codes.specs.declared.group.Group.{Group}
-use Rattle.certificate_text.specs.Items.{groups_wanted}
-use Rattle.certificate_text.specs.Fits.{Fits}
-use Rattle.certificate_text.specs.Writes.{WroteLine, Writes}
-use Rattle.certificate_text.specs.declared.item.Item.TheVariants as item
-use Rattle.certificate_text.specs.declared.item.Wanted.TheVariants as want
+use Rattle.certificate_lines.specs.Items.{groups_wanted}
+use Rattle.certificate_lines.specs.Fits.{Fits}
+use Rattle.certificate_lines.specs.Writes.{WroteLine, Writes}
+use Rattle.certificate_lines.specs.declared.item.Item.TheVariants as item
+use Rattle.certificate_lines.specs.declared.item.Wanted.TheVariants as want
 use Rattle.certificate_text.proofs.WriteLaws.{writes_after}
 use Rattle.certificate_text.proofs.TreeWrites.{line_wrote}
 use Rattle.certificate_text.proofs.writing.push_target.Goals as goal

@@ -1,6 +1,6 @@
 use Rattle.std.proofs.lemmas.Result.{err_from_is_err_and}
 use Rattle.certificate_text.specs.Trees.{tree_of, items_of_tree}
-use Rattle.certificate_text.specs.declared.item.Wanted.TheVariants as want
+use Rattle.certificate_lines.specs.declared.item.Wanted.TheVariants as want
 use Rattle.certificate_text.proofs.WriteLaws.{spelled_by, unspelled}
 use Rattle.certificate_text.proofs.writing.write_tree.Goals as goal
 

@@ -1,0 +1,7 @@
+pub mod WordLaws
+pub mod FormLaws
+pub mod TextLaws
+pub mod FitsLaws
+pub mod ReadLaws
+pub mod EachLaws
+pub mod WordsWritten

@@ -1,0 +1,77 @@
+-- The items of a text one at a time, also those in front of a fault.
+use Rattle.std.specs.Prelude.{◌≡◌, ℕ, ◌+◌, List, [], ◌∷◌, ◌++◌, reverse, Option, Some, None, Result, Ok, Err}
+use Rattle.field_lines.specs.Raw.{RawLine, raw_lines}
+use Rattle.certificate_lines.specs.Rest.{Rest, lines_of, fault_at, IsMemory, TakesLine, FaultOf}
+use Rattle.certificate_lines.specs.Items.{item_on, wanted_after}
+use Rattle.certificate_lines.specs.declared.fault.TextKind.TheVariants.{CutShort, AfterEnd}
+use Rattle.certificate_lines.specs.declared.fault.TextFault.{TextFault}
+use Rattle.proof_trees.specs.declared.language.Language.{Language}
+use Rattle.certificate_lines.specs.declared.item.Item.{Item}
+use Rattle.certificate_lines.specs.declared.item.Wanted.{Wanted}
+use Rattle.certificate_lines.specs.declared.item.Wanted.TheVariants as want
+
+-- the items to come, and the fault behind them, if there is one
+pub record Course : Type 0 where
+  pub items : List Item
+  pub fault : Option TextFault
+
+-- nothing is to come; nothing but a fault; an item first
+abbrev pub nothing : Course
+nothing = record { items = []; fault = None }
+
+abbrev pub only_fault : TextFault → Course
+only_fault fault = record { items = []; fault = Some fault }
+
+abbrev pub first : Item → Course → Course
+first item later = record { items = item ∷ later.items; fault = later.fault }
+
+-- the items on lines, the first of which has the number n, where these things are wanted in turn, up to the first fault
+abbrev pub course_from : List Wanted → ℕ → List RawLine → Course
+course_from [] n [] = nothing
+course_from [] n (piece ∷ pieces) = only_fault (fault_at AfterEnd n)
+course_from (wanted ∷ more) n [] = only_fault (fault_at CutShort n)
+course_from (wanted ∷ more) n (piece ∷ pieces) = elim (item_on wanted piece) as (λ _. Course) [
+  | Ok item ↦ first item (course_from (wanted_after wanted item ++ more) (n + 1) pieces)
+  | Err kind ↦ only_fault (fault_at kind n)
+]
+
+-- of a whole text: of a certificate, or of a tree
+abbrev pub certificate_course : List ℕ → Course
+certificate_course text = course_from (want.Head ∷ []) 1 (raw_lines text)
+
+abbrev pub tree_course : Language → ℕ → List ℕ → Course
+tree_course language counties text = course_from (want.Tree language counties ∷ []) 1 (raw_lines text)
+
+-- the items, where no fault ends them
+abbrev pub whole : List Item → Option TextFault → Result (List Item) TextFault
+whole items None = Ok items
+whole items (Some fault) = Err fault
+
+-- What is to come after what was read: a fault, once it was found, else what the rest has where the things on a stack are
+-- wanted, whose top is its last.
+abbrev pub course_left : List Wanted → Rest → Option TextFault → Course
+course_left stack rest None = course_from (reverse stack) rest.number (lines_of rest)
+course_left stack rest (Some fault) = only_fault fault
+
+-- The first of what is to come is given, and what is to come then. `Memory` may stand in the place of any answer; a
+-- fault, once given, stays.
+abbrev pub IsNextItem : Course → Result (Option Item) TextFault → Course → Type 0
+IsNextItem old (Ok (Some item)) new = old ≡ first item new
+IsNextItem old (Ok None) new = (old ≡ nothing) × (new ≡ nothing)
+IsNextItem old (Err fault) new = ((IsMemory fault → ⊥) → old ≡ only_fault fault) × (new ≡ only_fault fault)
+
+-- the same of a call that doesn't keep the fault
+abbrev pub IsNextLine : Course → Result (Option Item) TextFault → Course → Type 0
+IsNextLine old (Ok (Some item)) new = old ≡ first item new
+IsNextLine old (Ok None) new = (old ≡ nothing) × (new ≡ nothing)
+IsNextLine old (Err fault) new = (IsMemory fault → ⊥) → old ≡ only_fault fault
+
+-- the item of the next line was taken, and what is wanted in the place of what was wanted lies on the stack
+pub record TookItem (wanted : Wanted) (item : Item) (old : Rest) (below : List Wanted) (new : Rest) (stack : List Wanted) : Type 0 where
+  pub line : TakesLine (item_on wanted) item old new
+  pub stacked : reverse stack ≡ wanted_after wanted item ++ reverse below
+
+-- A call takes the item of the next line, where this is wanted.
+abbrev pub TakesItem : Wanted → Rest → List Wanted → Result Item TextFault → Rest → List Wanted → Type 0
+TakesItem wanted old below (Ok item) new stack = TookItem wanted item old below new stack
+TakesItem wanted old below (Err fault) new stack = (IsMemory fault → ⊥) → FaultOf (item_on wanted) old.number (lines_of old) fault

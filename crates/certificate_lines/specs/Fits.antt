@@ -1,0 +1,64 @@
+-- Which items fit on a line, where something is wanted.
+use Rattle.std.specs.Prelude.{◌≡◌, ℕ, ◌<◌, ◌≤◌, true, List, [], ◌∷◌, ◌++◌, length, Some, None}
+use Rattle.std.specs.List.{AllByRecursion, join_with_byte}
+use Rattle.field_lines.specs.Fault.{most_bytes}
+use Rattle.certificate_lines.specs.Lines.{most, ascend}
+use Rattle.certificate_lines.specs.Items.{wanted_after}
+use Rattle.certificate_lines.specs.Spelling.{item_words}
+use Rattle.proof_trees.specs.declared.language.Language.TheVariants.{Plain, Wide}
+use Rattle.certificate_lines.specs.declared.weights.Weight.{Weight}
+use Rattle.certificate_lines.specs.declared.item.Allowance.TheVariants.{Room, Weigh}
+use Rattle.certificate_lines.specs.declared.item.Opening.TheVariants.{Branch, Stuck, Seats, Bound}
+use Rattle.certificate_lines.specs.declared.item.Item.{Item}
+use Rattle.certificate_lines.specs.declared.item.Item.TheVariants.{Head, Order, Limit, Target, Grouped, Opens, Takes, Mark, Allows, End}
+use Rattle.certificate_lines.specs.declared.item.Wanted.{Wanted}
+use Rattle.certificate_lines.specs.declared.item.Wanted.TheVariants as want
+
+abbrev pub AreCodes : List ℕ → Type 0
+AreCodes county_codes = AllByRecursion (λ c. c ≤ 99999) county_codes
+
+-- codes of a group or a take: one at least
+pub record IsSet (county_codes : List ℕ) : Type 0 where
+  pub some : 1 ≤ length county_codes
+  pub few : length county_codes ≤ most
+  pub small : AreCodes county_codes
+
+pub record FitsWeight (w : Weight) : Type 0 where
+  pub county : w.county ≤ 99999
+  pub from : 1 ≤ w.weight
+  pub to : w.weight ≤ 1000000
+
+-- weights with a quota; such a line may be too long
+pub record AreWeights (quota : ℕ) (weights : List Weight) : Type 0 where
+  pub from : 1 ≤ quota
+  pub to : quota ≤ 256000000
+  pub each : AllByRecursion FitsWeight weights
+  pub ascending : ascend weights ≡ true
+  pub short : length (join_with_byte 32 (item_words (Allows (Weigh quota weights)))) ≤ most_bytes
+
+-- the item may stand where this is wanted, and its numbers are in their ranges
+abbrev pub Fits : Wanted → Item → Type 0
+Fits want.Head (Head language) = Unit {0}
+Fits (want.Order language) (Order county_codes) = (length county_codes ≤ most) × AreCodes county_codes
+Fits want.Limit (Limit limit) = limit ≤ most
+Fits want.Target (Target None) = Unit {0}
+Fits want.Target (Target (Some groups)) = groups ≤ most
+Fits (want.Groups left) (Grouped group) = (group.seats ≤ 65535) × IsSet group.codes
+Fits (want.Tree Plain levels) (Opens (Branch county None)) = (county ≤ 99999) × (0 < levels)
+Fits (want.Tree Wide levels) (Opens (Branch county (Some limit))) = (county ≤ 99999) × (1 ≤ limit) × (limit ≤ most) × (0 < levels)
+Fits (want.Tree language levels) (Opens (Stuck county)) = county ≤ 99999
+Fits (want.Tree language levels) (Opens Seats) = Unit {0}
+Fits (want.Tree language levels) (Opens (Bound lines)) = lines ≤ most
+Fits (want.Takes language levels) (Takes county_codes) = IsSet county_codes
+Fits (want.Takes language levels) Mark = Unit {0}
+Fits (want.Allowances left) (Allows Room) = Unit {0}
+Fits (want.Allowances left) (Allows (Weigh quota weights)) = AreWeights quota weights
+Fits want.End End = Unit {0}
+Fits wanted item = ⊥
+
+-- items that stand one after the other, each where it is wanted
+abbrev pub AllFit : List Wanted → List Item → Type 0
+AllFit [] [] = Unit {0}
+AllFit [] (item ∷ items) = ⊥
+AllFit (wanted ∷ more) [] = ⊥
+AllFit (wanted ∷ more) (item ∷ items) = Fits wanted item × AllFit (wanted_after wanted item ++ more) items

@@ -1,0 +1,10 @@
+pub mod Words
+pub mod Lines
+pub mod Left
+pub mod Rest
+pub mod Items
+pub mod Spelling
+pub mod Fits
+pub mod Reads
+pub mod Writes
+pub mod Courses

@@ -1,0 +1,52 @@
+-- What is left of a text, and how its lines are taken.
+use Rattle.std.specs.Borrow.{Bor}
+use Rattle.std.specs.Prelude.{◌≡◌, ℕ, ◌+◌, ◌<◌, length, Bool, List, [], ◌∷◌, ◌++◌, Option, Some, None, Result, Ok, Err}
+use Rattle.field_lines.specs.Raw.{RawLine, raw_lines_from, bytes_of}
+use Rattle.certificate_lines.specs.declared.fault.TextKind.{TextKind}
+use Rattle.certificate_lines.specs.declared.fault.TextKind.TheVariants.{CutShort, Memory}
+use Rattle.certificate_lines.specs.declared.fault.TextFault.{TextFault}
+
+-- the text that is left, and the number of its first line
+pub record Rest : Type 0 where
+  pub number : ℕ
+  pub text : List ℕ
+
+-- its lines
+abbrev pub lines_of : Rest → List RawLine
+lines_of rest = raw_lines_from rest.number rest.text
+
+-- a fault on a line
+abbrev pub fault_at : TextKind → ℕ → TextFault
+fault_at kind number = record { kind = kind; line = number }
+
+-- memory was refused
+abbrev pub IsMemory : TextFault → Type 0
+IsMemory fault = fault.kind ≡ Memory
+
+-- the line of old was taken, on which `read` finds x
+pub record TakesLine {X : Type 0} (read : RawLine → Result X TextKind) (x : X) (old new : Rest) : Type 0 where
+  pub piece : RawLine
+  pub lines : lines_of old ≡ piece ∷ lines_of new
+  pub value : read piece ≡ Ok x
+  pub number : new.number ≡ old.number + 1
+  pub text : old.text ≡ bytes_of piece ++ new.text
+  pub shorter : length new.text < length old.text
+
+-- `read` finds a fault on the next line, or there is none
+abbrev pub FaultOf : {X : Type 0} → (RawLine → Result X TextKind) → ℕ → List RawLine → TextFault → Type 0
+FaultOf read number [] fault = fault ≡ fault_at CutShort number
+FaultOf read number (piece ∷ pieces) fault = (read piece ≡ Err fault.kind) × (fault.line ≡ number)
+
+-- A call read the next line, seen by `view`, unless memory was refused.
+abbrev pub ReadsLine : {X Y : Type 0} → (Y → X) → (RawLine → Result X TextKind) → Rest → Result Y TextFault → Rest → Type 0
+ReadsLine view read old (Ok y) new = TakesLine read (view y) old new
+ReadsLine view read old (Err fault) new = (IsMemory fault → ⊥) → FaultOf read old.number (lines_of old) fault
+
+-- the next piece was taken; where none is left, none stays
+abbrev pub TakesPiece : Rest → Option (Bor (List ℕ) × Bool) → Rest → Type 0
+TakesPiece old None new = (lines_of old ≡ []) × (new ≡ old)
+TakesPiece old (Some r) new =
+    (lines_of old ≡ record { number = old.number; bytes = r.0.now; ended = r.1 } ∷ lines_of new)
+    × (new.number ≡ old.number + 1)
+    × (old.text ≡ bytes_of (record { number = old.number; bytes = r.0.now; ended = r.1 }) ++ new.text)
+    × (length new.text < length old.text)

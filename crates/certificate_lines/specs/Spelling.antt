@@ -1,0 +1,45 @@
+-- How items, and values that are made of them, are spelled.
+use Rattle.std.specs.Prelude.{ℕ, ◌+◌, ◌/◌, ◌%◌, List, [], ◌∷◌, ◌++◌, map, codes, decimal, Some, None}
+use Rattle.std.specs.List.{flat_map, join_with_byte}
+use Rattle.proof_trees.specs.declared.language.Language.TheVariants.{Plain, Wide}
+use Rattle.certificate_lines.specs.declared.weights.Weight.{Weight}
+use Rattle.certificate_lines.specs.declared.item.Allowance.TheVariants.{Room, Weigh}
+use Rattle.certificate_lines.specs.declared.item.Opening.TheVariants.{Branch, Stuck, Seats, Bound}
+use Rattle.certificate_lines.specs.declared.item.Item.{Item}
+use Rattle.certificate_lines.specs.declared.item.Item.TheVariants.{Head, Order, Limit, Target, Grouped, Opens, Takes, Mark, Allows, End}
+
+-- the five digits of a county's code
+abbrev pub five_digits : ℕ → List ℕ
+five_digits code = (48 + code / 10000) ∷ (48 + code / 1000 % 10) ∷ (48 + code / 100 % 10) ∷ (48 + code / 10 % 10) ∷ (48 + code % 10) ∷ []
+
+-- a weight: the code, a colon and the number
+abbrev pub weight_word : Weight → List ℕ
+weight_word w = five_digits w.county ++ 58 ∷ decimal w.weight
+
+-- the words of an item
+abbrev pub item_words : Item → List (List ℕ)
+item_words (Head Plain) = codes "county-groups" ∷ codes "certificate" ∷ codes "1" ∷ []
+item_words (Head Wide) = codes "county-groups" ∷ codes "wide" ∷ codes "certificate" ∷ codes "1" ∷ []
+item_words (Order county_codes) = codes "order" ∷ map five_digits county_codes
+item_words (Limit limit) = codes "limit" ∷ decimal limit ∷ []
+item_words (Target None) = codes "target" ∷ codes "none" ∷ []
+item_words (Target (Some groups)) = codes "target" ∷ decimal groups ∷ []
+item_words (Grouped group) = codes "group" ∷ decimal group.seats ∷ map five_digits group.codes
+item_words (Opens (Branch county None)) = codes "branch" ∷ five_digits county ∷ []
+item_words (Opens (Branch county (Some limit))) = codes "branch" ∷ five_digits county ∷ decimal limit ∷ []
+item_words (Opens (Stuck county)) = codes "stuck" ∷ five_digits county ∷ []
+item_words (Opens Seats) = codes "seats" ∷ []
+item_words (Opens (Bound lines)) = codes "bound" ∷ decimal lines ∷ []
+item_words (Takes county_codes) = codes "take" ∷ map five_digits county_codes
+item_words Mark = codes "mark" ∷ []
+item_words (Allows Room) = codes "room" ∷ []
+item_words (Allows (Weigh quota weights)) = codes "weigh" ∷ decimal quota ∷ map weight_word weights
+item_words End = codes "end" ∷ []
+
+-- the line of an item: its words with one blank between them, and an LF
+abbrev pub item_line : Item → List ℕ
+item_line item = join_with_byte 32 (item_words item) ++ codes "\n"
+
+-- the text of items, line by line
+abbrev pub text_of : List Item → List ℕ
+text_of items = flat_map item_line items

@@ -1,0 +1,218 @@
+//! The lines of a text, read one after the other.
+
+ghost use Rattle.std.specs.Prelude.{◌≡◌, [], ◌∷◌, ◌++◌, IfOk, IfErr, OnOk};
+ghost use Rattle.certificate_lines.specs.Words.{line_words};
+ghost use Rattle.certificate_lines.specs.Lines as line;
+ghost use Rattle.certificate_lines.specs.Rest.{IsMemory, ReadsLine, TakesPiece};
+ghost use Rattle.certificate_lines.specs.Reads.{EndsUnless};
+ghost use Rattle.certificate_lines.specs.Items.{by_words, head_in};
+
+use crate::fault::{TextFault, TextKind};
+use crate::item::{Allowance, Opening};
+use crate::lines::{
+    allowance_on, end_on, group_on, head_on, limit_on, opening_on, order_on, take_on, target_on,
+};
+use crate::words::{Words, bytes_of_line};
+use county_codes::{Codes, Group};
+use field_lines::split_piece;
+use proof_trees::Language;
+use std::alloc::Global;
+use std::marker::Model;
+
+/// Adds an item at the end, or answers that memory was refused, at a line.
+///
+/// # Errors
+///
+/// `Memory`.
+pub fn push_on<T: Drop>(items: &mut Vec<T>, item: T, line: u64) -> Result<(), TextFault>
+    ensures pushed { OnOk result (items.new.items ≡ items.old.items ++ item ∷ []) }
+    ensures refused { IfErr result (λ f. IsMemory f) }
+{
+    match items.push(item) {
+        Ok(()) => Ok(()),
+        Err(_) => Err(TextFault {
+            kind: TextKind::Memory,
+            line,
+        }),
+    }
+}
+
+/// The language that the first line names, from its bytes without LF, and whether an LF ended them.
+fn head_of(bytes: &[u8], ended: bool) -> Result<Language, TextKind>
+    ensures { result ≡ head_in bytes.now ended }
+{
+    head_on(bytes_of_line(bytes, ended)?)
+}
+
+/// What is left of a text, and the number of its next line.
+///
+/// Each call that reads takes the next line and answers what it says.
+///
+/// # Errors
+///
+/// The fault of that line, with its number, or `CutShort` where there is none; `Memory` in the place of any answer.
+#[derive(Drop)]
+pub struct Cursor<'a> {
+    text: &'a [u8],
+    number: u64,
+}
+
+impl<'a> Model for Cursor<'a> {
+    ghost use Rattle.std.specs.Prelude.{length, ◌+◌, ◌<◌, ◌^◌};
+    ghost use Rattle.certificate_lines.specs.Rest.{Rest};
+
+    /// The text that is left, and the number of its first line.
+    ghost Value = { Rest };
+
+    ghost view = { λ s. record { number = s.number; text = s.text.now } };
+
+    ghost invariant = { λ s. s.number + length s.text.now < 2 ^ 64 };
+}
+
+impl<'a> Cursor<'a> {
+    /// The whole of a text.
+    pub fn new(text: &'a [u8]) -> Self
+        ensures { result ≡ record { number = 1; text = text.now } }
+    {
+        Cursor { text, number: 1 }
+    }
+
+    /// The text that is left.
+    pub fn rest(&self) -> &'a [u8]
+        ensures { result.now ≡ self.now.text }
+    {
+        self.text
+    }
+
+    /// The number of the next line.
+    pub fn number(&self) -> u64
+        ensures { result ≡ self.now.number }
+    {
+        self.number
+    }
+
+    /// Takes the bytes of the next line; whether an LF ended it is the second answer.
+    fn next_piece(&mut self) -> Option<(&'a [u8], bool)>
+        ensures { TakesPiece self.old result self.new }
+    {
+        let (bytes, ended, rest) = split_piece(self.text)?;
+        self.text = rest;
+        self.number += 1;
+        Some((bytes, ended))
+    }
+
+    /// Takes the words of the next line; the second answer is its number.
+    pub fn next_words(&mut self) -> Result<(Words<'a>, u64), TextFault>
+        ensures line { IfOk result (λ r. r.1 ≡ self.old.number) }
+        ensures words { ReadsLine (λ r. r.0) (λ p. line_words p.bytes p.ended) self.old result self.new }
+    {
+        let line = self.number;
+        let Some((bytes, ended)) = self.next_piece() else {
+            return Err(TextFault {
+                kind: TextKind::CutShort,
+                line,
+            });
+        };
+        match Words::new(bytes, ended) {
+            Ok(words) => Ok((words, line)),
+            Err(kind) => Err(TextFault { kind, line }),
+        }
+    }
+
+    /// The head.
+    pub fn head(&mut self) -> Result<Language, TextFault>
+        ensures { ReadsLine (λ r. r) (λ p. head_in p.bytes p.ended) self.old result self.new }
+    {
+        let line = self.number;
+        let Some((bytes, ended)) = self.next_piece() else {
+            return Err(TextFault {
+                kind: TextKind::CutShort,
+                line,
+            });
+        };
+        head_of(bytes, ended).map_err(|kind| TextFault { kind, line })
+    }
+
+    /// The order.
+    pub fn order(&mut self, alloc: Global) -> Result<Codes, TextFault>
+        ensures { ReadsLine (λ r. r) (by_words line.order_on) self.old result self.new }
+    {
+        let (words, line) = self.next_words()?;
+        order_on(alloc, words).map_err(|kind| TextFault { kind, line })
+    }
+
+    /// The limit.
+    pub fn limit(&mut self) -> Result<u16, TextFault>
+        ensures { ReadsLine (λ r. r) (by_words line.limit_on) self.old result self.new }
+    {
+        let (words, line) = self.next_words()?;
+        limit_on(words).map_err(|kind| TextFault { kind, line })
+    }
+
+    /// The number of groups of the target.
+    pub fn target(&mut self) -> Result<Option<u16>, TextFault>
+        ensures { ReadsLine (λ r. r) (by_words line.target_on) self.old result self.new }
+    {
+        let (words, line) = self.next_words()?;
+        target_on(words).map_err(|kind| TextFault { kind, line })
+    }
+
+    /// A group.
+    pub fn group(&mut self, alloc: Global) -> Result<Group, TextFault>
+        ensures { ReadsLine (λ r. r) (by_words line.group_on) self.old result self.new }
+    {
+        let (words, line) = self.next_words()?;
+        group_on(alloc, words).map_err(|kind| TextFault { kind, line })
+    }
+
+    /// A branch or a leaf.
+    pub fn opening(&mut self, language: Language, levels: u16) -> Result<Opening, TextFault>
+        ensures read { ReadsLine (λ r. r) (by_words (line.opening_on language levels)) self.old result self.new }
+        ensures level { IfOk result (λ o. line.HasLevel levels o) }
+    {
+        let (words, line) = self.next_words()?;
+        opening_on(language, levels, words).map_err(|kind| TextFault { kind, line })
+    }
+
+    /// The codes of a take, or none at the mark.
+    pub fn take(&mut self, alloc: Global) -> Result<Option<Codes>, TextFault>
+        ensures { ReadsLine (λ r. r) (by_words line.take_on) self.old result self.new }
+    {
+        let (words, line) = self.next_words()?;
+        take_on(alloc, words).map_err(|kind| TextFault { kind, line })
+    }
+
+    /// A line of a bound leaf.
+    pub fn allowance(&mut self, alloc: Global) -> Result<Allowance, TextFault>
+        ensures { ReadsLine (λ r. r) (by_words line.allowance_on) self.old result self.new }
+    {
+        let (words, line) = self.next_words()?;
+        allowance_on(alloc, words).map_err(|kind| TextFault { kind, line })
+    }
+
+    /// The end.
+    pub fn end(&mut self) -> Result<(), TextFault>
+        ensures { ReadsLine (λ r. r) (by_words line.end_on) self.old result self.new }
+    {
+        let (words, line) = self.next_words()?;
+        end_on(words).map_err(|kind| TextFault { kind, line })
+    }
+}
+
+/// Nothing may be left.
+///
+/// # Errors
+///
+/// `AfterEnd` where bytes are left.
+pub fn ended(cursor: &Cursor) -> Result<(), TextFault>
+    ensures { EndsUnless cursor.now result }
+{
+    if cursor.rest().is_empty() {
+        Ok(())
+    } else {
+        Err(TextFault {
+            kind: TextKind::AfterEnd,
+            line: cursor.number(),
+        })
+    }
+}

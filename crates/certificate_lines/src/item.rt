@@ -1,0 +1,101 @@
+ghost use Rattle.std.specs.Prelude.{◌≡◌, IfOk};
+
+use crate::weights::Weights;
+use county_codes::{Codes, CountyCode, Group};
+use proof_trees::Language;
+use std::alloc::AllocError;
+
+/// A line of a bound leaf: how many groups of one size there may still be.
+#[derive(Debug, Drop)]
+pub enum Allowance {
+    /// As many as the room allows.
+    Room,
+    /// As many as weights allow, too.
+    Weigh {
+        /// What each group weighs at least, 1 to 256,000,000.
+        quota: u32,
+        /// The weights, their codes strictly ascending.
+        weights: Weights,
+    },
+}
+
+impl Allowance {
+    /// An equal line, or an error where memory was refused.
+    pub fn copy(&self) -> Result<Allowance, AllocError>
+        ensures { IfOk result (λ line. line ≡ self.now) }
+    {
+        match self {
+            Allowance::Room => Ok(Allowance::Room),
+            Allowance::Weigh { quota, weights } => Ok(Allowance::Weigh {
+                quota: *quota,
+                weights: weights.copy()?,
+            }),
+        }
+    }
+}
+
+/// The line that opens a tree, or is one.
+#[derive(Clone, Copy, Debug, PartialEq, Eq)]
+pub enum Opening {
+    /// A branch: its county, and in a wide certificate its limit.
+    Branch {
+        /// The county.
+        county: CountyCode,
+        /// The greatest size of its groups, in a wide certificate.
+        limit: Option<u16>,
+    },
+    /// A stuck leaf around a county.
+    Stuck(CountyCode),
+    /// A seats leaf.
+    Seats,
+    /// A bound leaf of so many lines.
+    Bound(u16),
+}
+
+/// What a line says.
+#[derive(Debug, Drop)]
+pub enum Item {
+    /// The head of a certificate.
+    Head(Language),
+    /// The counties in their order.
+    Order(Codes),
+    /// The greatest size of a group of the target.
+    Limit(u16),
+    /// How many groups the target has, or that there is none.
+    Target(Option<u16>),
+    /// A group of the target.
+    Grouped(Group),
+    /// A branch or a leaf.
+    Opens(Opening),
+    /// A group that is taken.
+    Takes(Codes),
+    /// The end of a branch's groups.
+    Mark,
+    /// A line of a bound leaf.
+    Allows(Allowance),
+    /// The end of the certificate.
+    End,
+}
+
+/// What is wanted next. A level is one more branch that may stand inside those that are open.
+#[derive(Clone, Copy, Debug, PartialEq, Eq)]
+pub enum Wanted {
+    /// The head.
+    Head,
+    /// The order.
+    Order(Language),
+    /// The limit.
+    Limit,
+    /// The target.
+    Target,
+    /// So many groups.
+    Groups(u16),
+    /// A tree, with so many levels.
+    Tree(Language, u16),
+    /// Groups that are taken, or the mark, inside a branch that was opened with so many levels.
+    Takes(Language, u16),
+    /// So many lines of a bound leaf.
+    Allowances(u16),
+    /// The end.
+    End,
+}

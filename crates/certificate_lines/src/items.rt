@@ -1,0 +1,278 @@
+//! The lines of a certificate or of a tree, one at a time.
+
+ghost use Rattle.std.specs.Prelude.{◌≡◌, ◌≤◌, List, [], ◌∷◌, None, IfOk};
+ghost use Rattle.field_lines.specs.Raw.{raw_lines};
+ghost use Rattle.certificate_lines.specs.Lines.{most};
+ghost use Rattle.certificate_lines.specs.Courses.{Course, certificate_course, tree_course, course_from, course_left, IsNextItem, IsNextLine, TakesItem};
+ghost use Rattle.certificate_lines.specs.declared.item.Wanted.TheVariants as want;
+
+use crate::cursor::{Cursor, ended, push_on};
+use crate::fault::{TextFault, TextKind};
+use crate::item::{Item, Opening, Wanted};
+use crate::lines::levels_after;
+use proof_trees::Language;
+use std::alloc::{AllocError, Global};
+use std::marker::Model;
+
+/// Items, one at a time: those of a text, or what else has lines of a certificate or of a tree.
+pub trait ItemSource {
+    /// The items to come, and the fault that ends them.
+    ghost course: { Self → Course };
+
+    /// The next item, or `None` after the last, then and at each later call.
+    ///
+    /// # Errors
+    ///
+    /// The first fault, or `Memory` in the place of any answer. Each later call answers the same fault.
+    fn next_item(&mut self) -> Result<Option<Item>, TextFault>
+        ensures { IsNextItem (course self.old) result (course self.new) };
+}
+
+/// The head, where it is wanted.
+fn head_item(cursor: &mut Cursor, stack: &mut Vec<Wanted>) -> Result<Item, TextFault>
+    ensures { TakesItem want.Head cursor.old stack.old.items result cursor.new stack.new.items }
+{
+    let language = cursor.head()?;
+    push_on(stack, Wanted::Order(language), cursor.number())?;
+    Ok(Item::Head(language))
+}
+
+/// The order, where it is wanted.
+fn order_item(
+    alloc: Global,
+    cursor: &mut Cursor,
+    stack: &mut Vec<Wanted>,
+    language: Language,
+) -> Result<Item, TextFault>
+    ensures { TakesItem (want.Order language) cursor.old stack.old.items result cursor.new stack.new.items }
+{
+    let order = cursor.order(alloc)?;
+    let levels = order.as_slice().len() as u16;
+    let line = cursor.number();
+    push_on(stack, Wanted::End, line)?;
+    push_on(stack, Wanted::Tree(language, levels), line)?;
+    push_on(stack, Wanted::Target, line)?;
+    push_on(stack, Wanted::Limit, line)?;
+    Ok(Item::Order(order))
+}
+
+/// The line of the target, where it is wanted.
+fn target_item(cursor: &mut Cursor, stack: &mut Vec<Wanted>) -> Result<Item, TextFault>
+    ensures { TakesItem want.Target cursor.old stack.old.items result cursor.new stack.new.items }
+{
+    let target = cursor.target()?;
+    if let Some(groups) = target
+        && groups > 0
+    {
+        push_on(stack, Wanted::Groups(groups), cursor.number())?;
+    }
+    Ok(Item::Target(target))
+}
+
+/// A group of the target, where so many are wanted.
+fn group_item(
+    alloc: Global,
+    cursor: &mut Cursor,
+    stack: &mut Vec<Wanted>,
+    left: u16,
+) -> Result<Item, TextFault>
+    ensures { TakesItem (want.Groups left) cursor.old stack.old.items result cursor.new stack.new.items }
+{
+    let group = cursor.group(alloc)?;
+    if left > 1 {
+        push_on(stack, Wanted::Groups(left - 1), cursor.number())?;
+    }
+    Ok(Item::Grouped(group))
+}
+
+/// The first line of a tree, where one is wanted.
+fn opening_item(
+    cursor: &mut Cursor,
+    stack: &mut Vec<Wanted>,
+    language: Language,
+    levels: u16,
+) -> Result<Item, TextFault>
+    ensures { TakesItem (want.Tree language levels) cursor.old stack.old.items result cursor.new stack.new.items }
+{
+    let opening = cursor.opening(language, levels)?;
+    match opening {
+        Opening::Branch { .. } => {
+            push_on(stack, Wanted::Takes(language, levels), cursor.number())?
+        }
+        Opening::Bound(lines) => {
+            if lines > 0 {
+                push_on(stack, Wanted::Allowances(lines), cursor.number())?;
+            }
+        }
+        Opening::Stuck(_) | Opening::Seats => {}
+    }
+    Ok(Item::Opens(opening))
+}
+
+/// A take or a mark, where they are wanted.
+fn take_item(
+    alloc: Global,
+    cursor: &mut Cursor,
+    stack: &mut Vec<Wanted>,
+    language: Language,
+    levels: u16,
+) -> Result<Item, TextFault>
+    ensures { TakesItem (want.Takes language levels) cursor.old stack.old.items result cursor.new stack.new.items }
+{
+    match cursor.take(alloc)? {
+        Some(codes) => {
+            let line = cursor.number();
+            push_on(stack, Wanted::Takes(language, levels), line)?;
+            push_on(
+                stack,
+                Wanted::Tree(language, levels.saturating_sub(1)),
+                line,
+            )?;
+            Ok(Item::Takes(codes))
+        }
+        None => {
+            let after = Wanted::Tree(language, levels_after(language, levels));
+            push_on(stack, after, cursor.number())?;
+            Ok(Item::Mark)
+        }
+    }
+}
+
+/// A line of a bound leaf, where so many are wanted.
+fn allowance_item(
+    alloc: Global,
+    cursor: &mut Cursor,
+    stack: &mut Vec<Wanted>,
+    left: u16,
+) -> Result<Item, TextFault>
+    ensures { TakesItem (want.Allowances left) cursor.old stack.old.items result cursor.new stack.new.items }
+{
+    let allowance = cursor.allowance(alloc)?;
+    if left > 1 {
+        push_on(stack, Wanted::Allowances(left - 1), cursor.number())?;
+    }
+    Ok(Item::Allows(allowance))
+}
+
+/// The limit, where it is wanted.
+fn limit_item(cursor: &mut Cursor) -> Result<Item, TextFault>
+    ensures { (stack : List Wanted) → TakesItem want.Limit cursor.old stack result cursor.new stack }
+{
+    Ok(Item::Limit(cursor.limit()?))
+}
+
+/// The end, where it is wanted.
+fn end_item(cursor: &mut Cursor) -> Result<Item, TextFault>
+    ensures { (stack : List Wanted) → TakesItem want.End cursor.old stack result cursor.new stack }
+{
+    cursor.end()?;
+    Ok(Item::End)
+}
+
+/// The item of the next line, where this is wanted; what is wanted after it is put on the stack, whose top
+/// is its last.
+fn item_at(
+    alloc: Global,
+    cursor: &mut Cursor,
+    stack: &mut Vec<Wanted>,
+    wanted: Wanted,
+) -> Result<Item, TextFault>
+    ensures { TakesItem wanted cursor.old stack.old.items result cursor.new stack.new.items }
+{
+    match wanted {
+        Wanted::Head => head_item(cursor, stack),
+        Wanted::Order(language) => order_item(alloc, cursor, stack, language),
+        Wanted::Limit => limit_item(cursor),
+        Wanted::Target => target_item(cursor, stack),
+        Wanted::Groups(left) => group_item(alloc, cursor, stack, left),
+        Wanted::Tree(language, levels) => opening_item(cursor, stack, language, levels),
+        Wanted::Takes(language, levels) => take_item(alloc, cursor, stack, language, levels),
+        Wanted::Allowances(left) => allowance_item(alloc, cursor, stack, left),
+        Wanted::End => end_item(cursor),
+    }
+}
+
+/// The next item, where these things are wanted in turn, the top of the stack being the last.
+fn next_at(
+    alloc: Global,
+    cursor: &mut Cursor,
+    stack: &mut Vec<Wanted>,
+) -> Result<Option<Item>, TextFault>
+    ensures { IsNextLine (course_left stack.old.items cursor.old None) result (course_left stack.new.items cursor.new None) }
+{
+    match stack.pop() {
+        Some(wanted) => Ok(Some(item_at(alloc, cursor, stack, wanted)?)),
+        None => {
+            ended(cursor)?;
+            Ok(None)
+        }
+    }
+}
+
+/// The items of a text, one at a time. They take the memory of a line, and of what is wanted after it.
+#[derive(Drop)]
+pub struct Items<'a> {
+    cursor: Cursor<'a>,
+    wanted: Vec<Wanted>,
+    fault: Option<TextFault>,
+}
+
+impl<'a> Model for Items<'a> {
+    ghost use Rattle.certificate_lines.specs.Courses.{Course, course_left};
+
+    /// The items to come, and the fault that ends them.
+    ghost Value = { Course };
+
+    ghost view = { λ s. course_left s.wanted.items s.cursor s.fault };
+}
+
+impl<'a> Items<'a> {
+    /// The items of a certificate's text.
+    pub fn of_certificate(alloc: Global, text: &'a [u8]) -> Result<Self, AllocError>
+        ensures { IfOk result (λ items. items ≡ certificate_course text.now) }
+    {
+        Items::wanting(alloc, text, Wanted::Head)
+    }
+
+    /// The items of a tree's text, for an order of so many counties.
+    pub fn of_tree(
+        alloc: Global,
+        text: &'a [u8],
+        language: Language,
+        counties: u16,
+    ) -> Result<Self, AllocError>
+        requires { counties ≤ most }
+        ensures { IfOk result (λ items. items ≡ tree_course language counties text.now) }
+    {
+        Items::wanting(alloc, text, Wanted::Tree(language, counties))
+    }
+
+    /// The items of a text where this is wanted.
+    fn wanting(alloc: Global, text: &'a [u8], wanted: Wanted) -> Result<Self, AllocError>
+        ensures { IfOk result (λ items. items ≡ course_from (wanted ∷ []) 1 (raw_lines text.now)) }
+    {
+        let mut stack = Vec::new(alloc);
+        stack.push(wanted)?;
+        Ok(Items {
+            cursor: Cursor::new(text),
+            wanted: stack,
+            fault: None,
+        })
+    }
+}
+
+impl<'a> ItemSource for Items<'a> {
+    ghost course = { λ s. s };
+
+    fn next_item(&mut self) -> Result<Option<Item>, TextFault> {
+        if let Some(fault) = self.fault {
+            return Err(fault);
+        }
+        let alloc = *self.wanted.allocator();
+        let next = next_at(alloc, &mut self.cursor, &mut self.wanted);
+        if let Err(fault) = &next {
+            self.fault = Some(*fault);
+        }
+        next
+    }
+}

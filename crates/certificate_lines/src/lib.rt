@@ -1,0 +1,31 @@
+//! The lines of a certificate: one spelling for each, read word by word and written.
+//!
+//! ```
+//! let mut items = Items::of_certificate(alloc, text)?;
+//! items.next_item()        // Ok(Some(Item::Head(Language::Plain)))
+//! ```
+#![tactic(auto)]
+
+mod cursor;
+mod fault;
+mod item;
+mod items;
+mod lines;
+mod number;
+mod weights;
+mod words;
+mod writing_lines;
+mod writing_words;
+
+pub use cursor::{Cursor, ended, push_on};
+pub use fault::{TextFault, TextKind, WriteFault};
+pub use item::{Allowance, Item, Opening, Wanted};
+pub use items::{ItemSource, Items};
+pub use lines::{MOST, levels_after};
+pub use weights::{Weight, Weights};
+pub use words::Words;
+pub use writing_lines::{
+    push_allowance, push_branch, push_group, push_head, push_limit, push_order, push_take,
+    push_target_line,
+};
+pub use writing_words::{push_code_line, push_number_line};

@@ -1,0 +1,251 @@
+//! What each form of line says, by its words.
+
+ghost use Rattle.std.specs.Prelude.{◌≡◌, ℕ, IfOk};
+ghost use Rattle.field_lines.specs.Values.{GivesUnless};
+ghost use Rattle.proof_trees.specs.Depth.{after_raise};
+ghost use Rattle.certificate_lines.specs.Lines.{head_on, order_on, limit_on, target_on, group_on, branch_on, stuck_on, bound_on, opening_on, take_on, weigh_on, allowance_on, end_on, ascend, HasLevel};
+ghost use Rattle.certificate_lines.specs.declared.fault.TextKind.TheVariants.{Memory};
+
+use crate::fault::TextKind;
+use crate::item::{Allowance, Opening};
+use crate::weights::Weight;
+use crate::words::Words;
+use county_codes::{Codes, Group};
+use proof_trees::Language;
+use std::alloc::Global;
+
+/// How many counties, groups, lines of a bound and levels of branches there may be.
+pub const MOST: u32 = 128;
+
+/// The first line of a plain certificate.
+pub(crate) const PLAIN_HEAD: &[u8] = b"county-groups certificate 1";
+
+/// The first line of a wide certificate.
+pub(crate) const WIDE_HEAD: &[u8] = b"county-groups wide certificate 1";
+
+/// The language that the first line names.
+#[tactic(auto, unfolding(crate::specs::Lines::head_on))]
+pub(crate) fn head_on(bytes: &[u8]) -> Result<Language, TextKind>
+    ensures { result ≡ head_on bytes.now }
+{
+    if bytes == PLAIN_HEAD {
+        Ok(Language::Plain)
+    } else if bytes == WIDE_HEAD {
+        Ok(Language::Wide)
+    } else {
+        Err(TextKind::BadHead)
+    }
+}
+
+/// The order.
+#[tactic(auto, unfolding(crate::specs::Lines::order_on))]
+pub(crate) fn order_on(alloc: Global, words: Words) -> Result<Codes, TextKind>
+    ensures { GivesUnless (λ k. k ≡ Memory) (λ c. c) result (order_on words.entry) }
+{
+    let mut words = words;
+    words.named(b"order")?;
+    words.counted(0, MOST as usize)?;
+    words.codes(alloc)
+}
+
+/// The limit.
+#[tactic(auto, unfolding(crate::specs::Lines::limit_on))]
+pub(crate) fn limit_on(words: Words) -> Result<u16, TextKind>
+    ensures { result ≡ limit_on words.entry }
+{
+    let mut words = words;
+    words.named(b"limit")?;
+    words.counted(1, 1)?;
+    Ok(words.number(0, MOST)? as u16)
+}
+
+/// The number of groups of the target, if there is one.
+#[tactic(auto, unfolding(crate::specs::Lines::target_on))]
+pub(crate) fn target_on(words: Words) -> Result<Option<u16>, TextKind>
+    ensures { result ≡ target_on words.entry }
+{
+    let mut words = words;
+    words.named(b"target")?;
+    words.counted(1, 1)?;
+    if words.begins(b"none") {
+        Ok(None)
+    } else {
+        Ok(Some(words.number(0, MOST)? as u16))
+    }
+}
+
+/// A group of the target.
+#[tactic(auto, unfolding(crate::specs::Lines::group_on))]
+pub(crate) fn group_on(alloc: Global, words: Words) -> Result<Group, TextKind>
+    ensures { GivesUnless (λ k. k ≡ Memory) (λ g. g) result (group_on words.entry) }
+{
+    let mut words = words;
+    words.named(b"group")?;
+    words.counted(2, 1 + MOST as usize)?;
+    let seats = words.number(0, 65_535)? as u16;
+    let codes = words.codes(alloc)?;
+    Ok(Group { seats, codes })
+}
+
+/// A branch, from the words after the first.
+#[tactic(auto, unfolding(crate::specs::Lines::branch_on))]
+fn branch_on(language: Language, levels: u16, words: Words) -> Result<Opening, TextKind>
+    ensures value { result ≡ branch_on language levels words.entry }
+    ensures level { IfOk result (λ o. HasLevel levels o) }
+{
+    let mut words = words;
+    match language {
+        Language::Plain => {
+            words.counted(1, 1)?;
+            let county = words.code()?;
+            if levels > 0 {
+                Ok(Opening::Branch {
+                    county,
+                    limit: None,
+                })
+            } else {
+                Err(TextKind::TooDeep)
+            }
+        }
+        Language::Wide => {
+            words.counted(2, 2)?;
+            let county = words.code()?;
+            let limit = words.number(1, MOST)? as u16;
+            if levels > 0 {
+                Ok(Opening::Branch {
+                    county,
+                    limit: Some(limit),
+                })
+            } else {
+                Err(TextKind::TooDeep)
+            }
+        }
+    }
+}
+
+/// A stuck leaf, from the words after the first.
+#[tactic(auto, unfolding(crate::specs::Lines::stuck_on))]
+fn stuck_on(words: Words) -> Result<Opening, TextKind>
+    ensures value { result ≡ stuck_on words.entry }
+    ensures level { IfOk result (λ o. (levels : ℕ) → HasLevel levels o) }
+{
+    let mut words = words;
+    words.counted(1, 1)?;
+    Ok(Opening::Stuck(words.code()?))
+}
+
+/// A bound leaf, from the words after the first.
+#[tactic(auto, unfolding(crate::specs::Lines::bound_on))]
+fn bound_on(words: Words) -> Result<Opening, TextKind>
+    ensures value { result ≡ bound_on words.entry }
+    ensures level { IfOk result (λ o. (levels : ℕ) → HasLevel levels o) }
+{
+    let mut words = words;
+    words.counted(1, 1)?;
+    Ok(Opening::Bound(words.number(0, MOST)? as u16))
+}
+
+/// A branch or a leaf, where a branch may still open so many levels.
+#[tactic(auto, unfolding(crate::specs::Lines::opening_on))]
+pub(crate) fn opening_on(language: Language, levels: u16, words: Words) -> Result<Opening, TextKind>
+    ensures value { result ≡ opening_on language levels words.entry }
+    ensures level { IfOk result (λ o. HasLevel levels o) }
+{
+    let mut words = words;
+    if words.skipped(b"branch") {
+        branch_on(language, levels, words)
+    } else if words.skipped(b"stuck") {
+        stuck_on(words)
+    } else if words.skipped(b"seats") {
+        words.counted(0, 0)?;
+        Ok(Opening::Seats)
+    } else if words.skipped(b"bound") {
+        bound_on(words)
+    } else {
+        Err(TextKind::BadWord)
+    }
+}
+
+/// The codes of a take, or none at the mark.
+#[tactic(auto, unfolding(crate::specs::Lines::take_on))]
+pub(crate) fn take_on(alloc: Global, words: Words) -> Result<Option<Codes>, TextKind>
+    ensures { GivesUnless (λ k. k ≡ Memory) (λ c. c) result (take_on words.entry) }
+{
+    let mut words = words;
+    if words.skipped(b"take") {
+        words.counted(1, MOST as usize)?;
+        Ok(Some(words.codes(alloc)?))
+    } else if words.skipped(b"mark") {
+        words.counted(0, 0)?;
+        Ok(None)
+    } else {
+        Err(TextKind::BadWord)
+    }
+}
+
+/// Whether the codes of weights ascend.
+pub(crate) fn ascend(weights: &[Weight]) -> bool
+    ensures { result ≡ ascend weights.now }
+{
+    let mut weights = weights;
+    while let [first, rest @ ..] = weights {
+        if let [second, ..] = rest
+            && first.county.get() >= second.county.get()
+        {
+            return false;
+        }
+        weights = rest;
+    }
+    true
+}
+
+/// Weights of a bound leaf's line, from the words after the first.
+#[tactic(auto, unfolding(crate::specs::Lines::weigh_on))]
+fn weigh_on(alloc: Global, words: Words) -> Result<Allowance, TextKind>
+    ensures { GivesUnless (λ k. k ≡ Memory) (λ a. a) result (weigh_on words.entry) }
+{
+    let mut words = words;
+    let quota = words.number(1, 256_000_000)?;
+    let weights = words.weights(alloc)?;
+    if ascend(weights.as_slice()) {
+        Ok(Allowance::Weigh { quota, weights })
+    } else {
+        Err(TextKind::NotCanonical)
+    }
+}
+
+/// A line of a bound leaf.
+#[tactic(auto, unfolding(crate::specs::Lines::allowance_on))]
+pub(crate) fn allowance_on(alloc: Global, words: Words) -> Result<Allowance, TextKind>
+    ensures { GivesUnless (λ k. k ≡ Memory) (λ a. a) result (allowance_on words.entry) }
+{
+    let mut words = words;
+    if words.skipped(b"room") {
+        words.counted(0, 0)?;
+        Ok(Allowance::Room)
+    } else if words.skipped(b"weigh") {
+        weigh_on(alloc, words)
+    } else {
+        Err(TextKind::BadWord)
+    }
+}
+
+/// The end.
+#[tactic(auto, unfolding(crate::specs::Lines::end_on))]
+pub(crate) fn end_on(words: Words) -> Result<(), TextKind>
+    ensures { result ≡ end_on words.entry }
+{
+    let mut words = words;
+    words.named(b"end")?;
+    words.counted(0, 0)
+}
+
+/// How many levels are left for the tree of a mark.
+pub fn levels_after(language: Language, levels: u16) -> u16
+    ensures { result ≡ after_raise language levels }
+{
+    match language {
+        Language::Plain => levels.saturating_sub(1),
+        Language::Wide => levels,
+    }
+}
