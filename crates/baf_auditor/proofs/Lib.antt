@@ -1,5 +1,6 @@
-pub mod RowLemmas
+pub mod ListLemmas
 pub mod NamingLemmas
 pub mod ListingLemmas
 pub mod KindLemmas
 pub mod GivingLemmas
+pub mod DistrictLemmas

@@ -7,9 +7,9 @@ ghost use Rattle.baf_auditor.specs.Findings.{plan_of, AreCodes, IsUnknown, IsTwi
 ghost use Rattle.baf_auditor.specs.Naming.{has_district};
 ghost use Rattle.baf_auditor.specs.Listing.{kept};
 
-use crate::assignments::Assignment;
 use crate::listed::listed_blocks;
 use crate::named::{Named, named_blocks};
+use assignment_file::Assignment;
 use county_codes::Grouping;
 use grouping_problem::Problem;
 use pl94_counties::Block;

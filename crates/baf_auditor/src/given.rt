@@ -3,8 +3,7 @@ ghost use Rattle.std.specs.Ordering.{nat_cmp};
 ghost use Rattle.std.specs.BTreeMap.{get, btree_map_len};
 ghost use Rattle.baf_auditor.specs.Giving.{by_label, after_given, giving};
 
-use crate::assignments::Assignment;
-use crate::label::Label;
+use assignment_file::{Assignment, Label};
 use std::alloc::{AllocError, Global};
 use std::collections::BTreeMap;
 
