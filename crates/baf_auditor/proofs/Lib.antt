@@ -4,3 +4,5 @@ pub mod ListingLemmas
 pub mod KindLemmas
 pub mod GivingLemmas
 pub mod DistrictLemmas
+pub mod OrderLemmas
+pub mod CrossingLemmas
