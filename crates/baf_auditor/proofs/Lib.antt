@@ -6,3 +6,4 @@ pub mod GivingLemmas
 pub mod DistrictLemmas
 pub mod OrderLemmas
 pub mod CrossingLemmas
+pub mod NumberLemmas
