@@ -43,6 +43,7 @@ module _ (groups : ℕ) where
     where
       not_same : k.0 ≡ first.0 → ⊥
       not_same e = let t : bytes_eq k.0 first.0 ≡ true = same_label k.0 first.0 e in cc
+
       by : (slice_cmp nat_cmp first.0 k.0 ≡ Less) ⊎ ((first.0 ≡ k.0) × (first.1 < k.1)) → (slice_cmp nat_cmp k.0 l.0 ≡ Less) ⊎ ((k.0 ≡ l.0) × (k.1 < l.1)) → ⊥
       by (inr e) t = not_same (sym e.0)
       by (inl less) (inr e) = not_same (e.0 ∙ same)
@@ -81,6 +82,7 @@ module _ (groups : ℕ) where
               let round : slice_cmp nat_cmp k.0 k.0 ≡ Less = subst (λ (x : List ℕ). slice_cmp nat_cmp k.0 x ≡ Less) (same ∙ sym here) less in
               let itself : slice_cmp nat_cmp k.0 k.0 ≡ Equal = tied_itself nat_list_cmp_total k.0 in
               absurd cc
+
       by : (b : Bool) → bytes_eq k.0 first.0 ≡ b → IsStrictlySortedBy by_key (crossings_with groups first ks) → IsStrictlySortedBy by_key (if b then crossing groups first k.1 ∷ crossings_with groups first ks else [])
       by true is later = (all_from by_key (λ f. by_key (crossing groups first k.1) f ≡ Less) (crossings_with groups first ks) (below (label_same k.0 first.0 is)), later)
       by false is later = tt
@@ -100,6 +102,7 @@ module _ (groups : ℕ) where
           let round : slice_cmp nat_cmp k.0 k.0 ≡ Less = subst (λ (x : List ℕ). slice_cmp nat_cmp k.0 x ≡ Less) same less in
           let itself : slice_cmp nat_cmp k.0 k.0 ≡ Equal = tied_itself nat_list_cmp_total k.0 in
           absurd cc
+
       by : Contains (crossings_with groups k ks) f ⊎ Contains (crossings groups ks) f → (Contains (crossings groups ks) f → Pair ks f) → Pair (k ∷ ks) f
       by (inl m) later =
           let p = with_from k ks f m in
@@ -122,6 +125,7 @@ module _ (groups : ℕ) where
         where
           own : n.0 ≡ k.0
           own = ap (λ (p : List ℕ × ℕ). p.0) f ∙ same
+
           wrong : (slice_cmp nat_cmp n.0 k.0 ≡ Less) ⊎ ((n.0 ≡ k.0) × (n.1 < k.1)) → ⊥
           wrong (inr e) = let number : n.1 ≡ l.1 = ap (λ (p : List ℕ × ℕ). p.1) f in let below : n.1 < k.1 = e.1 in omega (arith, number, lt, below)
           wrong (inl less) =
@@ -138,6 +142,7 @@ module _ (groups : ℕ) where
       at m l p same (inl less) = crossing_label k.0 l.0 (name_at groups k.1) (name_at groups m.1) (name_at groups l.1) (name_at groups p.1) less
       at m l p same (inr e) = subst (λ (x : List ℕ). by_key (crossing groups k m.1) (crossing groups (x, l.1) p.1) ≡ Less) e.0
           (crossing_first k.0 (name_at groups k.1) (name_at groups m.1) (name_at groups l.1) (name_at groups p.1) (place_before groups k.1 l.1 e.1))
+
       between : (f g : Finding) → Contains (crossings_with groups k ks) f → Contains (crossings groups ks) g → by_key f g ≡ Less
       between f g h m =
           let a = with_from k ks f h in

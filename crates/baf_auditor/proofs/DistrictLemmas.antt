@@ -84,6 +84,55 @@ module _ {X : Type 0} (test : X → Bool) where
       by true e later = let at : n ≡ n + zero = omega arith in (zero, ap (λ m. Some m) at, e)
       by false e later = let l = later e in let at : n + 1 + l.0 ≡ n + suc l.0 = omega arith in (suc l.0, l.1 ∙ ap (λ m. Some m) at, l.2)
 
+-- ---- the sets in which districts have blocks
+module _ (drawn : List DrawnSet) where
+  pub place_is : (o : Option ℕ) (i : ℕ) → is_place o i ≡ true → o ≡ Some i
+  place_is None i is = cc
+  place_is (Some j) i is = ap (λ m. Some m) (same_number j i is)
+
+  abbrev pub Shown : List (List ℕ × ℕ) → List ℕ × ℕ → Type 0
+  Shown ks key = (k : List ℕ × ℕ) × Contains ks k × (shows drawn key k ≡ true)
+
+  pub shown_from : (key : List ℕ × ℕ) (ks : List (List ℕ × ℕ)) (o : Option (Unit {0})) → stands_after drawn key o ks ≡ Some tt → (o ≡ Some tt) ⊎ Shown ks key
+  shown_from key [] o is = inl is
+  shown_from key (k ∷ ks) o is = by (shows drawn key k) refl (shown_from key ks (after_shown drawn key o k) is)
+    where
+      by : (b : Bool) → shows drawn key k ≡ b → ((if b then Some tt else o) ≡ Some tt) ⊎ Shown ks key → (o ≡ Some tt) ⊎ Shown (k ∷ ks) key
+      by true t h = inr (k, contains_head k ks, t)
+      by false t (inl h) = inl h
+      by false t (inr l) = inr (l.0, contains_tail k ks l.0 l.1, l.2)
+
+  stays_shown : (key : List ℕ × ℕ) (ks : List (List ℕ × ℕ)) → stands_after drawn key (Some tt) ks ≡ Some tt
+  stays_shown key [] = refl
+  stays_shown key (k ∷ ks) = by (stays_shown key ks) (shows drawn key k)
+    where
+      by : stands_after drawn key (Some tt) ks ≡ Some tt → (b : Bool) → stands_after drawn key (if b then Some tt else Some tt) ks ≡ Some tt
+      by later true = later
+      by later false = later
+
+  pub shown_to : (key : List ℕ × ℕ) (ks : List (List ℕ × ℕ)) (o : Option (Unit {0})) (k : List ℕ × ℕ) → Contains ks k → shows drawn key k ≡ true → stands_after drawn key o ks ≡ Some tt
+  shown_to key [] o k h is = absurd (contains_nil k h)
+  shown_to key (l ∷ ks) o k h is = elim (contains_cases l ks k h) as (λ _. stands_after drawn key o (l ∷ ks) ≡ Some tt) [
+    | inl same ↦ (let here : shows drawn key l ≡ true = ap (λ (m : List ℕ × ℕ). shows drawn key m) same ∙ is in
+        ap (λ (b : Bool). stands_after drawn key (if b then Some tt else o) ks) here ∙ stays_shown key ks)
+    | inr later ↦ shown_to key ks (after_shown drawn key o l) k later is
+  ]
+
+  -- a place is one of the sets
+  pub places_within : (found : List ((List ℕ × ℕ) × Unit {0})) (given : List (List ℕ × ℕ)) → IsStrictlySortedBy by_label (map (λ e. e.0) found)
+      → ((key : List ℕ × ℕ) → lookup (is_at (by_label key)) found ≡ standing drawn given key) → (k : List ℕ × ℕ) → Contains (map (λ e. e.0) found) k → k.1 < length drawn
+  places_within found given sorted is k h =
+      let m = mapped_from (λ (e : (List ℕ × ℕ) × Unit {0}). e.0) found k h in
+      let there : standing drawn given k ≡ Some tt = subst (λ (key : List ℕ × ℕ). standing drawn given key ≡ Some tt) m.2 (sym (is m.0.0) ∙ entry_to found sorted m.0.0 m.0.1 m.1) in
+      by (shown_from k given None there)
+    where
+      by : (◌≡◌ {A = Option (Unit {0})} None (Some tt)) ⊎ Shown given k → k.1 < length drawn
+      by (inl e) = absurd cc
+      by (inr s) =
+          let parts = both (is_place (place_of drawn (county_of s.0.1)) k.1) (bytes_eq s.0.0 k.0) s.2 in
+          let item = item_found (λ (set : DrawnSet). member set.codes (county_of s.0.1)) drawn 0 k.1 (place_is (place_of drawn (county_of s.0.1)) k.1 parts.0) in
+          omega (arith, item.1, item.3)
+
 -- ---- the districts of a plan, by the listed blocks that lines give to them
 module _ (plan : Plan) (blocks_sorted : IsStrictlySortedBy nat_cmp (map (λ b. b.code) plan.blocks)) (listed : ℕ → Option ℕ)
     (listing_is : (code : ℕ) → listed code ≡ listing plan.drawn plan.blocks code)
@@ -247,38 +296,6 @@ module _ (plan : Plan) (blocks_sorted : IsStrictlySortedBy nat_cmp (map (λ b. b
       by (Some n) is s = ap (λ m. Some m) s.1
 
   -- ---- the sets in which a district has blocks
-  place_is : (o : Option ℕ) (i : ℕ) → is_place o i ≡ true → o ≡ Some i
-  place_is None i is = cc
-  place_is (Some j) i is = ap (λ m. Some m) (same_number j i is)
-
-  abbrev Shown : List (List ℕ × ℕ) → List ℕ × ℕ → Type 0
-  Shown ks key = (k : List ℕ × ℕ) × Contains ks k × (shows plan.drawn key k ≡ true)
-
-  shown_from : (key : List ℕ × ℕ) (ks : List (List ℕ × ℕ)) (o : Option (Unit {0})) → stands_after plan.drawn key o ks ≡ Some tt → (o ≡ Some tt) ⊎ Shown ks key
-  shown_from key [] o is = inl is
-  shown_from key (k ∷ ks) o is = by (shows plan.drawn key k) refl (shown_from key ks (after_shown plan.drawn key o k) is)
-    where
-      by : (b : Bool) → shows plan.drawn key k ≡ b → ((if b then Some tt else o) ≡ Some tt) ⊎ Shown ks key → (o ≡ Some tt) ⊎ Shown (k ∷ ks) key
-      by true t h = inr (k, contains_head k ks, t)
-      by false t (inl h) = inl h
-      by false t (inr l) = inr (l.0, contains_tail k ks l.0 l.1, l.2)
-
-  stays_shown : (key : List ℕ × ℕ) (ks : List (List ℕ × ℕ)) → stands_after plan.drawn key (Some tt) ks ≡ Some tt
-  stays_shown key [] = refl
-  stays_shown key (k ∷ ks) = by (stays_shown key ks) (shows plan.drawn key k)
-    where
-      by : stands_after plan.drawn key (Some tt) ks ≡ Some tt → (b : Bool) → stands_after plan.drawn key (if b then Some tt else Some tt) ks ≡ Some tt
-      by later true = later
-      by later false = later
-
-  shown_to : (key : List ℕ × ℕ) (ks : List (List ℕ × ℕ)) (o : Option (Unit {0})) (k : List ℕ × ℕ) → Contains ks k → shows plan.drawn key k ≡ true → stands_after plan.drawn key o ks ≡ Some tt
-  shown_to key [] o k h is = absurd (contains_nil k h)
-  shown_to key (l ∷ ks) o k h is = elim (contains_cases l ks k h) as (λ _. stands_after plan.drawn key o (l ∷ ks) ≡ Some tt) [
-    | inl same ↦ (let here : shows plan.drawn key l ≡ true = ap (λ (m : List ℕ × ℕ). shows plan.drawn key m) same ∙ is in
-        ap (λ (b : Bool). stands_after plan.drawn key (if b then Some tt else o) ks) here ∙ stays_shown key ks)
-    | inr later ↦ shown_to key ks (after_shown plan.drawn key o l) k later is
-  ]
-
   module _ (found : List ((List ℕ × ℕ) × Unit {0})) (found_sorted : IsStrictlySortedBy by_label (map (λ e. e.0) found))
       (standing_is : (key : List ℕ × ℕ) → lookup (is_at (by_label key)) found ≡ standing plan.drawn (map (λ e. e.0) given) key) where
     abbrev pub places : List (List ℕ × ℕ)
@@ -293,13 +310,13 @@ module _ (plan : Plan) (blocks_sorted : IsStrictlySortedBy nat_cmp (map (λ b. b
         let there = entry_to found found_sorted m.0.0 m.0.1 m.1 in
         let is : standing plan.drawn (map (λ e. e.0) given) (label, place) ≡ Some tt =
         subst (λ (k : List ℕ × ℕ). standing plan.drawn (map (λ e. e.0) given) k ≡ Some tt) m.2 (sym (standing_is m.0.0) ∙ there) in
-        by (shown_from (label, place) (map (λ e. e.0) given) None is)
+        by (shown_from plan.drawn (label, place) (map (λ e. e.0) given) None is)
       where
-        by : (◌≡◌ {A = Option (Unit {0})} None (Some tt)) ⊎ Shown (map (λ e. e.0) given) (label, place) → StandsAt label place
+        by : (◌≡◌ {A = Option (Unit {0})} None (Some tt)) ⊎ Shown plan.drawn (map (λ e. e.0) given) (label, place) → StandsAt label place
         by (inl e) = absurd cc
         by (inr s) =
             let parts = both (is_place (place_of plan.drawn (county_of s.0.1)) place) (bytes_eq s.0.0 label) s.2 in
-            let at : place_of plan.drawn (county_of s.0.1) ≡ Some place = place_is (place_of plan.drawn (county_of s.0.1)) place parts.0 in
+            let at : place_of plan.drawn (county_of s.0.1) ≡ Some place = place_is plan.drawn (place_of plan.drawn (county_of s.0.1)) place parts.0 in
             let same : s.0.0 ≡ label = label_same s.0.0 label parts.1 in
             let g = mapped_from (λ (e : Given). e.0) given s.0 s.1 in
             let item = item_found (λ (set : DrawnSet). member set.codes (county_of s.0.1)) plan.drawn 0 place at in
@@ -330,7 +347,7 @@ module _ (plan : Plan) (blocks_sorted : IsStrictlySortedBy nat_cmp (map (λ b. b
         let entry = given_to h.block label (set, h.stands) h.given in
         let shown : shows plan.drawn (label, p.0) (label, code) ≡ true =
         both_true (is_place (place_of plan.drawn (county_of code)) p.0) (bytes_eq label label) (ap (λ (o : Option ℕ). is_place o p.0) at ∙ number_same p.0 p.0 refl) (same_label label label refl) in
-        let there = standing_is (label, p.0) ∙ shown_to (label, p.0) (map (λ e. e.0) given) None (label, code) (mapped_to (λ (e : Given). e.0) given ((label, code), h.block.people) entry) shown in
+        let there = standing_is (label, p.0) ∙ shown_to plan.drawn (label, p.0) (map (λ e. e.0) given) None (label, code) (mapped_to (λ (e : Given). e.0) given ((label, code), h.block.people) entry) shown in
         (p.0, p.2, mapped_to (λ (e : (List ℕ × ℕ) × Unit {0}). e.0) found ((label, p.0), tt) (entry_from found found_sorted (label, p.0) tt there))
 
     -- ---- how many districts stand in a set

@@ -7,3 +7,4 @@ pub mod DistrictLemmas
 pub mod OrderLemmas
 pub mod CrossingLemmas
 pub mod NumberLemmas
+pub mod AuditLemmas

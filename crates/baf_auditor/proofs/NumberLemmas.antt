@@ -106,6 +106,7 @@ module _ (keys : List (List ℕ × ℕ)) where
       one : (b : Bool) → IsStrictlySortedBy by_key (if b then [] else WrongNumber d.name d.seats (districts_at n keys) ∷ [])
       one true = tt
       one false = (tt, tt)
+
       between : (f g : Finding) → Contains (number_finding d.name d.seats (districts_at n keys)) f → Contains (numbers_from keys (n + 1) ds) g → by_key f g ≡ Less
       between f g h k =
           let a = own_from d.name d.seats (districts_at n keys) f h in

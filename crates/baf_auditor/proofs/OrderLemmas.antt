@@ -66,6 +66,7 @@ place_before groups i j lt = by (nat_lt i groups) (nat_lt j groups) refl refl
   where
     least : (m n : ℕ) → m < n → ordering_then (nat_cmp m n) Equal ≡ Less
     least m n below = ap (λ r. ordering_then r Equal) (less_number m n below)
+
     by : (b c : Bool) → nat_lt i groups ≡ b → nat_lt j groups ≡ c
         → IsLesser (set_key (if b then Group (i + 1) else Withdrawn (i - groups + 1))) (set_key (if c then Group (j + 1) else Withdrawn (j - groups + 1)))
     by true true e f = let below : i + 1 < j + 1 = omega (arith, lt) in least (i + 1) (j + 1) below
@@ -140,6 +141,7 @@ ordered_both P kind xs ys one own other = record {
         after : Contains zs f ⊎ Contains ys f → Contains (z ∷ zs) f ⊎ Contains ys f
         after (inl k) = inl (contains_tail z zs f k)
         after (inr k) = inr k
+
         by : (z ≡ f) ⊎ Contains (zs ++ ys) f → (Contains (zs ++ ys) f → Contains zs f ⊎ Contains ys f) → Contains (z ∷ zs) f ⊎ Contains ys f
         by (inl same) later = inl (subst (λ (g : Finding). Contains (z ∷ zs) g) same (contains_head z zs))
         by (inr k) later = after (later k)
@@ -150,9 +152,11 @@ module _ (P : Finding → Type 0) (Q : ℕ → Type 0) (kind : ℕ) (named : ℕ
   mapped_sorted : (codes : List ℕ) → IsStrictlySortedBy nat_cmp codes → IsStrictlySortedBy by_key (map named codes)
   unfolding IsStrictlySortedBy
   mapped_sorted [] sorted = tt
-  mapped_sorted (c ∷ cs) sorted = (all_from by_key (λ f. by_key (named c) f ≡ Less) (map named cs)
-      (λ f h. let m = mapped_from named cs f h in subst (λ (g : Finding). by_key (named c) g ≡ Less) m.2 (kept c m.0 (from_all nat_cmp (λ d. nat_cmp c d ≡ Less) cs sorted.0 m.0 m.1))),
-    mapped_sorted cs sorted.1)
+  mapped_sorted (c ∷ cs) sorted = (
+    all_from by_key (λ f. by_key (named c) f ≡ Less) (map named cs)
+        (λ f h. let m = mapped_from named cs f h in subst (λ (g : Finding). by_key (named c) g ≡ Less) m.2 (kept c m.0 (from_all nat_cmp (λ d. nat_cmp c d ≡ Less) cs sorted.0 m.0 m.1))),
+    mapped_sorted cs sorted.1,
+  )
 
   pub codes_kind : (codes : List ℕ) (f : Finding) → Contains (map named codes) f → (key_of f).0 ≡ kind
   codes_kind codes f h = let m = mapped_from named codes f h in sym (ap (λ (g : Finding). (key_of g).0) m.2) ∙ kind_is m.0

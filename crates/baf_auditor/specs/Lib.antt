@@ -3,3 +3,4 @@ pub mod Naming
 pub mod Listing
 pub mod Giving
 pub mod Districts
+pub mod Kinds

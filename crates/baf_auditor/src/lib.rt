@@ -1,7 +1,9 @@
 //! The audit of a plan's block assignments against a grouping of counties.
 #![tactic(auto)]
 
+mod auditing;
 mod block_kinds;
+mod codes;
 mod crossings;
 mod finding;
 mod given;
@@ -12,4 +14,5 @@ mod sizes;
 mod standing;
 
 pub use assignment_file::{Assignment, AssignmentFault, AssignmentKind, Label, read_assignments};
+pub use auditing::audit;
 pub use finding::{Finding, Findings, Set};

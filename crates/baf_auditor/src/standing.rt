@@ -47,3 +47,14 @@ pub(crate) fn standing_places(
     }
     Ok(found)
 }
+
+/// The districts with the places of their sets in a list, by label and place.
+pub(crate) fn listed_places(
+    alloc: Global,
+    found: BTreeMap<(Label, usize), ()>,
+) -> Result<Vec<(Label, usize)>, AllocError>
+    ensures items { IfOk result (λ v. v.items ≡ keys found) }
+    ensures ordered { IsStrictlySortedBy by_label (keys found) }
+{
+    found.into_keys().collect(alloc)
+}
