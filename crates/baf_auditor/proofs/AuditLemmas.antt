@@ -1,9 +1,9 @@
 -- The findings of a plan are all that are so.
-use Rattle.std.proofs.Common.{◌≡◌, ◌≢◌, ◌↔◌, ℕ, zero, suc, ◌+◌, ◌-◌, ◌<◌, ◌≤◌, nat_lt, ◌⊎◌, inl, inr, Bool, true, false, List, [], ◌∷◌, ◌++◌, length, map, Contains, Option, Some, None, refl, sym, ap, ◌∙◌, subst, arith, append_assoc, length-append, if◌then◌else◌}
+use Rattle.std.proofs.Common.{◌≡◌, ◌↔◌, ℕ, zero, suc, ◌+◌, ◌-◌, ◌<◌, ◌≤◌, nat_lt, ◌⊎◌, inl, inr, Bool, true, false, List, [], ◌∷◌, ◌++◌, length, map, Contains, Option, Some, refl, sym, ap, ◌∙◌, subst, arith, append_assoc, length-append, if◌then◌else◌}
 use Rattle.std.specs.List.{All, filter_map}
 use Rattle.std.specs.List.Sorted.{IsStrictlySortedBy}
 use Rattle.std.specs.Map.{lookup}
-use Rattle.std.specs.Ordering.{nat_cmp, eq_by_cmp, ordering_then, is_eq}
+use Rattle.std.specs.Ordering.{nat_cmp, eq_by_cmp, ordering_then}
 use Rattle.std.specs.declared.cmp.Ordering.TheVariants.{Less, Equal}
 use Rattle.std.specs.Cmp.{eq_by_cmp_equiv}
 use Rattle.std.specs.Cmp.Lexicographic.{slice_cmp, nat_list_cmp_total, texts_ties}
@@ -13,16 +13,16 @@ use Rattle.std.proofs.lemmas.List.Elements.{All-weaker, All-contains, All-contai
 use Rattle.std.proofs.lemmas.Map.Views.{Contains-from_lookup, lookup-from_Contains}
 use Rattle.std.proofs.lemmas.Map.Keys.{IsDistinct-from_sorted}
 use Rattle.county_codes.specs.declared.withdrawn.Withdrawn as county
-use Rattle.grouping_laws.specs.Problem.{Problem, Suits}
+use Rattle.grouping_laws.specs.Problem.{Suits}
 use Rattle.grouping_laws.specs.Grouping.{Grouping}
 use Rattle.grouping_problem.specs.ProblemValue.{ProblemValue, problem_of}
 use Rattle.pl94_counties.specs.declared.blocks.Block.{Block}
 use Rattle.pl94_counties.proofs.TraceLemmas.{contains_head, contains_nil}
 use Rattle.assignment_file.specs.declared.assignments.Assignment.{Assignment}
-use Rattle.baf_auditor.specs.Findings.{DrawnSet, Plan, groups_from, withdrawn_from, drawn_sets, EachOnce, HasBlockIn, HasPeople, IsUnknown, IsTwice, IsUnassigned, IsCrossing, IsWrongNumber, IsWrongSize, IsFinding, IsLesser, set_key, key_of, by_key, AreAll, AreCodes, AreFindings, plan_of}
+use Rattle.baf_auditor.specs.Findings.{DrawnSet, Plan, groups_from, withdrawn_from, drawn_sets, EachOnce, HasBlockIn, HasPeople, IsUnknown, IsTwice, IsUnassigned, IsCrossing, IsWrongNumber, IsWrongSize, IsFinding, IsLesser, set_key, key_of, AreAll, AreCodes, AreFindings, plan_of}
 use Rattle.baf_auditor.specs.Listing.{listing}
 use Rattle.baf_auditor.specs.Giving.{by_label, giving}
-use Rattle.baf_auditor.specs.Districts.{Given, district_people, size_finding, standing, name_at, crossing, crossings, districts_at, numbers_from}
+use Rattle.baf_auditor.specs.Districts.{Given, district_people, size_finding, name_at, crossings, districts_at, numbers_from}
 use Rattle.baf_auditor.specs.Kinds.{code_finding, AreOfDistricts, IsClean}
 use Rattle.baf_auditor.specs.declared.codes.CodeKind.TheVariants as kinds
 use Rattle.baf_auditor.specs.declared.finding.Set.{Set}
@@ -30,7 +30,7 @@ use Rattle.baf_auditor.specs.declared.finding.Set.TheVariants as sets
 use Rattle.baf_auditor.specs.declared.finding.Finding.{Finding}
 use Rattle.baf_auditor.specs.declared.finding.Finding.TheVariants as findings
 use Rattle.baf_auditor.proofs.ListLemmas.{chosen_from, chosen_to, mapped_to}
-use Rattle.baf_auditor.proofs.DistrictLemmas.{item_at, label_same, places_within, is_listed, people_sum, has_people, people_are, district_of_sum, sum_of_district, stands_from, stands_to, has_districts, districts_are}
+use Rattle.baf_auditor.proofs.DistrictLemmas.{item_at, label_same, is_listed, people_sum, has_people, people_are, district_of_sum, sum_of_district, stands_from, stands_to, has_districts, districts_are}
 use Rattle.baf_auditor.proofs.OrderLemmas.{IsOrdered, ordered_both, codes_kind, codes_ordered, place_before, before_place, place_alone}
 use Rattle.baf_auditor.proofs.CrossingLemmas.{Pair, crossings_from, crossings_to, crossings_sorted}
 use Rattle.baf_auditor.proofs.NumberLemmas.{item_contains, contains_item, numbers-append, WrongAt, numbers_of, of_numbers, numbers_sorted, size_from, size_to, sizes_sorted}

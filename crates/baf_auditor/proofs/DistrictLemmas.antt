@@ -1,15 +1,13 @@
 -- What the listed blocks of districts say of districts and sets.
-use Rattle.std.proofs.Common.{◌≡◌, ◌≢◌, ℕ, zero, suc, ◌+◌, ◌==◌, ◌<◌, ◌≤◌, ◌&&◌, ◌⊎◌, inl, inr, cond, Bool, true, false, List, [], ◌∷◌, ◌++◌, length, map, Contains, find, Option, Some, None, refl, sym, ap, ◌∙◌, subst, arith, if◌then◌else◌}
+use Rattle.std.proofs.Common.{◌≡◌, ℕ, zero, suc, ◌+◌, ◌==◌, ◌<◌, ◌&&◌, ◌⊎◌, inl, inr, cond, Bool, true, false, List, [], ◌∷◌, length, map, Contains, find, Option, Some, None, refl, sym, ap, ◌∙◌, subst, arith, if◌then◌else◌}
 use Rattle.std.specs.List.{filter_map, position_from, list_any}
 use Rattle.std.specs.List.Sorted.{IsStrictlySortedBy}
 use Rattle.std.specs.Map.{lookup}
-use Rattle.std.specs.Option.{unwrap_or}
-use Rattle.std.specs.Ordering.{nat_cmp, is_eq, eq_by_cmp, on}
+use Rattle.std.specs.Ordering.{nat_cmp, is_eq, eq_by_cmp}
 use Rattle.std.specs.Cmp.{IsTotalOrder, nat_cmp_total, then_total, on_total, tied_itself, eq_by_cmp_equiv}
 use Rattle.std.specs.Cmp.Lexicographic.{slice_cmp, nat_list_cmp_total, texts_ties, same_text}
 use Rattle.std.specs.BTreeMap.{is_at}
 use Rattle.std.specs.Str.{bytes_eq}
-use Rattle.std.proofs.lemmas.Bool.Decides.{nat_tests}
 use Rattle.std.proofs.lemmas.Map.Views.{Contains-from_lookup, lookup-from_Contains}
 use Rattle.std.proofs.lemmas.Map.Keys.{IsDistinct-from_sorted}
 use Rattle.grouping_laws.specs.Sets.{digit, total, member}
@@ -17,11 +15,10 @@ use Rattle.place_sets.proofs.Sums.{total_ones, total_same}
 use Rattle.pl94_counties.specs.declared.blocks.Block.{Block}
 use Rattle.pl94_counties.proofs.TraceLemmas.{contains_head, contains_tail, contains_nil, contains_cases}
 use Rattle.assignment_file.specs.Labels.{assigns}
-use Rattle.assignment_file.specs.declared.assignments.Assignment.{Assignment}
-use Rattle.baf_auditor.specs.Findings.{DrawnSet, Plan, county_of, set_of, StandsIn, IsListed, IsGiven, HasBlockIn, IsDistrict, EachOnce, HasDistricts, HasPeople}
+use Rattle.baf_auditor.specs.Findings.{DrawnSet, Plan, county_of, set_of, IsListed, IsGiven, HasBlockIn, IsDistrict, EachOnce, HasDistricts, HasPeople}
 use Rattle.baf_auditor.specs.Listing.{place_of, listing}
 use Rattle.baf_auditor.specs.Giving.{by_label, gives, giving}
-use Rattle.baf_auditor.specs.Districts.{Given, with_people, people_after, district_people, is_place, shows, after_shown, stands_after, standing, districts_at}
+use Rattle.baf_auditor.specs.Districts.{Given, people_after, district_people, is_place, shows, after_shown, stands_after, standing, districts_at}
 use Rattle.baf_auditor.proofs.KindLemmas.{FoundListed, found_listed, listed_found, both, same_number, number_same}
 use Rattle.baf_auditor.proofs.GivingLemmas.{tied_key}
 use Rattle.baf_auditor.proofs.ListLemmas.{Apart, pairs_from_apart, once_total, chosen_from, chosen_to, chosen_apart, weight, total_chosen, sorted_apart, any_from, any_to, mapped_from, mapped_to, apart_from_map}

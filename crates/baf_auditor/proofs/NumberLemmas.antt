@@ -1,5 +1,5 @@
 -- Sets with another number of districts than seats, and districts with the wrong number of people.
-use Rattle.std.proofs.Common.{◌≡◌, ◌≢◌, ℕ, zero, suc, ◌+◌, ◌==◌, ◌<◌, ◌≤◌, nat_lt, ◌||◌, ◌⊎◌, inl, inr, Bool, true, false, List, [], ◌∷◌, ◌++◌, length, map, Contains, Option, Some, None, refl, sym, ap, ◌∙◌, subst, arith, if◌then◌else◌}
+use Rattle.std.proofs.Common.{◌≡◌, ◌≢◌, ℕ, zero, suc, ◌+◌, ◌==◌, ◌<◌, ◌≤◌, nat_lt, ◌||◌, ◌⊎◌, inl, inr, Bool, true, false, List, [], ◌∷◌, ◌++◌, length, map, Contains, Some, None, refl, sym, ap, ◌∙◌, subst, arith, if◌then◌else◌}
 use Rattle.std.specs.List.{AllByRecursion, filter_map}
 use Rattle.std.specs.List.Sorted.{IsStrictlySortedBy}
 use Rattle.std.specs.Ordering.{nat_cmp, ordering_then}
@@ -13,7 +13,7 @@ use Rattle.baf_auditor.specs.Districts.{name_at, size_finding, districts_at, num
 use Rattle.baf_auditor.specs.declared.finding.Set.{Set}
 use Rattle.baf_auditor.specs.declared.finding.Finding.{Finding}
 use Rattle.baf_auditor.specs.declared.finding.Finding.TheVariants.{WrongNumber, DistrictSize}
-use Rattle.baf_auditor.proofs.ListLemmas.{sorted_both, chosen_from, chosen_to, chosen_sorted}
+use Rattle.baf_auditor.proofs.ListLemmas.{sorted_both, chosen_sorted}
 use Rattle.baf_auditor.proofs.DistrictLemmas.{item_at}
 use Rattle.baf_auditor.proofs.OrderLemmas.{place_before}
 

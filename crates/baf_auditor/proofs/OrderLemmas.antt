@@ -1,22 +1,21 @@
 -- The order of findings, by kind and then by key.
-use Rattle.std.proofs.Common.{◌≡◌, ℕ, suc, ◌+◌, ◌-◌, ◌==◌, ◌<◌, ◌≤◌, nat_lt, ◌⊎◌, inl, inr, Bool, true, false, List, [], ◌∷◌, ◌++◌, length, map, Contains, refl, sym, ap, ◌∙◌, subst, arith, if◌then◌else◌}
-use Rattle.std.specs.List.{AllByRecursion}
+use Rattle.std.proofs.Common.{◌≡◌, ℕ, suc, ◌+◌, ◌-◌, ◌<◌, ◌≤◌, nat_lt, ◌⊎◌, inl, inr, Bool, true, false, List, [], ◌∷◌, ◌++◌, length, map, Contains, refl, sym, ap, ◌∙◌, subst, arith, if◌then◌else◌}
 use Rattle.std.specs.List.Sorted.{IsStrictlySortedBy}
-use Rattle.std.specs.Ordering.{nat_cmp, ordering_then, ordering_reverse, is_eq}
+use Rattle.std.specs.Ordering.{nat_cmp, ordering_then, is_eq}
 use Rattle.std.specs.declared.cmp.Ordering.{Ordering}
 use Rattle.std.specs.declared.cmp.Ordering.TheVariants.{Less, Equal, Greater}
 use Rattle.std.specs.Cmp.{nat_cmp_is, nat_cmp_total, ranked, tied_itself}
 use Rattle.std.specs.Cmp.Lexicographic.{slice_cmp, nat_list_cmp_total, texts_ties}
 use Rattle.std.proofs.lemmas.Bool.Decides.{nat_tests}
-use Rattle.pl94_counties.proofs.TraceLemmas.{contains_head, contains_tail, contains_nil, contains_cases}
+use Rattle.pl94_counties.proofs.TraceLemmas.{contains_head, contains_tail, contains_cases}
 use Rattle.baf_auditor.specs.Findings.{set_key, IsLesser, key_of, by_key, AreCodes}
 use Rattle.baf_auditor.specs.Giving.{by_label}
 use Rattle.baf_auditor.specs.Districts.{name_at}
 use Rattle.baf_auditor.specs.declared.finding.Set.{Set}
 use Rattle.baf_auditor.specs.declared.finding.Set.TheVariants.{Group, Withdrawn}
 use Rattle.baf_auditor.specs.declared.finding.Finding.{Finding}
-use Rattle.baf_auditor.specs.declared.finding.Finding.TheVariants.{Crosses, WrongNumber, DistrictSize}
-use Rattle.baf_auditor.proofs.ListLemmas.{all_from, from_all, sorted_both, mapped_from, mapped_to}
+use Rattle.baf_auditor.specs.declared.finding.Finding.TheVariants.{Crosses}
+use Rattle.baf_auditor.proofs.ListLemmas.{all_from, from_all, sorted_both, mapped_from}
 use Rattle.baf_auditor.proofs.DistrictLemmas.{label_same}
 
 -- ---- numbers and labels

@@ -1,4 +1,4 @@
-use Rattle.std.proofs.Common.{◌≡◌, ◌++◌, ◌<◌, ◌≤◌, ℕ, List, length, map, rules, sym, subst, refl, arith}
+use Rattle.std.proofs.Common.{◌≡◌, ◌++◌, ◌<◌, ◌≤◌, ℕ, List, length, rules, sym, subst, refl, arith}
 use Rattle.std.specs.List.{All, filter_map}
 use Rattle.std.specs.BTreeMap.{keys}
 use Rattle.county_codes.specs.declared.withdrawn.Withdrawn as county
