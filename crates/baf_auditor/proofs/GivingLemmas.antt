@@ -1,18 +1,21 @@
 -- The listed blocks that lines give to districts, line by line.
-use Rattle.std.proofs.Common.{◌≡◌, ℕ, ◌==◌, ◌&&◌, ◌||◌, cond, Bool, true, false, List, [], ◌∷◌, Option, Some, None, refl, sym, ap, ◌∙◌, arith, if◌then◌else◌}
+use Rattle.std.proofs.Common.{◌≡◌, ℕ, ◌+◌, ◌==◌, ◌&&◌, ◌||◌, cond, Bool, true, false, List, [], ◌∷◌, Option, Some, None, refl, sym, ap, ◌∙◌, arith, if◌then◌else◌}
 use Rattle.std.specs.List.{list_any}
 use Rattle.std.specs.Str.{bytes_eq}
-use Rattle.std.specs.Option.{option_or}
+use Rattle.std.specs.Option.{option_or, unwrap_or}
 use Rattle.std.specs.Ordering.{nat_cmp, ordering_then, is_eq}
 use Rattle.std.specs.declared.cmp.Ordering.{Ordering}
 use Rattle.std.specs.declared.cmp.Ordering.TheVariants.{Less, Equal, Greater}
 use Rattle.std.specs.Cmp.{unsigned_tied}
-use Rattle.std.specs.Cmp.Lexicographic.{slice_cmp, texts_ties}
+use Rattle.std.specs.Cmp.Lexicographic.{slice_cmp, texts_ties, same_text}
 use Rattle.std.specs.BTreeMap.{is_at}
 use Rattle.std.proofs.lemmas.Bool.Decides.{nat_tests}
-use Rattle.baf_auditor.specs.Labels.{assigns}
+use Rattle.assignment_file.specs.Labels.{assigns}
+use Rattle.baf_auditor.specs.Findings.{DrawnSet, county_of}
+use Rattle.baf_auditor.specs.Listing.{place_of}
 use Rattle.baf_auditor.specs.Giving.{by_label, gives, giving, after_given}
-use Rattle.baf_auditor.specs.declared.assignments.Assignment.{Assignment}
+use Rattle.baf_auditor.specs.Districts.{with_people, is_place, after_shown}
+use Rattle.assignment_file.specs.declared.assignments.Assignment.{Assignment}
 
 module _ (listed : ℕ → Option ℕ) (key : List ℕ × ℕ) where
   -- after further lines
@@ -89,3 +92,33 @@ module _ (listed : ℕ → Option ℕ) (line : Assignment) (key : List ℕ × �
           let parts = both (bytes_eq line.label key.0) (line.block == key.1) t in
           let same : line.block ≡ key.1 = same_block (line.block == key.1) refl parts.1 in
           ap (λ (o : Option ℕ). option_or o before) (sym (ap listed (sym same) ∙ is))
+
+-- ---- the people of a district are put in their place
+pub put_people : (own : List ℕ) (people before : ℕ) (old : List ℕ → Option ℕ) (other : List ℕ) (new : Option ℕ) → before ≡ unwrap_or (old own) 0
+    → new ≡ cond (is_at (slice_cmp nat_cmp own) other) (Some (before + people)) (old other) → new ≡ with_people other own people (old other)
+put_people own people before old other new sum put =
+    put ∙ ap (λ (b : Bool). cond b (Some (before + people)) (old other)) (sym (texts_ties own other)) ∙ by (bytes_eq own other) refl
+  where
+    by : (b : Bool) → bytes_eq own other ≡ b → cond b (Some (before + people)) (old other) ≡ (if b then Some (unwrap_or (old other) 0 + people) else old other)
+    by false t = refl
+    by true t =
+        let same : own ≡ other = same_text own other (sym t) in
+        let there : before ≡ unwrap_or (old other) 0 = sum ∙ ap (λ (l : List ℕ). unwrap_or (old l) 0) same in
+        ap (λ (n : ℕ). Some (n + people)) there
+
+-- ---- a district is put with its set's place
+pub put_place : (label : List ℕ) (code place : ℕ) (drawn : List DrawnSet) (key : List ℕ × ℕ) (before new : Option (Unit {0})) → place_of drawn (county_of code) ≡ Some place
+    → new ≡ cond (is_at (by_label (label, place)) key) (Some tt) before → new ≡ after_shown drawn key before (label, code)
+put_place label code place drawn key before new is put =
+    put ∙ ap (λ (b : Bool). cond b (Some tt) before) (tied_key (label, place) key ∙ turned (bytes_eq label key.0) (place == key.1))
+    ∙ ap (λ (o : Option ℕ). cond (is_place o key.1 && bytes_eq label key.0) (Some tt) before) (sym is)
+  where
+    turned : (s t : Bool) → (s && t) ≡ (t && s)
+    turned true true = refl
+    turned true false = refl
+    turned false true = refl
+    turned false false = refl
+
+pub no_place : (label : List ℕ) (code : ℕ) (drawn : List DrawnSet) (key : List ℕ × ℕ) (before : Option (Unit {0})) → place_of drawn (county_of code) ≡ None
+    → before ≡ after_shown drawn key before (label, code)
+no_place label code drawn key before none = ap (λ (o : Option ℕ). if (is_place o key.1 && bytes_eq label key.0) then Some tt else before) (sym none)

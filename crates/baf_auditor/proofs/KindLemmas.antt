@@ -15,11 +15,11 @@ use Rattle.grouping_laws.specs.Sets.{digit, member}
 use Rattle.pl94_counties.specs.declared.blocks.Block.{Block}
 use Rattle.pl94_counties.proofs.CollectLemmas.{tied_same}
 use Rattle.pl94_counties.proofs.TraceLemmas.{contains_head, contains_tail, contains_nil, contains_cases}
-use Rattle.baf_auditor.specs.Labels.{assigns}
+use Rattle.assignment_file.specs.Labels.{assigns}
 use Rattle.baf_auditor.specs.Findings.{DrawnSet, Plan, county_of, IsListed, IsGiven, times_named, IsUnknown, IsTwice, IsUnassigned, AreCodes}
 use Rattle.baf_auditor.specs.Naming.{is_assigned, named_times, naming, has_district}
 use Rattle.baf_auditor.specs.Listing.{kept, place_of, people_in_set, after_block, after_blocks, listing}
-use Rattle.baf_auditor.specs.declared.assignments.Assignment.{Assignment}
+use Rattle.assignment_file.specs.declared.assignments.Assignment.{Assignment}
 use Rattle.baf_auditor.specs.declared.named.Named.{Named}
 
 -- ---- codes kept of entries
@@ -84,14 +84,14 @@ pub found_to : {V : Type 0} (es : List (ℕ × V)) → IsStrictlySortedBy nat_cm
 found_to es sorted c v h = lookup-from_Contains (eq_by_cmp_equiv nat_cmp_total) c v es (IsDistinct-from_sorted nat_cmp (map (λ e. e.0) es) sorted) h
 
 -- ---- what lines say
-both : (s t : Bool) → (s && t) ≡ true → (s ≡ true) × (t ≡ true)
+pub both : (s t : Bool) → (s && t) ≡ true → (s ≡ true) × (t ≡ true)
 both true t h = (refl, h)
 both false t h = cc
 
-same_number : (x y : ℕ) → (x == y) ≡ true → x ≡ y
+pub same_number : (x y : ℕ) → (x == y) ≡ true → x ≡ y
 same_number x y is = grind (arith, nat_tests, is)
 
-number_same : (x y : ℕ) → x ≡ y → (x == y) ≡ true
+pub number_same : (x y : ℕ) → x ≡ y → (x == y) ≡ true
 number_same x y is = grind (arith, nat_tests, is)
 
 module _ (code : ℕ) where
@@ -231,6 +231,22 @@ pub listed_to : (drawn : List DrawnSet) (blocks : List Block) (block : Block) �
     → is_some (place_of drawn (county_of block.code)) ≡ true → listing drawn blocks block.code ≡ Some block.people
 listed_to drawn blocks block sorted h placed = listed_after drawn blocks None block sorted h placed
 
+-- ---- listed blocks by the plan
+module _ (plan : Plan) (blocks_sorted : IsStrictlySortedBy nat_cmp (map (λ b. b.code) plan.blocks)) where
+  -- a block that is listed is found, and what is found is a listed block
+  pub listed_found : (block : Block) → IsListed plan block → listing plan.drawn plan.blocks block.code ≡ Some block.people
+  listed_found block is = listed_to plan.drawn plan.blocks block blocks_sorted is.1.0 (place_at (λ set. member set.codes (county_of block.code)) plan.drawn 0 is.0 is.1.1)
+
+  abbrev pub FoundListed : ℕ → ℕ → Type 0
+  FoundListed code p = (block : Block) × IsListed plan block × (block.code ≡ code) × (block.people ≡ p)
+
+  pub found_listed : (code p : ℕ) → listing plan.drawn plan.blocks code ≡ Some p → FoundListed code p
+  found_listed code p there =
+      let l = listed_from plan.drawn plan.blocks code p there in
+      let placed : is_some (place_of plan.drawn (county_of l.0.code)) ≡ true = subst (λ (k : ℕ). is_some (place_of plan.drawn (county_of k)) ≡ true) (sym l.2) l.4 in
+      let set = set_at (λ set. member set.codes (county_of l.0.code)) plan.drawn 0 placed in
+      (l.0, (set.0, (l.1, set.1)), l.2, l.3)
+
 -- ---- the kinds
 module _ (plan : Plan) (named : List (ℕ × Named)) (listed : List (ℕ × ℕ))
     (blocks_sorted : IsStrictlySortedBy nat_cmp (map (λ b. b.code) plan.blocks))
@@ -238,20 +254,6 @@ module _ (plan : Plan) (named : List (ℕ × Named)) (listed : List (ℕ × ℕ)
     (listed_sorted : IsStrictlySortedBy nat_cmp (map (λ e. e.0) listed))
     (naming_is : (code : ℕ) → lookup (is_at (nat_cmp code)) named ≡ naming plan.lines code)
     (listing_is : (code : ℕ) → lookup (is_at (nat_cmp code)) listed ≡ listing plan.drawn plan.blocks code) where
-  -- a block that is listed is found, and what is found is a listed block
-  listed_found : (block : Block) → IsListed plan block → listing plan.drawn plan.blocks block.code ≡ Some block.people
-  listed_found block is = listed_to plan.drawn plan.blocks block blocks_sorted is.1.0 (place_at (λ set. member set.codes (county_of block.code)) plan.drawn 0 is.0 is.1.1)
-
-  abbrev FoundListed : ℕ → ℕ → Type 0
-  FoundListed code p = (block : Block) × IsListed plan block × (block.code ≡ code) × (block.people ≡ p)
-
-  found_listed : (code p : ℕ) → listing plan.drawn plan.blocks code ≡ Some p → FoundListed code p
-  found_listed code p there =
-      let l = listed_from plan.drawn plan.blocks code p there in
-      let placed : is_some (place_of plan.drawn (county_of l.0.code)) ≡ true = subst (λ (k : ℕ). is_some (place_of plan.drawn (county_of k)) ≡ true) (sym l.2) l.4 in
-      let set = set_at (λ set. member set.codes (county_of l.0.code)) plan.drawn 0 placed in
-      (l.0, (set.0, (l.1, set.1)), l.2, l.3)
-
   -- what is said of a code, where it is named
   said : (code : ℕ) → 1 ≤ times_named plan.lines code → Contains named (code, record { twice = nat_le 2 (times_named plan.lines code); assigned = is_assigned plan.lines code })
   said code some = found_from named code _ (naming_is code ∙ named_there (times_named plan.lines code) (is_assigned plan.lines code) some)
@@ -275,7 +277,7 @@ module _ (plan : Plan) (named : List (ℕ × Named)) (listed : List (ℕ × ℕ)
   -- a line names it, and it isn't listed
   unlisted_by : (code : ℕ) (o : Option ℕ) → listing plan.drawn plan.blocks code ≡ o → IsUnknown plan code → is_none o ≡ true
   unlisted_by code None is u = refl
-  unlisted_by code (Some p) is u = let f = found_listed code p is in absurd (u.unlisted f.0 f.1 f.2)
+  unlisted_by code (Some p) is u = let f = found_listed plan blocks_sorted code p is in absurd (u.unlisted f.0 f.1 f.2)
 
   pub are_unknown : AreCodes (IsUnknown plan) (picked (λ (e : ℕ × Named). is_none (lookup (is_at (nat_cmp e.0)) listed)) named)
   are_unknown = record {
@@ -288,7 +290,7 @@ module _ (plan : Plan) (named : List (ℕ × Named)) (listed : List (ℕ × ℕ)
             stands = line.1;
             names = line.2;
             unlisted = λ (block : Block) (is : IsListed plan block) (same : block.code ≡ code).
-                (let there : lookup (is_at (nat_cmp code)) listed ≡ Some block.people = listing_is code ∙ ap (λ (k : ℕ). listing plan.drawn plan.blocks k) (sym same) ∙ listed_found block is in
+                (let there : lookup (is_at (nat_cmp code)) listed ≡ Some block.people = listing_is code ∙ ap (λ (k : ℕ). listing plan.drawn plan.blocks k) (sym same) ∙ listed_found plan blocks_sorted block is in
                 let none : is_none (lookup (is_at (nat_cmp code)) listed) ≡ true = e.2 in
                 let some : is_none (lookup (is_at (nat_cmp code)) listed) ≡ false = ap (λ (o : Option ℕ). is_none o) there in
                 cc);
@@ -340,7 +342,7 @@ module _ (plan : Plan) (named : List (ℕ × Named)) (listed : List (ℕ × ℕ)
     ascending = picked_sorted test_unassigned listed listed_sorted;
     are = λ code. (
       λ h. (let e = picked_from test_unassigned listed code h in
-          let found = found_listed code e.0 (sym (listing_is code) ∙ found_to listed listed_sorted code e.0 e.1) in
+          let found = found_listed plan blocks_sorted code e.0 (sym (listing_is code) ∙ found_to listed listed_sorted code e.0 e.1) in
           let parts = both (nat_lt 0 e.0) (not (is_assigned plan.lines code)) (sym (test_is code e.0) ∙ e.2) in
           record {
             block = found.0;
@@ -349,7 +351,7 @@ module _ (plan : Plan) (named : List (ℕ × Named)) (listed : List (ℕ × ℕ)
             some_people = subst (λ (p : ℕ). 1 ≤ p) (sym found.3) (some_people e.0 parts.0);
             none = λ (label : List ℕ) (g : IsGiven plan code label). (let yes : is_assigned plan.lines code ≡ true = given_assigned code label g in let denied : not (is_assigned plan.lines code) ≡ true = parts.1 in cc);
           }),
-      λ u. (let there : lookup (is_at (nat_cmp code)) listed ≡ Some u.block.people = listing_is code ∙ ap (λ (k : ℕ). listing plan.drawn plan.blocks k) (sym u.code_is) ∙ listed_found u.block u.listed in
+      λ u. (let there : lookup (is_at (nat_cmp code)) listed ≡ Some u.block.people = listing_is code ∙ ap (λ (k : ℕ). listing plan.drawn plan.blocks k) (sym u.code_is) ∙ listed_found plan blocks_sorted u.block u.listed in
           picked_to test_unassigned listed code u.block.people (found_from listed code u.block.people there)
           (test_is code u.block.people ∙ both_true (nat_lt 0 u.block.people) (not (is_assigned plan.lines code)) (people_some u.block.people u.some_people) (none_given code (is_assigned plan.lines code) refl u.none))),
     );

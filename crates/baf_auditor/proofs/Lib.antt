@@ -1,5 +1,10 @@
-pub mod RowLemmas
+pub mod ListLemmas
 pub mod NamingLemmas
 pub mod ListingLemmas
 pub mod KindLemmas
 pub mod GivingLemmas
+pub mod DistrictLemmas
+pub mod OrderLemmas
+pub mod CrossingLemmas
+pub mod NumberLemmas
+pub mod AuditLemmas

@@ -14,8 +14,8 @@ use Rattle.grouping_judge.specs.Judging.{IsFault}
 use Rattle.grouping_judge.specs.declared.grouping_fault.GroupingFault.{GroupingFault}
 use Rattle.grouping_judge.specs.declared.grouping_fault.GroupingFault.TheVariants as verdict
 use Rattle.pl94_counties.specs.declared.blocks.Block.{Block}
-use Rattle.baf_auditor.specs.Labels.{assigns}
-use Rattle.baf_auditor.specs.declared.assignments.Assignment.{Assignment}
+use Rattle.assignment_file.specs.Labels.{assigns}
+use Rattle.assignment_file.specs.declared.assignments.Assignment.{Assignment}
 use Rattle.baf_auditor.specs.declared.finding.Set.{Set}
 use Rattle.baf_auditor.specs.declared.finding.Set.TheVariants as sets
 use Rattle.baf_auditor.specs.declared.finding.Finding.{Finding}

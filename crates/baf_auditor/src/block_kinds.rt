@@ -3,13 +3,13 @@ ghost use Rattle.std.specs.List.{filter_map};
 ghost use Rattle.std.specs.List.Sorted.{IsStrictlyIncreasing, IsStrictlySortedBy};
 ghost use Rattle.std.specs.Ordering.{nat_cmp};
 ghost use Rattle.std.specs.BTreeMap.{get};
-ghost use Rattle.baf_auditor.specs.Findings.{plan_of, AreCodes, IsUnknown, IsTwice, IsUnassigned};
+ghost use Rattle.baf_auditor.specs.Findings.{plan_of, drawn_sets, AreCodes, IsUnknown, IsTwice, IsUnassigned};
 ghost use Rattle.baf_auditor.specs.Naming.{has_district};
-ghost use Rattle.baf_auditor.specs.Listing.{kept};
+ghost use Rattle.baf_auditor.specs.Listing.{kept, listing};
 
-use crate::assignments::Assignment;
 use crate::listed::listed_blocks;
 use crate::named::{Named, named_blocks};
+use assignment_file::Assignment;
 use county_codes::Grouping;
 use grouping_problem::Problem;
 use pl94_counties::Block;
@@ -79,7 +79,7 @@ fn unassigned_codes(
         .collect(alloc)
 }
 
-/// The blocks that findings name alone, each list by code.
+/// The blocks that findings name alone, each list by code, and the listed blocks.
 #[derive(Debug, Drop)]
 pub(crate) struct BlockKinds {
     /// Named by a line and not listed.
@@ -88,6 +88,8 @@ pub(crate) struct BlockKinds {
     pub(crate) twice: Vec<u64>,
     /// Listed, with people, and given to no district.
     pub(crate) unassigned: Vec<u64>,
+    /// The people of each listed block by its code.
+    pub(crate) listed: BTreeMap<u64, u32>,
 }
 
 /// What is found of single blocks, by the lines that name them.
@@ -103,6 +105,7 @@ pub(crate) fn block_kinds(
     ensures unknown { IfOk result (λ k. AreCodes (IsUnknown (plan_of problem.now grouping.now.groups.items blocks.now lines.now)) k.unknown.items) }
     ensures twice { IfOk result (λ k. AreCodes (IsTwice (plan_of problem.now grouping.now.groups.items blocks.now lines.now)) k.twice.items) }
     ensures unassigned { IfOk result (λ k. AreCodes (IsUnassigned (plan_of problem.now grouping.now.groups.items blocks.now lines.now)) k.unassigned.items) }
+    ensures listed { IfOk result (λ k. (code : ℕ) → get nat_cmp k.listed code ≡ listing (drawn_sets problem.now grouping.now.groups.items) blocks.now code) }
 {
     let named = named_blocks(alloc, lines)?;
     let listed = listed_blocks(alloc, problem, grouping, blocks)?;
@@ -113,5 +116,6 @@ pub(crate) fn block_kinds(
         unknown,
         twice,
         unassigned,
+        listed,
     })
 }

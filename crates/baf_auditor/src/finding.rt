@@ -1,4 +1,4 @@
-use crate::label::Label;
+use assignment_file::Label;
 use grouping_judge::GroupingFault;
 
 /// A set of counties in which districts are drawn. Both kinds are numbered from 1; each group comes before each withdrawn

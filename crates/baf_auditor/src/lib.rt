@@ -1,16 +1,18 @@
-//! Block assignment files: the districts that a plan gives to census blocks.
+//! The audit of a plan's block assignments against a grouping of counties.
 #![tactic(auto)]
 
-mod assignments;
+mod auditing;
 mod block_kinds;
-mod fault;
+mod codes;
+mod crossings;
 mod finding;
 mod given;
-mod label;
 mod listed;
 mod named;
+mod numbers;
+mod sizes;
+mod standing;
 
-pub use assignments::{Assignment, read_assignments};
-pub use fault::{AssignmentFault, AssignmentKind};
+pub use assignment_file::{Assignment, AssignmentFault, AssignmentKind, Label, read_assignments};
+pub use auditing::audit;
 pub use finding::{Finding, Findings, Set};
-pub use label::Label;

@@ -3,8 +3,7 @@ ghost use Rattle.std.specs.Ordering.{nat_cmp};
 ghost use Rattle.std.specs.BTreeMap.{get};
 ghost use Rattle.baf_auditor.specs.Naming.{naming, named_again, after_line};
 
-use crate::assignments::Assignment;
-use crate::label::Label;
+use assignment_file::{Assignment, Label};
 use std::alloc::{AllocError, Global};
 use std::collections::BTreeMap;
 

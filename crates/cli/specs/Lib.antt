@@ -3,6 +3,7 @@ pub mod Answers
 pub mod Refusals
 pub mod Course
 pub mod ProblemCourse
+pub mod PlanCourse
 pub mod Case
 pub mod Run
 pub mod Delivery

@@ -10,11 +10,14 @@ use Rattle.pl94_counties.specs.declared.fault.Pl94Fault.{Pl94Fault}
 use Rattle.seat_lines.specs.declared.fault.CodeLineKind.{CodeLineKind}
 use Rattle.seat_lines.specs.declared.fault.CodeLineKind.TheVariants as lines_of_codes
 use Rattle.seat_lines.specs.declared.fault.CodeLineFault.{CodeLineFault}
+use Rattle.assignment_file.specs.declared.fault.AssignmentKind.{AssignmentKind}
+use Rattle.assignment_file.specs.declared.fault.AssignmentKind.TheVariants as lines_of_assignments
+use Rattle.assignment_file.specs.declared.fault.AssignmentFault.{AssignmentFault}
 use Rattle.grouping_report.specs.FaultWords.{grouping_fault_words}
 use Rattle.grouping_judge.specs.declared.grouping_fault.GroupingFault.{GroupingFault}
 use Rattle.grouping_judge.specs.declared.grouping_fault.GroupingFault.TheVariants as verdict
 use Rattle.cli.specs.declared.refusal.InputFile.{InputFile}
-use Rattle.cli.specs.declared.refusal.InputFile.TheVariants.{Geo, Segment1, Adjacency, Links, Withdrawn, Grouping}
+use Rattle.cli.specs.declared.refusal.InputFile.TheVariants.{Geo, Segment1, Adjacency, Links, Withdrawn, Grouping, Assignments}
 use Rattle.grouping_problem.specs.declared.fault.ProblemFault.{ProblemFault}
 use Rattle.grouping_problem.specs.declared.fault.ProblemFault.TheVariants as problem
 use Rattle.shelves.specs.declared.shelf.ShelfFault.{ShelfFault}
@@ -53,6 +56,15 @@ code_line_word lines_of_codes.BadCode = codes "BadCode"
 code_line_word (lines_of_codes.Lower fault) = line_fault_word fault
 code_line_word lines_of_codes.Memory = codes "Memory"
 
+-- the word of a kind of fault of an assignment file
+abbrev pub assignment_word : AssignmentKind → List ℕ
+assignment_word lines_of_assignments.TooFewFields = codes "TooFewFields"
+assignment_word lines_of_assignments.BadCode = codes "BadCode"
+assignment_word lines_of_assignments.BadLabel = codes "BadLabel"
+assignment_word lines_of_assignments.TooMany = codes "TooMany"
+assignment_word (lines_of_assignments.Lower fault) = line_fault_word fault
+assignment_word lines_of_assignments.Memory = codes "Memory"
+
 -- the line that is shown of a line fault: 0 where the text has too many
 abbrev pub cut_line : LineFault → ℕ → ℕ
 cut_line lines.TooManyLines line = 0
@@ -68,6 +80,11 @@ abbrev pub shown_code_line : CodeLineKind → ℕ → ℕ
 shown_code_line (lines_of_codes.Lower fault) line = cut_line fault line
 shown_code_line kind line = line
 
+-- the same of an assignment file
+abbrev pub shown_assignment_line : AssignmentKind → ℕ → ℕ
+shown_assignment_line (lines_of_assignments.Lower fault) line = cut_line fault line
+shown_assignment_line kind line = line
+
 -- the word of an input file
 abbrev pub file_word : InputFile → List ℕ
 file_word Geo = codes "geo"
@@ -76,6 +93,7 @@ file_word Adjacency = codes "adjacency"
 file_word Links = codes "links"
 file_word Withdrawn = codes "withdrawn"
 file_word Grouping = codes "grouping"
+file_word Assignments = codes "assignments"
 
 -- the input file that a PL 94-171 file is
 abbrev pub input_of : File → InputFile
@@ -107,6 +125,15 @@ code_line_answer file kind line = input_answer file (code_line_word kind) (shown
 -- the answer to a fault of a file whose lines have county codes
 abbrev pub code_file_answer : InputFile → CodeLineFault → Answered
 code_file_answer file fault = code_line_answer file fault.kind fault.line
+
+-- a fault of this kind, at this line of an assignment file
+abbrev pub assignment_line_answer : AssignmentKind → ℕ → Answered
+assignment_line_answer lines_of_assignments.Memory line = memory_answer
+assignment_line_answer kind line = input_answer Assignments (assignment_word kind) (shown_assignment_line kind line)
+
+-- the answer to a fault of an assignment file
+abbrev pub assignment_answer : AssignmentFault → Answered
+assignment_answer fault = assignment_line_answer fault.kind fault.line
 
 -- `fault KIND` with its group, its county or its seats
 unfoldable pub fault_line : GroupingFault → List ℕ

@@ -6,6 +6,7 @@ ghost use Rattle.cli.specs.Run.{command_course, CommandRun, IsEndAnswer, IsRunAn
 ghost use Rattle.cli.specs.Delivery.{Delivers, texts};
 
 use crate::answer::{Answer, Refusal};
+use crate::audit::audit;
 use crate::judge::judge;
 use crate::refusal::MEMORY;
 use crate::size::size;
@@ -27,6 +28,7 @@ fn command_end<H: Shelf>(
     match command {
         CommandWords::Size(words) => size(alloc, words, shelf),
         CommandWords::Judge(words) => judge(alloc, words, shelf),
+        CommandWords::Audit(words) => audit(alloc, words, shelf),
     }
 }
 
@@ -88,10 +90,10 @@ pub(crate) fn deliver<W: Sink>(out: &mut W, text: &[u8], status: u8) -> u8
 /// Runs one command and answers the exit status. The words are those after the program's name. The answer
 /// is composed whole and then written.
 ///
-/// The status is 0 for an answer and for help, 1 where `judge` finds a fault of the grouping, 2 for usage, 4
-/// where the input was refused, 5 where a file could not be had or memory was refused (the line is then
-/// `memory`), and 5 where the writing failed: how much went out is then not said. Nothing is stored, and the
-/// files stay as they were.
+/// The status is 0 for an answer and for help, 1 where `judge` finds a fault of the grouping or `audit` finds
+/// anything, 2 for usage, 4 where the input was refused, 5 where a file could not be had or memory was refused
+/// (the line is then `memory`), and 5 where the writing failed: how much went out is then not said. Nothing is
+/// stored, and the files stay as they were.
 pub fn run<H: Shelf, W: Sink>(alloc: Global, words: &[&str], shelf: &mut H, out: &mut W) -> u8
     ensures answer { (a : Answered)
         × ((a ≡ memory_answer) ⊎ IsRunAnswer (H.contents shelf.old) (H.failure_count shelf.old) (H.failure_count shelf.new) (texts words.now) a)

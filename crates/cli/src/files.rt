@@ -17,7 +17,7 @@ use shelves::Shelf;
 use std::alloc::Global;
 
 /// The bytes of a file.
-fn load<H: Shelf>(alloc: Global, name: &str, shelf: &mut H) -> Result<Vec<u8>, Refusal>
+pub(crate) fn load<H: Shelf>(alloc: Global, name: &str, shelf: &mut H) -> Result<Vec<u8>, Refusal>
     ensures course { Comes (λ v. v.items) result (load_step (H.contents shelf.old) name.now (H.failure_count shelf.old) (H.failure_count shelf.new)) }
     ensures same { H.contents shelf.new ≡ H.contents shelf.old }
     ensures kept { H.stored shelf.new ≡ H.stored shelf.old }

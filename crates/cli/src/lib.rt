@@ -2,10 +2,12 @@
 #![tactic(auto)]
 
 mod answer;
+mod audit;
 mod case;
 mod command;
 mod files;
 mod judge;
+mod plan_files;
 mod problem;
 mod refusal;
 mod size;

@@ -6,9 +6,11 @@ ghost use Rattle.grouping_problem.specs.declared.fault.ProblemFault.TheVariants 
 ghost use Rattle.cli.specs.Answers.{Refuses, IsShown};
 ghost use Rattle.grouping_report.specs.Digits.{five_digits};
 ghost use Rattle.seat_lines.specs.declared.fault.CodeLineKind.TheVariants as lines_of_codes;
-ghost use Rattle.cli.specs.Refusals.{line_fault_word, kind_word, code_line_word, cut_line, file_word, input_of as input_file_of, refused_line, input_answer, pl94_answer, code_file_answer, fault_line, verdict_answer, after_blank, problem_words, refused_problem, problem_answer, shelf_word, device_line, shelf_answer};
+ghost use Rattle.assignment_file.specs.declared.fault.AssignmentKind.TheVariants as lines_of_assignments;
+ghost use Rattle.cli.specs.Refusals.{line_fault_word, kind_word, code_line_word, assignment_word, assignment_answer, cut_line, file_word, input_of as input_file_of, refused_line, input_answer, pl94_answer, code_file_answer, fault_line, verdict_answer, after_blank, problem_words, refused_problem, problem_answer, shelf_word, device_line, shelf_answer};
 
 use crate::answer::Refusal;
+use baf_auditor::{AssignmentFault, AssignmentKind};
 use county_codes::CountyCode;
 use field_lines::LineFault;
 use grouping_judge::GroupingFault;
@@ -65,6 +67,19 @@ fn word_of_code_line(kind: CodeLineKind) -> &'static [u8]
     }
 }
 
+fn word_of_assignment(kind: AssignmentKind) -> &'static [u8]
+    ensures { result.now ≡ assignment_word kind }
+{
+    match kind {
+        AssignmentKind::TooFewFields => b"TooFewFields",
+        AssignmentKind::BadCode => b"BadCode",
+        AssignmentKind::BadLabel => b"BadLabel",
+        AssignmentKind::TooMany => b"TooMany",
+        AssignmentKind::Lower(fault) => word_of_line_fault(fault),
+        AssignmentKind::Memory => b"Memory",
+    }
+}
+
 /// An input file that is a cut text.
 #[derive(Clone, Copy)]
 pub(crate) enum InputFile {
@@ -80,6 +95,8 @@ pub(crate) enum InputFile {
     Withdrawn,
     /// A grouping.
     Grouping,
+    /// A block assignment file.
+    Assignments,
 }
 
 fn input_of(file: File) -> InputFile
@@ -101,6 +118,7 @@ fn word_of_file(file: InputFile) -> &'static [u8]
         InputFile::Links => b"links",
         InputFile::Withdrawn => b"withdrawn",
         InputFile::Grouping => b"grouping",
+        InputFile::Assignments => b"assignments",
     }
 }
 
@@ -165,6 +183,20 @@ pub(crate) fn refuse_codes(alloc: Global, file: InputFile, fault: CodeLineFault)
         _ => fault.line,
     };
     refuse_input(alloc, file, word_of_code_line(fault.kind), line)
+}
+
+/// The refusal of a fault of an assignment file.
+pub(crate) fn refuse_assignments(alloc: Global, fault: AssignmentFault) -> Refusal
+    ensures answer { Refuses (assignment_answer fault) result }
+    ensures shown { IsShown result → fault.kind ≢ lines_of_assignments.Memory }
+{
+    let line = match fault.kind {
+        AssignmentKind::Memory => return Refusal::Memory,
+        AssignmentKind::Lower(cut) => line_of_cut(cut, fault.line),
+        _ => fault.line,
+    };
+    let word = word_of_assignment(fault.kind);
+    refuse_input(alloc, InputFile::Assignments, word, line)
 }
 
 /// `fault KIND` with its group, its county or its seats.

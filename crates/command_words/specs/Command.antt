@@ -39,13 +39,17 @@ problem_options = common_options ++ required (text_option (codes "adjacency")) �
 abbrev pub judge_options : List Rule
 judge_options = problem_options ++ required (text_option (codes "grouping")) ∷ []
 
+-- the options of `audit`: those of `judge`, and the file of the assignments
+abbrev pub audit_options : List Rule
+audit_options = judge_options ++ required (text_option (codes "assignments")) ∷ []
+
 -- a subcommand with these options
 abbrev pub subcommand : Text → List Rule → Shape
 subcommand name options = record (new_shape name) { rules = options }
 
 -- the subcommands of the program
 abbrev pub subcommands : List Shape
-subcommands = subcommand (codes "size") common_options ∷ subcommand (codes "judge") judge_options ∷ []
+subcommands = subcommand (codes "size") common_options ∷ subcommand (codes "judge") judge_options ∷ subcommand (codes "audit") audit_options ∷ []
 
 -- the program without its subcommands: it has no option of its own and requires a subcommand
 abbrev pub countygroups_alone : App

@@ -9,7 +9,8 @@ use Rattle.clap.specs.declared.error.kind.ErrorKind.TheVariants.{DisplayHelp, Ou
 use Rattle.command_words.specs.Command.{countygroups}
 use Rattle.command_words.specs.Options.{Spells}
 use Rattle.command_words.specs.declared.words.CommandWords.{CommandWords}
-use Rattle.command_words.specs.declared.words.CommandWords.TheVariants.{Judge, Size}
+use Rattle.command_words.specs.declared.words.CommandWords.TheVariants.{Audit, Judge, Size}
+use Rattle.command_words.specs.declared.words.AuditWords.{AuditWords}
 use Rattle.command_words.specs.declared.words.CommonWords.{CommonWords}
 use Rattle.command_words.specs.declared.words.JudgeWords.{JudgeWords}
 use Rattle.command_words.specs.declared.words.ProblemWords.{ProblemWords}
@@ -59,10 +60,17 @@ pub record SaysJudge (rows : List Row) (words : JudgeWords) : Type 0 where
   pub problem : SaysProblem rows words.problem
   pub grouping : first_of (codes "grouping") rows ≡ Some words.grouping.now
 
+-- the values of the options of `audit` say which problem, which grouping and which assignments are meant
+pub record SaysAudit (rows : List Row) (words : AuditWords) : Type 0 where
+  pub problem : SaysProblem rows words.problem
+  pub grouping : first_of (codes "grouping") rows ≡ Some words.grouping.now
+  pub assignments : first_of (codes "assignments") rows ≡ Some words.assignments.now
+
 -- a subcommand with the values of its options means the command
 abbrev pub SaysCommand : Text × List Row → CommandWords → Type 0
 SaysCommand p (Size words) = (p.0 ≡ codes "size") × SaysCommon p.1 words
 SaysCommand p (Judge words) = (p.0 ≡ codes "judge") × SaysJudge p.1 words
+SaysCommand p (Audit words) = (p.0 ≡ codes "audit") × SaysAudit p.1 words
 
 -- the words mean the command
 abbrev pub Means : List Text → CommandWords → Type 0

@@ -1,7 +1,7 @@
 //! The command `countygroups`, as `clap` parses it.
 ghost use Rattle.std.specs.Prelude.{◌≡◌, IfOk, codes, false};
 ghost use Rattle.clap.specs.Words.{app_of, rule_of};
-ghost use Rattle.command_words.specs.Command.{HasMore, HasShape, countygroups, countygroups_alone, subcommand, of_number, common_options, problem_options, judge_options, required, text_option, with_default};
+ghost use Rattle.command_words.specs.Command.{HasMore, HasShape, countygroups, countygroups_alone, subcommand, of_number, common_options, problem_options, judge_options, audit_options, required, text_option, with_default};
 
 use clap::{Arg, ArgAction, Command, value_parser};
 use std::alloc::{AllocError, Global};
@@ -89,6 +89,20 @@ fn judge_command<'a>(alloc: Global) -> Result<Command<'a>, AllocError>
     judge.arg(grouping)
 }
 
+/// The subcommand `audit`.
+fn audit_command<'a>(alloc: Global) -> Result<Command<'a>, AllocError>
+    ensures { IfOk result (λ c. HasShape c (subcommand (codes "audit") audit_options)) }
+{
+    let audit = Command::new(alloc, "audit").about(
+        "Finds all that is wrong with a plan's districts",
+    );
+    let audit = with_problem_options(alloc, audit)?;
+    let grouping = file_option(alloc, "grouping", "The groups, each with its seats");
+    let audit = audit.arg(grouping)?;
+    let assignments = file_option(alloc, "assignments", "The district of each census block");
+    audit.arg(assignments)
+}
+
 /// The command of the program without its subcommands.
 fn program_alone<'a>(alloc: Global) -> Result<Command<'a>, AllocError>
     ensures { IfOk result (λ c. app_of c ≡ countygroups_alone) }
@@ -108,5 +122,7 @@ pub(crate) fn program<'a>(alloc: Global) -> Result<Command<'a>, AllocError>
     let size = size_command(alloc)?;
     let program = program_alone(alloc)?.subcommand(size)?;
     let judge = judge_command(alloc)?;
-    program.subcommand(judge)
+    let program = program.subcommand(judge)?;
+    let audit = audit_command(alloc)?;
+    program.subcommand(audit)
 }

@@ -18,4 +18,4 @@ mod end;
 mod words;
 
 pub use end::WordsEnd;
-pub use words::{CommandWords, CommonWords, JudgeWords, ProblemWords, parse};
+pub use words::{AuditWords, CommandWords, CommonWords, JudgeWords, ProblemWords, parse};

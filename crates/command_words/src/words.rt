@@ -3,9 +3,9 @@ ghost use Rattle.std.specs.Prelude.{◌≡◌, [], IfErr, IfOk, MatchResult, tru
 ghost use Rattle.std.specs.Option.{IsSomeAnd};
 ghost use Rattle.clap.specs.Walk.{texts};
 ghost use Rattle.clap.specs.Words.{FailsBy, found_of, kind_of, rows_of, subcommand_rows_of};
-ghost use Rattle.command_words.specs.Command.{common_options, judge_options, problem_options};
+ghost use Rattle.command_words.specs.Command.{audit_options, common_options, judge_options, problem_options};
 ghost use Rattle.command_words.specs.Options.{HasCommand, HasValues};
-ghost use Rattle.command_words.specs.Words.{EndsBy, Means, SaysCommand, SaysCommon, SaysJudge, SaysProblem, faults_of, subcommand_in, takes_words};
+ghost use Rattle.command_words.specs.Words.{EndsBy, Means, SaysAudit, SaysCommand, SaysCommon, SaysJudge, SaysProblem, faults_of, subcommand_in, takes_words};
 
 use crate::WordsEnd;
 use crate::command::program;
@@ -20,6 +20,8 @@ pub enum CommandWords<'a> {
     Size(CommonWords<'a>),
     /// The judge of a grouping.
     Judge(JudgeWords<'a>),
+    /// The audit of a plan's assignments.
+    Audit(AuditWords<'a>),
 }
 
 /// The options that each subcommand has.
@@ -55,6 +57,17 @@ pub struct JudgeWords<'a> {
     pub problem: ProblemWords<'a>,
     /// The name of the file of the grouping.
     pub grouping: &'a str,
+}
+
+/// The options of `audit`.
+#[derive(Clone, Copy, Debug, PartialEq, Eq)]
+pub struct AuditWords<'a> {
+    /// The options that give the problem.
+    pub problem: ProblemWords<'a>,
+    /// The name of the file of the grouping.
+    pub grouping: &'a str,
+    /// The name of the block assignment file.
+    pub assignments: &'a str,
 }
 
 /// What the values of the options say that each subcommand has.
@@ -94,6 +107,18 @@ fn judge_words<'a>(found: &ArgMatches<'a>) -> JudgeWords<'a>
     }
 }
 
+/// What the values of the options of `audit` say.
+fn audit_words<'a>(found: &ArgMatches<'a>) -> AuditWords<'a>
+    requires { HasValues audit_options (rows_of (found_of found.now)) }
+    ensures { SaysAudit (rows_of (found_of found.now)) result }
+{
+    AuditWords {
+        problem: problem_words(found),
+        grouping: found.get_str("grouping").unwrap(),
+        assignments: found.get_str("assignments").unwrap(),
+    }
+}
+
 /// What the subcommand of this name says, by the values of its options.
 fn command_words<'a>(name: &str, found: &ArgMatches<'a>) -> CommandWords<'a>
     requires { HasCommand (name.now, rows_of (found_of found.now)) }
@@ -102,6 +127,7 @@ fn command_words<'a>(name: &str, found: &ArgMatches<'a>) -> CommandWords<'a>
     match name {
         "size" => CommandWords::Size(common_words(found)),
         "judge" => CommandWords::Judge(judge_words(found)),
+        "audit" => CommandWords::Audit(audit_words(found)),
         _ => unreachable!(),
     }
 }

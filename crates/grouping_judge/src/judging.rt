@@ -162,6 +162,7 @@ fn tally(alloc: Global, groups: &[Group]) -> Result<Counts, AllocError>
 pub fn judge(alloc: Global, problem: &Problem, grouping: &Grouping) -> Result<Counts, GroupingFault>
     ensures counts { IfOk result (λ list. (size : ℕ) → count_at list size ≡ counts (sets_of grouping.now.groups.items) size) }
     ensures lawful { IfOk result (λ _. Lawful (problem_of problem.now) grouping.now.groups.items) }
+    ensures few { IfOk result (λ _. length grouping.now.groups.items ≤ 128) }
     ensures fault { IfErr result (IsFault (problem_of problem.now) grouping.now.groups.items) }
     ensures unlawful { IfErr result (λ fault. fault ≢ Memory → ¬ Lawful (problem_of problem.now) grouping.now.groups.items) }
 {

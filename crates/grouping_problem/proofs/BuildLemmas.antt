@@ -1,7 +1,8 @@
 -- Distinct codes that don't fall ascend strictly.
-use Rattle.std.proofs.Common.{◌≡◌, ◌∙◌, ℕ, ◌+◌, ◌<◌, ◌≤◌, ◌==◌, Bool, true, false, List, [], ◌∷◌, ◌++◌, length, filter, None, Some, if◌then◌else◌, refl, sym, ap, subst, arith, append_assoc, append-nil, drop, sum_by}
+use Rattle.std.proofs.Common.{◌≡◌, ◌∙◌, ℕ, zero, suc, ◌+◌, ◌<◌, ◌≤◌, ◌==◌, ◌||◌, Option, Bool, true, false, List, [], ◌∷◌, ◌++◌, length, filter, None, Some, if◌then◌else◌, refl, sym, ap, subst, arith, append-nil, drop, sum_by}
 use Rattle.std.proofs.lemmas.List.{get_or-map, length-map, drop_all}
-use Rattle.std.specs.List.{IsDistinct, AllByRecursion}
+use Rattle.std.specs.List.{IsDistinct, AllByRecursion, position_from}
+use Rattle.std.specs.Option.{option_map}
 use Rattle.std.specs.List.Sorted.{IsStrictlyIncreasing, IsNonDecreasingBy, IsNonDecreasing, IsPermutation}
 use Rattle.std.proofs.lemmas.Map.Keys.{IsStrictlyIncreasing-from_distinct, IsDistinct-IsPermutation}
 use Rattle.std.proofs.lemmas.List.Sorted.{IsPermutation-map}
@@ -10,9 +11,12 @@ use Rattle.std.proofs.lemmas.List.Sums.{sum_by-cons}
 use Rattle.std.proofs.Math.Dec.{eqb}
 use Rattle.std.proofs.lemmas.Bool.{eqb-true, eq-eqb}
 use Rattle.county_codes.specs.declared.county.County.{County}
-use Rattle.grouping_laws.specs.Sets.{digit, total, often, member}
+use Rattle.county_codes.specs.declared.withdrawn.Withdrawn.{Withdrawn}
+use Rattle.grouping_problem.specs.declared.fault.ProblemFault.{ProblemFault}
+use Rattle.grouping_problem.specs.declared.fault.ProblemFault.TheVariants.{EmptyWithdrawn}
+use Rattle.grouping_laws.specs.Sets.{digit, total, often}
 use Rattle.grouping_problem.specs.ProblemValue.{codes_of}
-use Rattle.grouping_problem.specs.Building.{first_repeated, people_in}
+use Rattle.grouping_problem.specs.Building.{first_repeated, people_in, seats_in, first_of, withdrawn_fault}
 use Rattle.place_sets.proofs.Sums.{total_ones}
 use Rattle.county_codes.proofs.CodeListLemmas.{repeated_none}
 
@@ -100,3 +104,29 @@ pub fewer_kept : (p : County → Bool) (counties left : List County) → IsPermu
 fewer_kept p counties left same =
     let moved = total_sum (λ c. 1) left ∙ (sum_by-IsPermutation (λ c. 1) (filter p counties) left same ∙ sym (total_sum (λ c. 1) (filter p counties))) in
     omega (arith, moved, total_filter (λ (c : County). 1) p counties, total_ones left, total_ones counties)
+
+-- sets of which none lacks seats are no more than their seats
+some_seats : (codes seats : ℕ) → (codes == 0 || seats == 0) ≡ false → 1 ≤ seats
+some_seats codes zero none = absurd (lacks (codes == 0) none)
+  where
+    lacks : (b : Bool) → (b || true) ≡ false → ⊥
+    lacks true e = cc
+    lacks false e = cc
+some_seats codes (suc seats) none = omega arith
+
+each_seated : (sets : List Withdrawn) (n : ℕ) → position_from (λ w. length w.codes == 0 || w.seats == 0) n sets ≡ None → length sets ≤ seats_in sets
+each_seated [] n none = omega arith
+each_seated (w ∷ ws) n none = go (length w.codes == 0 || w.seats == 0) refl none (each_seated ws (n + 1))
+  where
+    go : (b : Bool) → (length w.codes == 0 || w.seats == 0) ≡ b → (if b then Some n else position_from (λ w. length w.codes == 0 || w.seats == 0) (n + 1) ws) ≡ None
+        → (position_from (λ w. length w.codes == 0 || w.seats == 0) (n + 1) ws ≡ None → length ws ≤ seats_in ws) → length (w ∷ ws) ≤ w.seats + seats_in ws
+    go true is e later = absurd cc
+    go false is e later = let l = later e in let one = some_seats (length w.codes) w.seats is in omega (arith, l, one)
+
+first_none : (o : Option ℕ) (faults : List (Option ProblemFault)) → first_of (option_map EmptyWithdrawn o ∷ faults) ≡ None → o ≡ None
+first_none None faults e = refl
+first_none (Some n) faults e = absurd cc
+
+-- withdrawn sets without fault are no more than the chamber's seats
+pub few_sets : (listed : List ℕ) (sets : List Withdrawn) (chamber left : ℕ) → withdrawn_fault listed sets chamber ≡ None → left + seats_in sets ≡ chamber → length sets ≤ chamber
+few_sets listed sets chamber left none sum = let each = each_seated sets 1 (first_none _ _ none) in omega (arith, each, sum)

@@ -43,7 +43,8 @@ impl Model for Problem {
     ghost invariant = { λ p.
         (1 ≤ p.total) × (p.total ≤ 2 ^ 40) × (1 ≤ p.chamber) × (p.chamber ≤ 1000)
         × (people_in p.counties.items ≤ p.total) × IsStrictlyIncreasing (codes_of p.counties.items)
-        × (length p.counties.items ≤ 128) × (p.left + seats_in p.withdrawn.items ≡ p.chamber) };
+        × (length p.counties.items ≤ 128) × (p.left + seats_in p.withdrawn.items ≡ p.chamber)
+        × (length p.withdrawn.items ≤ p.chamber) };
 }
 
 /// Whether some pair names both codes, in either order.
@@ -91,9 +92,10 @@ impl Problem {
         self.counties.as_slice()
     }
 
-    /// The withdrawn sets, in the order in which they were given.
+    /// The withdrawn sets, in the order in which they were given; no more than the chamber's seats, as each has one.
     pub fn withdrawn(&self) -> &[Withdrawn]
-        ensures { result.now ≡ self.now.withdrawn }
+        ensures value { result.now ≡ self.now.withdrawn }
+        ensures few { length result.now ≤ 1000 }
     {
         self.withdrawn.as_slice()
     }

@@ -4,3 +4,4 @@ pub mod Report
 pub mod Outcomes
 pub mod GroupingText
 pub mod FaultWords
+pub mod FindingsText

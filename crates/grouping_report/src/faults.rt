@@ -8,7 +8,11 @@ use std::alloc::AllocError;
 
 /// Appends words and a number.
 #[tactic(auto, unfolding(crate::specs::FaultWords::with_number))]
-fn push_words_number(out: &mut Vec<u8>, words: &[u8], number: u64) -> Result<(), AllocError>
+pub(crate) fn push_words_number(
+    out: &mut Vec<u8>,
+    words: &[u8],
+    number: u64,
+) -> Result<(), AllocError>
     ensures { OnOk result (out.new.items ≡ out.old.items ++ with_number words.now number) }
 {
     out.extend_from_slice(words)?;

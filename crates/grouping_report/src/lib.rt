@@ -2,6 +2,7 @@
 #![tactic(auto)]
 
 mod faults;
+mod findings;
 mod grouping;
 mod outcome;
 mod reports;
@@ -9,6 +10,7 @@ mod table;
 mod text;
 
 pub use faults::push_grouping_fault;
+pub use findings::findings_text;
 pub use grouping::grouping_text;
 pub use outcome::Outcome;
 pub use reports::report;

@@ -16,7 +16,7 @@ pub fn push_number(out: &mut Vec<u8>, number: u64) -> Result<(), AllocError>
 }
 
 /// Appends the five digits of a number.
-fn push_five_digits(out: &mut Vec<u8>, number: u32) -> Result<(), AllocError>
+pub(crate) fn push_five_digits(out: &mut Vec<u8>, number: u32) -> Result<(), AllocError>
     requires { number ≤ 99999 }
     ensures { OnOk result (out.new.items ≡ out.old.items ++ five_digits number) }
 {

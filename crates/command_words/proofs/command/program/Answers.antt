@@ -7,4 +7,5 @@ pub returns : goal.returns
 unfolding countygroups
 returns c =
     let size = has_one_subcommand_more c.in_ok-program_alone.field-0 c.in_ok-size.size c.in_ok-program.program _ _ c.in_ok-program_alone.ensures c.in_ok-size.ensures c.in_ok-program.ensures in
-    IfOk-weaker c.subcommand-2.result _ _ (λ new added. has_one_subcommand_more c.in_ok-program.program c.in_ok-judge.judge new _ _ size c.in_ok-judge.ensures added) c.subcommand-2.ensures
+    let judge = has_one_subcommand_more c.in_ok-program.program c.in_ok-judge.judge c.in_ok-program-2.program _ _ size c.in_ok-judge.ensures c.in_ok-program-2.ensures in
+    IfOk-weaker c.subcommand-3.result _ _ (λ new added. has_one_subcommand_more c.in_ok-program-2.program c.in_ok-audit.audit new _ _ judge c.in_ok-audit.ensures added) c.subcommand-3.ensures

@@ -1,7 +1,7 @@
 use Rattle.std.proofs.Common.{not, arith}
 use Rattle.grouping_laws.specs.Sets.{member}
 use Rattle.county_codes.specs.declared.county.County.{County}
-use Rattle.grouping_problem.proofs.BuildLemmas.{people_left}
+use Rattle.grouping_problem.proofs.BuildLemmas.{people_left, few_sets}
 use Rattle.grouping_problem.proofs.problem.Problem.build.Goals as goal
 
 pub invariant_of-result : goal.invariant_of-result
@@ -16,4 +16,5 @@ invariant_of-result c =
       c.in_ok-counties.ensures.by_code,
       omega (arith, c.in_ok-counties.ensures.few),
       rw c.in_ok-copy_sets.ensures c.in_ok-left.ensures.1,
+      rw c.in_ok-copy_sets.ensures (few_sets _ c.args.withdrawn.now c.args.chamber _ c.in_ok-left.ensures.0 c.in_ok-left.ensures.1),
     )

@@ -1,7 +1,5 @@
 use Rattle.std.proofs.Common.{sym, arith}
 use Rattle.grouping_laws.proofs.WindowLemmas.{some_between}
-use Rattle.grouping_problem.specs.ProblemValue.{problem_of}
-use Rattle.grouping_problem.specs.contracts.problem.Problem.{the_view}
 use Rattle.grouping_problem.proofs.problem.Problem.suits_some.Goals as goal
 
 pub returns : goal.returns

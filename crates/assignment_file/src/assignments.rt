@@ -1,7 +1,7 @@
-ghost use Rattle.std.specs.Prelude.{◌≡◌, IfOk, length};
+ghost use Rattle.std.specs.Prelude.{◌≡◌, ◌≤◌, IfOk, OnOk, vec_len};
 ghost use Rattle.field_lines.specs.Values.{GivesUnless};
-ghost use Rattle.baf_auditor.specs.Assignments.{IsMemory, AddsUnlessMemory, has_pipe, delimiter_of, is_header, assignment_on, rows_after, assignment_list};
-ghost use Rattle.baf_auditor.specs.declared.fault.AssignmentKind.TheVariants.{Memory};
+ghost use Rattle.assignment_file.specs.Assignments.{IsMemory, AddsUnlessMemory, has_pipe, delimiter_of, is_header, assignment_on, rows_after, assignment_list};
+ghost use Rattle.assignment_file.specs.declared.fault.AssignmentKind.TheVariants.{Memory};
 
 use crate::fault::{AssignmentFault, AssignmentKind};
 use crate::label::Label;
@@ -64,7 +64,8 @@ fn add_assignment(
     delimiter: u8,
     line: &[u8],
 ) -> Result<(), AssignmentKind>
-    ensures { AddsUnlessMemory assignments.old.items (assignment_on delimiter line.now) result assignments.new.items }
+    ensures value { AddsUnlessMemory assignments.old.items (assignment_on delimiter line.now) result assignments.new.items }
+    ensures few { OnOk result (vec_len assignments.new ≤ 4000000) }
 {
     let assignment = assignment_in(alloc, delimiter, line)?;
     if assignments.len() >= MOST {
@@ -82,7 +83,9 @@ fn read_rows(
     delimiter: u8,
     mut lines: Lines<'_>,
 ) -> Result<Vec<Assignment>, AssignmentFault>
-    ensures { GivesUnless IsMemory (λ v. v.items) result (rows_after delimiter assignments.items lines.entry.lines lines.entry.fault) }
+    requires { vec_len assignments ≤ 4000000 }
+    ensures value { GivesUnless IsMemory (λ v. v.items) result (rows_after delimiter assignments.items lines.entry.lines lines.entry.fault) }
+    ensures few { IfOk result (λ v. vec_len v ≤ 4000000) }
 {
     loop {
         match lines.next_line() {
@@ -108,7 +111,8 @@ fn read_rows(
 /// `BadCode`, `BadLabel`, and `TooMany` on the assignment after the 4,000,000th. A line that can't be read (`Lower`)
 /// answers after the lines before it, and `Memory` in the place of any answer.
 pub fn read_assignments(alloc: Global, bytes: &[u8]) -> Result<Vec<Assignment>, AssignmentFault>
-    ensures { GivesUnless IsMemory (λ v. v.items) result (assignment_list bytes.now) }
+    ensures value { GivesUnless IsMemory (λ v. v.items) result (assignment_list bytes.now) }
+    ensures few { IfOk result (λ v. vec_len v ≤ 4000000) }
 {
     let mut lines = Lines::new(bytes);
     let mut assignments = Vec::new(alloc);

@@ -38,7 +38,7 @@ pub struct AssignmentFault {
 impl AssignmentFault {
     ghost use Rattle.std.specs.Prelude.{◌≡◌, ◌<◌, ◌^◌};
     ghost use Rattle.field_lines.specs.Fault.{line_of_fault};
-    ghost use Rattle.baf_auditor.specs.Assignments.{cut_fault};
+    ghost use Rattle.assignment_file.specs.Assignments.{cut_fault};
 
     /// The fault of a text whose lines end in a fault.
     pub(crate) fn of_cut(fault: LineFault) -> Self

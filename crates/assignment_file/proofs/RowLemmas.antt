@@ -7,11 +7,11 @@ use Rattle.std.specs.Result.{result_ok}
 use Rattle.field_lines.specs.Cut.{Line}
 use Rattle.field_lines.specs.Values.{unless_fault}
 use Rattle.field_lines.specs.declared.fault.LineFault.{LineFault}
-use Rattle.baf_auditor.specs.declared.assignments.Assignment.{Assignment}
-use Rattle.baf_auditor.specs.declared.fault.AssignmentKind.{AssignmentKind}
-use Rattle.baf_auditor.specs.declared.fault.AssignmentKind.TheVariants.{TooMany}
-use Rattle.baf_auditor.specs.declared.fault.AssignmentFault.{AssignmentFault}
-use Rattle.baf_auditor.specs.Assignments.{line_fault, cut_fault, assignment_on, most, row_fault, at_line, first_fault, rows_after, with_row}
+use Rattle.assignment_file.specs.declared.assignments.Assignment.{Assignment}
+use Rattle.assignment_file.specs.declared.fault.AssignmentKind.{AssignmentKind}
+use Rattle.assignment_file.specs.declared.fault.AssignmentKind.TheVariants.{TooMany}
+use Rattle.assignment_file.specs.declared.fault.AssignmentFault.{AssignmentFault}
+use Rattle.assignment_file.specs.Assignments.{line_fault, cut_fault, assignment_on, most, row_fault, at_line, first_fault, rows_after, with_row}
 
 -- what a loop answers that has found some assignments, and goes on with further lines and then the fault of the cut
 abbrev pub collect_rows : ℕ → List Assignment → List Line → Option LineFault → Result (List Assignment) AssignmentFault

@@ -10,11 +10,11 @@ use Rattle.field_lines.specs.Fields.{field_of}
 use Rattle.field_lines.specs.Number.{digits_of}
 use Rattle.field_lines.specs.Values.{unless_fault}
 use Rattle.field_lines.specs.declared.fault.LineFault.{LineFault}
-use Rattle.baf_auditor.specs.declared.assignments.Assignment.{Assignment}
-use Rattle.baf_auditor.specs.declared.fault.AssignmentKind.{AssignmentKind}
-use Rattle.baf_auditor.specs.declared.fault.AssignmentKind.TheVariants.{TooFewFields, BadCode, BadLabel, TooMany, Lower, Memory}
-use Rattle.baf_auditor.specs.declared.fault.AssignmentFault.{AssignmentFault}
-use Rattle.baf_auditor.specs.Labels.{label_of}
+use Rattle.assignment_file.specs.declared.assignments.Assignment.{Assignment}
+use Rattle.assignment_file.specs.declared.fault.AssignmentKind.{AssignmentKind}
+use Rattle.assignment_file.specs.declared.fault.AssignmentKind.TheVariants.{TooFewFields, BadCode, BadLabel, TooMany, Lower, Memory}
+use Rattle.assignment_file.specs.declared.fault.AssignmentFault.{AssignmentFault}
+use Rattle.assignment_file.specs.Labels.{label_of}
 
 -- what is wrong with the line of a number
 abbrev pub line_fault : AssignmentKind → ℕ → AssignmentFault

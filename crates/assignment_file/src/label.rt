@@ -1,5 +1,5 @@
 ghost use Rattle.std.specs.Prelude.{◌≡◌, IfOk};
-ghost use Rattle.baf_auditor.specs.Labels.{is_printable, is_label, label_of, assigns};
+ghost use Rattle.assignment_file.specs.Labels.{is_printable, is_label, label_of, assigns};
 
 use std::alloc::{AllocError, Global};
 use std::cmp::Ordering;

@@ -1,0 +1,54 @@
+#!/usr/bin/env python3
+"""Writes the files of an audit of full size: 100 counties side by side with 100,000 people each, every county a group with
+one seat of a chamber of 100, 20,000 blocks of five people in each county (2,000,000 block lines), and 4,000,000 assignments:
+each block is given to its county's district, and each is named once more. Usage: full_plan.py FOLDER"""
+import os
+import sys
+
+COUNTIES = 100
+BLOCKS = 20_000
+PEOPLE = 5
+
+
+def area_line(level, record, code, county):
+    return f"||{level}||00|||{record}||{code}|||37||{county}\n"
+
+
+def county_code(place):
+    return f"{2 * place + 1:03}"
+
+
+def write_areas(geo, segment):
+    record = 0
+    for place in range(COUNTIES):
+        county = county_code(place)
+        geo.write(area_line("050", record, "", county))
+        segment.write(f"||||{record}|{BLOCKS * PEOPLE}\n")
+        record += 1
+        for block in range(BLOCKS):
+            geo.write(area_line("750", record, f"37{county}{block:010}", county))
+            segment.write(f"||||{record}|{PEOPLE}\n")
+            record += 1
+
+
+def write_plan(adjacency, grouping, assignments):
+    for place in range(COUNTIES):
+        county = county_code(place)
+        adjacency.write(f"A|37{county}|B|37{county_code((place + 1) % COUNTIES)}|1\n")
+        grouping.write(f"1|37{county}\n")
+        for block in range(BLOCKS):
+            assignments.write(f"37{county}{block:010}|{place + 1}\n" * 2)
+
+
+def main(folder):
+    os.makedirs(folder, exist_ok=True)
+    with open(os.path.join(folder, "geo"), "w") as geo, open(os.path.join(folder, "segment"), "w") as segment:
+        write_areas(geo, segment)
+    names = ["adjacency", "grouping", "assignments"]
+    files = [open(os.path.join(folder, name), "w") for name in names]
+    write_plan(*files)
+    for file in files:
+        file.close()
+
+
+main(sys.argv[1])

@@ -1,0 +1,93 @@
+-- Districts: their people, and the sets in which they have blocks.
+use Rattle.std.specs.Prelude.{ℕ, nat_lt, ◌+◌, ◌-◌, ◌==◌, ◌&&◌, ◌||◌, Bool, false, List, [], ◌∷◌, ◌++◌, Option, Some, None, if◌then◌else◌}
+use Rattle.std.specs.Str.{bytes_eq}
+use Rattle.std.specs.Option.{unwrap_or}
+use Rattle.grouping_laws.specs.Sets.{digit, total}
+use Rattle.baf_auditor.specs.Findings.{DrawnSet, county_of}
+use Rattle.baf_auditor.specs.Listing.{place_of}
+use Rattle.baf_auditor.specs.declared.finding.Set.{Set}
+use Rattle.baf_auditor.specs.declared.finding.Set.TheVariants.{Group, Withdrawn}
+use Rattle.baf_auditor.specs.declared.finding.Finding.{Finding}
+use Rattle.baf_auditor.specs.declared.finding.Finding.TheVariants.{Crosses, WrongNumber, DistrictSize}
+
+-- a listed block that lines give to a district: the label and the block's code, and its people
+abbrev pub Given : Type 0
+Given = (List ℕ × ℕ) × ℕ
+
+-- ---- people
+
+-- the people of the district of a label after a further block of a district
+abbrev pub with_people : List ℕ → List ℕ → ℕ → Option ℕ → Option ℕ
+with_people label own people before = if bytes_eq own label then Some (unwrap_or before 0 + people) else before
+
+-- and after further blocks
+abbrev pub people_after : List ℕ → Option ℕ → List Given → Option ℕ
+people_after label before [] = before
+people_after label before (e ∷ es) = people_after label (with_people label e.0.0 e.1 before) es
+
+-- the people of the district of a label, if it has a block
+abbrev pub district_people : List Given → List ℕ → Option ℕ
+district_people given label = people_after label None given
+
+-- a finding where the people of a district are not within bounds
+abbrev pub size_finding : ℕ → ℕ → List ℕ × ℕ → Option Finding
+size_finding least greatest e = if (nat_lt e.1 least || nat_lt greatest e.1) then Some (DistrictSize e.0 e.1) else None
+
+-- ---- sets by their places
+
+-- whether a place is this one
+abbrev pub is_place : Option ℕ → ℕ → Bool
+is_place None i = false
+is_place (Some j) i = j == i
+
+-- whether a block of a district, by label and code, shows that a district stands in the set at a place
+abbrev pub shows : List DrawnSet → List ℕ × ℕ → List ℕ × ℕ → Bool
+shows drawn key own = is_place (place_of drawn (county_of own.1)) key.1 && bytes_eq own.0 key.0
+
+-- whether a district stands in a set, after a further block of a district
+abbrev pub after_shown : List DrawnSet → List ℕ × ℕ → Option (Unit {0}) → List ℕ × ℕ → Option (Unit {0})
+after_shown drawn key before own = if shows drawn key own then Some tt else before
+
+-- and after further blocks
+abbrev pub stands_after : List DrawnSet → List ℕ × ℕ → Option (Unit {0}) → List (List ℕ × ℕ) → Option (Unit {0})
+stands_after drawn key before [] = before
+stands_after drawn key before (own ∷ more) = stands_after drawn key (after_shown drawn key before own) more
+
+-- whether the district of a label has a block in the set at a place, by the labels and codes of the blocks of districts
+abbrev pub standing : List DrawnSet → List (List ℕ × ℕ) → List ℕ × ℕ → Option (Unit {0})
+standing drawn given key = stands_after drawn key None given
+
+-- the name of the set at a place, counted from 0, after so many groups
+abbrev pub name_at : ℕ → ℕ → Set
+name_at groups place = if nat_lt place groups then Group (place + 1) else Withdrawn (place - groups + 1)
+
+-- ---- districts that cross
+
+-- a district in two sets
+abbrev pub crossing : ℕ → List ℕ × ℕ → ℕ → Finding
+crossing groups first place = Crosses first.0 (name_at groups first.1) (name_at groups place)
+
+-- the pairs of a district's first set with those after it, which stand next in the list
+abbrev pub crossings_with : ℕ → List ℕ × ℕ → List (List ℕ × ℕ) → List Finding
+crossings_with groups first [] = []
+crossings_with groups first (k ∷ ks) = if bytes_eq k.0 first.0 then crossing groups first k.1 ∷ crossings_with groups first ks else []
+
+-- all pairs of the sets of a district
+abbrev pub crossings : ℕ → List (List ℕ × ℕ) → List Finding
+crossings groups [] = []
+crossings groups (k ∷ ks) = crossings_with groups k ks ++ crossings groups ks
+
+-- ---- numbers of districts
+
+-- how many districts stand in the set at a place
+abbrev pub districts_at : ℕ → List (List ℕ × ℕ) → ℕ
+districts_at place keys = total (λ k. digit (k.1 == place)) keys
+
+-- a finding where a set has another number of districts than seats
+abbrev pub number_finding : Set → ℕ → ℕ → List Finding
+number_finding name seats districts = if districts == seats then [] else WrongNumber name seats districts ∷ []
+
+-- those of sets, the first of which has this place
+abbrev pub numbers_from : List (List ℕ × ℕ) → ℕ → List DrawnSet → List Finding
+numbers_from keys place [] = []
+numbers_from keys place (d ∷ ds) = number_finding d.name d.seats (districts_at place keys) ++ numbers_from keys (place + 1) ds

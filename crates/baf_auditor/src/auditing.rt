@@ -1,0 +1,125 @@
+ghost use Rattle.std.specs.Prelude.{◌≡◌, ◌≢◌, ◌<◌, ◌≤◌, ◌↔◌, [], ◌∷◌, length, map, All, IfOk, OnOk, MatchOption};
+ghost use Rattle.std.specs.List.Sorted.{IsStrictlyIncreasing};
+ghost use Rattle.std.specs.BTreeMap.{btree_map_len, keys};
+ghost use Rattle.grouping_laws.specs.Grouping.{Lawful};
+ghost use Rattle.grouping_problem.specs.ProblemValue.{problem_of};
+ghost use Rattle.grouping_judge.specs.Judging.{IsFault};
+ghost use Rattle.grouping_judge.specs.declared.grouping_fault.GroupingFault.TheVariants.{Memory};
+ghost use Rattle.baf_auditor.specs.Findings.{drawn_sets, plan_of, IsFinding, AreAll, AreFindings};
+ghost use Rattle.baf_auditor.specs.Kinds.{AddsOfDistricts, IsClean};
+ghost use Rattle.baf_auditor.specs.declared.finding.Finding.TheVariants as findings;
+
+use crate::block_kinds::block_kinds;
+use crate::codes::{CodeKind, add_codes};
+use crate::crossings::add_crossings;
+use crate::finding::{Finding, Findings};
+use crate::given::given_blocks;
+use crate::numbers::{add_group_numbers, add_withdrawn_numbers};
+use crate::sizes::{add_sizes, people_by_label};
+use crate::standing::{listed_places, standing_places};
+use assignment_file::{Assignment, Label};
+use county_codes::Grouping;
+use grouping_judge::{GroupingFault, judge};
+use grouping_problem::Problem;
+use pl94_counties::Block;
+use std::alloc::{AllocError, Global};
+use std::collections::BTreeMap;
+
+/// Adds the findings of districts: those that cross, wrong numbers and wrong sizes.
+fn add_district_findings(
+    alloc: Global,
+    findings: &mut Vec<Finding>,
+    problem: &Problem,
+    grouping: &Grouping,
+    given: &BTreeMap<(Label, u64), u32>,
+) -> Result<(), AllocError>
+    requires few_groups { length grouping.now.groups.items ≤ 128 }
+    requires few { btree_map_len given.now ≤ 4000000 }
+    requires fits { All (λ k. k.1 < 1000000000000000) (keys given.now) }
+    ensures { OnOk result (AddsOfDistricts (problem_of problem.now) (drawn_sets problem.now grouping.now.groups.items) (length grouping.now.groups.items) given.now.entries findings.old.items findings.new.items) }
+{
+    let groups = grouping.groups.as_slice();
+    let sets = problem.withdrawn();
+    let found = standing_places(alloc, problem, grouping, given)?;
+    let standing = listed_places(alloc, found)?;
+    add_crossings(findings, groups.len(), &standing)?;
+    add_group_numbers(findings, groups, &standing)?;
+    add_withdrawn_numbers(findings, groups.len(), sets, &standing)?;
+    let sums = people_by_label(alloc, given)?;
+    add_sizes(findings, problem.district_bounds(1), &sums)?;
+    Ok(())
+}
+
+/// The findings of a plan over a lawful grouping.
+fn plan_findings(
+    alloc: Global,
+    problem: &Problem,
+    grouping: &Grouping,
+    blocks: &[Block],
+    lines: &[Assignment],
+) -> Result<Vec<Finding>, AllocError>
+    requires few_groups { length grouping.now.groups.items ≤ 128 }
+    requires fits { All (λ block. block.code < 1000000000000000) blocks.now }
+    requires ascending { IsStrictlyIncreasing (map (λ block. block.code) blocks.now) }
+    requires few { length lines.now ≤ 4000000 }
+    ensures { IfOk result (λ v. AreAll (IsFinding problem.now (plan_of problem.now grouping.now.groups.items blocks.now lines.now)) v.items) }
+{
+    let kinds = block_kinds(alloc, problem, grouping, blocks, lines)?;
+    let mut findings = Vec::new(alloc);
+    add_codes(&mut findings, CodeKind::Unknown, &kinds.unknown)?;
+    add_codes(&mut findings, CodeKind::Twice, &kinds.twice)?;
+    add_codes(&mut findings, CodeKind::Unassigned, &kinds.unassigned)?;
+    let given = given_blocks(alloc, &kinds.listed, lines)?;
+    add_district_findings(alloc, &mut findings, problem, grouping, &given)?;
+    Ok(findings)
+}
+
+/// The first fault of a grouping, if it isn't lawful.
+fn fault_of(alloc: Global, problem: &Problem, grouping: &Grouping) -> Option<GroupingFault>
+    ensures lawful { MatchOption result (Lawful (problem_of problem.now) grouping.now.groups.items) (IsFault (problem_of problem.now) grouping.now.groups.items) }
+    ensures few { MatchOption result (length grouping.now.groups.items ≤ 128) (λ fault. fault ≢ Memory → ¬ Lawful (problem_of problem.now) grouping.now.groups.items) }
+{
+    judge(alloc, problem, grouping).err()
+}
+
+/// A finding alone.
+fn only_finding(alloc: Global, fault: GroupingFault) -> Result<Findings, AllocError>
+    ensures { IfOk result (λ f. f.list.items ≡ findings.Grouping fault ∷ []) }
+{
+    let mut list = Vec::new(alloc);
+    list.push(Finding::Grouping(fault))?;
+    Ok(Findings { list })
+}
+
+/// All that is wrong with a plan's assignments, by kind and then by block, set or label. The sets are the groups in the
+/// grouping's order and then the withdrawn sets; a block stands in the set that has its county, and one whose county is in
+/// no set counts as not listed. A district is a label that some line gives to a listed block, and its people are those of
+/// its listed blocks, each once. A grouping that isn't lawful is the only finding.
+///
+/// The blocks ascend by code, as `read_blocks` gives them, and there are at most 4,000,000 assignments, as
+/// `read_assignments` gives them.
+///
+/// # Errors
+///
+/// Only where memory was refused.
+pub fn audit(
+    alloc: Global,
+    problem: &Problem,
+    grouping: &Grouping,
+    blocks: &[Block],
+    lines: &[Assignment],
+) -> Result<Findings, AllocError>
+    requires fits { All (λ block. block.code < 1000000000000000) blocks.now }
+    requires ascending { IsStrictlyIncreasing (map (λ block. block.code) blocks.now) }
+    requires few { length lines.now ≤ 4000000 }
+    ensures findings { IfOk result (λ f. AreFindings problem.now grouping.now.groups.items blocks.now lines.now f.list.items) }
+    ensures clean { IfOk result (λ f. (f.list.items ≡ []) ↔ IsClean problem.now grouping.now.groups.items (plan_of problem.now grouping.now.groups.items blocks.now lines.now)) }
+{
+    match fault_of(alloc, problem, grouping) {
+        None => Ok(Findings {
+            list: plan_findings(alloc, problem, grouping, blocks, lines)?,
+        }),
+        Some(GroupingFault::Memory) => Err(AllocError),
+        Some(fault) => only_finding(alloc, fault),
+    }
+}

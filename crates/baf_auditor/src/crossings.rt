@@ -1,0 +1,55 @@
+ghost use Rattle.std.specs.Prelude.{◌≡◌, ◌<◌, ◌≤◌, ◌++◌, All, IfOk, OnOk};
+ghost use Rattle.baf_auditor.specs.Districts.{name_at, crossings_with, crossings};
+
+use crate::finding::{Finding, Set};
+use assignment_file::Label;
+use std::alloc::AllocError;
+
+/// The set at a place, counted from 0, after so many groups.
+fn set_at(groups: usize, place: usize) -> Set
+    requires { place < 1000000 }
+    ensures { result ≡ name_at groups place }
+{
+    if place < groups {
+        Set::Group((place + 1) as u32)
+    } else {
+        Set::Withdrawn((place - groups + 1) as u32)
+    }
+}
+
+/// Adds the pairs of a district's set with its sets after that one, which stand next.
+fn add_crossings_with(
+    findings: &mut Vec<Finding>,
+    groups: usize,
+    first: &(Label, usize),
+    rest: &[(Label, usize)],
+) -> Result<(), AllocError>
+    requires here { first.now.1 < 1000000 }
+    requires places { All (λ k. k.1 < 1000000) rest.now }
+    ensures { OnOk result (findings.new.items ≡ findings.old.items ++ crossings_with groups first.now rest.now) }
+{
+    for key in rest {
+        if key.0 != first.0 {
+            return Ok(());
+        }
+        let one = set_at(groups, first.1);
+        let other = set_at(groups, key.1);
+        findings.push(Finding::Crosses(first.0.copy()?, one, other))?;
+    }
+    Ok(())
+}
+
+/// Adds each pair of sets in which one district has blocks, by label and sets.
+pub(crate) fn add_crossings(
+    findings: &mut Vec<Finding>,
+    groups: usize,
+    standing: &[(Label, usize)],
+) -> Result<(), AllocError>
+    requires { All (λ k. k.1 < 1000000) standing.now }
+    ensures { OnOk result (findings.new.items ≡ findings.old.items ++ crossings groups standing.now) }
+{
+    for (i, key) in standing.iter().enumerate() {
+        add_crossings_with(findings, groups, key, &standing[i + 1..])?;
+    }
+    Ok(())
+}

@@ -1,0 +1,31 @@
+use Rattle.std.proofs.Common.{◌≡◌, ℕ, List, Option, subst}
+use Rattle.std.specs.Prelude.{Ok, Err}
+use Rattle.shelves.specs.Files.{Files}
+use Rattle.cli.specs.Answers.{Comes, Meets}
+use Rattle.cli.specs.Course.{◌>>=◌, load_step}
+use Rattle.cli.specs.PlanCourse.{blocks_in}
+use Rattle.cli.proofs.RunLemmas.{handed_on, went_on, read_file}
+use Rattle.cli.proofs.plan_files.load_blocks.Goals as goal
+
+pub returns-in_err-segment-clause-course : goal.returns-in_err-segment-clause-course
+returns-in_err-segment-clause-course g c =
+    let files = g.H.Shelf.contents c.args.shelf.now in
+    let before = g.H.Shelf.failure_count c.args.shelf.now in
+    let between = g.H.Shelf.failure_count c.load.new.shelf in
+    let after = g.H.Shelf.failure_count c.load-2.new.shelf in
+    let segment = subst (λ (known : Option Files). Meets c.in_err-segment.field-0.0 (λ a. load_step known c.args.words.segment.now between after (Err a))) c.load.ensures.same c.in_err-segment.ensures.course in
+    went_on (λ v. v.items) c.from_residual-in_err-segment.result (load_step files c.args.words.geo.now) (λ geo. load_step files c.args.words.segment.now >>= blocks_in c.args.words.state geo) c.in_ok-geo.geo.items before between after c.in_ok-geo.ensures.course
+    (handed_on (λ v. v.items) c.in_err-segment.field-0.0 c.from_residual-in_err-segment.result (load_step files c.args.words.segment.now) (blocks_in c.args.words.state c.in_ok-geo.geo.items) between after c.from_residual-in_err-segment.ensures.1 segment)
+
+pub returns-clause-course : goal.returns-clause-course
+returns-clause-course g c =
+    let files = g.H.Shelf.contents c.args.shelf.now in
+    let before = g.H.Shelf.failure_count c.args.shelf.now in
+    let between = g.H.Shelf.failure_count c.load.new.shelf in
+    let after = g.H.Shelf.failure_count c.load-2.new.shelf in
+    let geo = c.in_ok-geo.geo.items in
+    let segment = c.in_ok-segment.segment.items in
+    let loaded = subst (λ (known : Option Files). load_step known c.args.words.segment.now between after (Ok segment)) c.load.ensures.same c.in_ok-segment.ensures.course in
+    let read = subst (λ (bytes : List ℕ). Comes (λ v. v.items) c.blocks_from.result (blocks_in c.args.words.state bytes c.deref-2.result.now after after)) c.deref.ensures.value (c.blocks_from.ensures.course after) in
+    went_on (λ v. v.items) c.blocks_from.result (load_step files c.args.words.geo.now) (λ geo. load_step files c.args.words.segment.now >>= blocks_in c.args.words.state geo) geo before between after c.in_ok-geo.ensures.course
+    (read_file (λ v. v.items) c.blocks_from.result files c.args.words.segment.now segment c.deref-2.result.now (blocks_in c.args.words.state geo) between after loaded c.deref-2.ensures.value read)

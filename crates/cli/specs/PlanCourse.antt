@@ -1,0 +1,27 @@
+-- The steps from files to census blocks, and to the assignments of a plan.
+use Rattle.std.specs.Prelude.{◌≡◌, ℕ, List, Option}
+use Rattle.pl94_counties.specs.declared.blocks.Block.{Block}
+use Rattle.pl94_counties.specs.Counties.{block_list}
+use Rattle.assignment_file.specs.declared.assignments.Assignment.{Assignment}
+use Rattle.assignment_file.specs.Assignments.{assignment_list}
+use Rattle.command_words.specs.declared.words.CommonWords.{CommonWords}
+use Rattle.shelves.specs.Files.{Files}
+use Rattle.cli.specs.Refusals.{pl94_answer, assignment_answer}
+use Rattle.cli.specs.Course.{Course, ◌>>=◌, load_step, call_step}
+
+-- the blocks that two files give
+abbrev pub blocks_in : ℕ → List ℕ → List ℕ → Course (List Block)
+blocks_in state geo segment = call_step pl94_answer (λ blocks. block_list geo segment state ≡ blocks)
+
+-- the census blocks of the state: the geographic header and segment 1 are loaded, in this order, before they are read
+abbrev pub blocks_of : Option Files → CommonWords → Course (List Block)
+blocks_of files words =
+    load_step files words.geo.now >>= λ geo. load_step files words.segment.now >>= λ segment. blocks_in words.state geo segment
+
+-- the assignments that a file gives
+abbrev pub assignments_in : List ℕ → Course (List Assignment)
+assignments_in text = call_step assignment_answer (λ lines. assignment_list text ≡ lines)
+
+-- the assignments of a file
+abbrev pub assignments_of : Option Files → List ℕ → Course (List Assignment)
+assignments_of files name = load_step files name >>= assignments_in

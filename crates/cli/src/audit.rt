@@ -1,0 +1,57 @@
+//! The subcommand `audit`.
+
+ghost use Rattle.std.specs.Prelude.{◌≡◌, ◌≤◌, ◌<◌, ℕ, All, length, map};
+ghost use Rattle.std.specs.List.Sorted.{IsStrictlyIncreasing};
+ghost use Rattle.cli.specs.Answers.{answer_of, Comes};
+ghost use Rattle.cli.specs.Run.{audit_step, audit_course};
+
+use crate::answer::{Answer, Refusal};
+use crate::files::load_grouping;
+use crate::plan_files::{load_assignments, load_blocks};
+use crate::problem::load_problem;
+use baf_auditor::{Assignment, audit as audit_plan};
+use command_words::AuditWords;
+use county_codes::Grouping;
+use grouping_problem::Problem;
+use grouping_report::findings_text;
+use pl94_counties::Block;
+use shelves::Shelf;
+use std::alloc::Global;
+
+/// The text of all findings, with status 0 where there are none, else 1.
+fn all_findings(
+    alloc: Global,
+    problem: &Problem,
+    grouping: &Grouping,
+    blocks: &[Block],
+    lines: &[Assignment],
+) -> Result<Answer, Refusal>
+    requires fits { All (λ block. block.code < 1000000000000000) blocks.now }
+    requires ascending { IsStrictlyIncreasing (map (λ block. block.code) blocks.now) }
+    requires few { length lines.now ≤ 4000000 }
+    ensures { (n : ℕ) → Comes answer_of result (audit_step problem.now grouping.now.groups.items blocks.now lines.now n n) }
+{
+    let findings = audit_plan(alloc, problem, grouping, blocks, lines)?;
+    let text = findings_text(alloc, &findings)?;
+    let status = if findings.list.is_empty() { 0 } else { 1 };
+    Ok(Answer { text, status })
+}
+
+/// All that is wrong with the assignments of a plan. The problem is built before the census blocks are read, then the
+/// grouping, then the assignments; the first fault met is the answer.
+pub(crate) fn audit<H: Shelf>(
+    alloc: Global,
+    words: AuditWords<'_>,
+    shelf: &mut H,
+) -> Result<Answer, Refusal>
+    requires { words.problem.common.state ≤ 99 }
+    ensures course { Comes answer_of result (audit_course (H.contents shelf.old) words.entry (H.failure_count shelf.old) (H.failure_count shelf.new)) }
+    ensures same { H.contents shelf.new ≡ H.contents shelf.old }
+    ensures kept { H.stored shelf.new ≡ H.stored shelf.old }
+{
+    let problem = load_problem(alloc, words.problem, shelf)?;
+    let blocks = load_blocks(alloc, words.problem.common, shelf)?;
+    let grouping = load_grouping(alloc, words.grouping, shelf)?;
+    let lines = load_assignments(alloc, words.assignments, shelf)?;
+    all_findings(alloc, &problem, &grouping, &blocks, &lines)
+}

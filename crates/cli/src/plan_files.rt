@@ -1,0 +1,72 @@
+//! What the files of a plan give: census blocks and assignments.
+
+ghost use Rattle.std.specs.Prelude.{◌≡◌, ◌≤◌, ◌<◌, ℕ, All, IfOk, map, vec_len};
+ghost use Rattle.std.specs.List.Sorted.{IsStrictlyIncreasing};
+ghost use Rattle.cli.specs.Answers.{Comes};
+ghost use Rattle.cli.specs.PlanCourse.{blocks_in, blocks_of, assignments_in, assignments_of};
+
+use crate::answer::Refusal;
+use crate::files::load;
+use crate::refusal::{refuse_assignments, refuse_file};
+use baf_auditor::{Assignment, read_assignments};
+use command_words::CommonWords;
+use pl94_counties::{Block, read_blocks};
+use shelves::Shelf;
+use std::alloc::Global;
+
+/// The census blocks that two files give.
+fn blocks_from(alloc: Global, geo: &[u8], segment: &[u8], state: u8) -> Result<Vec<Block>, Refusal>
+    requires { state ≤ 99 }
+    ensures course { (n : ℕ) → Comes (λ v. v.items) result (blocks_in state geo.now segment.now n n) }
+    ensures ascending { IfOk result (λ v. IsStrictlyIncreasing (map (λ b. b.code) v.items)) }
+    ensures small { IfOk result (λ v. All (λ b. b.code < 1000000000000000) v.items) }
+{
+    match read_blocks(alloc, geo, segment, state) {
+        Ok(blocks) => Ok(blocks),
+        Err(fault) => Err(refuse_file(alloc, fault)),
+    }
+}
+
+/// The census blocks of the state. Both files are loaded, the geographic header first, before they are read.
+pub(crate) fn load_blocks<H: Shelf>(
+    alloc: Global,
+    words: CommonWords<'_>,
+    shelf: &mut H,
+) -> Result<Vec<Block>, Refusal>
+    requires { words.state ≤ 99 }
+    ensures course { Comes (λ v. v.items) result (blocks_of (H.contents shelf.old) words.entry (H.failure_count shelf.old) (H.failure_count shelf.new)) }
+    ensures ascending { IfOk result (λ v. IsStrictlyIncreasing (map (λ b. b.code) v.items)) }
+    ensures small { IfOk result (λ v. All (λ b. b.code < 1000000000000000) v.items) }
+    ensures same { H.contents shelf.new ≡ H.contents shelf.old }
+    ensures kept { H.stored shelf.new ≡ H.stored shelf.old }
+{
+    let geo = load(alloc, words.geo, shelf)?;
+    let segment = load(alloc, words.segment, shelf)?;
+    blocks_from(alloc, &geo, &segment, words.state)
+}
+
+/// The assignments that a file gives.
+fn assignments_from(alloc: Global, text: &[u8]) -> Result<Vec<Assignment>, Refusal>
+    ensures course { (n : ℕ) → Comes (λ v. v.items) result (assignments_in text.now n n) }
+    ensures few { IfOk result (λ v. vec_len v ≤ 4000000) }
+{
+    match read_assignments(alloc, text) {
+        Ok(lines) => Ok(lines),
+        Err(fault) => Err(refuse_assignments(alloc, fault)),
+    }
+}
+
+/// The assignments of a file.
+pub(crate) fn load_assignments<H: Shelf>(
+    alloc: Global,
+    name: &str,
+    shelf: &mut H,
+) -> Result<Vec<Assignment>, Refusal>
+    ensures course { Comes (λ v. v.items) result (assignments_of (H.contents shelf.old) name.now (H.failure_count shelf.old) (H.failure_count shelf.new)) }
+    ensures few { IfOk result (λ v. vec_len v ≤ 4000000) }
+    ensures same { H.contents shelf.new ≡ H.contents shelf.old }
+    ensures kept { H.stored shelf.new ≡ H.stored shelf.old }
+{
+    let text = load(alloc, name, shelf)?;
+    assignments_from(alloc, &text)
+}
