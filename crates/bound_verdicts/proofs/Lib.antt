@@ -1,0 +1,5 @@
+pub mod CountyWeights
+pub mod Counting
+pub mod OpenCounties
+pub mod FairLines
+pub mod Allowances

@@ -1,0 +1,23 @@
+-- What the answers of the call that judges a line of a bound leaf say.
+use Rattle.std.specs.Prelude.{ℕ, ◌+◌, ◌*◌, ◌≡◌, ◌≤◌, true, ⊤}
+use Rattle.grouping_laws.specs.Problem.{Problem}
+use Rattle.proof_trees.specs.declared.language.Language.{Language}
+use Rattle.proof_trees.specs.State.{State}
+use Rattle.proof_trees.specs.Tree.{Allowance}
+use Rattle.proof_trees.specs.BoundLines.{allowance, IsFair}
+use Rattle.certificate_lines.specs.Lines.{ascend}
+use Rattle.certificate_lines.specs.declared.item.Allowance.{Allowance as AllowanceHeld}
+use Rattle.certificate_lines.specs.declared.item.Allowance.TheVariants.{Room, Weigh}
+use Rattle.verdicts.specs.Leaves.{IsLoss, IsEven}
+use Rattle.bound_verdicts.specs.declared.bound.Allowed.{Allowed}
+use Rattle.bound_verdicts.specs.declared.bound.Allowed.TheVariants.{Loss, Even}
+
+-- a text may spell the line, whatever its length: the quota is no 0, and the codes of the weights ascend
+abbrev pub IsSpelled : AllowanceHeld → Type 0
+IsSpelled Room = ⊤
+IsSpelled (Weigh quota weights) = (1 ≤ quota) × (ascend weights ≡ true)
+
+-- the line is fair, and what it allows is fewer groups than the target has, or as many, where so many counties are used up from now on
+abbrev pub IsAllowed : Language → Problem → State → (ℕ → ℕ) → ℕ → ℕ → Allowance → Allowed → Type 0
+IsAllowed language p s wanted i used line Loss = IsFair language p s i line × IsLoss p s wanted i used line
+IsAllowed language p s wanted i used line (Even now) = IsFair language p s i line × IsEven p s wanted i used line × (now ≡ used + i * allowance p s i used line) × (now ≤ 128)

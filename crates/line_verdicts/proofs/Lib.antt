@@ -1,0 +1,5 @@
+pub mod TakeLemmas
+pub mod PlacedLemmas
+pub mod LeafLemmas
+pub mod TurnLemmas
+pub mod GroupLemmas

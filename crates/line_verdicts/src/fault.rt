@@ -1,0 +1,79 @@
+ghost use Rattle.std.specs.Prelude.{◌≡◌};
+ghost use Rattle.line_verdicts.specs.LineFaults.{line_stop};
+ghost use Rattle.line_verdicts.specs.declared.fault.LineStop.TheVariants.{Memory};
+
+use fitting_groups::Stop;
+use std::alloc::AllocError;
+use thiserror::Error;
+
+/// What is wrong with a line of a tree, at the state that it stands at.
+#[derive(Clone, Copy, Debug, PartialEq, Eq, Error)]
+pub enum LineFault {
+    /// The line names a county that may not stand there.
+    #[error("the county may not stand here")]
+    WrongCounty,
+    /// A group that fits is left out.
+    #[error("a group that fits is left out")]
+    MissingGroup,
+    /// The group is none of those that fit.
+    #[error("the group is none of those that fit")]
+    StrayGroup,
+    /// A group that fits weighs less than the quota.
+    #[error("a group that fits weighs less than the quota")]
+    LightGroup,
+    /// The line allows more groups than the target has.
+    #[error("the line allows more groups than the target has")]
+    BoundOver,
+    /// The leaf has too many lines or too few, or lines behind one that allows fewer groups than the target
+    /// has.
+    #[error("the leaf has too many lines or too few")]
+    BoundLength,
+    /// The part around the county can be filled, as far as this leaf tells.
+    #[error("the part around the county is not stuck")]
+    NotStuck,
+    /// The seats may add up.
+    #[error("the seats may add up")]
+    SeatsOpen,
+    /// There is no target to bound.
+    #[error("there is no target to bound")]
+    BoundWithoutTarget,
+    /// No county is open, so a leaf has to stand here.
+    #[error("no county is open: a leaf has to stand here")]
+    NoLeaf,
+}
+
+/// Why a line is not found fine.
+#[derive(Clone, Copy, Debug, PartialEq, Eq, Error)]
+pub enum LineStop {
+    /// The line is at fault.
+    #[error("{0}")]
+    Fault(LineFault),
+    /// No text spells the line.
+    #[error("no text spells the line")]
+    Unspelled,
+    /// The limit of steps was reached.
+    #[error("the limit of steps is reached")]
+    StepLimit,
+    /// A growth was refused.
+    #[error("out of memory")]
+    Memory,
+}
+
+impl From<AllocError> for LineStop {
+    ghost from_gives = { λ _ e. e ≡ Memory };
+
+    fn from(_e: AllocError) -> LineStop {
+        LineStop::Memory
+    }
+}
+
+impl From<Stop> for LineStop {
+    ghost from_gives = { λ stop e. e ≡ line_stop stop };
+
+    fn from(stop: Stop) -> LineStop {
+        match stop {
+            Stop::StepLimit => LineStop::StepLimit,
+            Stop::Memory => LineStop::Memory,
+        }
+    }
+}

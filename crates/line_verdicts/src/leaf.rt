@@ -1,0 +1,90 @@
+ghost use Rattle.std.specs.Prelude.{◌≡◌, false, ◌<◌, ◌≤◌, length, IfOk, MatchOption};
+ghost use Rattle.grouping_laws.specs.Sets.{member};
+ghost use Rattle.grouping_problem.specs.ProblemValue.{problem_of};
+ghost use Rattle.ordered_counties.specs.OrderedValue.{problem_at, code_at};
+ghost use Rattle.county_regions.specs.Rows.{AreRows};
+ghost use Rattle.proof_trees.specs.Leaves.{IsStuck, IsOffSeats};
+ghost use Rattle.verdicts.specs.Leaves.{IsStuckFault, IsSeatsFault};
+ghost use Rattle.line_verdicts.specs.Placed.{state_at, IsPlaced};
+ghost use Rattle.line_verdicts.specs.LineFaults.{line_fault};
+
+use crate::fault::LineFault;
+use county_codes::CountyCode;
+use ordered_counties::Ordered;
+use place_sets::CountySet;
+use proof_trees::State;
+use state_tests::{is_off_seats, is_stuck_at};
+use std::alloc::{AllocError, Global};
+
+/// The place of the county with the code, `None` where the order has no such county.
+pub(crate) fn place_of(ordered: &Ordered, code: CountyCode) -> Option<u16>
+    ensures { MatchOption result (member ordered.now.order code ≡ false) (λ place. (place < length ordered.now.order) × (code_at ordered.now.order place ≡ code)) }
+{
+    for place in 0..ordered.places() {
+        if ordered.code(place) == code {
+            return Some(place);
+        }
+    }
+    None
+}
+
+/// The fault of a stuck leaf around the county, `None` where the leaf is valid: `WrongCounty` where the county is
+/// none of the rest, else `NotStuck` where the part of the rest around it can be filled.
+///
+/// `near` are the rows of the order (`neighbour_rows`). An error comes where memory was refused.
+pub fn judge_stuck<C: CountySet>(
+    alloc: Global,
+    ordered: &Ordered,
+    near: &[C],
+    state: &State<C>,
+    county: CountyCode,
+) -> Result<Option<LineFault>, AllocError>
+    requires fits { length ordered.now.order ≤ C.PLACES }
+    requires rows { AreRows C C.test (problem_at ordered.now) (length ordered.now.order) near.now }
+    requires placed { IsPlaced (length ordered.now.order) C.test state.now }
+    ensures { IfOk
+        result
+        (λ found. MatchOption
+        found
+        (IsStuck (problem_of ordered.now.problem) (state_at ordered.now.order C.test state.now) county)
+        (λ fault. IsStuckFault (problem_of ordered.now.problem) (state_at ordered.now.order C.test state.now) county (line_fault fault))) }
+{
+    let _places = ordered.places();
+    let Some(place) = place_of(ordered, county) else {
+        return Ok(Some(LineFault::WrongCounty));
+    };
+    if !state.rest.has(place) {
+        return Ok(Some(LineFault::WrongCounty));
+    }
+    if is_stuck_at(alloc, ordered, near, state, place)? {
+        return Ok(None);
+    }
+    Ok(Some(LineFault::NotStuck))
+}
+
+/// The fault of a seats leaf, `None` where the leaf is valid: `SeatsOpen` where a part of the rest suits no seats,
+/// or the seats may add up to those left.
+///
+/// An error comes where memory was refused.
+pub fn judge_seats<C: CountySet>(
+    alloc: Global,
+    ordered: &Ordered,
+    near: &[C],
+    state: &State<C>,
+) -> Result<Option<LineFault>, AllocError>
+    requires fits { length ordered.now.order ≤ C.PLACES }
+    requires rows { AreRows C C.test (problem_at ordered.now) (length ordered.now.order) near.now }
+    requires placed { IsPlaced (length ordered.now.order) C.test state.now }
+    ensures { IfOk
+        result
+        (λ found. MatchOption
+        found
+        (IsOffSeats (problem_of ordered.now.problem) (state_at ordered.now.order C.test state.now))
+        (λ fault. IsSeatsFault (problem_of ordered.now.problem) (state_at ordered.now.order C.test state.now) (line_fault fault))) }
+{
+    let _places = ordered.places();
+    if is_off_seats(alloc, ordered, near, state)? {
+        return Ok(None);
+    }
+    Ok(Some(LineFault::SeatsOpen))
+}

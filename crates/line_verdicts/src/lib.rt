@@ -1,0 +1,13 @@
+//! What each line of a tree is worth at a state: fine, or its fault. A state is told by the places of an order, and
+//! what is said of it by codes. Any form of sets of places serves.
+#![tactic(auto)]
+
+mod branch;
+mod fault;
+mod leaf;
+mod states;
+
+pub use branch::{Branching, judge_branch, judge_take};
+pub use fault::{LineFault, LineStop};
+pub use leaf::{judge_seats, judge_stuck};
+pub use states::{closed_state, first_state, raise_place};
