@@ -51,4 +51,6 @@ def main(folder):
         file.close()
 
 
+if len(sys.argv) != 2:
+    sys.exit("usage: full_plan.py FOLDER")
 main(sys.argv[1])

@@ -29,4 +29,6 @@ def main(folder):
             segment.write(f"PLST|NC|000|01|{number}|{tables}\n")
 
 
+if len(sys.argv) != 2:
+    sys.exit("usage: full_state.py FOLDER")
 main(sys.argv[1])

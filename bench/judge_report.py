@@ -4,6 +4,8 @@ import sys
 from collections import Counter
 from fractions import Fraction
 
+if len(sys.argv) != 6:
+    sys.exit("usage: judge_report.py GEO SEGMENT ADJACENCY GROUPING CHAMBER")
 geo, segment, adjacency, grouping, chamber = sys.argv[1:]
 chamber = int(chamber)
 

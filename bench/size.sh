@@ -2,6 +2,7 @@
 # Seconds and peak memory of `size` on the real files and on a generated state of full size, beside awk
 # doing the same join, on one machine in one run. Usage: size.sh PROGRAM FOLDER (the folder of full_state.py)
 set -euo pipefail
+[ $# -eq 2 ] || { echo "usage: size.sh PROGRAM FOLDER, the folder made by full_state.py" >&2; exit 2; }
 program=$(realpath "$1")
 folder=$(realpath "$2")
 data=$(realpath "$(dirname "$0")/../data/nc2020")

@@ -37,4 +37,6 @@ def main(geo, segment, chamber, state="37"):
         print(f"{code}|{people}|{seats[0]}|{seats[-1]}" if seats else f"{code}|{people}|none")
 
 
+if len(sys.argv) not in (4, 5):
+    sys.exit("usage: size_table.py GEO SEGMENT1 CHAMBER [STATE]")
 main(*sys.argv[1:])
