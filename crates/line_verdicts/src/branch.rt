@@ -147,6 +147,7 @@ pub fn judge_branch<C: CountySet>(
         → AreSoMany ordered.now.order (IsSetAt (problem_of ordered.now.problem) ordered.now.order (state_at ordered.now.order C.test state.now) county (limit_of (round_of round.now) limit)) m
         → steps.new.used ≤ steps.old.used + 2 * m) }
     ensures limit { steps.new.limit ≡ steps.old.limit }
+    ensures more { steps.old.used ≤ steps.new.used }
     ensures stopped { IsErrOf result LineStop.StepLimit
         → NamesLimit round.now.language limit
         × CanBranch (round_of round.now) (state_at ordered.now.order C.test state.now) county (limit_of (round_of round.now) limit)

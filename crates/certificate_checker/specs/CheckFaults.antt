@@ -1,0 +1,23 @@
+-- What the faults of a checker name.
+use Rattle.std.specs.Prelude.{Option, Some, None}
+use Rattle.verdicts.specs.Fault.{Fault}
+use Rattle.verdicts.specs.Fault as fault
+use Rattle.certificate_checker.specs.declared.fault.CheckFault.{CheckFault}
+use Rattle.certificate_checker.specs.declared.fault.CheckFault.TheVariants.{Text, WrongOrder, LimitTooSmall, TargetFault, WrongCounty, MissingGroup, StrayGroup, LightGroup, BoundOver, BoundLength, NotStuck, SeatsOpen, BoundWithoutTarget, NoLeaf}
+
+-- the fault of a certificate whose text can be read; a fault of the text is none
+abbrev pub fault_of : CheckFault → Option Fault
+fault_of (Text f) = None
+fault_of WrongOrder = Some fault.WrongOrder
+fault_of LimitTooSmall = Some fault.LimitTooSmall
+fault_of (TargetFault kind) = Some (fault.TargetFault kind)
+fault_of WrongCounty = Some fault.WrongCounty
+fault_of MissingGroup = Some fault.MissingGroup
+fault_of StrayGroup = Some fault.StrayGroup
+fault_of LightGroup = Some fault.LightGroup
+fault_of BoundOver = Some fault.BoundOver
+fault_of BoundLength = Some fault.BoundLength
+fault_of NotStuck = Some fault.NotStuck
+fault_of SeatsOpen = Some fault.SeatsOpen
+fault_of BoundWithoutTarget = Some fault.BoundWithoutTarget
+fault_of NoLeaf = Some fault.NoLeaf

@@ -1,0 +1,4 @@
+pub mod CheckFaults
+pub mod Readable
+pub mod Feeding
+pub mod Judging

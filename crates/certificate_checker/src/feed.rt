@@ -1,0 +1,90 @@
+ghost use Rattle.std.specs.Prelude.{◌≡◌, ◌≤◌, ◌+◌, ◌<◌, Some, None, IfOk, OnOk, MatchResult, ⊤};
+ghost use Rattle.certificate_lines.specs.Courses.{Course, first};
+ghost use Rattle.certificate_checker.specs.Feeding.{feed_of, IsFed, TookLine, StopsAtText, IsRestRead};
+ghost use Rattle.certificate_checker.specs.declared.feed.Stop.TheVariants.{Memory};
+
+use crate::fault::CheckFault;
+use certificate_lines::{Item, ItemSource, TextFault, TextKind};
+use ordered_counties::Steps;
+use std::alloc::AllocError;
+
+/// The lines of a certificate or of a tree, with how many were read, and the steps that may be taken: one for each
+/// line, and one for each set that is split.
+#[derive(Drop)]
+pub(crate) struct Feed<S> {
+    pub(crate) source: S,
+    pub(crate) line: u64,
+    pub(crate) steps: Steps,
+}
+
+/// Why the judging of a certificate or of a tree stopped.
+#[derive(Clone, Copy, Debug, PartialEq, Eq)]
+pub(crate) enum Stop {
+    /// A line is at fault.
+    Fault(CheckFault, u64),
+    /// The text is at fault.
+    Text(TextFault),
+    /// No text spells the line, or it may not stand there.
+    Unspelled,
+    /// The limit of steps was reached.
+    Budget,
+    /// A growth was refused.
+    Memory,
+}
+
+impl From<AllocError> for Stop {
+    ghost from_gives = { λ _ e. e ≡ Memory };
+
+    fn from(_e: AllocError) -> Stop {
+        Stop::Memory
+    }
+}
+
+/// What a fault of the source stops with.
+fn of_source(fault: TextFault) -> Stop
+    ensures { StopsAtText fault result }
+{
+    match fault.kind {
+        TextKind::Memory => Stop::Memory,
+        _ => Stop::Text(fault),
+    }
+}
+
+/// The next line.
+pub(crate) fn next_line<S: ItemSource>(feed: &mut Feed<S>) -> Result<Item, Stop>
+    requires { feed.old.line ≤ feed.old.steps.used }
+    ensures fed { IsFed (feed_of S.course feed.old) result (feed_of S.course feed.new) }
+    ensures took { TookLine (feed_of S.course feed.old) result (feed_of S.course feed.new) }
+{
+    let _limit = feed.steps.limit();
+    if !feed.steps.tick() {
+        return Err(Stop::Budget);
+    }
+    match feed.source.next_item() {
+        Ok(Some(item)) => {
+            feed.line += 1;
+            Ok(item)
+        }
+        Ok(None) => Err(Stop::Unspelled),
+        Err(fault) => Err(of_source(fault)),
+    }
+}
+
+/// Reads the lines that are left, as many as there may be steps.
+pub(crate) fn read_rest<S: ItemSource>(feed: &mut Feed<S>) -> Result<(), Stop>
+    ensures { IsRestRead (feed_of S.course feed.old) result }
+{
+    let limit = feed.steps.limit();
+    loop {
+        match feed.source.next_item() {
+            Ok(Some(_)) => {
+                if feed.line >= limit {
+                    return Err(Stop::Budget);
+                }
+                feed.line += 1;
+            }
+            Ok(None) => return Ok(()),
+            Err(fault) => return Err(of_source(fault)),
+        }
+    }
+}

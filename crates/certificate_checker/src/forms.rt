@@ -1,0 +1,71 @@
+ghost use Rattle.std.specs.Prelude.{◌≡◌, ◌≤◌, option_map};
+ghost use Rattle.certificate_lines.specs.Items.{taken};
+ghost use Rattle.certificate_lines.specs.declared.item.Item.TheVariants as item;
+ghost use Rattle.certificate_checker.specs.Feeding.{feed_of, IsFed};
+ghost use Rattle.certificate_checker.specs.Judging.{TookForm, IsStopAt, IsJudgedAt};
+
+use crate::fault::of_line;
+use crate::feed::{Feed, Stop, next_line};
+use certificate_lines::{Allowance, Item, ItemSource, Opening};
+use county_codes::Codes;
+use line_verdicts::LineStop;
+
+/// The next line, which has to open a tree.
+pub(crate) fn next_opening<S: ItemSource>(feed: &mut Feed<S>) -> Result<Opening, Stop>
+    requires { feed.old.line ≤ feed.old.steps.used }
+    ensures fed { IsFed (feed_of S.course feed.old) result (feed_of S.course feed.new) }
+    ensures took { TookForm item.Opens (λ o. o) (feed_of S.course feed.old) result (feed_of S.course feed.new) }
+{
+    let item = next_line(feed)?;
+    match &item {
+        Item::Opens(opening) => Ok(*opening),
+        _ => Err(Stop::Unspelled),
+    }
+}
+
+/// The next line, which has to be a take, or else the mark.
+pub(crate) fn next_take<S: ItemSource>(feed: &mut Feed<S>) -> Result<Option<Codes>, Stop>
+    requires { feed.old.line ≤ feed.old.steps.used }
+    ensures fed { IsFed (feed_of S.course feed.old) result (feed_of S.course feed.new) }
+    ensures took { TookForm taken (λ o. o) (feed_of S.course feed.old) result (feed_of S.course feed.new) }
+{
+    match next_line(feed)? {
+        Item::Takes(codes) => Ok(Some(codes)),
+        Item::Mark => Ok(None),
+        _ => Err(Stop::Unspelled),
+    }
+}
+
+/// The next line, which has to be one of a bound leaf.
+pub(crate) fn next_allowance<S: ItemSource>(feed: &mut Feed<S>) -> Result<Allowance, Stop>
+    requires { feed.old.line ≤ feed.old.steps.used }
+    ensures fed { IsFed (feed_of S.course feed.old) result (feed_of S.course feed.new) }
+    ensures took { TookForm item.Allows (λ a. a) (feed_of S.course feed.old) result (feed_of S.course feed.new) }
+{
+    match next_line(feed)? {
+        Item::Allows(allowance) => Ok(allowance),
+        _ => Err(Stop::Unspelled),
+    }
+}
+
+/// The stop of a line's judging as one of the reading.
+fn stop_at(stop: LineStop, line: u64) -> Stop
+    ensures { IsStopAt line stop result }
+{
+    match stop {
+        LineStop::Fault(fault) => Stop::Fault(of_line(fault), line),
+        LineStop::Unspelled => Stop::Unspelled,
+        LineStop::StepLimit => Stop::Budget,
+        LineStop::Memory => Stop::Memory,
+    }
+}
+
+/// What a line's judging gave, its stop as one of the reading.
+pub(crate) fn judged_at<T>(judged: Result<T, LineStop>, line: u64) -> Result<T, Stop>
+    ensures { IsJudgedAt line judged result }
+{
+    match judged {
+        Ok(found) => Ok(found),
+        Err(stop) => Err(stop_at(stop, line)),
+    }
+}

@@ -1,0 +1,169 @@
+ghost use Rattle.std.specs.Prelude.{◌≡◌, ℕ, ◌≤◌, ◌++◌, List, length, IfOk};
+ghost use Rattle.grouping_problem.specs.ProblemValue.{problem_of};
+ghost use Rattle.proof_trees.specs.RoundValue.{round_of};
+ghost use Rattle.proof_trees.specs.Tree.{Allowance as AllowanceValue, stuck, seats, bound};
+ghost use Rattle.certificate_lines.specs.declared.item.Item.{Item as ItemValue};
+ghost use Rattle.line_verdicts.specs.Placed.{state_at, IsPlaced};
+ghost use Rattle.certificate_checker.specs.Readable.{AreSpelled};
+ghost use Rattle.certificate_checker.specs.Feeding.{FeedValue, feed_of, IsFed};
+ghost use Rattle.certificate_checker.specs.Judging.{IsGround, IsLeafJudged, IsFoundAt, IsEndOf, IsSmall, IsLineJudged, line_items};
+
+use crate::fault::{CheckFault, of_line};
+use crate::feed::{Feed, Stop};
+use crate::forms::{judged_at, next_allowance};
+use crate::ground::Ground;
+use bound_verdicts::{Allowed, judge_allowance};
+use certificate_lines::ItemSource;
+use county_codes::CountyCode;
+use line_verdicts::{LineFault, judge_seats, judge_stuck};
+use place_sets::CountySet;
+use proof_trees::State;
+
+/// What a leaf of one line comes to, with its fault, if there is one, at its line.
+fn found_at(fault: Option<LineFault>, line: u64) -> Result<(), Stop>
+    ensures { IsFoundAt fault line result }
+{
+    match fault {
+        Some(fault) => Err(Stop::Fault(of_line(fault), line)),
+        None => Ok(()),
+    }
+}
+
+/// Judges a stuck leaf, whose line was read last.
+pub(crate) fn judge_stuck_leaf<C: CountySet>(
+    ground: &Ground<C>,
+    state: &State<C>,
+    county: CountyCode,
+    line: u64,
+) -> Result<(), Stop>
+    requires ground { IsGround C.PLACES C.test ground.now }
+    requires placed { IsPlaced (length ground.now.ordered.now.order) C.test state.now }
+    ensures { (feed : FeedValue)
+        → feed.line ≡ line
+        → IsLeafJudged (problem_of ground.now.ordered.now.problem) (round_of ground.now.round.now) (state_at ground.now.ordered.now.order C.test state.now) (stuck county) feed.course.items feed result feed }
+{
+    let fault = judge_stuck(ground.alloc, ground.ordered, ground.near, state, county)?;
+    found_at(fault, line)
+}
+
+/// Judges a seats leaf, whose line was read last.
+pub(crate) fn judge_seats_leaf<C: CountySet>(
+    ground: &Ground<C>,
+    state: &State<C>,
+    line: u64,
+) -> Result<(), Stop>
+    requires ground { IsGround C.PLACES C.test ground.now }
+    requires placed { IsPlaced (length ground.now.ordered.now.order) C.test state.now }
+    ensures { (feed : FeedValue)
+        → feed.line ≡ line
+        → IsLeafJudged (problem_of ground.now.ordered.now.problem) (round_of ground.now.round.now) (state_at ground.now.ordered.now.order C.test state.now) seats feed.course.items feed result feed }
+{
+    let fault = judge_seats(ground.alloc, ground.ordered, ground.near, state)?;
+    found_at(fault, line)
+}
+
+/// What a bound leaf comes to where a line of it allows fewer groups than the target has: more lines are a fault of
+/// its first one.
+fn loss_at(last: bool, opened: u64) -> Result<(), Stop>
+    ensures { IsEndOf last opened result }
+{
+    if last {
+        Ok(())
+    } else {
+        Err(Stop::Fault(CheckFault::BoundLength, opened))
+    }
+}
+
+/// Judges the next line, which has to be the one of a bound leaf for a size, where the target has so many groups of
+/// this size and smaller groups use up so many counties.
+fn judge_line<C: CountySet, S: ItemSource>(
+    ground: &Ground<C>,
+    state: &State<C>,
+    size: u16,
+    wanted: u16,
+    used: u32,
+    feed: &mut Feed<S>,
+) -> Result<Allowed, Stop>
+    requires ground { IsGround C.PLACES C.test ground.now }
+    requires placed { IsPlaced (length ground.now.ordered.now.order) C.test state.now }
+    requires counted { feed.old.line ≤ feed.old.steps.used }
+    requires size { 1 ≤ size }
+    requires used { used ≤ 128 }
+    ensures fed { IsFed (feed_of S.course feed.old) result (feed_of S.course feed.new) }
+    ensures small { IfOk result IsSmall }
+    ensures judged { (counts : ℕ → ℕ) (lines : List AllowanceValue) (rest : List ItemValue)
+        → counts size ≡ wanted
+        → AreSpelled lines
+        → (feed_of S.course feed.old).course.items ≡ line_items lines ++ rest
+        → IsLineJudged
+        (problem_of ground.now.ordered.now.problem)
+        (round_of ground.now.round.now)
+        (state_at ground.now.ordered.now.order C.test state.now)
+        counts
+        size
+        used
+        lines
+        rest
+        (feed_of S.course feed.old)
+        result
+        (feed_of S.course feed.new) }
+{
+    let line = next_allowance(feed)?;
+    let judged = judge_allowance(
+        ground.alloc,
+        ground.ordered,
+        ground.near,
+        ground.round,
+        state,
+        size,
+        wanted,
+        used,
+        &line,
+        &mut feed.steps,
+    );
+    judged_at(judged, feed.line)
+}
+
+/// Judges a bound leaf of so many lines, whose first line was read last.
+pub(crate) fn judge_bound_leaf<C: CountySet, S: ItemSource>(
+    ground: &Ground<C>,
+    state: &State<C>,
+    count: u16,
+    feed: &mut Feed<S>,
+) -> Result<(), Stop>
+    requires ground { IsGround C.PLACES C.test ground.now }
+    requires placed { IsPlaced (length ground.now.ordered.now.order) C.test state.now }
+    requires counted { feed.old.line ≤ feed.old.steps.used }
+    ensures fed { IsFed (feed_of S.course feed.old) result (feed_of S.course feed.new) }
+    ensures judged { (lines : List AllowanceValue) (rest : List ItemValue)
+        → AreSpelled lines
+        → length lines ≡ count
+        → (feed_of S.course feed.old).course.items ≡ line_items lines ++ rest
+        → IsLeafJudged
+        (problem_of ground.now.ordered.now.problem)
+        (round_of ground.now.round.now)
+        (state_at ground.now.ordered.now.order C.test state.now)
+        (bound lines)
+        rest
+        (feed_of S.course feed.old)
+        result
+        (feed_of S.course feed.new) }
+{
+    let opened = feed.line;
+    let Some(wanted) = ground.wanted else {
+        return Err(Stop::Fault(CheckFault::BoundWithoutTarget, opened));
+    };
+    if count > ground.round.limit {
+        return Err(Stop::Fault(CheckFault::BoundLength, opened));
+    }
+    let mut used = 0;
+    'judging: for before in 0..count {
+        let size = before + 1;
+        match judge_line(ground, state, size, wanted.of(size), used, feed) {
+            Ok(Allowed::Even(now)) => used = now,
+            Ok(Allowed::Loss) => return loss_at(size == count, opened),
+            Err(stop) => return Err(stop),
+        }
+    }
+    loss_at(count == ground.round.limit, opened)
+}

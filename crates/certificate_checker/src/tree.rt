@@ -1,0 +1,122 @@
+ghost use Rattle.std.specs.Prelude.{◌≡◌, ℕ, ◌≤◌, ◌∷◌, ◌++◌, List, All, length};
+ghost use Rattle.grouping_problem.specs.ProblemValue.{problem_of};
+ghost use Rattle.proof_trees.specs.RoundValue.{round_of};
+ghost use Rattle.proof_trees.specs.Tree.{Tree, Takes};
+ghost use Rattle.certificate_text.specs.Trees.{items_of_tree};
+ghost use Rattle.certificate_lines.specs.declared.item.Item.{Item as ItemValue};
+ghost use Rattle.verdicts.specs.Work.{Open, a_tree, some_takes};
+ghost use Rattle.line_verdicts.specs.Placed.{state_at, codes_of_sets, IsPlaced, IsClosable};
+ghost use Rattle.certificate_checker.specs.Readable.{IsReadable, AreReadable};
+ghost use Rattle.certificate_checker.specs.Feeding.{feed_of, IsFed, items_to_mark};
+ghost use Rattle.certificate_checker.specs.Judging.{IsGround, IsJudged};
+
+use crate::fault::CheckFault;
+use crate::feed::{Feed, Stop};
+use crate::forms::{next_opening, next_take};
+use crate::ground::Ground;
+use crate::leaves::{judge_bound_leaf, judge_seats_leaf, judge_stuck_leaf};
+use crate::verdict::{groups_behind, listed_groups, taken_state};
+use certificate_lines::{ItemSource, Opening};
+use line_verdicts::raise_place;
+use place_sets::CountySet;
+use proof_trees::State;
+
+/// Judges the takes of a branch, up to its mark, against these groups.
+#[cycle(tree_judging)]
+fn judge_takes<C: CountySet, S: ItemSource>(
+    ground: &Ground<C>,
+    state: &State<C>,
+    groups: &[C],
+    feed: &mut Feed<S>,
+) -> Result<(), Stop>
+    requires ground { IsGround C.PLACES C.test ground.now }
+    requires placed { IsPlaced (length ground.now.ordered.now.order) C.test state.now }
+    requires groups { All (IsClosable C.test state.now) groups.now }
+    requires counted { feed.old.line ≤ feed.old.steps.used }
+    ensures fed { IsFed (feed_of S.course feed.old) result (feed_of S.course feed.new) }
+    ensures judged { (takes : Takes) (rest : List ItemValue) (more : List Open)
+        → AreReadable ground.now.round.now.language takes
+        → (feed_of S.course feed.old).course.items ≡ items_to_mark takes ++ rest
+        → IsJudged
+        (problem_of ground.now.ordered.now.problem)
+        (round_of ground.now.round.now)
+        (some_takes takes (state_at ground.now.ordered.now.order C.test state.now) (codes_of_sets ground.now.ordered.now.order C.test groups.now) ∷ more)
+        more
+        rest
+        (feed_of S.course feed.old)
+        result
+        (feed_of S.course feed.new) }
+{
+    let mut left = groups;
+    'taking: loop {
+        match next_take(feed) {
+            Ok(Some(codes)) => match taken_state(ground, state, left, codes.as_slice(), feed.line) {
+                Ok(closed) => match judge_tree(ground, closed, feed) {
+                    Ok(()) => left = groups_behind(left),
+                    Err(stop) => return Err(stop),
+                },
+                Err(stop) => return Err(stop),
+            },
+            Ok(None) => {
+                if left.is_empty() {
+                    return Ok(());
+                }
+                return Err(Stop::Fault(CheckFault::MissingGroup, feed.line));
+            }
+            Err(stop) => return Err(stop),
+        }
+    }
+}
+
+/// Judges the tree that begins on the next line, at a state. It goes as deep as takes nest.
+#[cycle(tree_judging)]
+pub(crate) fn judge_tree<C: CountySet, S: ItemSource>(
+    ground: &Ground<C>,
+    state: State<C>,
+    feed: &mut Feed<S>,
+) -> Result<(), Stop>
+    requires ground { IsGround C.PLACES C.test ground.now }
+    requires placed { IsPlaced (length ground.now.ordered.now.order) C.test state }
+    requires counted { feed.old.line ≤ feed.old.steps.used }
+    ensures fed { IsFed (feed_of S.course feed.old) result (feed_of S.course feed.new) }
+    ensures judged { (tree : Tree) (rest : List ItemValue) (more : List Open)
+        → IsReadable ground.now.round.now.language tree
+        → (feed_of S.course feed.old).course.items ≡ items_of_tree tree ++ rest
+        → IsJudged
+        (problem_of ground.now.ordered.now.problem)
+        (round_of ground.now.round.now)
+        (a_tree tree (state_at ground.now.ordered.now.order C.test state) ∷ more)
+        more
+        rest
+        (feed_of S.course feed.old)
+        result
+        (feed_of S.course feed.new) }
+{
+    let mut state = state;
+    'branching: loop {
+        match next_opening(feed) {
+            Ok(opening) => match opening {
+                Opening::Branch { county, limit } => match listed_groups(
+                    ground, &state, county, limit, feed,
+                ) {
+                    Ok(branching) => match judge_takes(ground, &state, &branching.groups, feed) {
+                        Ok(()) => raise_place(
+                            ground.ordered,
+                            &mut state,
+                            branching.place,
+                            branching.limit,
+                        ),
+                        Err(stop) => return Err(stop),
+                    },
+                    Err(stop) => return Err(stop),
+                },
+                Opening::Stuck(county) => return judge_stuck_leaf(
+                    ground, &state, county, feed.line,
+                ),
+                Opening::Seats => return judge_seats_leaf(ground, &state, feed.line),
+                Opening::Bound(count) => return judge_bound_leaf(ground, &state, count, feed),
+            },
+            Err(stop) => return Err(stop),
+        }
+    }
+}
