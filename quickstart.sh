@@ -8,7 +8,7 @@ usage() {
 usage: ./quickstart.sh [--unproved]
 
 Without a word: proves the program and all that it stands on, builds it, and runs it on the files in data/nc2020. The first
-time that takes about a quarter of an hour on four cores, later a few seconds.
+time that takes some 18 minutes on four cores, later a few seconds.
 --unproved: builds the program and runs it, and proves nothing (a minute).
 TEXT
 }
@@ -96,7 +96,7 @@ if [ "$unproved" = yes ]; then
 else
     log=$top/crates/countygroups/out/quickstart.log
     mkdir -p "$(dirname "$log")"
-    heading "proving and building the program (about a quarter of an hour on four cores the first time; the log is $log)"
+    heading "proving and building the program (some 18 minutes on four cores the first time; the log is $log)"
     rt run -- --version >"$log" 2>&1 &
     process=$!
     follow "$process" "$log"
