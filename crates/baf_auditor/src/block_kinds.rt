@@ -80,7 +80,7 @@ fn unassigned_codes(
 }
 
 /// The blocks that findings name alone, each list by code, and the listed blocks.
-#[derive(Debug, Drop)]
+#[derive(Drop)]
 pub(crate) struct BlockKinds {
     /// Named by a line and not listed.
     pub(crate) unknown: Vec<u64>,

@@ -5,7 +5,7 @@ use crate::finding::Finding;
 use std::alloc::AllocError;
 
 /// What is found of a single block.
-#[derive(Clone, Copy, Debug, PartialEq, Eq)]
+#[derive(Clone, Copy)]
 pub(crate) enum CodeKind {
     /// A line names it, and it isn't listed.
     Unknown,

@@ -14,7 +14,7 @@ use clap::{ArgMatches, Error};
 use std::alloc::Global;
 
 /// The words of the command line: a subcommand, with the values of its options.
-#[derive(Clone, Copy, Debug, PartialEq, Eq)]
+#[derive(Clone, Copy, Debug)]
 pub enum CommandWords<'a> {
     /// The size table.
     Size(CommonWords<'a>),
@@ -25,7 +25,7 @@ pub enum CommandWords<'a> {
 }
 
 /// The options that each subcommand has.
-#[derive(Clone, Copy, Debug, PartialEq, Eq)]
+#[derive(Clone, Copy, Debug)]
 pub struct CommonWords<'a> {
     /// The name of the PL 94-171 geographic header.
     pub geo: &'a str,
@@ -38,7 +38,7 @@ pub struct CommonWords<'a> {
 }
 
 /// The options that give a problem: those of each subcommand, and the files of adjacency, links and withdrawn sets.
-#[derive(Clone, Copy, Debug, PartialEq, Eq)]
+#[derive(Clone, Copy, Debug)]
 pub struct ProblemWords<'a> {
     /// The options that each subcommand has.
     pub common: CommonWords<'a>,
@@ -51,7 +51,7 @@ pub struct ProblemWords<'a> {
 }
 
 /// The options of `judge`.
-#[derive(Clone, Copy, Debug, PartialEq, Eq)]
+#[derive(Clone, Copy, Debug)]
 pub struct JudgeWords<'a> {
     /// The options that give the problem.
     pub problem: ProblemWords<'a>,
@@ -60,7 +60,7 @@ pub struct JudgeWords<'a> {
 }
 
 /// The options of `audit`.
-#[derive(Clone, Copy, Debug, PartialEq, Eq)]
+#[derive(Clone, Copy, Debug)]
 pub struct AuditWords<'a> {
     /// The options that give the problem.
     pub problem: ProblemWords<'a>,

@@ -3,7 +3,6 @@ use Rattle.std.specs.Prelude.{ℕ, ◌≡◌, Bool, true, false, not, ◌&&◌, 
 use Rattle.grouping_laws.specs.Sets.{member}
 use Rattle.grouping_laws.specs.Problem.{Problem, Connected}
 use Rattle.grouping_laws.specs.Places.{places_below}
-use Rattle.growing_sets.specs.Growing.{IsExtension}
 use Rattle.proof_trees.specs.declared.language.Language.{Language}
 use Rattle.proof_trees.specs.State.{State}
 use Rattle.proof_trees.specs.Fitting.{Fits}
@@ -16,10 +15,6 @@ IsAsked false limit g = ⊤
 -- the test passes exactly the connected lists of places, ascending, that fit the state and have the size that is asked for
 abbrev pub Decides : Language → Problem → ℕ → ℕ → Bool → State → (List ℕ → Bool) → Type 0
 Decides language p n limit exact s keep = (g : List ℕ) → Connected p g → filter (member g) (places_below n) ≡ g → (keep g ≡ true) ↔ (Fits language p s g × IsAsked exact limit g)
-
--- no set that has all of a set, else only free places, fits
-abbrev pub NoneFits : Language → Problem → ℕ → ℕ → State → (ℕ → Bool) → (ℕ → Bool) → Type 0
-NoneFits language p n limit s set free = (g : List ℕ) → IsExtension p n limit set free g → Fits language p s g → ⊥
 
 -- the other places of a region
 abbrev pub others : (ℕ → Bool) → ℕ → ℕ → Bool

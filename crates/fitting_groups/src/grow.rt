@@ -9,14 +9,14 @@ ghost use Rattle.growing_sets.specs.Growing.{IsGrowth, IsFront};
 ghost use Rattle.growing_sets.specs.Listing.{HasMost, IsListed, HasStepped};
 ghost use Rattle.proof_trees.specs.StateValue.{state_of};
 ghost use Rattle.proof_trees.specs.Fitting.{Fits};
-ghost use Rattle.fitting_groups.specs.Keeping.{Decides, IsAsked, NoneFits};
+ghost use Rattle.fitting_groups.specs.Keeping.{Decides, IsAsked};
 ghost use Rattle.fitting_groups.specs.declared.stop.Stop.{Stop};
 
 use crate::stop::Stop;
 use ordered_counties::{Ordered, Steps};
 use place_sets::CountySet;
 use proof_trees::{Language, State};
-use state_tests::{fits, has_stuck_part};
+use state_tests::{fits, strands};
 use std::alloc::{AllocError, Global};
 
 /// What a search looks at: the problem by places, for each place the places adjacent to it, the language and the
@@ -75,32 +75,6 @@ fn take_step(steps: &mut Steps) -> Result<(), Stop>
         Ok(())
     } else {
         Err(Stop::StepLimit)
-    }
-}
-
-/// Whether each group that has all of the set, else only free places, leaves a part behind that can't be filled:
-/// one that no free place can reach. In a plain language no group is left out for that.
-fn strands<C: CountySet>(
-    alloc: Global,
-    ground: &Ground<C>,
-    set: &C,
-    free: &C,
-) -> Result<bool, AllocError>
-    requires fits { length ground.now.ordered.now.order ≤ C.PLACES }
-    requires rows { AreRows C C.test (problem_at ground.now.ordered.now) (length ground.now.ordered.now.order) ground.now.near.now }
-    requires places { length ground.now.state.now.least.items ≡ length ground.now.ordered.now.order }
-    requires rest { (x : ℕ) → C.test ground.now.state.now.rest x ≡ true → x < length ground.now.ordered.now.order }
-    ensures { IfOk
-        result
-        (λ none. IsTrue none
-        → NoneFits ground.now.language (problem_at ground.now.ordered.now) (length ground.now.ordered.now.order) ground.now.limit (state_of C.test ground.now.state.now) (C.test set.now) (C.test free.now)) }
-{
-    match ground.language {
-        Language::Plain => Ok(false),
-        Language::Wide => {
-            let left = ground.state.rest.copy(alloc)?.minus(set);
-            has_stuck_part(alloc, ground.ordered, ground.near, ground.state, left, free)
-        }
     }
 }
 
@@ -200,7 +174,15 @@ pub(crate) fn grow<C: CountySet>(
     if stays_small(ground, &set, people) {
         return Ok(());
     }
-    let stranded = strands(alloc, ground, &set, &free)?;
+    let stranded = strands(
+        alloc,
+        ground.ordered,
+        ground.near,
+        ground.language,
+        ground.state,
+        &set,
+        &free,
+    )?;
     if stranded {
         return Ok(());
     }

@@ -12,5 +12,5 @@ mod sums;
 pub use bounds::{room, weigh_enough};
 pub use fitting::{fits, is_open, open_places};
 pub use seats::is_off_seats;
-pub use stuck::{has_stuck_part, is_live, is_stuck, is_stuck_at};
+pub use stuck::{has_stuck_part, is_live, is_stuck, is_stuck_at, strands};
 pub use sums::{people_in, weight_in};

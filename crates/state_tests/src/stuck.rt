@@ -9,12 +9,13 @@ ghost use Rattle.proof_trees.specs.Stuck.{CannotFill};
 ghost use Rattle.proof_trees.specs.Fitting.{IsLive};
 ghost use Rattle.proof_trees.specs.Leaves.{IsStuck};
 ghost use Rattle.state_tests.specs.Cut.{CutOff};
+ghost use Rattle.state_tests.specs.Stranding.{NoneFits};
 
 use crate::sums::people_in;
 use county_regions::part_around;
 use ordered_counties::Ordered;
 use place_sets::CountySet;
-use proof_trees::State;
+use proof_trees::{Language, State};
 use std::alloc::{AllocError, Global};
 
 /// Whether some county of the set asks for a group of more counties than that.
@@ -85,6 +86,40 @@ pub fn has_stuck_part<C: CountySet>(
         rest = left;
     }
     Ok(false)
+}
+
+/// Whether each group that has all of the set, else only free places, leaves a part behind that can't be filled:
+/// one that no free place can reach. In a plain language no group is left out for that.
+///
+/// # Errors
+///
+/// Where memory was refused.
+pub fn strands<C: CountySet>(
+    alloc: Global,
+    ordered: &Ordered,
+    near: &[C],
+    language: Language,
+    state: &State<C>,
+    set: &C,
+    free: &C,
+) -> Result<bool, AllocError>
+    requires fits { length ordered.now.order ≤ C.PLACES }
+    requires rows { AreRows C C.test (problem_at ordered.now) (length ordered.now.order) near.now }
+    requires places { length state.now.least.items ≡ length ordered.now.order }
+    requires below { (x : ℕ) → C.test state.now.rest x ≡ true → x < length ordered.now.order }
+    ensures { IfOk
+        result
+        (λ none. IsTrue none
+        → (limit : ℕ)
+        → NoneFits language (problem_at ordered.now) (length ordered.now.order) limit (state_of C.test state.now) (C.test set.now) (C.test free.now)) }
+{
+    match language {
+        Language::Plain => Ok(false),
+        Language::Wide => {
+            let left = state.rest.copy(alloc)?.minus(set);
+            has_stuck_part(alloc, ordered, near, state, left, free)
+        }
+    }
 }
 
 /// Whether a group of the rest is live: no connected part of the rest without it is stuck.

@@ -23,23 +23,38 @@ fn named_case<'a>(alloc: Global, section: &'a str) -> Result<(&'a str, String)> 
 }
 
 /// What a case writes, and its exit status.
-fn outcome(alloc: Global, case: &str) -> Result<(String, u8)> {
+fn outcome(alloc: Global, case: &str) -> (Vec<u8>, u8) {
     let mut bytes = Vec::new(alloc);
     let mut input = Reading::new(case.as_bytes());
     let status = run_case(alloc, &mut input, &mut Writing::new(&mut bytes));
-    let text = String::from_utf8(bytes).ok().context("the text of a case")?;
-    Ok((text, status))
+    (bytes, status)
+}
+
+/// Prints the name of a case, what it writes, and its exit status.
+fn show_outcome(rt: &HostRuntime, name: &str, written: &[u8], status: u8) -> Result<()> {
+    let text = str::from_utf8(written)?;
+    println!(rt; "== {name}\n{text}exit {status}")?;
+    Ok(())
+}
+
+/// Prints what a case writes, and its exit status.
+fn show_case(rt: &HostRuntime, section: &str) -> Result<()> {
+    let (name, case) = named_case(rt.alloc(), section)?;
+    let (written, status) = outcome(rt.alloc(), &case);
+    show_outcome(rt, name, &written, status)
+}
+
+/// Prints what cases write, each behind the name of the next, and their exit statuses.
+fn show_cases(rt: &HostRuntime, cases: &str) -> Result<()> {
+    for section in cases.split("\n== ") {
+        show_case(rt, section)?;
+    }
+    Ok(())
 }
 
 /// Prints what the cases of standard input write, and their exit statuses.
 pub(crate) fn show(rt: &HostRuntime) -> Result<()> {
-    let alloc = rt.alloc();
-    let text = io::read_to_string(alloc, rt.reader())?;
+    let text = io::read_to_string(rt.alloc(), rt.reader())?;
     let cases = text.strip_prefix("== ").context("the first case")?;
-    for section in cases.split("\n== ") {
-        let (name, case) = named_case(alloc, section)?;
-        let (written, status) = outcome(alloc, &case)?;
-        println!(rt; "== {name}\n{written}exit {status}")?;
-    }
-    Ok(())
+    show_cases(rt, cases)
 }

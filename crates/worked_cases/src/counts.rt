@@ -9,21 +9,51 @@ use place_sets::{CountySet, ListSet, MaskSet, WideSet};
 /// The most counties of a group where no word says it.
 const LIMIT: u16 = 4;
 
-/// Prints how many lawful groups of at most so many counties there are, and the steps.
+/// Prints a chamber, and how many lawful groups it has, and the steps.
+fn show_groups(
+    rt: &HostRuntime,
+    chamber: u16,
+    limit: u16,
+    groups: usize,
+    steps: u64,
+) -> Result<()> {
+    println!(rt;
+        "chamber {chamber}: {groups} lawful groups of at most {limit} counties, {steps} steps"
+    )?;
+    Ok(())
+}
+
+/// Prints how many lawful groups of at most so many counties a chamber has, and the steps.
+fn show_chamber<C: CountySet>(
+    rt: &HostRuntime,
+    state: &State,
+    chamber: u16,
+    limit: u16,
+) -> Result<()>
+    requires { 128 ≤ C.PLACES }
+{
+    let problem = state.problem(rt.alloc(), chamber)?;
+    let (groups, steps) = count::<C>(rt.alloc(), &problem, limit)?;
+    show_groups(rt, chamber, limit, groups, steps)
+}
+
+/// Prints how many connected sets of at most so many counties there are.
+fn show_sets<C: CountySet>(rt: &HostRuntime, state: &State, limit: u16) -> Result<()>
+    requires { 128 ≤ C.PLACES }
+{
+    let problem = state.equal_problem(rt.alloc())?;
+    let (sets, _) = count::<C>(rt.alloc(), &problem, limit)?;
+    println!(rt; "{sets} connected sets of at most {limit} counties")?;
+    Ok(())
+}
+
+/// Prints how many lawful groups and connected sets of at most so many counties there are, and the steps.
 fn show_counts<C: CountySet>(rt: &HostRuntime, state: &State, limit: u16) -> Result<()>
     requires { 128 ≤ C.PLACES }
 {
-    let alloc = rt.alloc();
-    for chamber in [50, 120] {
-        let problem = state.problem(alloc, chamber)?;
-        let (groups, steps) = count::<C>(alloc, &problem, limit)?;
-        println!(rt;
-            "chamber {chamber}: {groups} lawful groups of at most {limit} counties, {steps} steps"
-        )?;
-    }
-    let (sets, _) = count::<C>(alloc, &state.equal_problem(alloc)?, limit)?;
-    println!(rt; "{sets} connected sets of at most {limit} counties")?;
-    Ok(())
+    show_chamber::<C>(rt, state, 50, limit)?;
+    show_chamber::<C>(rt, state, 120, limit)?;
+    show_sets::<C>(rt, state, limit)
 }
 
 /// Prints the counts in sets of a form.

@@ -82,32 +82,66 @@ impl Shelf for Failing {
     }
 }
 
+/// Files of one county, without pairs, links, withdrawn sets and groups.
+const FILES: &[(&str, &[u8])] = &[
+    ("adj", b""),
+    ("links", b""),
+    ("w", b""),
+    ("g", b""),
+    ("geo", b"||050||00|||1||37001|||37||001\n"),
+    ("seg", b"||||1|94\n"),
+];
+
+/// A shelf of the files.
+fn shelf_of_files(alloc: Global) -> Result<MemoryShelf, ShelfFault> {
+    let mut files = MemoryShelf::new(alloc, Vec::new(alloc));
+    for (name, bytes) in FILES {
+        files.store(alloc, name, bytes)?;
+    }
+    Ok(files)
+}
+
 /// A shelf of one county and empty files, whose loads fail from the nth on.
 fn failing_at(alloc: Global, fails_at: u32, failures: u64) -> Result<Failing, ShelfFault> {
-    let mut files = MemoryShelf::new(alloc, Vec::new(alloc));
-    for name in ["adj", "links", "w", "g"] {
-        files.store(alloc, name, b"")?;
-    }
-    files.store(alloc, "geo", b"||050||00|||1||37001|||37||001\n")?;
-    files.store(alloc, "seg", b"||||1|94\n")?;
     Ok(Failing {
-        files,
+        files: shelf_of_files(alloc)?,
         loads: 0,
         fails_at,
         failures,
     })
 }
 
-/// Prints what a command writes over a shelf, its exit status, and how often the device has failed.
-fn show_run<H: Shelf>(rt: &HostRuntime, words: &[&str], shelf: &mut H) -> Result<()> {
-    let mut bytes = Vec::new(rt.alloc());
-    let status = run(rt.alloc(), words, shelf, &mut Writing::new(&mut bytes));
-    println!(rt;
-        "{}exit {status}, failures {}",
-        str::from_utf8(&bytes)?,
-        shelf.failures()
-    )?;
+/// What a command writes over a shelf, and its exit status.
+fn outcome<H: Shelf>(alloc: Global, words: &[&str], shelf: &mut H) -> (Vec<u8>, u8) {
+    let mut bytes = Vec::new(alloc);
+    let status = run(alloc, words, shelf, &mut Writing::new(&mut bytes));
+    (bytes, status)
+}
+
+/// Prints what was written, the exit status, and how often the device has failed.
+fn show_written(rt: &HostRuntime, written: &[u8], status: u8, failures: u64) -> Result<()> {
+    let text = str::from_utf8(written)?;
+    println!(rt; "{text}exit {status}, failures {failures}")?;
     Ok(())
+}
+
+/// Prints what a command writes over a shelf whose loads fail from the nth on, its exit status, and how often the
+/// device has failed.
+fn show_run(rt: &HostRuntime, words: &[&str], fails_at: u32, failures: u64) -> Result<()> {
+    let mut shelf = failing_at(rt.alloc(), fails_at, failures)?;
+    let (bytes, status) = outcome(rt.alloc(), words, &mut shelf);
+    show_written(rt, &bytes, status, shelf.failures())
+}
+
+/// What a case from a reader writes, its exit status, and whether the reader failed.
+fn case_outcome<R: Read>(alloc: Global, reader: R) -> (Vec<u8>, u8, bool)
+where
+    R: Drop,
+{
+    let mut bytes = Vec::new(alloc);
+    let mut input = Reading::new(reader);
+    let status = run_case(alloc, &mut input, &mut Writing::new(&mut bytes));
+    (bytes, status, input.failed())
 }
 
 /// Prints what a case from a reader writes, its exit status, and whether the reader failed.
@@ -115,14 +149,9 @@ fn show_case<R: Read>(rt: &HostRuntime, reader: R) -> Result<()>
 where
     R: Drop,
 {
-    let mut bytes = Vec::new(rt.alloc());
-    let mut input = Reading::new(reader);
-    let status = run_case(rt.alloc(), &mut input, &mut Writing::new(&mut bytes));
-    println!(rt;
-        "{}exit {status}, input failed {}",
-        str::from_utf8(&bytes)?,
-        input.failed()
-    )?;
+    let (bytes, status, failed) = case_outcome(rt.alloc(), reader);
+    let text = str::from_utf8(&bytes)?;
+    println!(rt; "{text}exit {status}, input failed {failed}")?;
     Ok(())
 }
 
@@ -138,44 +167,51 @@ fn show_broken_output(rt: &HostRuntime) -> Result<()> {
     Ok(())
 }
 
+/// Words of which each names a file of the shelf.
+const WORDS: &[&str] = &[
+    "judge",
+    "--geo",
+    "geo",
+    "--segment",
+    "seg",
+    "--chamber",
+    "4",
+    "--adjacency",
+    "adj",
+    "--links",
+    "links",
+    "--withdrawn",
+    "w",
+    "--grouping",
+    "g",
+];
+
 /// Prints what a device that fails at each file in turn gives.
 fn show_failing_files(rt: &HostRuntime) -> Result<()> {
-    let words = [
-        "judge",
-        "--geo",
-        "geo",
-        "--segment",
-        "seg",
-        "--chamber",
-        "4",
-        "--adjacency",
-        "adj",
-        "--links",
-        "links",
-        "--withdrawn",
-        "w",
-        "--grouping",
-        "g",
-    ];
     for fails_at in 1..=6 {
-        show_run(rt, &words, &mut failing_at(rt.alloc(), fails_at, 0)?)?;
+        show_run(rt, WORDS, fails_at, 0)?;
     }
-    show_run(rt, &words, &mut failing_at(rt.alloc(), 1, u64::MAX)?)
+    show_run(rt, WORDS, 1, u64::MAX)
+}
+
+/// A case whose words are no text.
+const WORDS_OF_BYTES: &[u8] = b"size --geo \xff --segment seg --chamber 4\n";
+
+/// A case with a file whose name is no text.
+const FILE_OF_BYTES: &[u8] = b"size --geo geo --segment seg --chamber 4\nfile \xff\n";
+
+/// Prints what cases give whose input fails, never ends or is no text.
+fn show_inputs(rt: &HostRuntime) -> Result<()> {
+    show_case(rt, Broken)?;
+    show_case(rt, Endless)?;
+    show_case(rt, WORDS_OF_BYTES)?;
+    show_case(rt, FILE_OF_BYTES)
 }
 
 /// Prints what commands write whose words are none, and whose ends fail.
 pub(crate) fn show(rt: &HostRuntime) -> Result<()> {
-    show_run(rt, &[], &mut failing_at(rt.alloc(), 1, 0)?)?;
+    show_run(rt, &[], 1, 0)?;
     show_failing_files(rt)?;
     show_broken_output(rt)?;
-    show_case(rt, Broken)?;
-    show_case(rt, Endless)?;
-    show_case(
-        rt,
-        b"size --geo \xff --segment seg --chamber 4\n".as_slice(),
-    )?;
-    show_case(
-        rt,
-        b"size --geo geo --segment seg --chamber 4\nfile \xff\n".as_slice(),
-    )
+    show_inputs(rt)
 }

@@ -6,15 +6,21 @@ use field_lines::{Fields, Lines, RawLines, field_at};
 /// More lines and pieces than any text here has.
 const MANY: u32 = 20;
 
+/// Prints a line.
+fn show_line(rt: &HostRuntime, number: u32, line: &[u8]) -> Result<()> {
+    println!(rt; "{number} {:?}", str::from_utf8(line)?)?;
+    Ok(())
+}
+
 /// Prints the lines of a text, and its fault.
-fn show_lines(rt: &HostRuntime, text: &[u8]) -> Result<()> {
-    println!(rt; "lines of {:?}", str::from_utf8(text)?)?;
-    let mut lines = Lines::new(text);
+fn show_lines(rt: &HostRuntime, text: &str) -> Result<()> {
+    println!(rt; "lines of {text:?}")?;
+    let mut lines = Lines::new(text.as_bytes());
     for _ in 0..MANY {
         let Some((number, line)) = lines.next_line()? else {
             break;
         };
-        println!(rt; "{number} {:?}", str::from_utf8(line)?)?;
+        show_line(rt, number, line)?;
     }
     Ok(())
 }
@@ -65,30 +71,37 @@ fn show_field(rt: &HostRuntime, line: &str, delimiter: u8, index: usize) -> Resu
     Ok(())
 }
 
-/// Prints the lines of texts with marks, carriage returns, blank lines and a last piece.
+/// Texts with marks, carriage returns, blank lines and a last piece.
+const TEXTS: &[&str] = &[
+    "",
+    "\u{feff}",
+    "\u{feff}\r\n\n\r\na",
+    "a\r\r\n\n b\r",
+    "a\n\u{feff}b\n",
+    "\u{feff}County Name|County GEOID|Neighbor Name|Neighbor GEOID|Length\r\nA|37001|A|37001|0\r\nA|37001|B|37003|12\r\nC|37005|B|37003|9\r\nA|37001|X|51001|3\r\n",
+];
+
+/// Prints the lines of texts.
 fn show_texts(rt: &HostRuntime) -> Result<()> {
-    for text in [
-        "",
-        "\u{feff}",
-        "\u{feff}\r\n\n\r\na",
-        "a\r\r\n\n b\r",
-        "a\n\u{feff}b\n",
-        "\u{feff}County Name|County GEOID|Neighbor Name|Neighbor GEOID|Length\r\nA|37001|A|37001|0\r\nA|37001|B|37003|12\r\nC|37005|B|37003|9\r\nA|37001|X|51001|3\r\n",
-    ] {
-        show_lines(rt, text.as_bytes())?;
+    for text in TEXTS {
+        show_lines(rt, text)?;
     }
     Ok(())
 }
 
+/// Prints how long the lines are of a text with so many letters.
+fn show_letters(rt: &HostRuntime, before: &str, count: usize, after: &str) -> Result<()> {
+    let letters = "x".repeat(rt.alloc(), count)?;
+    let text = format!(in rt.alloc(); "{before}{letters}{after}")?;
+    show_lengths(rt, &text)
+}
+
 /// Prints how long lines may be.
 fn show_long(rt: &HostRuntime) -> Result<()> {
-    let alloc = rt.alloc();
-    let full = "x".repeat(alloc, 65_536)?;
-    let above = "x".repeat(alloc, 65_537)?;
-    show_lengths(rt, &full)?;
-    show_lengths(rt, &above)?;
-    show_lengths(rt, &format!(in alloc; "x\n{full}")?)?;
-    show_lengths(rt, &format!(in alloc; "x\n{full}\r")?)
+    show_letters(rt, "", 65_536, "")?;
+    show_letters(rt, "", 65_537, "")?;
+    show_letters(rt, "x\n", 65_536, "")?;
+    show_letters(rt, "x\n", 65_536, "\r")
 }
 
 /// Prints lines, pieces and fields.

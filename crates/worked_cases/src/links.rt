@@ -3,7 +3,7 @@
 use crate::seats::numbers;
 use adjacency_reader::{Sign, apply_links, read_links, read_pairs, read_withdrawn};
 use anyhow::Result;
-use county_codes::CountyCode;
+use county_codes::{CountyCode, Withdrawn};
 use std::alloc::{AllocError, Global};
 
 /// The pairs as numbers.
@@ -11,15 +11,22 @@ fn pair_numbers(
     alloc: Global,
     pairs: &[(CountyCode, CountyCode)],
 ) -> Result<Vec<(u32, u32)>, AllocError> {
-    pairs.iter().map(|(a, b)| (a.get(), b.get())).collect(alloc)
+    let mut numbers = Vec::new(alloc);
+    for (a, b) in pairs {
+        numbers.push((a.get(), b.get()))?;
+    }
+    Ok(numbers)
 }
 
 /// Numbers as codes.
 fn codes(alloc: Global, numbers: &[u32]) -> Result<Vec<CountyCode>, AllocError> {
-    numbers
-        .iter()
-        .filter_map(|n| CountyCode::new(*n))
-        .collect(alloc)
+    let mut codes = Vec::new(alloc);
+    for number in numbers {
+        if let Some(code) = CountyCode::new(*number) {
+            codes.push(code)?;
+        }
+    }
+    Ok(codes)
 }
 
 /// Numbers as pairs of codes.
@@ -27,10 +34,13 @@ fn pairs(
     alloc: Global,
     numbers: &[(u32, u32)],
 ) -> Result<Vec<(CountyCode, CountyCode)>, AllocError> {
-    numbers
-        .iter()
-        .filter_map(|(a, b)| Some((CountyCode::new(*a)?, CountyCode::new(*b)?)))
-        .collect(alloc)
+    let mut pairs = Vec::new(alloc);
+    for (a, b) in numbers {
+        if let (Some(a), Some(b)) = (CountyCode::new(*a), CountyCode::new(*b)) {
+            pairs.push((a, b))?;
+        }
+    }
+    Ok(pairs)
 }
 
 /// Prints the pairs that a file gives of listed counties.
@@ -66,62 +76,72 @@ fn show_links(rt: &HostRuntime, text: &str) -> Result<()> {
     Ok(())
 }
 
+/// Prints a withdrawn set.
+fn show_set(rt: &HostRuntime, set: &Withdrawn) -> Result<()> {
+    let codes = numbers(rt.alloc(), set.codes.as_slice())?;
+    println!(rt; "{} seats, codes {codes:?}", set.seats)?;
+    Ok(())
+}
+
 /// Prints the withdrawn sets of a file.
 fn show_withdrawn(rt: &HostRuntime, text: &str) -> Result<()> {
-    let alloc = rt.alloc();
     println!(rt; "withdrawn sets of {text:?}")?;
-    for set in read_withdrawn(alloc, text.as_bytes())? {
-        println!(rt;
-            "{} seats, codes {:?}",
-            set.seats,
-            numbers(alloc, set.codes.as_slice())?
-        )?;
+    for set in &read_withdrawn(rt.alloc(), text.as_bytes())? {
+        show_set(rt, set)?;
     }
     Ok(())
 }
 
+/// Rows as the census writes them.
+const CENSUS: &str =
+    "\u{feff}County Name|County GEOID|Neighbor Name|Neighbor GEOID|Length\r\nA|37001|A|37001|0\r\nA|37001|B|37003|12\r\nC|37005|B|37003|9\r\nA|37001|X|51001|3\r\n";
+
+/// Adjacency files.
+const FILES: &[&str] = &[
+    CENSUS,
+    "A|37001|B|37003\n|37005||37003|x|y",
+    "h\n|37003||37001\n|37001||37003\n|37005||37003\n|37003||37001\n|37003||37005\n",
+    "\n\r\nname|code\n\n|37003||37001\n\n|37003||37005",
+    "a|b|c|37001\n|37003||37001\n",
+    "h",
+    "",
+    "|51001||51003\n|37001||51001\n|51003||37005",
+    "|37001||37001\n|37003||37003",
+];
+
 /// Prints the pairs of three counties in adjacency files.
 fn show_files(rt: &HostRuntime) -> Result<()> {
-    let three = [37_005, 37_001, 37_003].as_slice();
-    let census =
-        "\u{feff}County Name|County GEOID|Neighbor Name|Neighbor GEOID|Length\r\nA|37001|A|37001|0\r\nA|37001|B|37003|12\r\nC|37005|B|37003|9\r\nA|37001|X|51001|3\r\n";
-    for text in [
-        census,
-        "A|37001|B|37003\n|37005||37003|x|y",
-        "h\n|37003||37001\n|37001||37003\n|37005||37003\n|37003||37001\n|37003||37005\n",
-        "\n\r\nname|code\n\n|37003||37001\n\n|37003||37005",
-        "a|b|c|37001\n|37003||37001\n",
-        "h",
-        "",
-        "|51001||51003\n|37001||51001\n|51003||37005",
-        "|37001||37001\n|37003||37003",
-    ] {
-        show_pairs(rt, text, three)?;
+    for text in FILES {
+        show_pairs(rt, text, &[37_005, 37_001, 37_003])?;
     }
-    show_pairs(rt, census, &[])
+    show_pairs(rt, CENSUS, &[])
 }
+
+/// Files of links over two pairs.
+const LINKS: &[&str] = &[
+    "",
+    "+|37001|37005\n-|37001|37003",
+    "+|37005|37001\n-|37003|37001",
+    "-|37001|37003\n+|37001|37005\n+|37003|37001\n-|37005|37001",
+    "+|37001|51001",
+    "+|37001|37001\n-|37003|37003",
+    "-|37001|37005\n-|51001|51003",
+];
+
+/// Pairs in any order, each way, and of one county.
+const IN_ANY_ORDER: &[(u32, u32)] = &[
+    (37_005, 37_003),
+    (37_003, 37_003),
+    (37_001, 37_003),
+    (37_003, 37_005),
+];
 
 /// Prints links over the pairs of three counties, and over pairs in any order.
 fn show_changes(rt: &HostRuntime) -> Result<()> {
-    let two = [(37_001, 37_003), (37_003, 37_005)].as_slice();
-    for text in [
-        "",
-        "+|37001|37005\n-|37001|37003",
-        "+|37005|37001\n-|37003|37001",
-        "-|37001|37003\n+|37001|37005\n+|37003|37001\n-|37005|37001",
-        "+|37001|51001",
-        "+|37001|37001\n-|37003|37003",
-        "-|37001|37005\n-|51001|51003",
-    ] {
-        show_linked(rt, two, text)?;
+    for text in LINKS {
+        show_linked(rt, &[(37_001, 37_003), (37_003, 37_005)], text)?;
     }
-    let in_any_order = [
-        (37_005, 37_003),
-        (37_003, 37_003),
-        (37_001, 37_003),
-        (37_003, 37_005),
-    ];
-    show_linked(rt, &in_any_order, "+|37001|37005")?;
+    show_linked(rt, IN_ANY_ORDER, "+|37001|37005")?;
     show_linked(rt, &[], "-|37001|37005")
 }
 

@@ -10,25 +10,32 @@ fn show_number(rt: &HostRuntime, field: &str, least: u32, greatest: u32) -> Resu
     Ok(())
 }
 
-/// Prints numbers at the ends of ranges.
-fn show_ranges(rt: &HostRuntime) -> Result<()> {
-    for field in [
-        "", "0", "007", "10", "+4", " 4", "4 ", "-4", "4.", "4\r", "\u{ff14}",
-    ] {
-        show_number(rt, field, 0, 9)?;
-    }
-    for field in ["0", "1", "1000", "1001"] {
-        show_number(rt, field, 1, 1_000)?;
-    }
-    for field in [
-        "4294967295",
-        "4294967296",
-        "00000000000000000000000000000000000000012",
-        "99999999999999999999999999999999999999999",
-    ] {
-        show_number(rt, field, 0, u32::MAX)?;
+/// Prints the number that each field spells within a range.
+fn show_numbers(rt: &HostRuntime, fields: &[&str], least: u32, greatest: u32) -> Result<()> {
+    for field in fields {
+        show_number(rt, field, least, greatest)?;
     }
     Ok(())
+}
+
+/// Fields of at most one digit and a mark, and others.
+const SHORT: &[&str] = &[
+    "", "0", "007", "10", "+4", " 4", "4 ", "-4", "4.", "4\r", "\u{ff14}",
+];
+
+/// Numbers at the end of a word, and long ones.
+const LONG: &[&str] = &[
+    "4294967295",
+    "4294967296",
+    "00000000000000000000000000000000000000012",
+    "99999999999999999999999999999999999999999",
+];
+
+/// Prints numbers at the ends of ranges.
+fn show_ranges(rt: &HostRuntime) -> Result<()> {
+    show_numbers(rt, SHORT, 0, 9)?;
+    show_numbers(rt, &["0", "1", "1000", "1001"], 1, 1_000)?;
+    show_numbers(rt, LONG, 0, u32::MAX)
 }
 
 /// Prints what a field of exactly so many digits spells.
@@ -47,26 +54,25 @@ fn show_digits(rt: &HostRuntime, text: &str) -> Result<()> {
     Ok(())
 }
 
-/// Prints numbers, digits and faults.
-pub(crate) fn show(rt: &HostRuntime) -> Result<()> {
-    show_ranges(rt)?;
-    for text in [
-        "7",
-        "37",
-        "3a",
-        "037",
-        "01",
-        "001",
-        "0001",
-        "3700",
-        "37001",
-        "037001",
-        "37001020100100",
-        "370010201001000",
-        "999999999999999",
-    ] {
-        show_digits(rt, text)?;
-    }
+/// Texts of up to fifteen digits.
+const DIGITS: &[&str] = &[
+    "7",
+    "37",
+    "3a",
+    "037",
+    "01",
+    "001",
+    "0001",
+    "3700",
+    "37001",
+    "037001",
+    "37001020100100",
+    "370010201001000",
+    "999999999999999",
+];
+
+/// Prints the texts of faults of lines.
+fn show_faults(rt: &HostRuntime) -> Result<()> {
     for fault in [
         LineFault::LineTooLong(7),
         LineFault::TooManyLines,
@@ -76,4 +82,13 @@ pub(crate) fn show(rt: &HostRuntime) -> Result<()> {
         println!(rt; "{fault}: {}", fault.line())?;
     }
     Ok(())
+}
+
+/// Prints numbers, digits and faults.
+pub(crate) fn show(rt: &HostRuntime) -> Result<()> {
+    show_ranges(rt)?;
+    for text in DIGITS {
+        show_digits(rt, text)?;
+    }
+    show_faults(rt)
 }

@@ -7,7 +7,11 @@ use std::alloc::{AllocError, Global};
 
 /// The numbers of codes.
 pub(crate) fn numbers(alloc: Global, codes: &[CountyCode]) -> Result<Vec<u32>, AllocError> {
-    codes.iter().map(|code| code.get()).collect(alloc)
+    let mut numbers = Vec::new(alloc);
+    for code in codes {
+        numbers.push(code.get())?;
+    }
+    Ok(numbers)
 }
 
 /// Prints the seats and the codes of a line, or its fault.
@@ -22,26 +26,29 @@ fn show_line(rt: &HostRuntime, line: &str) -> Result<()> {
     Ok(())
 }
 
+/// Lines of seats and codes, and others.
+const LINES: &[&str] = &[
+    "3|37005",
+    "001|37005|37007",
+    "1000|00000",
+    "1|99999|37001|99999",
+    "",
+    "3",
+    "x",
+    "0|37005",
+    "1001|37005",
+    "+1|37005",
+    "|37005",
+    "x|3700",
+    "3|",
+    "3|3700",
+    "3|37005|",
+    "3|37005|370055|37007",
+];
+
 /// Prints lines of 1 to 1,000 seats.
 pub(crate) fn show(rt: &HostRuntime) -> Result<()> {
-    for line in [
-        "3|37005",
-        "001|37005|37007",
-        "1000|00000",
-        "1|99999|37001|99999",
-        "",
-        "3",
-        "x",
-        "0|37005",
-        "1001|37005",
-        "+1|37005",
-        "|37005",
-        "x|3700",
-        "3|",
-        "3|3700",
-        "3|37005|",
-        "3|37005|370055|37007",
-    ] {
+    for line in LINES {
         show_line(rt, line)?;
     }
     Ok(())

@@ -31,21 +31,18 @@ fn show_fault(rt: &HostRuntime, fault: GroupingFault) -> Result<()> {
     Ok(())
 }
 
-/// Prints texts.
-pub(crate) fn show(rt: &HostRuntime) -> Result<()> {
-    for text in [
-        "",
-        "2|37007\n1|37003|37005\n",
-        "65535|37999\n0|37000\n",
-        "2|37001|37003",
-        "\n\n2|37001|37003\n\n",
-        "\u{feff}00002|37001|37003\r\n",
-    ] {
-        show_grouping(rt, text)?;
-    }
-    for (number, code) in [(0, 0), (7, 7), (10, 1_000), (u64::MAX, 99_999)] {
-        show_number(rt, number, code)?;
-    }
+/// Texts of groupings.
+const GROUPINGS: &[&str] = &[
+    "",
+    "2|37007\n1|37003|37005\n",
+    "65535|37999\n0|37000\n",
+    "2|37001|37003",
+    "\n\n2|37001|37003\n\n",
+    "\u{feff}00002|37001|37003\r\n",
+];
+
+/// Prints the words of each fault of a grouping.
+fn show_faults(rt: &HostRuntime) -> Result<()> {
     let code = CountyCode::new(37_001).context("a code")?;
     for fault in [
         GroupingFault::EmptyGroup(2),
@@ -60,4 +57,15 @@ pub(crate) fn show(rt: &HostRuntime) -> Result<()> {
         show_fault(rt, fault)?;
     }
     Ok(())
+}
+
+/// Prints texts.
+pub(crate) fn show(rt: &HostRuntime) -> Result<()> {
+    for text in GROUPINGS {
+        show_grouping(rt, text)?;
+    }
+    for (number, code) in [(0, 0), (7, 7), (10, 1_000), (u64::MAX, 99_999)] {
+        show_number(rt, number, code)?;
+    }
+    show_faults(rt)
 }

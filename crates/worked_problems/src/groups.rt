@@ -18,87 +18,130 @@ const FEW_PEOPLE: Sketch = Sketch {
     chamber: 2,
 };
 
-/// Prints the places of a set.
-pub(crate) fn show_places<C: CountySet>(rt: &HostRuntime, set: &C) -> Result<()>
-    requires { 128 ≤ C.PLACES }
-{
-    for place in place_list(rt.alloc(), 128, set)?.as_slice() {
+/// Prints places on a line.
+fn show_list(rt: &HostRuntime, places: &[u16]) -> Result<()> {
+    for place in places {
         print!(rt; " {place}")?;
     }
     println!(rt)?;
     Ok(())
 }
 
-/// Prints the groups from a place of an order, and the steps that they took.
-fn show_groups<C: CountySet>(
-    rt: &HostRuntime,
-    ordered: &Ordered,
-    place: u16,
-    limit: u16,
-    most: u64,
-) -> Result<()>
+/// Prints the places of a set.
+pub(crate) fn show_places<C: CountySet>(rt: &HostRuntime, set: &C) -> Result<()>
     requires { 128 ≤ C.PLACES }
 {
-    if place >= ordered.places() {
-        return Ok(());
-    }
-    let mut steps = Steps::new(most);
-    let found: Result<GroupList<C>, Stop> = groups_from(
-        rt.alloc(),
-        ordered,
-        place,
-        limit,
-        &mut steps,
-    );
-    println!(rt;
-        "from {place}, at most {limit}, {} steps of {most}",
-        steps.used()
-    )?;
-    match found {
-        Ok(list) => {
-            for set in &list.groups {
-                show_places(rt, set)?;
-            }
-        }
-        Err(stop) => println!(rt; "{stop}")?,
+    let places = place_list(rt.alloc(), 128, set)?;
+    show_list(rt, places.as_slice())
+}
+
+/// Prints the places of each set.
+fn show_each<C: CountySet>(rt: &HostRuntime, sets: &[C]) -> Result<()>
+    requires { 128 ≤ C.PLACES }
+{
+    for set in sets {
+        show_places(rt, set)?;
     }
     Ok(())
 }
 
-/// Prints the groups of a problem from some places, each with a limit and the most steps.
+/// Prints the groups that were found, or why the search stopped.
+fn show_found<C: CountySet>(rt: &HostRuntime, found: Result<GroupList<C>, Stop>) -> Result<()>
+    requires { 128 ≤ C.PLACES }
+{
+    match found {
+        Ok(list) => show_each(rt, &list.groups),
+        Err(stop) => {
+            println!(rt; "{stop}")?;
+            Ok(())
+        }
+    }
+}
+
+/// A place, the most counties of a group, and the most steps.
+type Search = (u16, u16, u64);
+
+/// Prints a search and the steps that it took.
+fn show_search(rt: &HostRuntime, search: Search, used: u64) -> Result<()> {
+    let (place, limit, most) = search;
+    println!(rt; "from {place}, at most {limit}, {used} steps of {most}")?;
+    Ok(())
+}
+
+/// Prints the groups from a place of an order, and the steps that they took.
+fn show_groups<C: CountySet>(rt: &HostRuntime, ordered: &Ordered, search: Search) -> Result<()>
+    requires { 128 ≤ C.PLACES }
+{
+    let (place, limit, most) = search;
+    if place >= ordered.places() {
+        return Ok(());
+    }
+    let mut steps = Steps::new(most);
+    let found = groups_from::<C>(rt.alloc(), ordered, place, limit, &mut steps);
+    show_search(rt, search, steps.used())?;
+    show_found(rt, found)
+}
+
+/// Prints the groups of each search.
+fn show_searches<C: CountySet>(
+    rt: &HostRuntime,
+    ordered: &Ordered,
+    searches: &[Search],
+) -> Result<()>
+    requires { 128 ≤ C.PLACES }
+{
+    for search in searches {
+        show_groups::<C>(rt, ordered, *search)?;
+    }
+    Ok(())
+}
+
+/// Prints the groups of a problem, in the order of its counties, by some searches.
 fn show_problem<C: CountySet>(
     rt: &HostRuntime,
     problem: &Problem,
-    searches: &[(u16, u16, u64)],
+    searches: &[Search],
 ) -> Result<()>
     requires { 128 ≤ C.PLACES }
 {
     let order = listed_codes(rt.alloc(), problem.counties())?;
     let ordered = Ordered::build(rt.alloc(), problem, &order)?;
-    for (place, limit, most) in searches {
-        show_groups::<C>(rt, &ordered, *place, *limit, *most)?;
-    }
-    Ok(())
+    show_searches::<C>(rt, &ordered, searches)
 }
+
+/// Prints the groups of a sketched problem by some searches.
+fn show_sketch<C: CountySet>(rt: &HostRuntime, sketch: Sketch, searches: &[Search]) -> Result<()>
+    requires { 128 ≤ C.PLACES }
+{
+    let problem = sketch.problem(rt.alloc())?;
+    show_problem::<C>(rt, &problem, searches)
+}
+
+/// The searches of the stranding path.
+const STRANDING_SEARCHES: &[Search] = &[
+    (0, 3, 1000),
+    (0, 2, 1000),
+    (0, 0, 1000),
+    (1, 3, 1000),
+    (0, 3, 0),
+    (0, 3, 2),
+];
+
+/// The search of the ring of four.
+const RING_SEARCHES: &[Search] = &[(0, 4, 1000)];
+
+/// The searches of one county and five.
+const TAIL_SEARCHES: &[Search] = &[(0, 6, 1000), (1, 5, 1000)];
+
+/// The search of the path with few people.
+const FEW_SEARCHES: &[Search] = &[(0, 2, 1000)];
 
 /// Prints the groups of small problems.
 pub(crate) fn show<C: CountySet>(rt: &HostRuntime) -> Result<()>
     requires { 128 ≤ C.PLACES }
 {
-    let path = STRANDING_PATH.problem(rt.alloc())?;
-    let searches = [
-        (0, 3, 1000),
-        (0, 2, 1000),
-        (0, 0, 1000),
-        (1, 3, 1000),
-        (0, 3, 0),
-        (0, 3, 2),
-    ];
-    show_problem::<C>(rt, &path, &searches)?;
-    let ring = RING_OF_FOUR.problem(rt.alloc())?;
-    show_problem::<C>(rt, &ring, &[(0, 4, 1000)])?;
-    let tail = ONE_AND_FIVE.problem(rt.alloc())?;
-    show_problem::<C>(rt, &tail, &[(0, 6, 1000), (1, 5, 1000)])?;
-    let few = FEW_PEOPLE.problem(rt.alloc())?;
-    show_problem::<C>(rt, &few, &[(0, 2, 1000)])
+    show_sketch::<C>(rt, STRANDING_PATH, STRANDING_SEARCHES)?;
+    show_sketch::<C>(rt, RING_OF_FOUR, RING_SEARCHES)?;
+    show_sketch::<C>(rt, ONE_AND_FIVE, TAIL_SEARCHES)?;
+    show_sketch::<C>(rt, FEW_PEOPLE, FEW_SEARCHES)
 }

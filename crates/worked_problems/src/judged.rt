@@ -17,8 +17,11 @@ fn show_counts(rt: &HostRuntime, counts: &Counts) -> Result<()> {
     Ok(())
 }
 
+/// Sets with their seats.
+type Sets<'a> = &'a [(u16, &'a [u32])];
+
 /// Prints the verdict on the sets with their seats.
-fn show_verdict(rt: &HostRuntime, problem: &Problem, sets: &[(u16, &[u32])]) -> Result<()> {
+fn show_verdict(rt: &HostRuntime, problem: &Problem, sets: Sets) -> Result<()> {
     let grouping = grouping(rt.alloc(), sets)?;
     match judge(rt.alloc(), problem, &grouping) {
         Ok(counts) => show_counts(rt, &counts),
@@ -29,8 +32,17 @@ fn show_verdict(rt: &HostRuntime, problem: &Problem, sets: &[(u16, &[u32])]) -> 
     }
 }
 
+/// Prints the verdicts on groupings of a problem.
+fn show_verdicts(rt: &HostRuntime, sketch: Sketch, groupings: &[Sets]) -> Result<()> {
+    let problem = sketch.problem(rt.alloc())?;
+    for sets in groupings {
+        show_verdict(rt, &problem, sets)?;
+    }
+    Ok(())
+}
+
 /// The counts of a lawful grouping of the three pairs, judged from its copy.
-fn counts_of(alloc: Global, sets: &[(u16, &[u32])]) -> Result<Counts> {
+fn counts_of(alloc: Global, sets: Sets) -> Result<Counts> {
     let path = THREE_PAIRS.problem(alloc)?;
     let grouping = grouping(alloc, sets)?;
     Ok(judge(alloc, &path, &grouping.copy()?)?)
@@ -42,63 +54,71 @@ fn show_order(rt: &HostRuntime, first: &Counts, second: &Counts) -> Result<()> {
     Ok(())
 }
 
+/// One county and five, of the three pairs.
+const ONE_AND_FIVE_SETS: Sets = &[(1, &[1]), (2, &[3, 5, 7, 9, 11])];
+
+/// The three pairs.
+const PAIRS: Sets = &[(1, &[1, 3]), (1, &[5, 7]), (1, &[9, 11])];
+
+/// Prints the counts of two groupings, and how they stand to each other.
+fn show_both(rt: &HostRuntime, first: &Counts, second: &Counts) -> Result<()> {
+    show_counts(rt, first)?;
+    show_counts(rt, second)?;
+    show_order(rt, first, second)?;
+    show_order(rt, second, first)
+}
+
 /// Prints how the counts of one and five stand to those of three pairs.
 fn show_three_pairs(rt: &HostRuntime) -> Result<()> {
-    let first = counts_of(rt.alloc(), &[(1, &[1]), (2, &[3, 5, 7, 9, 11])])?;
-    let second = counts_of(rt.alloc(), &[(1, &[1, 3]), (1, &[5, 7]), (1, &[9, 11])])?;
-    show_counts(rt, &first)?;
-    show_counts(rt, &second)?;
-    show_order(rt, &first, &second)?;
-    show_order(rt, &second, &first)?;
+    let first = counts_of(rt.alloc(), ONE_AND_FIVE_SETS)?;
+    let second = counts_of(rt.alloc(), PAIRS)?;
+    show_both(rt, &first, &second)?;
     show_order(rt, &first.copy()?, &first)
 }
 
-/// Prints each fault of a grouping, and the first of several.
-fn show_faults(rt: &HostRuntime) -> Result<()> {
-    let ring = RING_OF_FOUR.problem(rt.alloc())?;
-    show_verdict(rt, &ring, &[(1, &[1, 3]), (1, &[5, 7])])?;
-    show_verdict(rt, &ring, &[(1, &[1, 5]), (1, &[3, 7])])?;
-    show_verdict(rt, &ring, &[(1, &[1, 3]), (1, &[])])?;
-    show_verdict(rt, &ring, &[(1, &[1, 3]), (1, &[5, 9])])?;
-    show_more_faults(rt, &ring)
-}
+/// Groupings of the ring of four with each fault, and with several.
+const FAULTS: &[Sets] = &[
+    &[(1, &[1, 3]), (1, &[5, 7])],
+    &[(1, &[1, 5]), (1, &[3, 7])],
+    &[(1, &[1, 3]), (1, &[])],
+    &[(1, &[1, 3]), (1, &[5, 9])],
+    &[(1, &[1, 3]), (1, &[5, 3, 1])],
+    &[(1, &[1]), (1, &[5])],
+    &[(1, &[1, 3]), (2, &[5, 7])],
+    &[(9, &[1, 5, 1]), (9, &[9]), (9, &[])],
+];
 
-/// Prints more faults of a grouping.
-fn show_more_faults(rt: &HostRuntime, ring: &Problem) -> Result<()> {
-    show_verdict(rt, ring, &[(1, &[1, 3]), (1, &[5, 3, 1])])?;
-    show_verdict(rt, ring, &[(1, &[1]), (1, &[5])])?;
-    show_verdict(rt, ring, &[(1, &[1, 3]), (2, &[5, 7])])?;
-    show_verdict(rt, ring, &[(9, &[1, 5, 1]), (9, &[9]), (9, &[])])
-}
+/// Two counties, of which one is withdrawn.
+const ONE_WITHDRAWN: Sketch = Sketch {
+    people: &[(1, 100), (3, 100)],
+    pairs: &[(1, 3)],
+    withdrawn: &[(1, &[1])],
+    chamber: 2,
+};
 
-/// Prints verdicts where counties are withdrawn.
-fn show_withdrawn(rt: &HostRuntime) -> Result<()> {
-    let rest = Sketch {
-        people: &[(1, 100), (3, 100)],
-        pairs: &[(1, 3)],
-        withdrawn: &[(1, &[1])],
-        chamber: 2,
-    };
-    let rest = rest.problem(rt.alloc())?;
-    show_verdict(rt, &rest, &[(2, &[3, 1])])?;
-    show_verdict(rt, &rest, &[(1, &[3])])?;
-    let none = Sketch {
-        people: &[(1, 100)],
-        pairs: &[],
-        withdrawn: &[(1, &[1])],
-        chamber: 1,
-    };
-    show_verdict(rt, &none.problem(rt.alloc())?, &[])
-}
+/// One county, which is withdrawn.
+const ALL_WITHDRAWN: Sketch = Sketch {
+    people: &[(1, 100)],
+    pairs: &[],
+    withdrawn: &[(1, &[1])],
+    chamber: 1,
+};
+
+/// Groupings of the two counties apart: one seat is missing, and none.
+const APART: &[Sets] = &[&[(19, &[1]), (19, &[3])], &[(19, &[1]), (20, &[3])]];
+
+/// The grouping of the path of four counties.
+const PATH: &[Sets] = &[&[(1, &[1]), (2, &[7]), (1, &[3, 5])]];
+
+/// Groupings of what is left beside a withdrawn county, with it and without.
+const BESIDE: &[Sets] = &[&[(2, &[3, 1])], &[(1, &[3])]];
 
 /// Prints verdicts on groupings.
 pub(crate) fn show(rt: &HostRuntime) -> Result<()> {
     show_three_pairs(rt)?;
-    let path = FOUR_COUNTY_PATH.problem(rt.alloc())?;
-    show_verdict(rt, &path, &[(1, &[1]), (2, &[7]), (1, &[3, 5])])?;
-    let apart = THIRTY_NINE_SEATS.problem(rt.alloc())?;
-    show_verdict(rt, &apart, &[(19, &[1]), (19, &[3])])?;
-    show_verdict(rt, &apart, &[(19, &[1]), (20, &[3])])?;
-    show_faults(rt)?;
-    show_withdrawn(rt)
+    show_verdicts(rt, FOUR_COUNTY_PATH, PATH)?;
+    show_verdicts(rt, THIRTY_NINE_SEATS, APART)?;
+    show_verdicts(rt, RING_OF_FOUR, FAULTS)?;
+    show_verdicts(rt, ONE_WITHDRAWN, BESIDE)?;
+    show_verdicts(rt, ALL_WITHDRAWN, &[&[]])
 }

@@ -17,25 +17,28 @@ use anyhow::Result;
 use place_sets::{CountySet, ListSet, MaskSet, WideSet};
 
 /// Prints what calls over one form of sets answer.
-fn show_sets<C: CountySet>(rt: &HostRuntime) -> Result<()>
+fn show_sets<C: CountySet>(rt: &HostRuntime, form: &str) -> Result<()>
     requires { 128 ≤ C.PLACES }
 {
+    println!(rt; "-- {form}")?;
     sets::show::<C>(rt)?;
     groups::show::<C>(rt)?;
     regions::show::<C>(rt)?;
     states::show::<C>(rt)
 }
 
+/// Prints what calls over each form of sets answer.
+fn show_forms(rt: &HostRuntime) -> Result<()> {
+    show_sets::<ListSet>(rt, "lists")?;
+    show_sets::<MaskSet>(rt, "masks")?;
+    show_sets::<WideSet>(rt, "wide masks")
+}
+
 fn main(rt: HostRuntime) -> Result<()> {
     problems::show(&rt)?;
     judged::show(&rt)?;
     orders::show(&rt)?;
-    println!(rt; "-- lists")?;
-    show_sets::<ListSet>(&rt)?;
-    println!(rt; "-- masks")?;
-    show_sets::<MaskSet>(&rt)?;
-    println!(rt; "-- wide masks")?;
-    show_sets::<WideSet>(&rt)?;
+    show_forms(&rt)?;
     sets::show_ends(&rt)?;
     states::show_rounds(&rt)
 }

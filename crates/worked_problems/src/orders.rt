@@ -74,34 +74,41 @@ fn show_steps(rt: &HostRuntime, limit: u64) -> Result<()> {
     Ok(())
 }
 
+/// Orders of the stranding path, of which the first alone names each county once.
+const ORDERS: &[&[u32]] = &[&[5, 1, 3], &[1, 3, 3], &[1, 3], &[1, 3, 5, 7]];
+
 /// Prints orders of the stranding path.
 fn show_orders(rt: &HostRuntime) -> Result<()> {
     let path = STRANDING_PATH.problem(rt.alloc())?;
-    show_order(rt, &path, &[5, 1, 3])?;
-    show_order(rt, &path, &[1, 3, 3])?;
-    show_order(rt, &path, &[1, 3])?;
-    show_order(rt, &path, &[1, 3, 5, 7])
+    for order in ORDERS {
+        show_order(rt, &path, order)?;
+    }
+    Ok(())
 }
 
-/// Prints the seats allotted where no county is left.
-fn show_no_seats(rt: &HostRuntime, chamber: u16) -> Result<()> {
-    let none = Sketch {
+/// Prints the seats that are allotted to numbers of people of a problem.
+fn show_allotted(rt: &HostRuntime, sketch: Sketch, people: &[u64]) -> Result<()> {
+    let problem = sketch.problem(rt.alloc())?;
+    show_seats(rt, &problem, people)
+}
+
+/// One county, which is withdrawn with a seat.
+fn withdrawn_alone(chamber: u16) -> Sketch<'static> {
+    Sketch {
         people: &[(1, 100)],
         pairs: &[],
         withdrawn: &[(1, &[1])],
         chamber,
-    };
-    show_seats(rt, &none.problem(rt.alloc())?, &[])
+    }
 }
 
 /// Prints orders, seats and steps.
 pub(crate) fn show(rt: &HostRuntime) -> Result<()> {
     show_orders(rt)?;
-    let apart = THIRTY_NINE_SEATS.problem(rt.alloc())?;
-    show_seats(rt, &apart, &[1950, 1950])?;
-    show_seats(rt, &apart, &[1950])?;
-    show_no_seats(rt, 1)?;
-    show_no_seats(rt, 2)?;
+    show_allotted(rt, THIRTY_NINE_SEATS, &[1950, 1950])?;
+    show_allotted(rt, THIRTY_NINE_SEATS, &[1950])?;
+    show_allotted(rt, withdrawn_alone(1), &[])?;
+    show_allotted(rt, withdrawn_alone(2), &[])?;
     show_steps(rt, 0)?;
     show_steps(rt, 2)
 }

@@ -1,8 +1,8 @@
 //! Problems, their seat windows and their faults.
 
-use crate::sketch::{STRANDING_PATH, Sketch, THIRTY_NINE_SEATS, code};
+use crate::sketch::{STRANDING_PATH, Sketch, THIRTY_NINE_SEATS, code, counties};
 use anyhow::Result;
-use county_codes::{County, CountyCode, listed_codes};
+use county_codes::{CountyCode, listed_codes};
 use grouping_problem::Problem;
 use std::alloc::Global;
 
@@ -24,30 +24,44 @@ fn show_seats(rt: &HostRuntime, problem: &Problem, people: u64) -> Result<()> {
     Ok(())
 }
 
-/// Prints the window of a chamber of the whole state.
-fn show_chamber(rt: &HostRuntime, chamber: u16) -> Result<()> {
+/// The problem of a chamber of the whole state.
+fn whole_state(alloc: Global, chamber: u16) -> Result<Problem> {
     let whole = Sketch {
         people: &[(1, NORTH_CAROLINA)],
         pairs: &[],
         withdrawn: &[],
         chamber,
     };
-    let problem = whole.problem(rt.alloc())?;
+    whole.problem(alloc)
+}
+
+/// Prints the window of a chamber of the whole state.
+fn show_chamber(rt: &HostRuntime, chamber: u16) -> Result<()> {
+    let problem = whole_state(rt.alloc(), chamber)?;
     let (least, greatest) = problem.district_bounds(1);
     println!(rt; "a district of {chamber} has {least} to {greatest} people")?;
-    if chamber == 120 {
-        for people in [82_645, 82_646, 91_344, 91_345, 1_129_410] {
-            show_seats(rt, &problem, people)?;
-        }
+    Ok(())
+}
+
+/// Prints the seats that people of the whole state suit in a chamber of 120.
+fn show_house(rt: &HostRuntime) -> Result<()> {
+    let problem = whole_state(rt.alloc(), 120)?;
+    for people in [82_645, 82_646, 91_344, 91_345, 1_129_410] {
+        show_seats(rt, &problem, people)?;
     }
     Ok(())
 }
 
-/// Prints the counties and the withdrawn sets of a problem.
-fn show_lists(rt: &HostRuntime, problem: &Problem) -> Result<()> {
+/// Prints the counties of a problem.
+fn show_counties(rt: &HostRuntime, problem: &Problem) -> Result<()> {
     for county in problem.counties() {
         println!(rt; "county {} of {}", county.code, county.people)?;
     }
+    Ok(())
+}
+
+/// Prints the withdrawn sets of a problem.
+fn show_sets(rt: &HostRuntime, problem: &Problem) -> Result<()> {
     for set in problem.withdrawn() {
         let set = set.copy()?;
         let codes = set.codes.into_vec();
@@ -74,12 +88,14 @@ fn show_problem(rt: &HostRuntime, problem: &Problem) -> Result<()> {
         problem.seats_left(),
     );
     println!(rt; "people {people}, chamber {chamber}, seats left {left}")?;
-    show_lists(rt, problem)?;
+    show_counties(rt, problem)?;
+    show_sets(rt, problem)?;
     show_pairs(rt, problem)
 }
 
-/// Prints the people of the counties at a problem's numbers.
-fn show_people(rt: &HostRuntime, problem: &Problem) -> Result<()> {
+/// Prints the people of the counties at numbers of the stranding path.
+fn show_people(rt: &HostRuntime) -> Result<()> {
+    let problem = STRANDING_PATH.problem(rt.alloc())?;
     println!(rt; "people of no county: {}", problem.people_of(&[]))?;
     for number in [3, 9] {
         if let Some(code) = code(number) {
@@ -98,26 +114,26 @@ fn show_fault(rt: &HostRuntime, sketch: Sketch) -> Result<()> {
     Ok(())
 }
 
+/// Seats and counties of withdrawn sets, each with a fault that comes before that of the next.
+const FAULTY_SETS: &[(u16, &[u32])] = &[
+    (0, &[1]),
+    (1, &[]),
+    (9, &[1, 99]),
+    (9, &[1, 1]),
+    (4, &[1]),
+    (3, &[1]),
+];
+
 /// Prints the faults of withdrawn sets and pairs, each before those that come after it.
 fn show_withdrawn_faults(rt: &HostRuntime) -> Result<()> {
-    let three = [(5, 100), (1, 100), (3, 100)];
-    for (seats, numbers) in [
-        (0, [1].as_slice()),
-        (1, &[]),
-        (9, &[1, 99]),
-        (9, &[1, 1]),
-        (4, &[1]),
-        (3, &[1]),
-    ] {
-        show_fault(
-            rt,
-            Sketch {
-                people: &three,
-                pairs: &[(1, 99)],
-                withdrawn: &[(seats, numbers)],
-                chamber: 3,
-            },
-        )?;
+    for set in FAULTY_SETS {
+        let sketch = Sketch {
+            people: &[(5, 100), (1, 100), (3, 100)],
+            pairs: &[(1, 99)],
+            withdrawn: &[*set],
+            chamber: 3,
+        };
+        show_fault(rt, sketch)?;
     }
     Ok(())
 }
@@ -131,29 +147,31 @@ fn equal(alloc: Global, count: u32) -> Result<Vec<(u32, u32)>> {
     Ok(people)
 }
 
+/// Prints why counties without pairs make no problem of a chamber.
+fn show_limit(rt: &HostRuntime, people: &[(u32, u32)], chamber: u16) -> Result<()> {
+    let sketch = Sketch {
+        people,
+        pairs: &[],
+        withdrawn: &[],
+        chamber,
+    };
+    show_fault(rt, sketch)
+}
+
+/// Prints why so many counties make no problem of a chamber, if they don't.
+fn show_equal(rt: &HostRuntime, count: u32, chamber: u16) -> Result<()> {
+    let people = equal(rt.alloc(), count)?;
+    show_limit(rt, &people, chamber)
+}
+
 /// Prints the limits of a problem.
 fn show_limits(rt: &HostRuntime) -> Result<()> {
-    let most = equal(rt.alloc(), 128)?;
-    let more = equal(rt.alloc(), 129)?;
-    for (people, chamber) in [
-        ([].as_slice(), 0),
-        (&[], 1001),
-        (&[], 1),
-        (more.as_slice(), 1),
-        (&most, 1000),
-        (&[(1, 1), (1, 2)], 1),
-    ] {
-        show_fault(
-            rt,
-            Sketch {
-                people,
-                pairs: &[],
-                withdrawn: &[],
-                chamber,
-            },
-        )?;
+    for chamber in [0, 1001, 1] {
+        show_limit(rt, &[], chamber)?;
     }
-    Ok(())
+    show_equal(rt, 129, 1)?;
+    show_equal(rt, 128, 1000)?;
+    show_limit(rt, &[(1, 1), (1, 2)], 1)
 }
 
 /// Prints which numbers are codes.
@@ -164,43 +182,47 @@ fn show_codes(rt: &HostRuntime) -> Result<()> {
             None => println!(rt; "{number} is no code")?,
         }
     }
-    let counties: Vec<County> = [3, 1]
-        .iter()
-        .filter_map(|n| {
-            Some(County {
-                code: code(*n)?,
-                people: 1,
-            })
-        })
-        .collect(rt.alloc())?;
-    println!(rt;
-        "{} codes are listed",
-        listed_codes(rt.alloc(), &counties)?.len()
-    )?;
     Ok(())
 }
 
+/// Prints how many codes two counties have.
+fn show_listed(rt: &HostRuntime) -> Result<()> {
+    let listed = listed_codes(rt.alloc(), &counties(rt.alloc(), &[(3, 1), (1, 1)])?)?;
+    println!(rt; "{} codes are listed", listed.len())?;
+    Ok(())
+}
+
+/// Three counties in a path, of which one is withdrawn.
+const ONE_OF_THREE: Sketch = Sketch {
+    people: &[(5, 100), (1, 100), (3, 100)],
+    pairs: &[(3, 1), (1, 1), (3, 5)],
+    withdrawn: &[(2, &[5])],
+    chamber: 3,
+};
+
 /// Prints a problem with a withdrawn set, and its copy.
 fn show_built(rt: &HostRuntime) -> Result<()> {
-    let withdrawn = Sketch {
-        people: &[(5, 100), (1, 100), (3, 100)],
-        pairs: &[(3, 1), (1, 1), (3, 5)],
-        withdrawn: &[(2, &[5])],
-        chamber: 3,
-    };
-    let built = withdrawn.problem(rt.alloc())?;
+    let built = ONE_OF_THREE.problem(rt.alloc())?;
     show_problem(rt, &built)?;
     show_problem(rt, &built.copy()?)
+}
+
+/// Prints the seats that people of the two counties apart suit.
+fn show_apart(rt: &HostRuntime) -> Result<()> {
+    let apart = THIRTY_NINE_SEATS.problem(rt.alloc())?;
+    show_seats(rt, &apart, 1950)
 }
 
 /// Prints windows, a problem read back, and each fault.
 pub(crate) fn show(rt: &HostRuntime) -> Result<()> {
     show_codes(rt)?;
+    show_listed(rt)?;
     show_chamber(rt, 120)?;
+    show_house(rt)?;
     show_chamber(rt, 50)?;
-    show_seats(rt, &THIRTY_NINE_SEATS.problem(rt.alloc())?, 1950)?;
+    show_apart(rt)?;
     show_built(rt)?;
-    show_people(rt, &STRANDING_PATH.problem(rt.alloc())?)?;
+    show_people(rt)?;
     show_limits(rt)?;
     show_withdrawn_faults(rt)
 }

@@ -6,8 +6,19 @@ use crate::sketch::RING_OF_FOUR;
 use anyhow::Result;
 use county_codes::listed_codes;
 use county_regions::{neighbour_rows, part_around};
+use grouping_problem::Problem;
 use ordered_counties::Ordered;
 use place_sets::CountySet;
+
+/// Prints a part, and what is left without it.
+fn show_cut<C: CountySet>(rt: &HostRuntime, part: &C, rest: &C) -> Result<()>
+    requires { 128 ≤ C.PLACES }
+{
+    print!(rt; "part")?;
+    show_places(rt, part)?;
+    print!(rt; "left")?;
+    show_places(rt, rest)
+}
 
 /// Prints the part around place 0 of the ring of four without some places, and what is left.
 fn show_part<C: CountySet>(rt: &HostRuntime, ordered: &Ordered, out: &[u16]) -> Result<()>
@@ -24,10 +35,22 @@ fn show_part<C: CountySet>(rt: &HostRuntime, ordered: &Ordered, out: &[u16]) -> 
     }
     if places > 0 && region.has(0) {
         let (part, rest) = part_around(alloc, ordered, &near, &region, 0)?;
-        print!(rt; "part")?;
-        show_places(rt, &part)?;
-        print!(rt; "left")?;
-        show_places(rt, &rest)?;
+        show_cut(rt, &part, &rest)?;
+    }
+    Ok(())
+}
+
+/// Places that are left out of the ring of four.
+const TAKEN: &[&[u16]] = &[&[], &[1], &[1, 3]];
+
+/// Prints parts of a problem's counties in their order.
+fn show_parts<C: CountySet>(rt: &HostRuntime, problem: &Problem) -> Result<()>
+    requires { 128 ≤ C.PLACES }
+{
+    let order = listed_codes(rt.alloc(), problem.counties())?;
+    let ordered = Ordered::build(rt.alloc(), problem, &order)?;
+    for out in TAKEN {
+        show_part::<C>(rt, &ordered, out)?;
     }
     Ok(())
 }
@@ -37,9 +60,5 @@ pub(crate) fn show<C: CountySet>(rt: &HostRuntime) -> Result<()>
     requires { 128 ≤ C.PLACES }
 {
     let ring = RING_OF_FOUR.problem(rt.alloc())?;
-    let order = listed_codes(rt.alloc(), ring.counties())?;
-    let ordered = Ordered::build(rt.alloc(), &ring, &order)?;
-    show_part::<C>(rt, &ordered, &[])?;
-    show_part::<C>(rt, &ordered, &[1])?;
-    show_part::<C>(rt, &ordered, &[1, 3])
+    show_parts::<C>(rt, &ring)
 }

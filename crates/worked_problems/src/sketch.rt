@@ -71,7 +71,41 @@ pub(crate) fn code(number: u32) -> Option<CountyCode> {
 
 /// The codes of these numbers.
 pub(crate) fn codes(alloc: Global, numbers: &[u32]) -> Result<Vec<CountyCode>, AllocError> {
-    numbers.iter().filter_map(|n| code(*n)).collect(alloc)
+    let mut list = Vec::new(alloc);
+    for number in numbers {
+        if let Some(code) = code(*number) {
+            list.push(code)?;
+        }
+    }
+    Ok(list)
+}
+
+/// The counties of these numbers with their people.
+pub(crate) fn counties(alloc: Global, people: &[(u32, u32)]) -> Result<Vec<County>, AllocError> {
+    let mut list = Vec::new(alloc);
+    for (number, people) in people {
+        if let Some(code) = code(*number) {
+            list.push(County {
+                code,
+                people: *people,
+            })?;
+        }
+    }
+    Ok(list)
+}
+
+/// The pairs of these numbers.
+fn pairs(
+    alloc: Global,
+    numbers: &[(u32, u32)],
+) -> Result<Vec<(CountyCode, CountyCode)>, AllocError> {
+    let mut list = Vec::new(alloc);
+    for (a, b) in numbers {
+        if let (Some(a), Some(b)) = (code(*a), code(*b)) {
+            list.push((a, b))?;
+        }
+    }
+    Ok(list)
 }
 
 /// The grouping of the sets with their seats.
@@ -100,25 +134,23 @@ fn withdrawn(alloc: Global, sets: &[(u16, &[u32])]) -> Result<Vec<Withdrawn>, Al
     Ok(list)
 }
 
+/// The problem of these counties, pairs, withdrawn sets and seats, or why there is none.
+fn built(
+    alloc: Global,
+    counties: &[County],
+    pairs: &[(CountyCode, CountyCode)],
+    sets: &[Withdrawn],
+    chamber: u16,
+) -> Result<Problem> {
+    Ok(Problem::build(alloc, counties, pairs, sets, chamber)?)
+}
+
 impl Sketch<'_> {
     /// The problem, or why there is none.
     pub(crate) fn problem(self, alloc: Global) -> Result<Problem> {
-        let counties: Vec<County> = self
-            .people
-            .iter()
-            .filter_map(|(n, people)| {
-                Some(County {
-                    code: code(*n)?,
-                    people: *people,
-                })
-            })
-            .collect(alloc)?;
-        let pairs: Vec<(CountyCode, CountyCode)> = self
-            .pairs
-            .iter()
-            .filter_map(|(a, b)| Some((code(*a)?, code(*b)?)))
-            .collect(alloc)?;
+        let counties = counties(alloc, self.people)?;
+        let pairs = pairs(alloc, self.pairs)?;
         let sets = withdrawn(alloc, self.withdrawn)?;
-        Ok(Problem::build(alloc, &counties, &pairs, &sets, self.chamber)?)
+        built(alloc, &counties, &pairs, &sets, self.chamber)
     }
 }

@@ -5,10 +5,22 @@ use crate::groups::show_places;
 use crate::sketch::{STRANDING_PATH, codes, grouping};
 use anyhow::Result;
 use county_codes::{Codes, Grouping, listed_codes};
+use grouping_problem::Problem;
 use ordered_counties::Ordered;
 use place_sets::CountySet;
 use proof_trees::{Language, Round, State};
 use std::alloc::Global;
+
+/// Prints closed groups.
+fn show_closed_groups<C: CountySet>(rt: &HostRuntime, closed: &[C]) -> Result<()>
+    requires { 128 ≤ C.PLACES }
+{
+    for group in closed {
+        print!(rt; "closed")?;
+        show_places(rt, group)?;
+    }
+    Ok(())
+}
 
 /// Prints a state: its rest, what each place asks for, and its closed groups.
 fn show_state<C: CountySet>(rt: &HostRuntime, state: &State<C>) -> Result<()>
@@ -17,11 +29,7 @@ fn show_state<C: CountySet>(rt: &HostRuntime, state: &State<C>) -> Result<()>
     print!(rt; "rest")?;
     show_places(rt, &state.rest)?;
     println!(rt; "least sizes {:?}", state.least.as_slice())?;
-    for group in &state.closed {
-        print!(rt; "closed")?;
-        show_places(rt, group)?;
-    }
-    Ok(())
+    show_closed_groups(rt, &state.closed)
 }
 
 /// Prints a state with its first county closed alone.
@@ -59,15 +67,22 @@ fn show_states<C: CountySet>(rt: &HostRuntime, ordered: &Ordered) -> Result<()>
     show_raised(rt, state)
 }
 
+/// Prints states of a problem, its counties in their order.
+fn show_problem<C: CountySet>(rt: &HostRuntime, problem: &Problem) -> Result<()>
+    requires { 128 ≤ C.PLACES }
+{
+    let order = listed_codes(rt.alloc(), problem.counties())?;
+    let ordered = Ordered::build(rt.alloc(), problem, &order)?;
+    show_states::<C>(rt, &ordered)
+}
+
 /// Prints states of the stranding path: at first, with its middle county raised past 1, and with its first
 /// county closed alone.
 pub(crate) fn show<C: CountySet>(rt: &HostRuntime) -> Result<()>
     requires { 128 ≤ C.PLACES }
 {
     let path = STRANDING_PATH.problem(rt.alloc())?;
-    let order = listed_codes(rt.alloc(), path.counties())?;
-    let ordered = Ordered::build(rt.alloc(), &path, &order)?;
-    show_states::<C>(rt, &ordered)
+    show_problem::<C>(rt, &path)
 }
 
 /// The copy of a round with a target, or without one.

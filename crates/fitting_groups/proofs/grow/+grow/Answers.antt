@@ -72,7 +72,7 @@ returns-then-stranded-clause-listed g t c =
     let s = state_of test ground.state.now in
     λ keep d.
     listed_none g.row.C.Denot test p n ground.limit keep (test c.args.set) (test c.args.free) c.args.groups.now.items c.args.groups.now.items
-    (none_fits ground.language p n ground.limit ground.exact s keep (test c.args.set) (test c.args.free) d (c.in_ok-stranded.ensures c.if-stranded.true)) refl
+    (none_fits ground.language p n ground.limit ground.exact s keep (test c.args.set) (test c.args.free) d (c.in_ok-stranded.ensures c.if-stranded.true ground.limit)) refl
 
 pub returns-in_err-kept-in-None-clause-steps : goal.returns-in_err-kept-in-None-clause-steps
 returns-in_err-kept-in-None-clause-steps g t c =
