@@ -5,3 +5,11 @@ pub mod Lines
 pub mod Branching
 pub mod Takes
 pub mod Trees
+pub mod Taken
+pub mod Whole
+pub mod RoundsRead
+pub mod Judged
+pub mod ReadableTexts
+pub mod Targets
+pub mod Answering
+pub mod TreeAnswering

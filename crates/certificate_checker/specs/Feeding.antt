@@ -1,5 +1,5 @@
 -- What a checker has read, and what it has looked through.
-use Rattle.std.specs.Prelude.{ℕ, ◌+◌, ◌*◌, ◌≡◌, ◌≤◌, ◌<◌, List, [], ◌∷◌, ◌++◌, length, Some, None, Result, Ok, Err, ⊤}
+use Rattle.std.specs.Prelude.{ℕ, ◌+◌, ◌*◌, ◌≡◌, ◌≤◌, List, [], ◌∷◌, ◌++◌, length, Some, None, Result, Ok, Err, ⊤}
 use Rattle.grouping_laws.specs.Problem.{Problem}
 use Rattle.proof_trees.specs.Round.{Round}
 use Rattle.proof_trees.specs.Tree.{Takes}
@@ -77,10 +77,10 @@ StopsAtText fault (stop.Text same) = (same ≡ fault) × (IsMemory fault → ⊥
 StopsAtText fault stop.Memory = IsMemory fault
 StopsAtText fault _ = ⊥
 
--- All lines were read: the text has no fault, or this one; or there are more lines than steps.
+-- All lines were read: the text has no fault, or this one; or there are as many lines as steps, where the end counts as one more.
 abbrev pub IsRestRead : FeedValue → Result (Unit {0}) Stop → Type 0
 IsRestRead old (Ok done) = old.course.fault ≡ None
 IsRestRead old (Err (stop.Text fault)) = old.course.fault ≡ Some fault
-IsRestRead old (Err stop.Budget) = old.limit < old.line + length old.course.items
+IsRestRead old (Err stop.Budget) = old.limit ≤ old.line + length old.course.items
 IsRestRead old (Err stop.Memory) = ⊤
 IsRestRead old (Err _) = ⊥

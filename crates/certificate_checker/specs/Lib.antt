@@ -2,3 +2,6 @@ pub mod CheckFaults
 pub mod Readable
 pub mod Feeding
 pub mod Judging
+pub mod Certificates
+pub mod Answered
+pub mod TreeAnswered

@@ -6,7 +6,7 @@ ghost use Rattle.certificate_checker.specs.declared.feed.Stop.TheVariants.{Memor
 use crate::fault::CheckFault;
 use certificate_lines::{Item, ItemSource, TextFault, TextKind};
 use ordered_counties::Steps;
-use std::alloc::AllocError;
+use std::alloc::{AllocError, AllocFailed};
 
 /// The lines of a certificate or of a tree, with how many were read, and the steps that may be taken: one for each
 /// line, and one for each set that is split.
@@ -36,6 +36,14 @@ impl From<AllocError> for Stop {
     ghost from_gives = { λ _ e. e ≡ Memory };
 
     fn from(_e: AllocError) -> Stop {
+        Stop::Memory
+    }
+}
+
+impl<T: Drop> From<AllocFailed<T>> for Stop {
+    ghost from_gives = { λ _ e. e ≡ Memory };
+
+    fn from(_e: AllocFailed<T>) -> Stop {
         Stop::Memory
     }
 }
@@ -76,15 +84,31 @@ pub(crate) fn read_rest<S: ItemSource>(feed: &mut Feed<S>) -> Result<(), Stop>
 {
     let limit = feed.steps.limit();
     loop {
+        if feed.line >= limit {
+            return Err(Stop::Budget);
+        }
         match feed.source.next_item() {
-            Ok(Some(_)) => {
-                if feed.line >= limit {
-                    return Err(Stop::Budget);
-                }
-                feed.line += 1;
-            }
+            Ok(Some(_)) => feed.line += 1,
             Ok(None) => return Ok(()),
             Err(fault) => return Err(of_source(fault)),
+        }
+    }
+}
+
+/// The fault that ends the items to come, if there is one.
+pub(crate) fn first_fault<S: ItemSource>(source: &mut S) -> Result<Option<TextFault>, AllocError>
+    ensures { IfOk result (λ fault. fault ≡ (S.course source.old).fault) }
+{
+    loop {
+        match source.next_item() {
+            Ok(Some(_)) => {}
+            Ok(None) => return Ok(None),
+            Err(fault) => {
+                return match fault.kind {
+                    TextKind::Memory => Err(AllocError),
+                    _ => Ok(Some(fault)),
+                };
+            }
         }
     }
 }

@@ -7,8 +7,9 @@ ghost use Rattle.certificate_checker.specs.Judging.{TookForm, IsStopAt, IsJudged
 use crate::fault::of_line;
 use crate::feed::{Feed, Stop, next_line};
 use certificate_lines::{Allowance, Item, ItemSource, Opening};
-use county_codes::Codes;
+use county_codes::{Codes, Group};
 use line_verdicts::LineStop;
+use proof_trees::Language;
 
 /// The next line, which has to open a tree.
 pub(crate) fn next_opening<S: ItemSource>(feed: &mut Feed<S>) -> Result<Opening, Stop>
@@ -44,6 +45,78 @@ pub(crate) fn next_allowance<S: ItemSource>(feed: &mut Feed<S>) -> Result<Allowa
 {
     match next_line(feed)? {
         Item::Allows(allowance) => Ok(allowance),
+        _ => Err(Stop::Unspelled),
+    }
+}
+
+/// The next line, which has to be the head of a certificate.
+pub(crate) fn next_head<S: ItemSource>(feed: &mut Feed<S>) -> Result<Language, Stop>
+    requires { feed.old.line ≤ feed.old.steps.used }
+    ensures fed { IsFed (feed_of S.course feed.old) result (feed_of S.course feed.new) }
+    ensures took { TookForm item.Head (λ l. l) (feed_of S.course feed.old) result (feed_of S.course feed.new) }
+{
+    match next_line(feed)? {
+        Item::Head(language) => Ok(language),
+        _ => Err(Stop::Unspelled),
+    }
+}
+
+/// The next line, which has to be the order.
+pub(crate) fn next_order<S: ItemSource>(feed: &mut Feed<S>) -> Result<Codes, Stop>
+    requires { feed.old.line ≤ feed.old.steps.used }
+    ensures fed { IsFed (feed_of S.course feed.old) result (feed_of S.course feed.new) }
+    ensures took { TookForm item.Order (λ o. o) (feed_of S.course feed.old) result (feed_of S.course feed.new) }
+{
+    match next_line(feed)? {
+        Item::Order(order) => Ok(order),
+        _ => Err(Stop::Unspelled),
+    }
+}
+
+/// The next line, which has to be the limit.
+pub(crate) fn next_limit<S: ItemSource>(feed: &mut Feed<S>) -> Result<u16, Stop>
+    requires { feed.old.line ≤ feed.old.steps.used }
+    ensures fed { IsFed (feed_of S.course feed.old) result (feed_of S.course feed.new) }
+    ensures took { TookForm item.Limit (λ n. n) (feed_of S.course feed.old) result (feed_of S.course feed.new) }
+{
+    match next_line(feed)? {
+        Item::Limit(limit) => Ok(limit),
+        _ => Err(Stop::Unspelled),
+    }
+}
+
+/// The next line, which has to be that of the target: the number of its groups, or that there is none.
+pub(crate) fn next_target<S: ItemSource>(feed: &mut Feed<S>) -> Result<Option<u16>, Stop>
+    requires { feed.old.line ≤ feed.old.steps.used }
+    ensures fed { IsFed (feed_of S.course feed.old) result (feed_of S.course feed.new) }
+    ensures took { TookForm item.Target (λ n. n) (feed_of S.course feed.old) result (feed_of S.course feed.new) }
+{
+    match next_line(feed)? {
+        Item::Target(count) => Ok(count),
+        _ => Err(Stop::Unspelled),
+    }
+}
+
+/// The next line, which has to be a group of the target.
+pub(crate) fn next_group<S: ItemSource>(feed: &mut Feed<S>) -> Result<Group, Stop>
+    requires { feed.old.line ≤ feed.old.steps.used }
+    ensures fed { IsFed (feed_of S.course feed.old) result (feed_of S.course feed.new) }
+    ensures took { TookForm item.Grouped (λ g. g) (feed_of S.course feed.old) result (feed_of S.course feed.new) }
+{
+    match next_line(feed)? {
+        Item::Grouped(group) => Ok(group),
+        _ => Err(Stop::Unspelled),
+    }
+}
+
+/// The next line, which has to be the end.
+pub(crate) fn next_end<S: ItemSource>(feed: &mut Feed<S>) -> Result<(), Stop>
+    requires { feed.old.line ≤ feed.old.steps.used }
+    ensures fed { IsFed (feed_of S.course feed.old) result (feed_of S.course feed.new) }
+    ensures took { TookForm (λ _. item.End) (λ u. u) (feed_of S.course feed.old) result (feed_of S.course feed.new) }
+{
+    match next_line(feed)? {
+        Item::End => Ok(()),
         _ => Err(Stop::Unspelled),
     }
 }

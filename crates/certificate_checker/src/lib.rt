@@ -1,17 +1,34 @@
-//! A checker of certificates: so far the body that judges a tree, line by line, and the faults that it names.
+//! A checker of certificates: the verdict on any text, plain or wide, and on any tree.
 //!
-//! `tree` reads the lines of a tree one after the other and judges each at its state: branches with their takes, and
-//! leaves (`leaves`). `feed` counts lines and steps, `forms` takes lines of one form, `verdict` judges the lines of branches
-//! and takes, and `ground` is what they are judged by. It makes no value of a tree. Any form of sets of places serves, and
-//! any source of items.
+//! ```
+//! match check(alloc, &problem, text, 10_000_000)? {
+//!     Verdict::Best(grouping) => ..,      // lawful, and no lawful grouping is greater
+//!     Verdict::Impossible => ..,          // no grouping is lawful
+//!     Verdict::No(fault, line) => ..,     // the text is no certificate of the problem
+//!     Verdict::Budget => ..,              // the budget is below the text's cost
+//! }
+//! ```
+//!
+//! `checking` says the verdict of a text, `tree_checking` that of a tree. `certificate` judges order, limit and target, whose lines
+//! `rounds` reads; `tree` reads the lines of a tree one after the other and judges each at its state: branches with their takes
+//! (`branches`), and leaves (`leaves`). `feed` counts lines and steps, `forms` takes lines of one form, and `ground` is what they are
+//! judged by. It makes no value of a tree. Any form of sets of places serves, and any source of items.
 #![tactic(auto)]
 
+mod branches;
+mod certificate;
+mod checking;
 mod fault;
 mod feed;
 mod forms;
 mod ground;
 mod leaves;
+mod rounds;
 mod tree;
+mod tree_checking;
 mod verdict;
 
+pub use checking::{check, check_over};
 pub use fault::CheckFault;
+pub use tree_checking::check_tree;
+pub use verdict::{TreeVerdict, Verdict};

@@ -10,12 +10,12 @@ ghost use Rattle.certificate_checker.specs.Readable.{IsReadable, AreReadable};
 ghost use Rattle.certificate_checker.specs.Feeding.{feed_of, IsFed, items_to_mark};
 ghost use Rattle.certificate_checker.specs.Judging.{IsGround, IsJudged};
 
+use crate::branches::{groups_behind, listed_groups, taken_state};
 use crate::fault::CheckFault;
 use crate::feed::{Feed, Stop};
 use crate::forms::{next_opening, next_take};
 use crate::ground::Ground;
 use crate::leaves::{judge_bound_leaf, judge_seats_leaf, judge_stuck_leaf};
-use crate::verdict::{groups_behind, listed_groups, taken_state};
 use certificate_lines::{ItemSource, Opening};
 use line_verdicts::raise_place;
 use place_sets::CountySet;

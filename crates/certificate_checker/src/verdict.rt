@@ -1,108 +1,26 @@
-ghost use Rattle.std.specs.Prelude.{◌≡◌, ℕ, ◌≤◌, ◌<◌, ◌∷◌, List, All, length, IfOk, MatchResult};
-ghost use Rattle.grouping_problem.specs.ProblemValue.{problem_of};
-ghost use Rattle.ordered_counties.specs.OrderedValue.{code_at};
-ghost use Rattle.proof_trees.specs.RoundValue.{round_of};
-ghost use Rattle.proof_trees.specs.State.{close};
-ghost use Rattle.proof_trees.specs.Proving.{limit_of};
-ghost use Rattle.verdicts.specs.Branches.{IsNext};
-ghost use Rattle.line_verdicts.specs.Placed.{state_at, codes_of_sets, IsPlaced, IsClosable};
-ghost use Rattle.certificate_checker.specs.Feeding.{feed_of, IsFed};
-ghost use Rattle.certificate_checker.specs.Judging.{IsGround, IsListed, IsRefused, IsTakeStop};
+use crate::fault::CheckFault;
+use county_codes::Grouping;
 
-use crate::fault::of_line;
-use crate::feed::{Feed, Stop};
-use crate::forms::judged_at;
-use crate::ground::Ground;
-use certificate_lines::ItemSource;
-use county_codes::CountyCode;
-use line_verdicts::{Branching, closed_state, judge_branch, judge_take};
-use place_sets::CountySet;
-use proof_trees::State;
-
-/// Judges the line of a branch, which was read last: the groups that its takes have to be.
-pub(crate) fn listed_groups<C: CountySet, S: ItemSource>(
-    ground: &Ground<C>,
-    state: &State<C>,
-    county: CountyCode,
-    limit: Option<u16>,
-    feed: &mut Feed<S>,
-) -> Result<Branching<C>, Stop>
-    requires ground { IsGround C.PLACES C.test ground.now }
-    requires placed { IsPlaced (length ground.now.ordered.now.order) C.test state.now }
-    ensures fed { IsFed (feed_of S.course feed.old) result (feed_of S.course feed.new) }
-    ensures same { S.course feed.new.source ≡ S.course feed.old.source }
-    ensures place { IfOk result (λ b. (b.place < length ground.now.ordered.now.order) × (code_at ground.now.ordered.now.order b.place ≡ county)) }
-    ensures size { IfOk result (λ b. (b.limit ≡ limit_of (round_of ground.now.round.now) limit) × (b.limit ≤ 128)) }
-    ensures groups { IfOk result (λ b. All (IsClosable C.test state.now) b.groups.items) }
-    ensures judged { MatchResult
-        result
-        (λ b. IsListed
-        (problem_of ground.now.ordered.now.problem)
-        (round_of ground.now.round.now)
-        (state_at ground.now.ordered.now.order C.test state.now)
-        county
-        limit
-        (codes_of_sets ground.now.ordered.now.order C.test b.groups.items)
-        (feed_of S.course feed.old)
-        (feed_of S.course feed.new))
-        (λ found. IsRefused
-        (problem_of ground.now.ordered.now.problem)
-        (round_of ground.now.round.now)
-        (state_at ground.now.ordered.now.order C.test state.now)
-        county
-        limit
-        (feed_of S.course feed.old)
-        found) }
-{
-    let judged = judge_branch(
-        ground.alloc,
-        ground.ordered,
-        ground.near,
-        ground.round,
-        state,
-        county,
-        limit,
-        &mut feed.steps,
-    );
-    judged_at(judged, feed.line)
+/// What is said of a text that should be a certificate.
+#[derive(Debug, Drop)]
+pub enum Verdict {
+    /// The text is a certificate, and its target is best.
+    Best(Grouping),
+    /// The text is a certificate without a target: no grouping is lawful.
+    Impossible,
+    /// The text is none: its first fault, and the line, from 1.
+    No(CheckFault, u64),
+    /// The budget is below the cost of the text.
+    Budget,
 }
 
-/// Judges the line of a take, which was read last, where these groups are left: the state where its group is closed.
-pub(crate) fn taken_state<C: CountySet>(
-    ground: &Ground<C>,
-    state: &State<C>,
-    left: &[C],
-    codes: &[CountyCode],
-    line: u64,
-) -> Result<State<C>, Stop>
-    requires ground { IsGround C.PLACES C.test ground.now }
-    requires placed { IsPlaced (length ground.now.ordered.now.order) C.test state.now }
-    requires groups { All (IsClosable C.test state.now) left.now }
-    ensures placed { IfOk result (λ s. IsPlaced (length ground.now.ordered.now.order) C.test s) }
-    ensures taken { MatchResult
-        result
-        (λ s. IsNext (codes_of_sets ground.now.ordered.now.order C.test left.now) codes.now
-        × (state_at ground.now.ordered.now.order C.test s ≡ close codes.now (state_at ground.now.ordered.now.order C.test state.now)))
-        (λ found. IsTakeStop (codes_of_sets ground.now.ordered.now.order C.test left.now) codes.now line found) }
-{
-    match judge_take(ground.ordered, left, codes) {
-        Ok(()) => match left.split_first() {
-            Some((group, _)) => match closed_state(ground.alloc, ground.ordered, state, group) {
-                Ok(closed) => Ok(closed),
-                Err(_) => Err(Stop::Memory),
-            },
-            None => Err(Stop::Memory),
-        },
-        Err(fault) => Err(Stop::Fault(of_line(fault), line)),
-    }
-}
-
-/// The groups behind the first one.
-pub(crate) fn groups_behind<C>(left: &[C]) -> &[C]
-    ensures { (group : C) (others : List C) → left.now ≡ group ∷ others → result.now ≡ others }
-{
-    match left.split_first() {
-        Some((_, others)) => others,
-        None => left,
-    }
+/// What is said of a tree that should be a proof.
+#[derive(Clone, Copy, Debug, PartialEq, Eq)]
+pub enum TreeVerdict {
+    /// The tree is a proof.
+    Proof,
+    /// The tree is none, or no text spells it: its first fault.
+    Fault(CheckFault),
+    /// The budget is below the cost of the tree.
+    Budget,
 }

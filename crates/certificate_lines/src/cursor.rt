@@ -130,7 +130,10 @@ impl<'a> Cursor<'a> {
                 line,
             });
         };
-        head_of(bytes, ended).map_err(|kind| TextFault { kind, line })
+        match head_of(bytes, ended) {
+            Ok(language) => Ok(language),
+            Err(kind) => Err(TextFault { kind, line }),
+        }
     }
 
     /// The order.
@@ -138,7 +141,10 @@ impl<'a> Cursor<'a> {
         ensures { ReadsLine (λ r. r) (by_words line.order_on) self.old result self.new }
     {
         let (words, line) = self.next_words()?;
-        order_on(alloc, words).map_err(|kind| TextFault { kind, line })
+        match order_on(alloc, words) {
+            Ok(order) => Ok(order),
+            Err(kind) => Err(TextFault { kind, line }),
+        }
     }
 
     /// The limit.
@@ -146,7 +152,10 @@ impl<'a> Cursor<'a> {
         ensures { ReadsLine (λ r. r) (by_words line.limit_on) self.old result self.new }
     {
         let (words, line) = self.next_words()?;
-        limit_on(words).map_err(|kind| TextFault { kind, line })
+        match limit_on(words) {
+            Ok(limit) => Ok(limit),
+            Err(kind) => Err(TextFault { kind, line }),
+        }
     }
 
     /// The number of groups of the target.
@@ -154,7 +163,10 @@ impl<'a> Cursor<'a> {
         ensures { ReadsLine (λ r. r) (by_words line.target_on) self.old result self.new }
     {
         let (words, line) = self.next_words()?;
-        target_on(words).map_err(|kind| TextFault { kind, line })
+        match target_on(words) {
+            Ok(groups) => Ok(groups),
+            Err(kind) => Err(TextFault { kind, line }),
+        }
     }
 
     /// A group.
@@ -162,7 +174,10 @@ impl<'a> Cursor<'a> {
         ensures { ReadsLine (λ r. r) (by_words line.group_on) self.old result self.new }
     {
         let (words, line) = self.next_words()?;
-        group_on(alloc, words).map_err(|kind| TextFault { kind, line })
+        match group_on(alloc, words) {
+            Ok(group) => Ok(group),
+            Err(kind) => Err(TextFault { kind, line }),
+        }
     }
 
     /// A branch or a leaf.
@@ -171,7 +186,10 @@ impl<'a> Cursor<'a> {
         ensures level { IfOk result (λ o. line.HasLevel levels o) }
     {
         let (words, line) = self.next_words()?;
-        opening_on(language, levels, words).map_err(|kind| TextFault { kind, line })
+        match opening_on(language, levels, words) {
+            Ok(opening) => Ok(opening),
+            Err(kind) => Err(TextFault { kind, line }),
+        }
     }
 
     /// The codes of a take, or none at the mark.
@@ -179,7 +197,10 @@ impl<'a> Cursor<'a> {
         ensures { ReadsLine (λ r. r) (by_words line.take_on) self.old result self.new }
     {
         let (words, line) = self.next_words()?;
-        take_on(alloc, words).map_err(|kind| TextFault { kind, line })
+        match take_on(alloc, words) {
+            Ok(codes) => Ok(codes),
+            Err(kind) => Err(TextFault { kind, line }),
+        }
     }
 
     /// A line of a bound leaf.
@@ -187,7 +208,10 @@ impl<'a> Cursor<'a> {
         ensures { ReadsLine (λ r. r) (by_words line.allowance_on) self.old result self.new }
     {
         let (words, line) = self.next_words()?;
-        allowance_on(alloc, words).map_err(|kind| TextFault { kind, line })
+        match allowance_on(alloc, words) {
+            Ok(allowance) => Ok(allowance),
+            Err(kind) => Err(TextFault { kind, line }),
+        }
     }
 
     /// The end.
@@ -195,7 +219,10 @@ impl<'a> Cursor<'a> {
         ensures { ReadsLine (λ r. r) (by_words line.end_on) self.old result self.new }
     {
         let (words, line) = self.next_words()?;
-        end_on(words).map_err(|kind| TextFault { kind, line })
+        match end_on(words) {
+            Ok(()) => Ok(()),
+            Err(kind) => Err(TextFault { kind, line }),
+        }
     }
 }
 

@@ -28,4 +28,7 @@ pub use writing_lines::{
     push_allowance, push_branch, push_group, push_head, push_limit, push_order, push_take,
     push_target_line,
 };
-pub use writing_words::{push_code_line, push_number_line};
+pub use writing_words::{
+    push_code_and_number_line, push_code_line, push_codes_line, push_number_and_weights,
+    push_number_line,
+};

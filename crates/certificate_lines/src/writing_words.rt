@@ -49,6 +49,7 @@ fn push_codes(out: &mut Vec<u8>, codes: &[CountyCode]) -> Result<(), AllocError>
 fn push_weights(out: &mut Vec<u8>, weights: &[Weight]) -> Result<(), AllocError>
     ensures text { OnOk result (out.new.items ≡ out.old.items ++ flat_map (λ w. 32 ∷ weight_word w) weights.now) }
     ensures small { OnOk result (All (λ w. w.county ≤ 99999) weights.now) }
+    ensures numbers { OnOk result (All (λ w. w.weight ≤ 4294967295) weights.now) }
 {
     for weight in weights {
         out.extend_from_slice(b" ")?;
@@ -70,7 +71,7 @@ pub fn push_code_line(out: &mut Vec<u8>, name: &[u8], code: CountyCode) -> Resul
 }
 
 /// Appends a line of a name, a code and a number.
-pub(crate) fn push_code_and_number_line(
+pub fn push_code_and_number_line(
     out: &mut Vec<u8>,
     name: &[u8],
     code: CountyCode,
@@ -96,7 +97,7 @@ pub fn push_number_line(out: &mut Vec<u8>, name: &[u8], number: u32) -> Result<(
 }
 
 /// Appends a line of a name and codes, each after a blank.
-pub(crate) fn push_codes_line(
+pub fn push_codes_line(
     out: &mut Vec<u8>,
     name: &[u8],
     codes: &[CountyCode],
@@ -127,7 +128,7 @@ pub(crate) fn push_number_and_codes_line(
 }
 
 /// Appends a line of a name, a number and weights, each after a blank, without its LF.
-pub(crate) fn push_number_and_weights(
+pub fn push_number_and_weights(
     out: &mut Vec<u8>,
     name: &[u8],
     number: u32,
@@ -135,6 +136,7 @@ pub(crate) fn push_number_and_weights(
 ) -> Result<(), AllocError>
     ensures text { OnOk result (out.new.items ≡ out.old.items ++ (name.now ++ (decimal number ++ flat_map (λ w. 32 ∷ weight_word w) weights.now))) }
     ensures small { OnOk result (All (λ w. w.county ≤ 99999) weights.now) }
+    ensures numbers { OnOk result (All (λ w. w.weight ≤ 4294967295) weights.now) }
 {
     out.extend_from_slice(name)?;
     push_number(out, number)?;

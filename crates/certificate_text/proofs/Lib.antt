@@ -10,6 +10,7 @@ pub mod FrontLaws
 pub mod GiveLaws
 pub mod WriteLaws
 pub mod CourseLaws
+pub mod TextKinds
 pub mod OneSpelling
 pub mod TreeWrites
 pub mod CopyLaws

@@ -33,7 +33,7 @@ use Rattle.certificate_lines.specs.declared.item.Wanted.{Wanted}
 use Rattle.certificate_lines.specs.declared.item.Wanted.TheVariants as want
 
 -- a short word, of at most 20 bytes
-record IsShort (word : List ℕ) : Type 0 where
+pub record IsShort (word : List ℕ) : Type 0 where
   pub is_word : IsWord word
   pub short : length word ≤ 20
 
@@ -48,10 +48,10 @@ shown_by (b ∷ bytes) e =
     (record { from = leb-true 33 b ends.0; to = leb-true b 126 ends.1 }, shown_by bytes parts.1)
 
 -- a word that is written out
-named_word : (word : List ℕ) → list_all is_shown word ≡ true → 0 < length word → length word ≤ 20 → IsShort word
+pub named_word : (word : List ℕ) → list_all is_shown word ≡ true → 0 < length word → length word ≤ 20 → IsShort word
 named_word word e some short = record { is_word = record { some = some; shown = shown_by word e }; short = short }
 
-digits_shown : (bytes : List ℕ) → AllByRecursion Digit bytes → AllByRecursion Shown bytes
+pub digits_shown : (bytes : List ℕ) → AllByRecursion Digit bytes → AllByRecursion Shown bytes
 digits_shown [] a = tt
 digits_shown (b ∷ bytes) a = (record { from = omega (arith, a.0.from); to = omega (arith, a.0.to) }, digits_shown bytes a.1)
 
@@ -60,14 +60,14 @@ number_word n small =
     let fits : n < 2 ^ 64 = omega (arith, small) in
     record { is_word = record { some = decimal_nonempty n fits; shown = digits_shown (decimal n) (decimal_digits n fits) }; short = omega (arith, length-decimal-le 19 n (omega arith) small fits) }
 
-code_word : (c : ℕ) → c ≤ 99999 → IsShort (five_digits c)
+pub code_word : (c : ℕ) → c ≤ 99999 → IsShort (five_digits c)
 code_word c small = record { is_word = record { some = omega arith; shown = digits_shown (five_digits c) (code_digits c small) }; short = omega arith }
 
-code_words : (cs : List ℕ) → AreCodes cs → AllByRecursion IsShort (map five_digits cs)
+pub code_words : (cs : List ℕ) → AreCodes cs → AllByRecursion IsShort (map five_digits cs)
 code_words [] a = tt
 code_words (c ∷ cs) a = (code_word c a.0, code_words cs a.1)
 
-words_of_short : (words : List (List ℕ)) → AllByRecursion IsShort words → AllByRecursion IsWord words
+pub words_of_short : (words : List (List ℕ)) → AllByRecursion IsShort words → AllByRecursion IsWord words
 words_of_short [] a = tt
 words_of_short (w ∷ words) a = (a.0.is_word, words_of_short words a.1)
 
@@ -75,7 +75,7 @@ short_line : (first : List ℕ) (words : List (List ℕ)) → IsShort first → 
 short_line first [] a b = omega (arith, a.short)
 short_line first (w ∷ words) a b = omega (arith, a.short, short_line w words b.0 b.1, length-append first (32 ∷ join_with_byte 32 (w ∷ words)))
 
-shown_append : (xs ys : List ℕ) → AllByRecursion Shown xs → AllByRecursion Shown ys → AllByRecursion Shown (xs ++ ys)
+pub shown_append : (xs ys : List ℕ) → AllByRecursion Shown xs → AllByRecursion Shown ys → AllByRecursion Shown (xs ++ ys)
 shown_append [] ys a b = b
 shown_append (x ∷ xs) ys a b = (a.0, shown_append xs ys a.1 b)
 

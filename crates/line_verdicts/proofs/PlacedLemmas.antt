@@ -1,5 +1,5 @@
 -- States by places that a call makes.
-use Rattle.std.proofs.Common.{◌≡◌, ℕ, ◌+◌, ◌≤◌, ◌<◌, Bool, true, false, not, ◌&&◌, List, [], ◌∷◌, ◌++◌, map, length, refl, sym, ap, ◌∙◌, subst, arith, inl, inr, ⊎_elim, All, Result, Ok, Err, IfOk}
+use Rattle.std.proofs.Common.{◌≡◌, ℕ, ◌+◌, ◌≤◌, ◌<◌, Bool, true, false, not, ◌&&◌, List, [], ◌∷◌, ◌++◌, map, length, get_or, refl, sym, ap, ◌∙◌, subst, arith, inl, inr, ⊎_elim, All, Result, Ok, Err, IfOk}
 use Rattle.std.proofs.lemmas.Bool.{ltb-true, lt-ltb}
 use Rattle.std.proofs.lemmas.List.{length-map, length-append}
 use Rattle.std.proofs.lemmas.List.Elements.{All-nil}
@@ -16,6 +16,8 @@ use Rattle.proof_trees.specs.State.{empty_state}
 use Rattle.proof_trees.specs.StateValue.{state_of}
 use Rattle.proof_trees.proofs.StateLemmas.{all_below, pushed_places}
 use Rattle.proof_trees.proofs.Counting.{fewer_kept}
+use Rattle.proof_trees.proofs.States.{same_state}
+use Rattle.place_sets.proofs.PlaceSets.{places_same}
 use Rattle.line_verdicts.specs.Placed.{IsPlaced, IsClosable}
 
 -- two facts of an answer give a third
@@ -86,3 +88,18 @@ closed_apart C test n s group copy copies news left placed c same push is =
     none : (b : Bool) → (b && false) ≡ false
     none true = refl
     none false = refl
+
+-- a state whose parts are copies is the same
+pub copied_value : (C : Type 0) (test : C → ℕ → Bool) (old new : StateHeld C) → ((n : ℕ) → lists_of n test new.closed.items ≡ lists_of n test old.closed.items) → ((x : ℕ) → test new.rest x ≡ test old.rest x) → new.least.items ≡ old.least.items
+    → state_of test new ≡ state_of test old
+copied_value C test old new closed rest least =
+    same_state (state_of test new) (state_of test old) (closed (length new.least.items) ∙ ap (λ n. lists_of n test old.closed.items) (ap length least)) rest (λ x. ap (λ l. get_or l x 0) least)
+
+pub copied_placed : (C : Type 0) (test : C → ℕ → Bool) (n : ℕ) (old new : StateHeld C) → ((m : ℕ) → lists_of m test new.closed.items ≡ lists_of m test old.closed.items) → ((x : ℕ) → test new.rest x ≡ test old.rest x) → new.least.items ≡ old.least.items
+    → IsPlaced n test old → IsPlaced n test new
+copied_placed C test n old new closed rest least placed = record {
+  places = ap length least ∙ placed.places;
+  rest = λ x e. placed.rest x (sym (rest x) ∙ e);
+  closed = copied_below C test n old.closed.items new.closed.items closed placed.closed;
+  apart = omega (arith, placed.apart, ap length (closed n), length-map new.closed.items (λ s. places_of n (test s)), length-map old.closed.items (λ s. places_of n (test s)), ap length (places_same n (test old.rest) (test new.rest) rest));
+}

@@ -10,4 +10,4 @@ mod states;
 pub use branch::{Branching, judge_branch, judge_take};
 pub use fault::{LineFault, LineStop};
 pub use leaf::{judge_seats, judge_stuck};
-pub use states::{closed_state, first_state, raise_place};
+pub use states::{closed_state, copied_state, first_state, raise_place};

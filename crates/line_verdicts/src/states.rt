@@ -73,6 +73,23 @@ pub fn closed_state<C: CountySet>(
     })
 }
 
+/// An equal state, or an error where memory was refused.
+pub fn copied_state<C: CountySet>(
+    alloc: Global,
+    ordered: &Ordered,
+    state: &State<C>,
+) -> Result<State<C>, AllocError>
+    requires placed { IsPlaced (length ordered.now.order) C.test state.now }
+    ensures value { IfOk result (λ s. state_at ordered.now.order C.test s ≡ state_at ordered.now.order C.test state.now) }
+    ensures placed { IfOk result (λ s. IsPlaced (length ordered.now.order) C.test s) }
+{
+    Ok(State {
+        closed: copy_sets(alloc, &state.closed)?,
+        rest: state.rest.copy(alloc)?,
+        least: state.least.clone()?,
+    })
+}
+
 /// Raises the county at the place past a limit: from now on it lies in a group of more counties than that.
 pub fn raise_place<C: CountySet>(ordered: &Ordered, state: &mut State<C>, place: u16, limit: u16)
     requires placed { IsPlaced (length ordered.now.order) C.test state.old }

@@ -10,8 +10,15 @@ loop-weight-preserved c = record {
   small =
       All-more (λ (w : Weight). w.county ≤ 99999) c.args.weights.now c.loop-weight.weight-index c.weight-item.result c.loop-weight-test.true c.loop-weight.invariant.small
       (subst (λ (w : Weight). w.county ≤ 99999) c.weight-item.is c.in_ok-push_code.ensures.small);
+  numbers =
+      All-more (λ (w : Weight). w.weight ≤ 4294967295) c.args.weights.now c.loop-weight.weight-index c.weight-item.result c.loop-weight-test.true c.loop-weight.invariant.numbers
+      (subst (λ (w : Weight). w.weight ≤ 4294967295) c.weight-item.is (omega arith));
 }
 
 pub returns-clause-small : goal.returns-clause-small
 returns-clause-small c =
     subst (λ (l : List Weight). All (λ (w : Weight). w.county ≤ 99999) l) (take_all c.loop-weight.weight-index c.args.weights.now (omega arith)) c.loop-weight.invariant.small
+
+pub returns-clause-numbers : goal.returns-clause-numbers
+returns-clause-numbers c =
+    subst (λ (l : List Weight). All (λ (w : Weight). w.weight ≤ 4294967295) l) (take_all c.loop-weight.weight-index c.args.weights.now (omega arith)) c.loop-weight.invariant.numbers

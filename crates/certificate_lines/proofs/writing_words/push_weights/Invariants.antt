@@ -7,4 +7,5 @@ abbrev pub invariant-loop-weight : goal.invariant-loop-weight
 invariant-loop-weight l = record {
   text : l.out.items ++ flat_map (λ w. 32 ∷ weight_word w) (drop l.weight-index l.weights) ≡ l.fn.out.items ++ flat_map (λ w. 32 ∷ weight_word w) l.weights;
   small : All (λ w. w.county ≤ 99999) (take l.weight-index l.weights);
+  numbers : All (λ w. w.weight ≤ 4294967295) (take l.weight-index l.weights);
 }

@@ -4,7 +4,7 @@ use Rattle.proof_trees.specs.RoundValue.{round_of}
 use Rattle.line_verdicts.specs.Placed.{state_at, codes_of_sets, IsClosable}
 use Rattle.certificate_checker.specs.Feeding.{feed_of}
 use Rattle.certificate_checker.proofs.Trees.{kept_ok, branch_judged}
-use Rattle.certificate_checker.proofs.verdict.listed_groups.Goals as goal
+use Rattle.certificate_checker.proofs.branches.listed_groups.Goals as goal
 
 pub returns-clause-groups : goal.returns-clause-groups
 returns-clause-groups g c = kept_ok _ (λ b. All (IsClosable g.C.CountySet.test c.args.state.now) b.groups.items) c.args.feed.now.line c.judge_branch-judged.result c.judged_at.result c.judge_branch-judged.ensures.groups c.judged_at.ensures

@@ -1,6 +1,6 @@
 use Rattle.line_verdicts.specs.Placed.{IsClosable}
 use Rattle.certificate_checker.proofs.Takes.{first_set}
-use Rattle.certificate_checker.proofs.verdict.taken_state.Goals as goal
+use Rattle.certificate_checker.proofs.branches.taken_state.Goals as goal
 
 pub judge_take-requires-clause-below : goal.judge_take-requires-clause-below
 judge_take-requires-clause-below g c = λ k d h x t. c.requires.placed.rest x ((c.requires.groups k d h).inside x t)

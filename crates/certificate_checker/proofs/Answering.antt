@@ -1,0 +1,81 @@
+-- What was judged of the lines of a text is its verdict.
+use Rattle.std.proofs.Common.{◌≡◌, ℕ, ◌+◌, ◌≤◌, List, [], ◌∷◌, length, Option, Some, None, Result, Ok, Err, IfOk, inl, inr, refl, ap, arith, ⊎_elim}
+use Rattle.county_codes.specs.declared.group.Grouping.{Grouping as GroupingHeld}
+use Rattle.grouping_laws.specs.Problem.{Problem}
+use Rattle.certificate_lines.specs.Courses.{certificate_course}
+use Rattle.certificate_lines.specs.Fits.{AllFit}
+use Rattle.certificate_lines.specs.declared.fault.TextFault.{TextFault}
+use Rattle.certificate_lines.specs.declared.item.Wanted.TheVariants as want
+use Rattle.certificate_text.specs.Trees.{Certificate, items_of_certificate}
+use Rattle.verdicts.specs.End.{fine, faulty}
+use Rattle.verdicts.specs.Verdict as said
+use Rattle.text_verdicts.specs.TextVerdict.{HasTextFault}
+use Rattle.text_verdicts.proofs.Spelling.{spelled, spelling}
+use Rattle.text_verdicts.proofs.Lengths.{certificate_length}
+use Rattle.text_verdicts.proofs.LineFeeds.{lines}
+use Rattle.text_verdicts.proofs.Verdicts.{best, impossible}
+use Rattle.certificate_checker.specs.Feeding.{FeedValue, Fed}
+use Rattle.certificate_checker.specs.Certificates.{IsCertificateJudged}
+use Rattle.certificate_checker.specs.Answered.{IsAnswer, NamesBest, ShowsImpossible}
+use Rattle.certificate_checker.specs.declared.fault.CheckFault.{CheckFault}
+use Rattle.certificate_checker.specs.declared.fault.CheckFault.TheVariants.{Text}
+use Rattle.certificate_checker.specs.declared.feed.Stop.{Stop}
+use Rattle.certificate_checker.specs.declared.feed.Stop.TheVariants as stop
+use Rattle.certificate_checker.specs.declared.verdict.Verdict.{Verdict}
+use Rattle.certificate_checker.specs.declared.verdict.Verdict.TheVariants.{Best, Impossible, No, Budget}
+
+-- every certificate that the lines to come spell was judged so
+abbrev pub AreJudged : Problem → List ℕ → ℕ → Result (Option GroupingHeld) Stop → Type 0
+AreJudged p text limit r = (c : Certificate) → AllFit (want.Head ∷ []) (items_of_certificate c) → (certificate_course text).items ≡ items_of_certificate c → IsCertificateJudged p c limit r
+
+module _ (p : Problem) (text : List ℕ) (limit : ℕ) where
+  pub best_found : (target : GroupingHeld) → AreJudged p text limit (Ok (Some target)) → (certificate_course text).fault ≡ None → IsAnswer p text limit (Best target)
+  best_found target h none =
+      let c = spelled text none in
+      let j = h c.0 c.1.fits c.2 in
+      (c.0, c.1, (fine j.1.0, j.1.1, ap said.shown j.0))
+
+  pub impossible_found : AreJudged p text limit (Ok None) → (certificate_course text).fault ≡ None → IsAnswer p text limit Impossible
+  impossible_found h none =
+      let c = spelled text none in
+      let j = h c.0 c.1.fits c.2 in
+      (c.0, c.1, (fine j.1.0, j.1.1, ap said.shown j.0))
+
+  pub fault_found : (fault : CheckFault) (line : ℕ) → AreJudged p text limit (Err (stop.Fault fault line)) → (certificate_course text).fault ≡ None → IsAnswer p text limit (No fault line)
+  fault_found fault line h none =
+      let c = spelled text none in
+      let j = h c.0 c.1.fits c.2 in
+      inr (j.0, j.1, (c.0, c.1, (faulty j.0 line, j.2, refl)))
+
+  pub budget_found : AreJudged p text limit (Err stop.Budget) → (certificate_course text).fault ≡ None → IsAnswer p text limit Budget
+  budget_found h none cost costs = ⊎_elim (λ s. h s.0 s.1.fits (spelling text s.0 s.1).0 cost s.2) (λ f. cc (f.1, none)) costs
+
+  pub unspelled_found : AreJudged p text limit (Err stop.Unspelled) → (certificate_course text).fault ≡ None → IsAnswer p text limit Budget
+  unspelled_found h none = let c = spelled text none in absurd (h c.0 c.1.fits c.2)
+
+  pub text_found : (fault : TextFault) → HasTextFault text fault → IsAnswer p text limit (No (Text fault) fault.line)
+  text_found fault has = inl (fault, refl, has, refl)
+
+  -- as many lines as steps are less than the text costs
+  pub lines_found : (start now : FeedValue) → start.course ≡ certificate_course text → start.line ≡ 0 → Fed start now → now.limit ≤ now.line + length now.course.items → start.limit ≡ limit → IsAnswer p text limit Budget
+  lines_found start now course line fed many same cost costs =
+      let few : limit ≤ length (certificate_course text).items = omega (arith, fed.lines, fed.limit, many, same, line, ap (λ c. length c.items) course) in
+      ⊎_elim
+      (λ s. omega (arith, few, ap length (spelling text s.0 s.1).0, certificate_length s.0, s.2.2))
+      (λ f. omega (arith, few, lines text, f.2))
+      costs
+
+-- what an answer shows
+pub names_best : {E : Type 0} (p : Problem) (text : List ℕ) (budget : ℕ) (r : Result Verdict E) → IfOk r (IsAnswer p text budget) → IfOk r (NamesBest p)
+names_best p text budget (Ok (Best target)) h = (best p text target.groups.items h).0
+names_best p text budget (Ok Impossible) h = tt
+names_best p text budget (Ok (No fault line)) h = tt
+names_best p text budget (Ok Budget) h = tt
+names_best p text budget (Err e) h = tt
+
+pub shows_impossible : {E : Type 0} (p : Problem) (text : List ℕ) (budget : ℕ) (r : Result Verdict E) → IfOk r (IsAnswer p text budget) → IfOk r (ShowsImpossible p)
+shows_impossible p text budget (Ok (Best target)) h = tt
+shows_impossible p text budget (Ok Impossible) h = (impossible p text h).0
+shows_impossible p text budget (Ok (No fault line)) h = tt
+shows_impossible p text budget (Ok Budget) h = tt
+shows_impossible p text budget (Err e) h = tt

@@ -1,0 +1,68 @@
+-- A whole certificate, read and judged.
+use Rattle.std.proofs.Common.{◌≡◌, ℕ, ◌+◌, ◌*◌, ◌≤◌, ◌<◌, List, [], ◌∷◌, ◌++◌, length, Option, Ok, Err, sym, ◌∙◌, ap, subst, arith}
+use Rattle.std.proofs.lemmas.List.{length-append}
+use Rattle.grouping_laws.specs.Problem.{Problem}
+use Rattle.county_codes.specs.declared.group.Grouping.{Grouping as GroupingHeld}
+use Rattle.proof_trees.specs.Round.{Round}
+use Rattle.proof_trees.specs.RoundValue.{target_of}
+use Rattle.certificate_lines.specs.declared.item.Item.{Item}
+use Rattle.certificate_lines.specs.declared.item.Item.TheVariants as item
+use Rattle.certificate_text.specs.Trees.{Certificate, items_of_tree, items_of_certificate}
+use Rattle.verdicts.specs.Lines.{group_lines}
+use Rattle.verdicts.specs.Cost.{CertificateCosts}
+use Rattle.text_verdicts.proofs.Lengths.{target_length, certificate_length}
+use Rattle.certificate_checker.specs.Feeding.{FeedValue, Fed}
+use Rattle.certificate_checker.specs.Judging.{TookForm}
+use Rattle.certificate_checker.specs.Certificates.{AreTaken, round_items, FirstLooks, IsRoundJudged, IsCertificateJudged}
+use Rattle.certificate_checker.specs.declared.feed.Stop.{Stop}
+use Rattle.certificate_checker.specs.declared.feed.Stop.TheVariants as stop
+use Rattle.certificate_checker.proofs.Taken.{form_taken}
+
+-- the lines in front of a tree
+pub round_lines : (c : Certificate) → length (round_items c) ≡ 4 + group_lines c.round.target
+round_lines c = omega (arith, target_length c.round.target)
+
+-- the lines of a certificate
+all_lines : (c : Certificate) → length (items_of_certificate c) ≡ length (round_items c) + (length (items_of_tree c.tree) + 1)
+all_lines c = length-append (round_items c) (items_of_tree c.tree ++ item.End ∷ []) ∙ ap (λ n. length (round_items c) + n) (length-append (items_of_tree c.tree) (item.End ∷ []))
+
+module _ (p : Problem) (c : Certificate) (old : FeedValue) (none_used : old.used ≡ 0) where
+  -- what is not enough for the lines and the sets is below the cost
+  below_cost : ((n : ℕ) → FirstLooks p c.round c.tree n → old.limit ≤ length (items_of_certificate c) + 2 * n) → (cost : ℕ) → CertificateCosts p c.round c.tree cost → old.limit < cost
+  below_cost enough cost costs = omega (arith, enough costs.0 costs.1, costs.2, certificate_length c)
+
+  pub unread : {X : Type 0} (Gave : X → Type 0) (rest : List Item) (new : FeedValue) (s : Stop) → AreTaken Gave (round_items c) rest old (Err s) new → IsCertificateJudged p c old.limit (Err s)
+  unread Gave rest new stop.Budget h = below_cost (λ n l. omega (arith, h, none_used, all_lines c))
+  unread Gave rest new stop.Memory h = tt
+  unread Gave rest new stop.Unspelled h = absurd h
+  unread Gave rest new (stop.Text fault) h = absurd h
+  unread Gave rest new (stop.Fault fault line) h = absurd h
+
+  module _ {X : Type 0} (Gave : X → Type 0) (mid : FeedValue) (r : X) (taken : AreTaken Gave (round_items c) (items_of_tree c.tree ++ item.End ∷ []) old (Ok r) mid) (fed : Fed old mid) where
+    pub round_off : (round : Round) → round ≡ c.round → (new : FeedValue) (s : Stop) → IsRoundJudged p round c.tree (item.End ∷ []) mid (Err s) new → IsCertificateJudged p c old.limit (Err s)
+    round_off round same new s h = by_stop s (subst (λ x. IsRoundJudged p x c.tree (item.End ∷ []) mid (Err s) new) same h)
+      where
+        by_stop : (s : Stop) → IsRoundJudged p c.round c.tree (item.End ∷ []) mid (Err s) new → IsCertificateJudged p c old.limit (Err s)
+        by_stop (stop.Fault fault line) h = h
+        by_stop stop.Budget h = below_cost (λ n l. omega (arith, h n l, fed.limit, taken.3, none_used, all_lines c, ap length taken.1, length-append (items_of_tree c.tree) (item.End ∷ [])))
+        by_stop stop.Memory h = tt
+        by_stop stop.Unspelled h = absurd h
+        by_stop (stop.Text fault) h = absurd h
+
+    module _ (round : Round) (same : round ≡ c.round) (last : FeedValue) (judged : IsRoundJudged p round c.tree (item.End ∷ []) mid (Ok tt) last) (later : Fed mid last) where
+      pub end_off : (new : FeedValue) (s : Stop) → TookForm {Y = Unit {0}} (λ (u : Unit {0}). item.End) (λ u. u) last (Err s) new → IsCertificateJudged p c old.limit (Err s)
+      end_off new s took = by_stop s (form_taken {Y = Unit {0}} (λ (u : Unit {0}). item.End) (λ u. u) tt [] last new (Err s) took (sym judged.0))
+        where
+          by_stop : (s : Stop) → AreTaken (λ (u : Unit {0}). item.End ≡ item.End) (item.End ∷ []) [] last (Err s) new → IsCertificateJudged p c old.limit (Err s)
+          by_stop stop.Budget h =
+              below_cost
+              (λ n l.
+              let looks = judged.2 n (subst (λ x. FirstLooks p x c.tree n) (sym same) l) in
+              omega (arith, h, looks, fed.limit, later.limit, later.lines, ap length judged.0, taken.2, taken.3, none_used, all_lines c, ap length taken.1, length-append (items_of_tree c.tree) (item.End ∷ [])))
+          by_stop stop.Memory h = tt
+          by_stop stop.Unspelled h = absurd h
+          by_stop (stop.Text fault) h = absurd h
+          by_stop (stop.Fault fault line) h = absurd h
+
+      pub certificate_done : (target : Option GroupingHeld) → target_of target ≡ round.target → IsCertificateJudged p c old.limit (Ok target)
+      certificate_done target is = (is ∙ ap (λ x. x.target) same, (subst (λ x. IsRoundJudged p x c.tree (item.End ∷ []) mid (Ok tt) last) same judged).1)

@@ -1,0 +1,38 @@
+-- The tree of a certificate that a text can spell is readable, and the certificate's limit and order are small.
+use Rattle.std.proofs.Common.{◌≤◌, List, [], ◌∷◌, length}
+use Rattle.proof_trees.specs.declared.language.Language.{Language}
+use Rattle.proof_trees.specs.Tree.{Allowance, room, weigh, stuck, seats, bound, Tree, leaf, branch, Takes, no_take, take}
+use Rattle.certificate_lines.specs.Fits.{AllFit}
+use Rattle.certificate_lines.specs.declared.item.Wanted.TheVariants as want
+use Rattle.certificate_text.specs.Trees.{Certificate, declared_allowance, items_of_certificate}
+use Rattle.text_verdicts.proofs.Readable.{IsFormedLine, AreFormedLines, IsFormed, AreFormed, formed_of_fits}
+use Rattle.bound_verdicts.specs.Allowed.{IsSpelled}
+use Rattle.certificate_checker.specs.Readable.{AreSpelled, IsReadable, AreReadable}
+
+line_spelled : (line : Allowance) → IsFormedLine line → IsSpelled (declared_allowance line)
+line_spelled room f = tt
+line_spelled (weigh quota weights) f = f
+
+lines_spelled : (lines : List Allowance) → AreFormedLines lines → AreSpelled lines
+lines_spelled [] f = tt
+lines_spelled (line ∷ lines) f = (line_spelled line f.0, lines_spelled lines f.1)
+
+mutual
+  pub tree_readable : (language : Language) (tree : Tree) → IsFormed language tree → IsReadable language tree
+  tree_readable language (leaf (stuck county)) f = tt
+  tree_readable language (leaf seats) f = tt
+  tree_readable language (leaf (bound lines)) f = lines_spelled lines f
+  tree_readable language (branch county limit takes raised) f = (f.0, takes_readable language takes f.1, tree_readable language raised f.2)
+
+  takes_readable : (language : Language) (takes : Takes) → AreFormed language takes → AreReadable language takes
+  takes_readable language no_take f = tt
+  takes_readable language (take codes tree others) f = (tree_readable language tree f.0, takes_readable language others f.1)
+
+pub readable_of_fits : (c : Certificate) → AllFit (want.Head ∷ []) (items_of_certificate c) → IsReadable c.round.language c.tree
+readable_of_fits c f = tree_readable c.round.language c.tree (formed_of_fits c f)
+
+pub limit_of_fits : (c : Certificate) → AllFit (want.Head ∷ []) (items_of_certificate c) → c.round.limit ≤ 128
+limit_of_fits c f = f.1.1.0
+
+pub order_of_fits : (c : Certificate) → AllFit (want.Head ∷ []) (items_of_certificate c) → length c.round.order ≤ 128
+order_of_fits c f = f.1.0.0

@@ -1,0 +1,96 @@
+-- What was judged of the lines of a tree is its verdict.
+use Rattle.std.proofs.Common.{◌≡◌, ℕ, ◌+◌, ◌*◌, ◌≤◌, List, [], ◌∷◌, ◌++◌, length, None, Result, Ok, Err, IfOk, inr, refl, sym, ◌∙◌, ap, subst, arith, ⊎_elim}
+use Rattle.std.proofs.lemmas.List.{append-nil}
+use Rattle.std.specs.declared.alloc.AllocError.{AllocError}
+use Rattle.grouping_laws.specs.Problem.{Problem}
+use Rattle.proof_trees.specs.Round.{Round}
+use Rattle.proof_trees.specs.State.{State}
+use Rattle.proof_trees.specs.Tree.{stuck, seats, bound, Tree, leaf, branch}
+use Rattle.proof_trees.specs.declared.language.Language.{Language}
+use Rattle.certificate_lines.specs.Courses.{tree_course}
+use Rattle.certificate_lines.specs.Fits.{AllFit}
+use Rattle.certificate_lines.specs.declared.item.Item.{Item}
+use Rattle.certificate_lines.specs.declared.item.Wanted.TheVariants as want
+use Rattle.certificate_text.specs.Trees.{items_of_tree}
+use Rattle.certificate_text.specs.Spelled.{IsTreeSpelling}
+use Rattle.tree_lines.specs.Ranges.{AreTreeNumbers}
+use Rattle.tree_lines.specs.TreeFault.{lines_of_tree}
+use Rattle.tree_lines.proofs.Spelling.{spell}
+use Rattle.verdicts.specs.End.{fine, faulty}
+use Rattle.verdicts.specs.Lines.{tree_lines}
+use Rattle.verdicts.specs.Trees.{TreeEnds}
+use Rattle.verdicts.specs.Work.{a_tree}
+use Rattle.verdicts.proofs.Trees.{trees_end}
+use Rattle.verdicts.proofs.Work.{lines_carry}
+use Rattle.text_verdicts.proofs.Readable.{tree_formed}
+use Rattle.text_verdicts.proofs.Lengths.{tree_length}
+use Rattle.certificate_checker.specs.Readable.{IsReadable}
+use Rattle.certificate_checker.specs.Feeding.{FeedValue}
+use Rattle.certificate_checker.specs.Judging.{IsJudged}
+use Rattle.certificate_checker.specs.TreeAnswered.{IsSpelledTree, IsTreeAnswer, IsRightOfTrees, IsSaid}
+use Rattle.certificate_checker.specs.declared.feed.Stop.{Stop}
+use Rattle.certificate_checker.specs.declared.feed.Stop.TheVariants as stop
+use Rattle.certificate_checker.specs.declared.verdict.TreeVerdict.{TreeVerdict}
+use Rattle.certificate_checker.specs.declared.verdict.TreeVerdict.TheVariants.{Proof, Fault as Refused, Budget}
+use Rattle.certificate_checker.proofs.ReadableTexts.{tree_readable}
+use Rattle.certificate_checker.proofs.Whole.{looks_alone}
+
+spelled_readable : (language : Language) (counties : ℕ) (text : List ℕ) (tree : Tree) → IsTreeSpelling language counties text tree → IsReadable language tree
+spelled_readable language counties text tree h =
+    tree_readable language tree (tree_formed language counties tree [] [] (subst (λ (l : List Item). AllFit (want.Tree language counties ∷ []) l) (sym (append-nil (items_of_tree tree))) h.fits)).0
+
+some_line : (tree : Tree) → 1 ≤ tree_lines tree
+some_line (leaf (stuck c)) = omega arith
+some_line (leaf seats) = omega arith
+some_line (leaf (bound lines)) = omega arith
+some_line (branch c limit takes raised) = omega arith
+
+module _ (p : Problem) (round : Round) (s : State) (tree : Tree) (old new : FeedValue) (line : old.line ≡ 0) (used : old.used ≡ 0) (numbers : AreTreeNumbers tree)
+    (course : old.course ≡ tree_course round.language (length round.order) (lines_of_tree tree)) (none : (tree_course round.language (length round.order) (lines_of_tree tree)).fault ≡ None) where
+  spelled : IsSpelledTree round tree
+  spelled = (spell.spelled round.language (length round.order) tree numbers none).0
+
+  items : old.course.items ≡ items_of_tree tree
+  items = ap (λ c. c.items) course ∙ (spell.spelled round.language (length round.order) tree numbers none).1
+
+  abbrev Judges : Result (Unit {0}) Stop → Type 0
+  Judges judged = (t : Tree) (rest : List Item) → IsReadable round.language t → old.course.items ≡ items_of_tree t ++ rest → IsJudged p round (a_tree t s ∷ []) [] rest old judged new
+
+  judges : (judged : Result (Unit {0}) Stop) → Judges judged → IsJudged p round (a_tree tree s ∷ []) [] [] old judged new
+  judges judged h = h tree [] (spelled_readable round.language (length round.order) (lines_of_tree tree) tree spelled) (items ∙ sym (append-nil (items_of_tree tree)))
+
+  first : old.line + 1 ≡ 1
+  first = omega (arith, line)
+
+  pub tree_said : (judged : Result (Unit {0}) Stop) (said : Result TreeVerdict AllocError) → Judges judged → IsSaid judged said → IfOk said (IsTreeAnswer p round s tree old.limit)
+  tree_said (Ok done) said h is =
+      let j = judges (Ok done) h in
+      subst (λ r. IfOk r (IsTreeAnswer p round s tree old.limit)) (sym is)
+      (spelled, (trees_end.proves tree p round s (old.line + 1) (new.line + 1) (lines_carry.alone tree p round s (old.line + 1) (fine (new.line + 1)) (j.1.ends (fine (new.line + 1)) refl))).0)
+  tree_said (Err (stop.Fault fault at)) said h is =
+      let j = judges (Err (stop.Fault fault at)) h in
+      subst (λ r. IfOk r (IsTreeAnswer p round s tree old.limit)) (sym is)
+      (inr (spelled, (j.0, at, j.1, subst (λ n. TreeEnds tree p round s n (faulty j.0 at)) first (lines_carry.alone tree p round s (old.line + 1) (faulty j.0 at) j.2))))
+  tree_said (Err stop.Budget) said h is =
+      let j = judges (Err stop.Budget) h in
+      subst (λ r. IfOk r (IsTreeAnswer p round s tree old.limit)) (sym is)
+      (λ cost costs.
+      let few = looks_alone p round tree s costs.0 costs.1 (old.limit + 0) (old.used + length old.course.items + 2 * costs.0) (λ m w same. omega (arith, j m w, same)) in
+      omega (arith, few, used, costs.2, ap length items, tree_length tree, some_line tree))
+  tree_said (Err stop.Memory) (Ok said) h is = absurd is
+  tree_said (Err stop.Memory) (Err e) h is = tt
+  tree_said (Err stop.Unspelled) (Ok said) h is = absurd is
+  tree_said (Err stop.Unspelled) (Err e) h is = tt
+  tree_said (Err (stop.Text fault)) (Ok said) h is = absurd is
+  tree_said (Err (stop.Text fault)) (Err e) h is = tt
+
+pub right_of_trees : {E : Type 0} (p : Problem) (round : Round) (s : State) (tree : Tree) (budget : ℕ) (r : Result TreeVerdict E) → IfOk r (IsTreeAnswer p round s tree budget) → IfOk r (IsRightOfTrees p round s tree)
+right_of_trees p round s tree budget (Ok Proof) h = h.1
+right_of_trees p round s tree budget (Ok (Refused fault)) h =
+    λ text spells proof.
+    ⊎_elim
+    (λ w. spell.unspelled round.language (length round.order) tree w.0 w.2 text spells)
+    (λ f. trees_end.refuses tree p round s 1 f.1.1 f.1.0 f.1.3 proof)
+    h
+right_of_trees p round s tree budget (Ok Budget) h = tt
+right_of_trees p round s tree budget (Err e) h = tt

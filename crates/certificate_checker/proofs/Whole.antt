@@ -1,0 +1,78 @@
+-- How a whole certificate ends: its order, its limit, its target, and its tree.
+use Rattle.std.proofs.Common.{◌≡◌, ℕ, ◌+◌, ◌*◌, ◌≤◌, ◌<◌, List, [], ◌∷◌, length, Result, Ok, Err, inl, inr, refl, sym, subst, arith, ⊎_elim}
+use Rattle.grouping_laws.specs.Problem.{Problem}
+use Rattle.grouping_laws.specs.GroupsFrom.{IsOrder}
+use Rattle.proof_trees.specs.Round.{Round}
+use Rattle.proof_trees.specs.State.{State, empty_state}
+use Rattle.proof_trees.specs.Tree.{Tree}
+use Rattle.proof_trees.specs.Proving.{Proves}
+use Rattle.certificate_lines.specs.declared.item.Item.{Item}
+use Rattle.verdicts.specs.Fault.{Fault}
+use Rattle.verdicts.specs.End.{End, fine, faulty}
+use Rattle.verdicts.specs.Lines.{group_lines}
+use Rattle.verdicts.specs.Trees.{TreeEnds}
+use Rattle.verdicts.specs.Verdict.{IsOrderFault, IsLargeEnough, IsLimitFault, IsLawfulTarget, IsTargetFault, CertificateEnds}
+use Rattle.verdicts.specs.Cost.{TreeLooks}
+use Rattle.verdicts.specs.Work.{a_tree, WorkEnds}
+use Rattle.verdicts.specs.WorkCost.{WorkLooks}
+use Rattle.std.proofs.lemmas.Bool.{cases_lt}
+use Rattle.verdicts.proofs.Work.{lines_carry}
+use Rattle.verdicts.proofs.WorkCost.{where_fine}
+use Rattle.certificate_checker.specs.Feeding.{FeedValue}
+use Rattle.certificate_checker.specs.Judging.{IsJudged}
+use Rattle.certificate_checker.specs.Certificates.{StopsAt, FirstLooks, IsRoundJudged}
+use Rattle.certificate_checker.specs.declared.feed.Stop.{Stop}
+use Rattle.certificate_checker.specs.declared.feed.Stop.TheVariants as stop
+
+-- a tree alone is looked through, whether it is a proof or not
+pub looks_alone : (p : Problem) (round : Round) (tree : Tree) (s : State) (n : ℕ) → TreeLooks tree p round s n → (a b : ℕ) → ((m : ℕ) → WorkLooks (a_tree tree s ∷ []) p round m → m ≡ n → a ≤ b) → a ≤ b
+looks_alone p round tree s n looks a b enough = ⊎_elim (λ less. absurd (impossible less)) (λ l. l) (cases_lt b a)
+  where
+    no_proof : b < a → Proves tree p round s → ⊥
+    no_proof less proof = omega (arith, less, enough n (n, 0, looks, inl (proof, refl), omega arith) refl)
+
+    impossible : b < a → ⊥
+    impossible less = omega (arith, less, enough n (n, 0, looks, inr (no_proof less, refl), omega arith) refl)
+
+module _ (p : Problem) (round : Round) (tree : Tree) where
+  -- the fault of the order, of the limit, of the target
+  pub order_ends : (f : Fault) → IsOrderFault p round f → CertificateEnds p round tree (faulty f 2)
+  order_ends f h = inl (h, refl)
+
+  pub limit_ends : IsOrder p round.order → (f : Fault) → IsLimitFault round.limit round.target f → CertificateEnds p round tree (faulty f 3)
+  limit_ends order f h = inr (3, (order, refl), inl (h, refl))
+
+  pub target_ends : IsOrder p round.order → IsLargeEnough round.limit round.target → (f : Fault) → IsTargetFault p round.target f → CertificateEnds p round tree (faulty f 4)
+  target_ends order large f h = inr (3, (order, refl), inr (4, (large, refl), inl (h, refl)))
+
+  -- as the tree ends behind them, so the certificate does
+  tree_ends : IsOrder p round.order → IsLargeEnough round.limit round.target → IsLawfulTarget p round.target → (end : End) → TreeEnds tree p round (empty_state p) (4 + (1 + group_lines round.target)) end → CertificateEnds p round tree end
+  tree_ends order large lawful (fine next) e = (3, (order, refl), (4, (large, refl), (4 + (1 + group_lines round.target), (lawful, refl), e)))
+  tree_ends order large lawful (faulty f line) e = inr (3, (order, refl), inr (4, (large, refl), inr (4 + (1 + group_lines round.target), (lawful, refl), e)))
+
+  pub round_stops : (Fails : Fault → Type 0) (line : ℕ) (rest : List Item) (old new : FeedValue) (s : Stop) → StopsAt Fails line s → ((f : Fault) → Fails f → CertificateEnds p round tree (faulty f line)) → IsRoundJudged p round tree rest old (Err s) new
+  round_stops Fails line rest old new (stop.Fault fault found) h ends = (h.0, h.1, subst (λ n. CertificateEnds p round tree (faulty h.0 n)) (sym h.3) (ends h.0 h.2))
+  round_stops Fails line rest old new stop.Memory h ends = tt
+  round_stops Fails line rest old new stop.Budget h ends = absurd h
+  round_stops Fails line rest old new stop.Unspelled h ends = absurd h
+  round_stops Fails line rest old new (stop.Text fault) h ends = absurd h
+
+  module _ (order : IsOrder p round.order) (large : IsLargeEnough round.limit round.target) (lawful : IsLawfulTarget p round.target) (old : FeedValue) (line : old.line ≡ 4 + group_lines round.target) where
+    from_tree : (end : End) → WorkEnds (a_tree tree (empty_state p) ∷ []) p round (old.line + 1) end → CertificateEnds p round tree end
+    from_tree end e = tree_ends order large lawful end (subst (λ n. TreeEnds tree p round (empty_state p) n end) (omega (arith, line)) (lines_carry.alone tree p round (empty_state p) (old.line + 1) end e))
+
+    looked : (n : ℕ) → FirstLooks p round tree n → TreeLooks tree p round (empty_state p) n
+    looked n l = where_fine (IsOrder p round.order × IsLargeEnough round.limit round.target × IsLawfulTarget p round.target) (TreeLooks tree p round (empty_state p)) n (order, large, lawful) l
+
+    pub round_judged : (rest : List Item) (new : FeedValue) (r : Result (Unit {0}) Stop) → IsJudged p round (a_tree tree (empty_state p) ∷ []) [] rest old r new → IsRoundJudged p round tree rest old r new
+    round_judged rest new (Ok done) h = (
+      h.0,
+      (new.line + 1, from_tree (fine (new.line + 1)) (h.1.ends (fine (new.line + 1)) refl)),
+      λ n l. looks_alone p round tree (empty_state p) n (looked n l) (new.used + old.line) (old.used + new.line + 2 * n)
+          (λ m w same. let x = h.1.looks m w in omega (arith, x.2, same)),
+    )
+    round_judged rest new (Err (stop.Fault fault at)) h = (h.0, h.1, from_tree (faulty h.0 at) h.2)
+    round_judged rest new (Err stop.Budget) h = λ n l. looks_alone p round tree (empty_state p) n (looked n l) (old.limit + length rest) (old.used + length old.course.items + 2 * n) (λ m w same. omega (arith, h m w, same))
+    round_judged rest new (Err stop.Memory) h = tt
+    round_judged rest new (Err stop.Unspelled) h = absurd h
+    round_judged rest new (Err (stop.Text fault)) h = absurd h

@@ -1,0 +1,37 @@
+-- What a checker answers of a text.
+use Rattle.std.specs.Prelude.{ℕ, ◌≡◌, ◌<◌, List, Some, ◌⊎◌, ⊤}
+use Rattle.grouping_laws.specs.Problem.{Problem}
+use Rattle.grouping_laws.specs.Grouping.{IsBest, IsImpossible}
+use Rattle.certificate_lines.specs.declared.fault.TextFault.{TextFault}
+use Rattle.verdicts.specs.Fault.{Fault}
+use Rattle.verdicts.specs.Verdict as said
+use Rattle.text_verdicts.specs.TextVerdict.{HasTextFault, IsTextVerdict}
+use Rattle.text_verdicts.specs.TextCost.{TextCosts}
+use Rattle.certificate_checker.specs.CheckFaults.{fault_of}
+use Rattle.certificate_checker.specs.declared.fault.CheckFault.{CheckFault}
+use Rattle.certificate_checker.specs.declared.fault.CheckFault.TheVariants.{Text}
+use Rattle.certificate_checker.specs.declared.verdict.Verdict.{Verdict}
+use Rattle.certificate_checker.specs.declared.verdict.Verdict.TheVariants.{Best, Impossible, No, Budget}
+
+-- the first fault of the text, or that of the certificate which it spells
+abbrev pub IsRefusal : Problem → List ℕ → CheckFault → ℕ → Type 0
+IsRefusal p text fault line =
+    ((words : TextFault) × (fault ≡ Text words) × HasTextFault text words × (line ≡ words.line))
+    ⊎ ((named : Fault) × (fault_of fault ≡ Some named) × IsTextVerdict p text (said.No named line))
+
+-- the verdict of the text, or that the budget is below its cost
+abbrev pub IsAnswer : Problem → List ℕ → ℕ → Verdict → Type 0
+IsAnswer p text budget (Best target) = IsTextVerdict p text (said.Best target.groups.items)
+IsAnswer p text budget Impossible = IsTextVerdict p text said.Impossible
+IsAnswer p text budget (No fault line) = IsRefusal p text fault line
+IsAnswer p text budget Budget = (cost : ℕ) → TextCosts p text cost → budget < cost
+
+-- the grouping that is named is lawful, and no lawful one is greater
+abbrev pub NamesBest : Problem → Verdict → Type 0
+NamesBest p (Best target) = IsBest p target.groups.items
+NamesBest p _ = ⊤
+
+-- no grouping is lawful
+abbrev pub ShowsImpossible : Problem → Verdict → Type 0
+ShowsImpossible p Impossible = IsImpossible p
+ShowsImpossible p _ = ⊤

@@ -1,0 +1,54 @@
+-- What a checker answers of a tree.
+use Rattle.std.specs.Prelude.{ℕ, ◌≡◌, ◌<◌, List, length, Some, Result, Ok, Err, ◌⊎◌, ⊤}
+use Rattle.grouping_laws.specs.Problem.{Problem}
+use Rattle.proof_trees.specs.Round.{Round}
+use Rattle.proof_trees.specs.State.{State}
+use Rattle.proof_trees.specs.Tree.{Tree}
+use Rattle.proof_trees.specs.Proving.{Proves}
+use Rattle.certificate_lines.specs.declared.fault.TextFault.{TextFault}
+use Rattle.certificate_text.specs.Spelled.{IsTreeSpelling}
+use Rattle.tree_lines.specs.TreeFault.{lines_of_tree, HasTreeFault}
+use Rattle.verdicts.specs.Fault.{Fault}
+use Rattle.verdicts.specs.End.{faulty}
+use Rattle.verdicts.specs.Trees.{TreeEnds}
+use Rattle.verdicts.specs.Cost.{TreeCosts}
+use Rattle.certificate_checker.specs.CheckFaults.{fault_of}
+use Rattle.certificate_checker.specs.declared.fault.CheckFault.{CheckFault}
+use Rattle.certificate_checker.specs.declared.fault.CheckFault.TheVariants.{Text}
+use Rattle.certificate_checker.specs.declared.feed.Stop.{Stop}
+use Rattle.certificate_checker.specs.declared.feed.Stop.TheVariants as stop
+use Rattle.std.specs.declared.alloc.AllocError.{AllocError}
+use Rattle.certificate_checker.specs.declared.verdict.TreeVerdict.{TreeVerdict}
+use Rattle.certificate_checker.specs.declared.verdict.TreeVerdict.TheVariants.{Proof, Fault as Refused, Budget}
+
+-- the lines of the tree spell it, in the round's language and for as many counties as its order has
+abbrev pub IsSpelledTree : Round → Tree → Type 0
+IsSpelledTree round tree = IsTreeSpelling round.language (length round.order) (lines_of_tree tree) tree
+
+-- the first fault of the tree's lines, or of the tree that they spell
+abbrev pub IsTreeFault : Problem → Round → State → Tree → CheckFault → Type 0
+IsTreeFault p round s tree fault =
+    ((words : TextFault) × (fault ≡ Text words) × HasTreeFault round.language (length round.order) tree words)
+    ⊎ (IsSpelledTree round tree × ((named : Fault) × (line : ℕ) × (fault_of fault ≡ Some named) × TreeEnds tree p round s 1 (faulty named line)))
+
+-- a proof tree that its lines spell, the first fault, or a budget that is below the tree's cost
+abbrev pub IsTreeAnswer : Problem → Round → State → Tree → ℕ → TreeVerdict → Type 0
+IsTreeAnswer p round s tree budget Proof = IsSpelledTree round tree × Proves tree p round s
+IsTreeAnswer p round s tree budget (Refused fault) = IsTreeFault p round s tree fault
+IsTreeAnswer p round s tree budget Budget = (cost : ℕ) → TreeCosts tree p round s cost → budget < cost
+
+-- Only a proof tree is answered with Proof, and only what is none, or has no text, with a fault.
+abbrev pub IsRightOfTrees : Problem → Round → State → Tree → TreeVerdict → Type 0
+IsRightOfTrees p round s tree Proof = Proves tree p round s
+IsRightOfTrees p round s tree (Refused fault) = (text : List ℕ) → IsTreeSpelling round.language (length round.order) text tree → ¬ Proves tree p round s
+IsRightOfTrees p round s tree Budget = ⊤
+
+-- what is said where the judging of lines without a fault ended so
+abbrev pub IsSaid : Result (Unit {0}) Stop → Result TreeVerdict AllocError → Type 0
+IsSaid (Ok done) said = said ≡ Ok Proof
+IsSaid (Err (stop.Fault fault line)) said = said ≡ Ok (Refused fault)
+IsSaid (Err stop.Budget) said = said ≡ Ok Budget
+IsSaid (Err stop.Memory) (Ok said) = ⊥
+IsSaid (Err stop.Unspelled) (Ok said) = ⊥
+IsSaid (Err (stop.Text fault)) (Ok said) = ⊥
+IsSaid judged (Err e) = ⊤

@@ -1,0 +1,244 @@
+//! The judging of a whole certificate: its order, its limit, its target, and its tree.
+
+ghost use Rattle.std.specs.Prelude.{◌≡◌, ℕ, ◌≤◌, ◌<◌, ◌+◌, ◌∷◌, [], ◌++◌, List, length, nat_lt, IfOk, IfErr, MatchResult};
+ghost use Rattle.std.specs.List.{list_any};
+ghost use Rattle.grouping_laws.specs.GroupsFrom.{IsOrder};
+ghost use Rattle.grouping_problem.specs.ProblemValue.{problem_of};
+ghost use Rattle.proof_trees.specs.RoundValue.{round_of, target_of};
+ghost use Rattle.proof_trees.specs.State.{empty_state};
+ghost use Rattle.proof_trees.specs.Tree.{Tree};
+ghost use Rattle.certificate_lines.specs.Fits.{AllFit};
+ghost use Rattle.certificate_lines.specs.declared.item.Item.{Item as ItemValue};
+ghost use Rattle.certificate_lines.specs.declared.item.Wanted.TheVariants as want;
+ghost use Rattle.certificate_text.specs.Trees.{Certificate, items_of_tree, items_of_certificate};
+ghost use Rattle.verdicts.specs.Lines.{group_lines};
+ghost use Rattle.verdicts.specs.Verdict.{IsOrderFault, IsLargeEnough, IsLimitFault, IsLawfulTarget, IsTargetFault};
+ghost use Rattle.verdicts.specs.Work.{a_tree};
+ghost use Rattle.line_verdicts.specs.Placed.{state_at, IsPlaced};
+ghost use Rattle.certificate_checker.specs.Readable.{IsReadable};
+ghost use Rattle.certificate_checker.specs.Feeding.{feed_of, IsFed};
+ghost use Rattle.certificate_checker.specs.Judging.{IsJudged, AreWanted};
+ghost use Rattle.certificate_checker.specs.Certificates.{StopsAt, IsTargetStop, AreCounts, IsRoundJudged, IsCertificateJudged};
+
+use crate::fault::CheckFault;
+use crate::feed::{Feed, Stop};
+use crate::forms::next_end;
+use crate::ground::Ground;
+use crate::rounds::read_round;
+use crate::tree::judge_tree;
+use certificate_lines::{ItemSource, MOST};
+use county_codes::{Group, Grouping};
+use county_regions::neighbour_rows;
+use grouping_judge::{Counts, GroupingFault, judge};
+use grouping_problem::Problem;
+use line_verdicts::first_state;
+use ordered_counties::{OrderFault, Ordered};
+use place_sets::CountySet;
+use proof_trees::{Round, State};
+use std::alloc::Global;
+
+/// The counties in the order of a certificate, which stands on its second line.
+pub(crate) fn judge_order<'a>(
+    alloc: Global,
+    problem: &'a Problem,
+    round: &Round,
+) -> Result<Ordered<'a>, Stop>
+    ensures value { IfOk result (λ o. o ≡ record { problem = problem.now; order = round.now.order }) }
+    ensures order { MatchResult result (λ _. IsOrder (problem_of problem.now) round.now.order) (StopsAt (IsOrderFault (problem_of problem.now) (round_of round.now)) 2) }
+{
+    match Ordered::build(alloc, problem, round.order.as_slice()) {
+        Ok(ordered) => Ok(ordered),
+        Err(OrderFault::WrongOrder) => Err(Stop::Fault(CheckFault::WrongOrder, 2)),
+        Err(OrderFault::Memory) => Err(Stop::Memory),
+    }
+}
+
+/// Whether some group has more counties.
+fn has_larger(groups: &[Group], limit: u16) -> bool
+    ensures { result ≡ list_any (λ g. nat_lt limit (length g.codes)) groups.now }
+{
+    groups
+        .iter()
+        .any(|group| group.codes.as_slice().len() > usize::from(limit))
+}
+
+/// Judges the limit, which stands on the third line: no group of the target may have more counties.
+fn judge_limit(round: &Round) -> Result<(), Stop>
+    ensures { MatchResult result (λ _. IsLargeEnough round.now.limit (target_of round.now.target)) (StopsAt (IsLimitFault round.now.limit (target_of round.now.target)) 3) }
+{
+    match &round.target {
+        Some(target) => {
+            if has_larger(&target.groups, round.limit) {
+                return Err(Stop::Fault(CheckFault::LimitTooSmall, 3));
+            }
+            Ok(())
+        }
+        None => Ok(()),
+    }
+}
+
+/// What the judging of a target stops with.
+fn target_stop(fault: GroupingFault) -> Stop
+    ensures { IsTargetStop fault result }
+{
+    match fault {
+        GroupingFault::Memory => Stop::Memory,
+        _ => Stop::Fault(CheckFault::TargetFault(fault), 4),
+    }
+}
+
+/// The counts of a target, whose first line is the fourth: it has to be lawful.
+pub(crate) fn judge_target(
+    alloc: Global,
+    problem: &Problem,
+    target: &Option<Grouping>,
+) -> Result<Option<Counts>, Stop>
+    ensures { MatchResult
+        result
+        (λ wanted. IsLawfulTarget (problem_of problem.now) (target_of target.now) × AreCounts (target_of target.now) wanted)
+        (StopsAt (IsTargetFault (problem_of problem.now) (target_of target.now)) 4) }
+{
+    match target {
+        Some(grouping) => match judge(alloc, problem, grouping) {
+            Ok(counts) => Ok(Some(counts)),
+            Err(fault) => Err(target_stop(fault)),
+        },
+        None => Ok(None),
+    }
+}
+
+/// Judges the tree that begins on the next line, at a state, where order, limit and target are fine.
+pub(crate) fn judge_placed<C: CountySet, S: ItemSource>(
+    alloc: Global,
+    ordered: &Ordered,
+    round: &Round,
+    wanted: Option<&Counts>,
+    state: State<C>,
+    feed: &mut Feed<S>,
+) -> Result<(), Stop>
+    requires fits { length ordered.now.order ≤ C.PLACES }
+    requires order { ordered.now.order ≡ round.now.order }
+    requires small { round.now.limit ≤ 128 }
+    requires wanted { AreWanted (target_of round.now.target) wanted }
+    requires placed { IsPlaced (length ordered.now.order) C.test state }
+    requires counted { feed.old.line ≤ feed.old.steps.used }
+    ensures fed { IsFed (feed_of S.course feed.old) result (feed_of S.course feed.new) }
+    ensures judged { (tree : Tree) (rest : List ItemValue)
+        → IsReadable round.now.language tree
+        → (feed_of S.course feed.old).course.items ≡ items_of_tree tree ++ rest
+        → IsJudged
+        (problem_of ordered.now.problem)
+        (round_of round.now)
+        (a_tree tree (state_at ordered.now.order C.test state) ∷ [])
+        []
+        rest
+        (feed_of S.course feed.old)
+        result
+        (feed_of S.course feed.new) }
+{
+    let near = neighbour_rows::<C>(alloc, ordered)?;
+    let ground = Ground {
+        alloc,
+        ordered,
+        near: &near,
+        round,
+        wanted,
+    };
+    judge_tree(&ground, state, feed)
+}
+
+/// Judges the tree of a certificate, which begins on the next line, where order, limit and target are fine.
+fn judge_first<C: CountySet, S: ItemSource>(
+    alloc: Global,
+    ordered: &Ordered,
+    round: &Round,
+    wanted: Option<&Counts>,
+    feed: &mut Feed<S>,
+) -> Result<(), Stop>
+    requires fits { length ordered.now.order ≤ C.PLACES }
+    requires order { ordered.now.order ≡ round.now.order }
+    requires small { round.now.limit ≤ 128 }
+    requires wanted { AreWanted (target_of round.now.target) wanted }
+    requires counted { feed.old.line ≤ feed.old.steps.used }
+    ensures fed { IsFed (feed_of S.course feed.old) result (feed_of S.course feed.new) }
+    ensures judged { (tree : Tree) (rest : List ItemValue)
+        → IsReadable round.now.language tree
+        → (feed_of S.course feed.old).course.items ≡ items_of_tree tree ++ rest
+        → IsJudged
+        (problem_of ordered.now.problem)
+        (round_of round.now)
+        (a_tree tree (empty_state (problem_of ordered.now.problem)) ∷ [])
+        []
+        rest
+        (feed_of S.course feed.old)
+        result
+        (feed_of S.course feed.new) }
+{
+    match first_state::<C>(alloc, ordered) {
+        Ok(state) => judge_placed::<C, S>(alloc, ordered, round, wanted, state, feed),
+        Err(_) => Err(Stop::Memory),
+    }
+}
+
+/// Judges a round and the tree that begins on the next line.
+fn judge_round<C: CountySet, S: ItemSource>(
+    alloc: Global,
+    problem: &Problem,
+    round: &Round,
+    feed: &mut Feed<S>,
+) -> Result<(), Stop>
+    requires fits { length problem.now.counties ≤ C.PLACES }
+    requires small { round.now.limit ≤ 128 }
+    requires counted { feed.old.line ≤ feed.old.steps.used }
+    ensures fed { IsFed (feed_of S.course feed.old) result (feed_of S.course feed.new) }
+    ensures judged { (tree : Tree) (rest : List ItemValue)
+        → feed.old.line ≡ 4 + group_lines (target_of round.now.target)
+        → IsReadable round.now.language tree
+        → (feed_of S.course feed.old).course.items ≡ items_of_tree tree ++ rest
+        → IsRoundJudged (problem_of problem.now) (round_of round.now) tree rest (feed_of S.course feed.old) result (feed_of S.course feed.new) }
+{
+    match judge_order(alloc, problem, round) {
+        Ok(ordered) => match judge_limit(round) {
+            Ok(()) => match judge_target(alloc, problem, &round.target) {
+                Ok(wanted) => {
+                    let _problem = ordered.problem();
+                    judge_first::<C, S>(alloc, &ordered, round, wanted.as_ref(), feed)
+                }
+                Err(stop) => Err(stop),
+            },
+            Err(stop) => Err(stop),
+        },
+        Err(stop) => Err(stop),
+    }
+}
+
+/// Judges the certificate whose lines are to come: its target, where it has no fault.
+pub(crate) fn judge_certificate<C: CountySet, S: ItemSource>(
+    alloc: Global,
+    problem: &Problem,
+    feed: &mut Feed<S>,
+) -> Result<Option<Grouping>, Stop>
+    requires fits { length problem.now.counties ≤ C.PLACES }
+    requires start { (feed.old.line ≡ 0) × (feed.old.steps.used ≡ 0) }
+    ensures fed { IsFed (feed_of S.course feed.old) result (feed_of S.course feed.new) }
+    ensures judged { (c : Certificate)
+        → AllFit (want.Head ∷ []) (items_of_certificate c)
+        → (feed_of S.course feed.old).course.items ≡ items_of_certificate c
+        → IsCertificateJudged (problem_of problem.now) c feed.old.steps.limit result }
+{
+    match read_round(alloc, feed) {
+        Ok(round) => {
+            if u32::from(round.limit) > MOST {
+                return Err(Stop::Unspelled);
+            }
+            match judge_round::<C, S>(alloc, problem, &round, feed) {
+                Ok(()) => match next_end(feed) {
+                    Ok(()) => Ok(round.target),
+                    Err(stop) => Err(stop),
+                },
+                Err(stop) => Err(stop),
+            }
+        }
+        Err(stop) => Err(stop),
+    }
+}

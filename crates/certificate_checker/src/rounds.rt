@@ -1,0 +1,79 @@
+//! The round of a certificate, read from the lines in front of its tree.
+
+ghost use Rattle.std.specs.Prelude.{◌≡◌, ◌≤◌, ◌∷◌, [], ◌++◌, List, Option, length, map};
+ghost use Rattle.grouping_laws.specs.Grouping.{Grouping as GroupingValue};
+ghost use Rattle.county_codes.specs.declared.group.Group.{Group as GroupValue};
+ghost use Rattle.proof_trees.specs.RoundValue.{round_of, target_of};
+ghost use Rattle.certificate_lines.specs.declared.item.Item.{Item as ItemValue};
+ghost use Rattle.certificate_lines.specs.declared.item.Item.TheVariants as item;
+ghost use Rattle.certificate_text.specs.Trees.{Certificate, items_of_target, items_of_tree, items_of_certificate};
+ghost use Rattle.certificate_checker.specs.Feeding.{feed_of, IsFed};
+ghost use Rattle.certificate_checker.specs.Certificates.{AreTaken, round_items};
+
+use crate::feed::{Feed, Stop};
+use crate::forms::{next_group, next_head, next_limit, next_order, next_target};
+use certificate_lines::ItemSource;
+use county_codes::{Group, Grouping};
+use proof_trees::Round;
+use std::alloc::Global;
+
+/// So many groups of a target.
+fn read_groups<S: ItemSource>(
+    alloc: Global,
+    feed: &mut Feed<S>,
+    count: u16,
+) -> Result<Vec<Group>, Stop>
+    requires { feed.old.line ≤ feed.old.steps.used }
+    ensures fed { IsFed (feed_of S.course feed.old) result (feed_of S.course feed.new) }
+    ensures taken { (groups : List GroupValue) (rest : List ItemValue)
+        → length groups ≡ count
+        → (feed_of S.course feed.old).course.items ≡ map item.Grouped groups ++ rest
+        → AreTaken (λ v. v.items ≡ groups) (map item.Grouped groups) rest (feed_of S.course feed.old) result (feed_of S.course feed.new) }
+{
+    let mut groups = Vec::new(alloc);
+    'reading: for done in 0..count {
+        match next_group(feed) {
+            Ok(group) => groups.push(group)?,
+            Err(stop) => return Err(stop),
+        }
+    }
+    Ok(groups)
+}
+
+/// The target, where there is one.
+fn read_target<S: ItemSource>(alloc: Global, feed: &mut Feed<S>) -> Result<Option<Grouping>, Stop>
+    requires { feed.old.line ≤ feed.old.steps.used }
+    ensures fed { IsFed (feed_of S.course feed.old) result (feed_of S.course feed.new) }
+    ensures taken { (target : Option GroupingValue) (rest : List ItemValue)
+        → (feed_of S.course feed.old).course.items ≡ items_of_target target ++ rest
+        → AreTaken (λ t. target_of t ≡ target) (items_of_target target) rest (feed_of S.course feed.old) result (feed_of S.course feed.new) }
+{
+    match next_target(feed) {
+        Ok(Some(count)) => match read_groups(alloc, feed, count) {
+            Ok(groups) => Ok(Some(Grouping { groups })),
+            Err(stop) => Err(stop),
+        },
+        Ok(None) => Ok(None),
+        Err(stop) => Err(stop),
+    }
+}
+
+/// The round of a certificate.
+pub(crate) fn read_round<S: ItemSource>(alloc: Global, feed: &mut Feed<S>) -> Result<Round, Stop>
+    requires { feed.old.line ≤ feed.old.steps.used }
+    ensures fed { IsFed (feed_of S.course feed.old) result (feed_of S.course feed.new) }
+    ensures taken { (c : Certificate)
+        → (feed_of S.course feed.old).course.items ≡ items_of_certificate c
+        → AreTaken (λ round. round_of round ≡ c.round) (round_items c) (items_of_tree c.tree ++ item.End ∷ []) (feed_of S.course feed.old) result (feed_of S.course feed.new) }
+{
+    let language = next_head(feed)?;
+    let order = next_order(feed)?;
+    let limit = next_limit(feed)?;
+    let target = read_target(alloc, feed)?;
+    Ok(Round {
+        order,
+        limit,
+        target,
+        language,
+    })
+}

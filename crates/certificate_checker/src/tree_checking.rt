@@ -1,0 +1,123 @@
+//! The verdict on a tree.
+
+ghost use Rattle.std.specs.Prelude.{◌≡◌, ◌≤◌, length, IfOk};
+ghost use Rattle.grouping_laws.specs.GroupsFrom.{IsOrder};
+ghost use Rattle.grouping_problem.specs.ProblemValue.{problem_of};
+ghost use Rattle.proof_trees.specs.RoundValue.{round_of, target_of};
+ghost use Rattle.proof_trees.specs.Tree.{Tree as TreeValue};
+ghost use Rattle.certificate_text.specs.Trees.{tree_of};
+ghost use Rattle.tree_lines.specs.Ranges.{AreTreeNumbers};
+ghost use Rattle.tree_lines.specs.TreeFault.{lines_of_tree};
+ghost use Rattle.verdicts.specs.Verdict.{IsLawfulTarget};
+ghost use Rattle.line_verdicts.specs.Placed.{state_at, IsPlaced};
+ghost use Rattle.certificate_checker.specs.Judging.{AreWanted};
+ghost use Rattle.certificate_checker.specs.TreeAnswered.{IsTreeAnswer, IsRightOfTrees, IsSaid};
+
+use crate::certificate::{judge_order, judge_placed, judge_target};
+use crate::fault::CheckFault;
+use crate::feed::{Feed, Stop, first_fault};
+use crate::verdict::TreeVerdict;
+use certificate_lines::Items;
+use certificate_text::Tree;
+use grouping_judge::Counts;
+use grouping_problem::Problem;
+use line_verdicts::copied_state;
+use ordered_counties::{Ordered, Steps};
+use place_sets::CountySet;
+use proof_trees::{Round, State};
+use std::alloc::{AllocError, Global};
+use tree_lines::tree_lines;
+
+/// What is said of a tree whose lines have no fault. The stops that a fault of the text gives never come here.
+fn said_of(judged: Result<(), Stop>) -> Result<TreeVerdict, AllocError>
+    ensures { IsSaid judged result }
+{
+    match judged {
+        Ok(()) => Ok(TreeVerdict::Proof),
+        Err(Stop::Fault(fault, _)) => Ok(TreeVerdict::Fault(fault)),
+        Err(Stop::Budget) => Ok(TreeVerdict::Budget),
+        Err(_) => Err(AllocError),
+    }
+}
+
+/// Judges lines without a fault at a state.
+fn check_lines<C: CountySet>(
+    alloc: Global,
+    ordered: &Ordered,
+    round: &Round,
+    wanted: Option<&Counts>,
+    state: State<C>,
+    lines: &[u8],
+    budget: u64,
+) -> Result<TreeVerdict, AllocError>
+    requires fits { length ordered.now.order ≤ C.PLACES }
+    requires order { ordered.now.order ≡ round.now.order }
+    requires small { round.now.limit ≤ 128 }
+    requires wanted { AreWanted (target_of round.now.target) wanted }
+    requires placed { IsPlaced (length ordered.now.order) C.test state }
+    ensures { (tree : TreeValue)
+        → lines.now ≡ lines_of_tree tree
+        → AreTreeNumbers tree
+        → IfOk result (IsTreeAnswer (problem_of ordered.now.problem) (round_of round.now) (state_at ordered.now.order C.test state) tree budget) }
+{
+    let places = ordered.places();
+    let mut first = Items::of_tree(alloc, lines, round.language, places)?;
+    if let Some(fault) = first_fault(&mut first)? {
+        return Ok(TreeVerdict::Fault(CheckFault::Text(fault)));
+    }
+    let mut feed = Feed {
+        source: Items::of_tree(alloc, lines, round.language, places)?,
+        line: 0,
+        steps: Steps::new(budget),
+    };
+    let judged = judge_placed::<C, Items>(alloc, ordered, round, wanted, state, &mut feed);
+    said_of(judged)
+}
+
+/// The verdict on a tree that should prove a round from a state on.
+///
+/// `Proof` comes only of proof trees. `Fault` names the first fault: that of its lines where no text spells it, else the first line
+/// that may not stand where it stands, so it comes only of trees that are no proof or have no spelling. Each line that is judged and
+/// each set of counties that is met counts one, and `Budget` comes only where the budget is below the cost of the tree, three for each
+/// of its lines and for each set of counties that they ask to look through.
+///
+/// The order has each county of the problem once, the target, if there is one, is lawful, and the limit is at most 128 counties. The state
+/// is by places of the order.
+///
+/// # Errors
+///
+/// Where memory was refused.
+pub fn check_tree<C: CountySet>(
+    alloc: Global,
+    problem: &Problem,
+    round: &Round,
+    state: &State<C>,
+    tree: &Tree,
+    budget: u64,
+) -> Result<TreeVerdict, AllocError>
+    requires fits { length round.now.order ≤ C.PLACES }
+    requires order { IsOrder (problem_of problem.now) round.now.order }
+    requires small { round.now.limit ≤ 128 }
+    requires target { IsLawfulTarget (problem_of problem.now) (target_of round.now.target) }
+    requires placed { IsPlaced (length round.now.order) C.test state.now }
+    ensures verdict { IfOk result (IsTreeAnswer (problem_of problem.now) (round_of round.now) (state_at round.now.order C.test state.now) (tree_of tree.now) budget) }
+    ensures right { IfOk result (IsRightOfTrees (problem_of problem.now) (round_of round.now) (state_at round.now.order C.test state.now) (tree_of tree.now)) }
+{
+    let lines = tree_lines(alloc, tree)?;
+    let Ok(ordered) = judge_order(alloc, problem, round) else {
+        return Err(AllocError);
+    };
+    let Ok(wanted) = judge_target(alloc, problem, &round.target) else {
+        return Err(AllocError);
+    };
+    let state = copied_state(alloc, &ordered, state)?;
+    check_lines::<C>(
+        alloc,
+        &ordered,
+        round,
+        wanted.as_ref(),
+        state,
+        &lines,
+        budget,
+    )
+}

@@ -1,0 +1,14 @@
+pub mod Forms
+pub mod TreesFound
+pub mod CertificatesFound
+pub mod LineFeeds
+pub mod Lengths
+pub mod Spelling
+pub mod Verdicts
+pub mod Costs
+pub mod Listings
+pub mod SomeCost
+pub mod Readable
+pub mod TargetFaults
+pub mod SomeVerdict
+pub mod TextKinds

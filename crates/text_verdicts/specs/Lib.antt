@@ -1,0 +1,3 @@
+pub mod TextVerdict
+pub mod TextCost
+pub mod Laws

@@ -1,0 +1,12 @@
+//! What is said of any text over a problem: its first fault, or the verdict of the certificate that it spells; and
+//! what saying so costs. Definitions, and their laws as theorems.
+//!
+//! A text without a fault spells one certificate, and the verdict is that certificate's. A fault of the text comes
+//! before all that is said of a certificate.
+//!
+//! The definitions stand in `specs/`: `TextVerdict`, and `TextCost`.
+#![tactic(auto)]
+
+mod laws;
+
+pub use laws::{text_costs_are_one, text_verdicts_show, texts_spell};

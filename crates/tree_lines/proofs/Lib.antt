@@ -1,0 +1,6 @@
+pub mod AddedLaws
+pub mod Parts
+pub mod Told
+pub mod SameTexts
+pub mod InRange
+pub mod Spelling

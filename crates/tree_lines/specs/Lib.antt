@@ -1,0 +1,4 @@
+pub mod Ranges
+pub mod Added
+pub mod TreeFault
+pub mod Laws
