@@ -33,8 +33,8 @@ pub enum Allowed {
 }
 
 /// How many counties are open to a group of a size, in counties, less those that smaller groups use up; 0 where that
-/// is more.
-fn room_left<C: CountySet>(
+/// is more. An error comes where memory was refused.
+pub fn room_left<C: CountySet>(
     alloc: Global,
     ordered: &Ordered,
     state: &State<C>,
@@ -52,7 +52,7 @@ fn room_left<C: CountySet>(
 }
 
 /// How many closed groups have so many counties.
-fn closed_of_size<C: CountySet>(ordered: &Ordered, state: &State<C>, size: u16) -> u32
+pub fn closed_of_size<C: CountySet>(ordered: &Ordered, state: &State<C>, size: u16) -> u32
     requires placed { IsPlaced (length ordered.now.order) C.test state.now }
     ensures value { result ≡ counts (state_at ordered.now.order C.test state.now).closed size }
     ensures few { result ≤ 128 }

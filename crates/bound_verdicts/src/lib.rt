@@ -1,9 +1,10 @@
-//! What a line of a bound leaf is worth at a state: how many groups it allows against the target's, or its fault. Any
-//! form of sets of places serves.
+//! What a line of a bound leaf is worth at a state: how many groups it allows against the target's, or its fault; and
+//! what any bound goes by, the room for groups of a size and the closed ones of that size. Any form of sets of places
+//! serves.
 #![tactic(auto)]
 
 mod bound;
 mod judging;
 mod weights;
 
-pub use bound::{Allowed, judge_allowance};
+pub use bound::{Allowed, closed_of_size, judge_allowance, room_left};

@@ -1,21 +1,35 @@
 //! Certificates and trees in a file of cases, read and written back, with a line on each; then a wide text
-//! with a million marks, values without a spelling, and ten thousand trees that are made, written and read.
+//! with a million marks, values without a spelling, and ten thousand trees that are made, written and read. Behind
+//! them stands what the checker says of the texts in a second file, and of texts over a hundred and twenty-eight
+//! counties.
 //!
-//! A case begins with a line `== KIND NAME`, and its bytes are the lines up to the next such line. Of a kind
-//! that ends in `cut`, the last LF is left out.
+//! A case begins with a line `== KIND: NAME`, and its bytes are the lines up to the next such line. Of a kind
+//! that ends in `cut`, the last LF is left out. In the second file a case of the kind `problem` tells the problem of
+//! those behind it.
+//!
+//! With the words BUDGET and FORM (`lists`, `masks` or `wide`) it only prints what the checker says of the file `text`
+//! over the problem that the file `problem` tells, with sets of that form (`bench/check_speed.py`).
 #![tactic(auto)]
 
+mod alone;
 mod cases;
+mod checks;
+mod files;
 mod generated;
+mod problems;
+mod readings;
 mod unspelled;
-mod verdicts;
 
+use crate::alone::counties_alone;
 use crate::cases::{Case, cases_of};
+use crate::checks::judged;
+use crate::files::show_file;
 use crate::generated::{million_marks, million_plain_marks, round_trips};
+use crate::problems::problem_in;
+use crate::readings::reading;
 use crate::unspelled::without_spelling;
-use crate::verdicts::verdict;
-use anyhow::Result;
-use std::fs;
+use anyhow::{Context, Result};
+use std::{env, fs};
 
 /// How many trees are made.
 const TREES: u32 = 10_000;
@@ -26,7 +40,7 @@ fn show_cases(rt: &HostRuntime) -> Result<()> {
     let text = fs::read(rt, "cases")?;
     for case in &cases_of(alloc, &text)? {
         let Case { kind, name, bytes } = case;
-        let said = verdict(alloc, kind, bytes)?;
+        let said = reading(alloc, kind, bytes)?;
         println!(rt; "{name}: {said}")?;
     }
     Ok(())
@@ -50,11 +64,48 @@ fn show_unspelled(rt: &HostRuntime) -> Result<()> {
     Ok(())
 }
 
-fn main(rt: HostRuntime) -> Result<()> {
-    show_cases(&rt)?;
-    show_marks(&rt)?;
-    show_unspelled(&rt)?;
+/// Prints what the checker says of each text of the file, over the problem that stands in front of it.
+fn show_checks(rt: &HostRuntime) -> Result<()> {
+    let alloc = rt.alloc();
+    let text = fs::read(rt, "checks")?;
+    let mut problem = None;
+    for case in &cases_of(alloc, &text)? {
+        let Case { kind, name, bytes } = case;
+        if *kind == "problem" {
+            problem = Some(problem_in(alloc, bytes)?);
+        } else {
+            let problem = problem.as_ref().context("a problem")?;
+            let said = judged(alloc, problem, kind, bytes)?;
+            println!(rt; "{name}: {said}")?;
+        }
+    }
+    Ok(())
+}
+
+/// Prints what the checker says over as many counties as there may be.
+fn show_alone(rt: &HostRuntime) -> Result<()> {
+    for said in &counties_alone(rt.alloc())? {
+        println!(rt; "{said}")?;
+    }
+    Ok(())
+}
+
+/// Prints all that the gate compares.
+fn show_all(rt: &HostRuntime) -> Result<()> {
+    show_cases(rt)?;
+    show_marks(rt)?;
+    show_unspelled(rt)?;
     let back = round_trips(rt.alloc(), TREES)?;
     println!(rt; "{back} of {TREES} trees read back as they were written")?;
-    Ok(())
+    show_checks(rt)?;
+    show_alone(rt)
+}
+
+fn main(rt: HostRuntime) -> Result<()> {
+    let words: Vec<String> = env::args(&rt)?.collect(rt.alloc())?;
+    let Some(budget) = words.get(1) else {
+        return show_all(&rt);
+    };
+    let form = words.get(2).context("a form of sets")?;
+    show_file(&rt, budget, form)
 }

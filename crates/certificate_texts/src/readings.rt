@@ -117,7 +117,7 @@ fn words(alloc: Global, bytes: &[u8]) -> Result<String> {
 }
 
 /// How many LFs there are.
-fn feeds(bytes: &[u8]) -> u64 {
+pub fn feeds(bytes: &[u8]) -> u64 {
     bytes.iter().filter(|byte| **byte == b'\n').count() as u64
 }
 
@@ -144,7 +144,7 @@ fn prefixes(alloc: Global, bytes: &[u8]) -> Result<String> {
 }
 
 /// What is said of the bytes of a case.
-pub fn verdict(alloc: Global, kind: &str, bytes: &[u8]) -> Result<String> {
+pub fn reading(alloc: Global, kind: &str, bytes: &[u8]) -> Result<String> {
     match kind {
         "certificate" => certificate(alloc, bytes),
         "certificate cut" => certificate(alloc, bytes.strip_suffix(b"\n").unwrap_or(bytes)),

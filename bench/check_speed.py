@@ -1,0 +1,95 @@
+"""Measures the checker over the counties of North Carolina, whose codes are the odd ones, and prints for each made
+certificate and each form of sets the steps and the millions of steps a second of processor time, from the best of
+three runs, less the time at budget 0. The steps are the least budget that suffices.
+
+python3 bench/county_graph.py data/nc2020 > graph.txt
+python3 bench/check_speed.py crates/certificate_texts/out/certificate_texts graph.txt
+"""
+import os
+import resource
+import subprocess
+import sys
+import tempfile
+
+MOST = 1 << 40
+
+
+def write_problem(folder, chamber, people, pairs):
+    lines = [f"chamber {chamber}"]
+    lines += [f"county {37001 + 2 * place} {count}" for place, count in enumerate(people)]
+    lines += [f"pair {37001 + 2 * a} {37001 + 2 * b}" for a, b in pairs]
+    with open(os.path.join(folder, "problem"), "w") as file:
+        file.write("\n".join(lines) + "\n")
+
+
+def write_text(folder, lines):
+    with open(os.path.join(folder, "text"), "w") as file:
+        file.write("\n".join(lines + ["end"]) + "\n")
+
+
+def weighed(head, codes, limit):
+    """A certificate of groups of one county each: at most so many counties weigh one each."""
+    lines = [head, "order " + " ".join(codes), f"limit {limit}", f"target {len(codes)}"]
+    lines += [f"group 1 {code}" for code in codes]
+    lines += [f"bound {limit}", "room"]
+    return lines + ["weigh 1 " + " ".join(f"{code}:1" for code in codes)] * (limit - 1)
+
+
+def branched(code, codes, limit):
+    """A text whose only branch lists the groups of a county, and has none of them as a take."""
+    lines = ["county-groups wide certificate 1", "order " + " ".join(codes), f"limit {limit}", "target none"]
+    return lines + [f"branch {code} {limit}", "mark", "seats"]
+
+
+def run(program, folder, budget, form):
+    before = resource.getrusage(resource.RUSAGE_CHILDREN)
+    said = subprocess.run([program, str(budget), form], cwd=folder, capture_output=True, text=True, check=True).stdout
+    after = resource.getrusage(resource.RUSAGE_CHILDREN)
+    return said.strip(), after.ru_utime + after.ru_stime - before.ru_utime - before.ru_stime
+
+
+def steps(program, folder):
+    low, high = 0, 1
+    while run(program, folder, high, "masks")[0] == "budget":
+        low, high = high, 4 * high
+    while high - low > 1:
+        middle = (low + high) // 2
+        if run(program, folder, middle, "masks")[0] == "budget":
+            low = middle
+        else:
+            high = middle
+    return high
+
+
+def measure(program, folder, name, forms):
+    count = steps(program, folder)
+    for form in forms:
+        base = min(run(program, folder, 0, form)[1] for _ in range(3))
+        runs = [run(program, folder, MOST, form) for _ in range(3)]
+        seconds = min(time for _, time in runs) - base
+        said = runs[0][0][:30]
+        print(f"{name}, {form}: {count} steps in {seconds:.3f} s, {count / seconds / 1e6:.2f} million a second: {said}", flush=True)
+
+
+def main(program, graph):
+    program = os.path.abspath(program)
+    with open(graph) as file:
+        rows = [[int(word) for word in line.split()] for line in file]
+    people, pairs = rows[1], rows[2:]
+    codes = [str(37001 + 2 * place) for place in range(len(people))]
+    with tempfile.TemporaryDirectory() as folder:
+        write_problem(folder, len(people), [1] * len(people), pairs)
+        for head in ["county-groups certificate 1", "county-groups wide certificate 1"]:
+            for limit in [4, 5, 6]:
+                write_text(folder, weighed(head, codes, limit))
+                forms = ["masks", "wide"] if "wide" in head and limit > 5 else ["masks", "wide", "lists"]
+                measure(program, folder, f"{head}, weights of at most {limit} counties", forms)
+        for name, chamber in [("Senate", 50), ("House", 120)]:
+            write_problem(folder, chamber, people, pairs)
+            write_text(folder, branched("37183", codes, 8))
+            measure(program, folder, f"{name}, a branch of 37183 of at most 8 counties", ["masks", "wide"])
+
+
+if len(sys.argv) != 3:
+    sys.exit(__doc__)
+main(sys.argv[1], sys.argv[2])

@@ -1,0 +1,5 @@
+pub mod CountWeights
+pub mod CountedPlaces
+pub mod CountBounds
+pub mod CountSteps
+pub mod StuckPlaces

@@ -1,0 +1,22 @@
+use Rattle.std.proofs.Common.{◌≡◌, sym, ap, map, length, arith}
+use Rattle.std.specs.Vec.{vec_items}
+use Rattle.std.proofs.lemmas.List.{length-map, length-take-le}
+use Rattle.grouping_problem.specs.ProblemValue.{problem_of}
+use Rattle.proof_trees.specs.RoundValue.{round_of, target_of}
+use Rattle.certificate_text.specs.Trees.{allowance_of}
+use Rattle.line_verdicts.specs.Placed.{state_at}
+use Rattle.bound_proofs.proofs.CountSteps.{first_lists}
+use Rattle.bound_proofs.proofs.bound.bounding_lines.Goals as goal
+
+pub returns-in_ok-count_lines-in-Some-2 : goal.returns-in_ok-count_lines-in-Some-2
+returns-in_ok-count_lines-in-Some-2 g c =
+    let test = g.C.CountySet.test in
+    let p = problem_of c.args.ordered.now.problem in
+    let order = c.args.ordered.now.order in
+    let s = state_at order test c.args.state.now in
+    let lists = c.args.lists.now in
+    let lines = c.in_ok-count_lines-in-Some-2.field-0.items in
+    let found = rw c.in-Some-2.is at c.in_ok-count.ensures in
+    let first = first_lists vec_items test order p (round_of c.args.round.now) s 1 lists c.from.result c.requires.lists in
+    let number : length (map allowance_of lines) ≡ c.in-Some-2.count = omega (arith, length-map lines allowance_of, c.in_ok-count_lines-in-Some-2.ensures.count, length-take-le c.from.result lists (omega (arith, c.from.ensures, found.0)), c.from.ensures) in
+    (c.in-Some.target.groups.items, ap target_of c.in-Some.is, found.1 (map allowance_of lines) number (c.in_ok-count_lines-in-Some-2.ensures.lines (round_of c.args.round.now) s (sym c.requires.order) first))

@@ -1,0 +1,8 @@
+use Rattle.std.proofs.Common.{sym, ◌∙◌, ⊎_elim}
+use Rattle.std.proofs.lemmas.Bool.{false≢true, cases_lt}
+use Rattle.bound_proofs.proofs.stuck.stuck_place.Goals as goal
+
+pub returns : goal.returns
+returns g c = λ i v.
+    let here = v.is_part.inside i v.around in
+    ⊎_elim (λ l. c.loop-place.invariant.none i l v) (λ l. false≢true (sym (c.in_default.ensures.least i l) ∙ here)) (cases_lt i c.loop-place.from)

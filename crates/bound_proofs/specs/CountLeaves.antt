@@ -1,0 +1,37 @@
+-- Lists of the groups of each size that fit a state, by places, and what is known of the bound leaves of count lines that they give.
+use Rattle.std.specs.Prelude.{ℕ, ◌+◌, ◌≡◌, ◌≤◌, Bool, ◌&&◌, List, [], ◌∷◌, length, ⊤}
+use Rattle.grouping_laws.specs.Sets.{member}
+use Rattle.grouping_laws.specs.Problem.{Problem}
+use Rattle.grouping_laws.specs.GroupsFrom.{place}
+use Rattle.growing_sets.specs.Listing.{AreBelow}
+use Rattle.proof_trees.specs.Round.{Round}
+use Rattle.proof_trees.specs.State.{State}
+use Rattle.proof_trees.specs.Tree.{Allowance}
+use Rattle.proof_trees.specs.Groups.{AreGroupsOf}
+use Rattle.proof_trees.specs.BoundLines.{Bounds}
+use Rattle.proof_trees.specs.Search.{AreCountLines}
+use Rattle.line_verdicts.specs.Placed.{codes_of_sets}
+
+-- whether a set of places has the county's
+abbrev pub has_county : {C : Type 0} → List ℕ → (C → ℕ → Bool) → C → ℕ → Bool
+has_county order test set c = member order c && test set (place order c)
+
+-- the groups of i counties that fit, each as a set of places of the order
+pub record IsListOf {C : Type 0} (test : C → ℕ → Bool) (order : List ℕ) (p : Problem) (round : Round) (s : State) (i : ℕ) (sets : List C) : Type 0 where
+  pub groups : AreGroupsOf p round s i (codes_of_sets order test sets)
+  pub below : AreBelow (length order) test sets
+
+-- such lists for sizes i, i + 1 and so on
+abbrev pub AreListsFrom : {C : Type 0} → (C → ℕ → Bool) → List ℕ → Problem → Round → State → ℕ → List (List C) → Type 0
+AreListsFrom test order p round s i [] = ⊤
+AreListsFrom test order p round s i (sets ∷ lists) = IsListOf test order p round s i sets × AreListsFrom test order p round s (i + 1) lists
+
+-- the bound leaf of so many count lines keeps below the counts that are wanted or comes to them
+abbrev pub BoundBy : Problem → Round → State → (ℕ → ℕ) → ℕ → Type 0
+BoundBy p round s wanted count =
+    (lines : List Allowance) → length lines ≡ count → AreCountLines round.language p s 1 lines → Bounds round.language p round.limit s wanted 1 0 lines
+
+-- that of no number of count lines up to one does so
+abbrev pub BoundByNone : Problem → Round → State → (ℕ → ℕ) → ℕ → Type 0
+BoundByNone p round s wanted most =
+    (lines : List Allowance) → length lines ≤ most → AreCountLines round.language p s 1 lines → Bounds round.language p round.limit s wanted 1 0 lines → ⊥

@@ -1,0 +1,166 @@
+ghost use Rattle.std.specs.Prelude.{◌≡◌, ℕ, ◌+◌, ◌*◌, ◌≤◌, List, map, length, IfOk, MatchOption};
+ghost use Rattle.std.specs.Vec.{vec_items};
+ghost use Rattle.grouping_laws.specs.Grouping.{counts, sets_of};
+ghost use Rattle.grouping_problem.specs.ProblemValue.{problem_of};
+ghost use Rattle.proof_trees.specs.Tree.{Allowance as AllowanceValue};
+ghost use Rattle.proof_trees.specs.RoundValue.{round_of};
+ghost use Rattle.proof_trees.specs.BoundLines.{allowance, IsBound};
+ghost use Rattle.proof_trees.specs.Search.{IsCountLine, AreCountLines};
+ghost use Rattle.certificate_text.specs.Trees.{allowance_of};
+ghost use Rattle.line_verdicts.specs.Placed.{state_at, IsPlaced};
+ghost use Rattle.bound_proofs.specs.CountLeaves.{IsListOf, AreListsFrom, BoundBy, BoundByNone};
+
+use crate::lines::{count_lines, places_in};
+use bound_verdicts::{closed_of_size, room_left};
+use certificate_lines::Allowance;
+use county_codes::Grouping;
+use ordered_counties::Ordered;
+use place_sets::CountySet;
+use proof_trees::{Round, State};
+use std::alloc::{AllocError, Global};
+
+/// How many groups of the grouping have so many counties.
+fn groups_of_size(grouping: &Grouping, size: u16) -> usize
+    ensures { result ≡ counts (sets_of grouping.now.groups.items) size }
+{
+    let mut count = 0;
+    for group in &grouping.groups {
+        if group.codes.as_slice().len() == usize::from(size) {
+            count += 1;
+        }
+    }
+    count
+}
+
+/// How many groups of a size, in counties, the count line for it allows, where smaller groups use up so many counties,
+/// at most 128, and these are the groups of the size that fit.
+fn count_allowance<C: CountySet>(
+    alloc: Global,
+    ordered: &Ordered,
+    round: &Round,
+    state: &State<C>,
+    size: u16,
+    used: u32,
+    groups: &[C],
+) -> Result<u32, AllocError>
+    requires fits { length ordered.now.order ≤ C.PLACES }
+    requires placed { IsPlaced (length ordered.now.order) C.test state.now }
+    requires order { ordered.now.order ≡ round.now.order }
+    requires size { 1 ≤ size }
+    requires used { used ≤ 128 }
+    requires groups { IsListOf C.test ordered.now.order (problem_of ordered.now.problem) (round_of round.now) (state_at ordered.now.order C.test state.now) size groups.now }
+    ensures line { IfOk
+        result
+        (λ allowed. (line : AllowanceValue)
+        → IsCountLine round.now.language (problem_of ordered.now.problem) (state_at ordered.now.order C.test state.now) size line
+        → allowance (problem_of ordered.now.problem) (state_at ordered.now.order C.test state.now) size used line ≡ allowed) }
+    ensures few { IfOk result (λ allowed. (allowed ≤ 128) × (used + size * allowed ≤ 128)) }
+{
+    let _places = ordered.places();
+    let _problem = ordered.problem();
+    let counted = places_in(alloc, groups)?;
+    let room = room_left(alloc, ordered, state, size, used)?;
+    Ok((room / u32::from(size)).min(counted.size() / u32::from(size)))
+}
+
+/// How many count lines make a bound leaf that is valid, where the target is this one and these are the groups of the
+/// sizes from 1 on that fit; `None` where no more lines than lists do.
+fn lines_to_bound<C: CountySet>(
+    alloc: Global,
+    ordered: &Ordered,
+    round: &Round,
+    state: &State<C>,
+    target: &Grouping,
+    lists: &[Vec<C>],
+) -> Result<Option<u16>, AllocError>
+    requires fits { length ordered.now.order ≤ C.PLACES }
+    requires placed { IsPlaced (length ordered.now.order) C.test state.now }
+    requires order { ordered.now.order ≡ round.now.order }
+    requires few { length lists.now ≤ round.now.limit }
+    requires lists { AreListsFrom
+        C.test
+        ordered.now.order
+        (problem_of ordered.now.problem)
+        (round_of round.now)
+        (state_at ordered.now.order C.test state.now)
+        1
+        (map vec_items lists.now) }
+    ensures { IfOk
+        result
+        (λ found. MatchOption
+        found
+        (BoundByNone
+        (problem_of ordered.now.problem)
+        (round_of round.now)
+        (state_at ordered.now.order C.test state.now)
+        (counts (sets_of target.now.groups.items))
+        (length lists.now))
+        (λ count. (count ≤ length lists.now)
+        × BoundBy
+        (problem_of ordered.now.problem)
+        (round_of round.now)
+        (state_at ordered.now.order C.test state.now)
+        (counts (sets_of target.now.groups.items))
+        count)) }
+{
+    let limit = round.limit;
+    let mut size = 0;
+    let mut used = 0;
+    for groups in lists {
+        size += 1;
+        let more = count_allowance(alloc, ordered, round, state, size, used, groups)?;
+        let allowed = (closed_of_size(ordered, state, size) + more) as usize;
+        let wanted = groups_of_size(target, size);
+        if allowed > wanted {
+            return Ok(None);
+        }
+        if allowed < wanted {
+            return Ok(Some(size));
+        }
+        used += u32::from(size) * more;
+    }
+    if size < limit {
+        return Ok(None);
+    }
+    Ok(Some(size))
+}
+
+/// The lines of a bound leaf of count lines that is valid, `None` where no such leaf of at most as many lines as
+/// there are lists is. The lists are those of the groups of the sizes from 1 on that fit.
+pub(crate) fn bounding_lines<C: CountySet>(
+    alloc: Global,
+    ordered: &Ordered,
+    round: &Round,
+    state: &State<C>,
+    lists: &[Vec<C>],
+) -> Result<Option<Vec<Allowance>>, AllocError>
+    requires fits { length ordered.now.order ≤ C.PLACES }
+    requires placed { IsPlaced (length ordered.now.order) C.test state.now }
+    requires order { ordered.now.order ≡ round.now.order }
+    requires few { length lists.now ≤ round.now.limit }
+    requires lists { AreListsFrom
+        C.test
+        ordered.now.order
+        (problem_of ordered.now.problem)
+        (round_of round.now)
+        (state_at ordered.now.order C.test state.now)
+        1
+        (map vec_items lists.now) }
+    ensures { IfOk
+        result
+        (λ found. MatchOption
+        found
+        ((lines : List AllowanceValue)
+        → length lines ≤ length lists.now
+        → AreCountLines round.now.language (problem_of ordered.now.problem) (state_at ordered.now.order C.test state.now) 1 lines
+        → ¬ IsBound (problem_of ordered.now.problem) (round_of round.now) (state_at ordered.now.order C.test state.now) lines)
+        (λ v. IsBound (problem_of ordered.now.problem) (round_of round.now) (state_at ordered.now.order C.test state.now) (map allowance_of v.items))) }
+{
+    let Some(target) = &round.target else {
+        return Ok(None);
+    };
+    match lines_to_bound(alloc, ordered, round, state, target, lists)? {
+        Some(count) => Ok(Some(count_lines(alloc, ordered, &lists[..usize::from(count)])?)),
+        None => Ok(None),
+    }
+}

@@ -1,0 +1,98 @@
+ghost use Rattle.std.specs.Prelude.{◌≡◌, ℕ, ◌≤◌, map, length, IfOk};
+ghost use Rattle.std.specs.Vec.{vec_items};
+ghost use Rattle.std.specs.List.{list_any};
+ghost use Rattle.grouping_problem.specs.ProblemValue.{problem_of};
+ghost use Rattle.proof_trees.specs.Round.{Round as RoundValue};
+ghost use Rattle.proof_trees.specs.State.{State as StateValue};
+ghost use Rattle.proof_trees.specs.Search.{IsCountLine, AreCountLines};
+ghost use Rattle.certificate_text.specs.Trees.{allowance_of};
+ghost use Rattle.bound_proofs.specs.CountLeaves.{has_county, IsListOf, AreListsFrom};
+
+use certificate_lines::{Allowance, Weight, Weights};
+use county_codes::CountyCode;
+use ordered_counties::Ordered;
+use place_sets::CountySet;
+use std::alloc::{AllocError, Global};
+
+/// The places of all groups.
+pub(crate) fn places_in<C: CountySet>(alloc: Global, groups: &[C]) -> Result<C, AllocError>
+    ensures { IfOk result (λ s. (x : ℕ) → C.test s x ≡ list_any (λ g. C.test g x) groups.now) }
+{
+    let mut places = C::empty(alloc)?;
+    for group in groups {
+        places = places.union(alloc, group)?;
+    }
+    Ok(places)
+}
+
+/// Whether the set has the place of the county with the code.
+fn is_among<C: CountySet>(ordered: &Ordered, set: &C, code: CountyCode) -> bool
+    requires { length ordered.now.order ≤ C.PLACES }
+    ensures { result ≡ has_county ordered.now.order C.test set.now code }
+{
+    for place in 0..ordered.places() {
+        if ordered.code(place) == code {
+            return set.has(place);
+        }
+    }
+    false
+}
+
+/// The count line for a size, in counties, of which these are the groups that fit: the quota is the size, and each
+/// county of a group has weight 1.
+fn count_line<C: CountySet>(
+    alloc: Global,
+    ordered: &Ordered,
+    size: u16,
+    groups: &[C],
+) -> Result<Allowance, AllocError>
+    requires { length ordered.now.order ≤ C.PLACES }
+    ensures { IfOk
+        result
+        (λ line. (round : RoundValue) (s : StateValue)
+        → round.order ≡ ordered.now.order
+        → IsListOf C.test ordered.now.order (problem_of ordered.now.problem) round s size groups.now
+        → IsCountLine round.language (problem_of ordered.now.problem) s size (allowance_of line)) }
+{
+    let _places = ordered.places();
+    let counted = places_in(alloc, groups)?;
+    let counties = ordered.problem().counties();
+    let mut weights = Vec::new(alloc);
+    for county in counties {
+        if is_among(ordered, &counted, county.code) {
+            weights.push(Weight {
+                county: county.code,
+                weight: 1,
+            })?;
+        }
+    }
+    Ok(Allowance::Weigh {
+        quota: u32::from(size),
+        weights: Weights::new(weights),
+    })
+}
+
+/// The count lines for the sizes from 1 on, of which these are the lists of the groups that fit.
+pub(crate) fn count_lines<C: CountySet>(
+    alloc: Global,
+    ordered: &Ordered,
+    lists: &[Vec<C>],
+) -> Result<Vec<Allowance>, AllocError>
+    requires fits { length ordered.now.order ≤ C.PLACES }
+    requires few { length lists.now ≤ 65535 }
+    ensures count { IfOk result (λ v. length v.items ≡ length lists.now) }
+    ensures lines { IfOk
+        result
+        (λ v. (round : RoundValue) (s : StateValue)
+        → round.order ≡ ordered.now.order
+        → AreListsFrom C.test ordered.now.order (problem_of ordered.now.problem) round s 1 (map vec_items lists.now)
+        → AreCountLines round.language (problem_of ordered.now.problem) s 1 (map allowance_of v.items)) }
+{
+    let mut lines = Vec::new(alloc);
+    let mut size = 0;
+    for groups in lists {
+        size += 1;
+        lines.push(count_line(alloc, ordered, size, groups)?)?;
+    }
+    Ok(lines)
+}

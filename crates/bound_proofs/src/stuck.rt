@@ -1,0 +1,73 @@
+ghost use Rattle.std.specs.Prelude.{◌≡◌, ℕ, true, ◌≤◌, length, IfOk, MatchOption};
+ghost use Rattle.grouping_problem.specs.ProblemValue.{problem_of};
+ghost use Rattle.ordered_counties.specs.OrderedValue.{problem_at};
+ghost use Rattle.county_regions.specs.Rows.{AreRows};
+ghost use Rattle.proof_trees.specs.StateValue.{state_of};
+ghost use Rattle.proof_trees.specs.Leaves.{IsStuck};
+ghost use Rattle.line_verdicts.specs.Placed.{state_at, IsPlaced};
+
+use county_codes::CountyCode;
+use ordered_counties::Ordered;
+use place_sets::CountySet;
+use proof_trees::State;
+use state_tests::{has_stuck_part, is_stuck_at};
+use std::alloc::{AllocError, Global};
+
+/// The first place of the rest around which the connected part is stuck, `None` where no part is.
+fn stuck_place<C: CountySet>(
+    alloc: Global,
+    ordered: &Ordered,
+    near: &[C],
+    state: &State<C>,
+) -> Result<Option<u16>, AllocError>
+    requires fits { length ordered.now.order ≤ C.PLACES }
+    requires rows { AreRows C C.test (problem_at ordered.now) (length ordered.now.order) near.now }
+    requires placed { IsPlaced (length ordered.now.order) C.test state.now }
+    ensures { IfOk
+        result
+        (λ found. MatchOption
+        found
+        ((i : ℕ) → ¬ IsStuck (problem_at ordered.now) (state_of C.test state.now) i)
+        (λ place. (C.test state.now.rest place ≡ true) × IsStuck (problem_at ordered.now) (state_of C.test state.now) place)) }
+{
+    let _places = ordered.places();
+    let mut from = 0;
+    while let Some(place) = state.rest.next(from) {
+        if is_stuck_at(alloc, ordered, near, state, place)? {
+            return Ok(Some(place));
+        }
+        from = u32::from(place) + 1;
+    }
+    Ok(None)
+}
+
+/// A county for which a stuck leaf is valid, the one at the first place of them; `None` exactly where there is none.
+///
+/// `near` are the rows of the order (`neighbour_rows`). An error comes where memory was refused.
+pub(crate) fn stuck_county<C: CountySet>(
+    alloc: Global,
+    ordered: &Ordered,
+    near: &[C],
+    state: &State<C>,
+) -> Result<Option<CountyCode>, AllocError>
+    requires fits { length ordered.now.order ≤ C.PLACES }
+    requires rows { AreRows C C.test (problem_at ordered.now) (length ordered.now.order) near.now }
+    requires placed { IsPlaced (length ordered.now.order) C.test state.now }
+    ensures { IfOk
+        result
+        (λ found. MatchOption
+        found
+        ((c : ℕ) → ¬ IsStuck (problem_of ordered.now.problem) (state_at ordered.now.order C.test state.now) c)
+        (λ county. IsStuck (problem_of ordered.now.problem) (state_at ordered.now.order C.test state.now) county)) }
+{
+    let _places = ordered.places();
+    let rest = state.rest.copy(alloc)?;
+    let none = C::empty(alloc)?;
+    if !has_stuck_part(alloc, ordered, near, state, rest, &none)? {
+        return Ok(None);
+    }
+    match stuck_place(alloc, ordered, near, state)? {
+        Some(place) => Ok(Some(ordered.code(place))),
+        None => Ok(None),
+    }
+}

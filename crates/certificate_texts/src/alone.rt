@@ -1,0 +1,92 @@
+//! Certificates over as many counties as there may be, each of a hundred people and adjacent to none.
+
+use crate::checks::checked;
+use crate::problems::problem_in;
+use anyhow::Result;
+use grouping_problem::Problem;
+use std::alloc::Global;
+
+/// The first code, and the last: a hundred and twenty-eight counties.
+const FIRST: u32 = 37_001;
+
+const LAST: u32 = 37_128;
+
+/// Above the cost of each of these texts.
+const ENOUGH: u64 = 100_000;
+
+/// Adds each code, between what stands before it and what stands behind it.
+fn add_codes(alloc: Global, text: &mut String, before: &str, behind: &str) -> Result<()> {
+    for code in FIRST..=LAST {
+        text.push_str(&format!(in alloc; "{before}{code}{behind}")?)?;
+    }
+    Ok(())
+}
+
+/// A hundred and twenty-eight counties, and as many seats.
+fn problem(alloc: Global) -> Result<Problem> {
+    let mut text = String::from_str(alloc, "chamber 128\n")?;
+    add_codes(alloc, &mut text, "county ", " 100\n")?;
+    problem_in(alloc, text.as_bytes())
+}
+
+/// The lines in front of a tree: groups of one county each.
+fn front(alloc: Global, head: &str) -> Result<String> {
+    let mut text = format!(in alloc; "{head}\norder")?;
+    add_codes(alloc, &mut text, " ", "")?;
+    text.push_str("\nlimit 1\ntarget 128\n")?;
+    add_codes(alloc, &mut text, "group 1 ", "\n")?;
+    Ok(text)
+}
+
+/// A text whose takes nest as deep as the order has codes. Its branch lines end in this.
+fn nested(alloc: Global, head: &str, limit: &str) -> Result<String> {
+    let mut text = front(alloc, head)?;
+    for code in FIRST..=LAST {
+        text.push_str(&format!(in alloc; "branch {code}{limit}\ntake {code}\n")?)?;
+    }
+    text.push_str("bound 1\nroom\n")?;
+    for code in (FIRST..=LAST).rev() {
+        text.push_str(&format!(in alloc; "mark\nstuck {code}\n")?)?;
+    }
+    text.push_str("end\n")?;
+    Ok(text)
+}
+
+/// A text with the greatest weight for each county.
+fn weighed(alloc: Global, head: &str, quota: u32) -> Result<String> {
+    let mut text = front(alloc, head)?;
+    text.push_str(&format!(in alloc; "bound 1\nweigh {quota}")?)?;
+    add_codes(alloc, &mut text, " ", ":1000000")?;
+    text.push_str("\nend\n")?;
+    Ok(text)
+}
+
+/// What the checker says, with the number of groups for the groups.
+fn counted(alloc: Global, problem: &Problem, text: &str) -> Result<String> {
+    let said = checked(alloc, problem, text.as_bytes(), ENOUGH)?;
+    match said.strip_prefix("best ") {
+        Some(groups) => {
+            let count = groups.split(' ').count();
+            Ok(format!(in alloc; "best with {count} groups")?)
+        }
+        None => Ok(said),
+    }
+}
+
+/// What the checker says of each text.
+pub fn counties_alone(alloc: Global) -> Result<Vec<String>> {
+    let problem = problem(alloc)?;
+    let mut lines = Vec::new(alloc);
+    for (head, limit) in [
+        ("county-groups certificate 1", ""),
+        ("county-groups wide certificate 1", " 1"),
+    ] {
+        let said = counted(alloc, &problem, &nested(alloc, head, limit)?)?;
+        lines.push(format!(in alloc; "{head}, 128 takes nested: {said}")?)?;
+        for quota in [1_000_000, 256_000_000] {
+            let said = counted(alloc, &problem, &weighed(alloc, head, quota)?)?;
+            lines.push(format!(in alloc; "{head}, quota {quota}: {said}")?)?;
+        }
+    }
+    Ok(lines)
+}
