@@ -1,5 +1,0 @@
-pub mod KnownGroups
-pub mod Those
-pub mod LivePlaces
-pub mod KeptSteps
-pub mod Closing
