@@ -1,0 +1,9 @@
+//! The checker and the texts of certificates agree: to such a text the checker answers what the certificate shows, or that the
+//! budget is too small.
+//!
+//! The definitions stand in `specs/`: `Says`.
+#![tactic(auto)]
+
+mod laws;
+
+pub use laws::checker_agrees;

@@ -1,0 +1,90 @@
+ghost use Rattle.std.specs.Prelude.{◌≡◌, ◌≢◌, ℕ, ◌≤◌, length, AllPairs, IfOk};
+ghost use Rattle.std.specs.Cmp.Lexicographic.{slice_cmp};
+ghost use Rattle.std.specs.Ordering.{nat_cmp, is_lt};
+ghost use Rattle.std.specs.List.Sorted.{IsPermutation, IsSortedBy};
+ghost use Rattle.grouping_laws.specs.GroupsFrom.{IsBefore};
+ghost use Rattle.grouping_problem.specs.ProblemValue.{problem_of};
+ghost use Rattle.ordered_counties.specs.OrderedValue.{problem_at};
+ghost use Rattle.county_regions.specs.Rows.{AreRows};
+ghost use Rattle.growing_sets.specs.Growing.{sort_key};
+ghost use Rattle.growing_sets.specs.Listing.{AreBelow, lists_of};
+ghost use Rattle.line_verdicts.specs.Placed.{state_at, codes_of_sets, IsPlaced};
+ghost use Rattle.finished_groupings.specs.Finished.{AreFinished};
+
+use county_regions::parts_of;
+use ordered_counties::Ordered;
+use place_sets::{CountySet, by_size_and_places};
+use proof_trees::State;
+use std::alloc::{AllocError, Global};
+
+/// Equal sets.
+fn copy_sets<C: CountySet>(alloc: Global, sets: &[C]) -> Result<Vec<C>, AllocError>
+    ensures { IfOk result (λ v. (n : ℕ) → lists_of n C.test v.items ≡ lists_of n C.test sets.now) }
+{
+    let mut copies = Vec::new(alloc);
+    for set in sets {
+        copies.push(set.copy(alloc)?)?;
+    }
+    Ok(copies)
+}
+
+/// The sets by size, and sets of one size by their lists of places.
+fn sorted<C: CountySet>(sets: Vec<C>) -> Result<Vec<C>, AllocError>
+    ensures same { IfOk result (λ v. IsPermutation sets.items v.items) }
+    ensures sorted { IfOk
+        result
+        (λ v. (n : ℕ)
+        → AreBelow n C.test sets.items
+        → IsSortedBy (λ g h. is_lt (slice_cmp nat_cmp (sort_key g) (sort_key h))) (lists_of n C.test v.items)) }
+{
+    let mut sets = sets;
+    sets.sort_by(|a, b| by_size_and_places(a, b))?;
+    Ok(sets)
+}
+
+/// The closed groups of a state, and behind them the connected parts of its rest.
+fn closed_and_parts<C: CountySet>(
+    alloc: Global,
+    ordered: &Ordered,
+    near: &[C],
+    state: &State<C>,
+) -> Result<Vec<C>, AllocError>
+    requires fits { length ordered.now.order ≤ C.PLACES }
+    requires rows { AreRows C C.test (problem_at ordered.now) (length ordered.now.order) near.now }
+    requires placed { IsPlaced (length ordered.now.order) C.test state.now }
+    ensures finished { IfOk
+        result
+        (λ v. AreFinished (problem_of ordered.now.problem) (state_at ordered.now.order C.test state.now) (codes_of_sets ordered.now.order C.test v.items)) }
+    ensures below { IfOk result (λ v. AreBelow (length ordered.now.order) C.test v.items) }
+{
+    let _places = ordered.places();
+    let mut parts = parts_of(alloc, ordered, near, &state.rest)?;
+    let mut sets = copy_sets(alloc, &state.closed)?;
+    sets.append(&mut parts)?;
+    Ok(sets)
+}
+
+/// The closed groups of a state and the connected parts of its rest, by size and then by places. Sets that differ stand
+/// in that order.
+pub(crate) fn finished_sets<C: CountySet>(
+    alloc: Global,
+    ordered: &Ordered,
+    near: &[C],
+    state: &State<C>,
+) -> Result<Vec<C>, AllocError>
+    requires fits { length ordered.now.order ≤ C.PLACES }
+    requires rows { AreRows C C.test (problem_at ordered.now) (length ordered.now.order) near.now }
+    requires placed { IsPlaced (length ordered.now.order) C.test state.now }
+    ensures finished { IfOk
+        result
+        (λ v. AreFinished (problem_of ordered.now.problem) (state_at ordered.now.order C.test state.now) (codes_of_sets ordered.now.order C.test v.items)) }
+    ensures in_turn { IfOk
+        result
+        (λ v. AllPairs (λ g h. g ≢ h) (codes_of_sets ordered.now.order C.test v.items)
+        → AllPairs (IsBefore ordered.now.order) (codes_of_sets ordered.now.order C.test v.items)) }
+    ensures below { IfOk result (λ v. AreBelow (length ordered.now.order) C.test v.items) }
+{
+    let _places = ordered.places();
+    let sets = closed_and_parts(alloc, ordered, near, state)?;
+    Ok(sorted(sets)?)
+}

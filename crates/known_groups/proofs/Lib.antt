@@ -1,0 +1,5 @@
+pub mod KnownGroups
+pub mod Those
+pub mod LivePlaces
+pub mod KeptSteps
+pub mod Closing

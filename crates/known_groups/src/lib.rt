@@ -1,0 +1,14 @@
+//! What a search by branch and bound knows of the groups at a state, and how it keeps it.
+//!
+//! It keeps one list, of the groups of one size, and knows that no smaller group fits. Where a group is closed,
+//! those that meet it go; where a county is raised past the size, those that have it go; and dead ones are left
+//! out where the list is tested. `specs/Known` has the definitions.
+#![tactic(auto)]
+
+mod kept_groups;
+mod laws;
+mod size_groups;
+
+pub use kept_groups::{groups_apart, groups_having, groups_lacking, live_groups};
+pub use laws::known_serves;
+pub use size_groups::groups_of_size;

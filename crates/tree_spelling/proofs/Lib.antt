@@ -1,0 +1,3 @@
+pub mod ItemsFit
+pub mod ShortLines
+pub mod Texts

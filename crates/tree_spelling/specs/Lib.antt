@@ -1,0 +1,2 @@
+pub mod TreeItems
+pub mod Laws
