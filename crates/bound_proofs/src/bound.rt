@@ -20,7 +20,7 @@ use proof_trees::{Round, State};
 use std::alloc::{AllocError, Global};
 
 /// How many groups of the grouping have so many counties.
-fn groups_of_size(grouping: &Grouping, size: u16) -> usize
+pub fn groups_of_size(grouping: &Grouping, size: u16) -> usize
     ensures { result ≡ counts (sets_of grouping.now.groups.items) size }
 {
     let mut count = 0;

@@ -8,4 +8,6 @@ mod finder;
 mod lines;
 mod stuck;
 
+pub use bound::groups_of_size;
 pub use finder::find_leaf;
+pub use stuck::stuck_county;

@@ -41,10 +41,11 @@ fn stuck_place<C: CountySet>(
     Ok(None)
 }
 
-/// A county for which a stuck leaf is valid, the one at the first place of them; `None` exactly where there is none.
+/// A county for which a stuck leaf is valid at the state, the one at the first place of them: the connected part of the
+/// rest around it can't be filled. `None` exactly where there is no such county.
 ///
 /// `near` are the rows of the order (`neighbour_rows`). An error comes where memory was refused.
-pub(crate) fn stuck_county<C: CountySet>(
+pub fn stuck_county<C: CountySet>(
     alloc: Global,
     ordered: &Ordered,
     near: &[C],

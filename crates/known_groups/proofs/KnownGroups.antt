@@ -55,14 +55,15 @@ exact p round s i groups none are = record {
   sorted = are.sorted;
 }
 
+-- where no candidate of a size is left, no group of at most that size fits
+pub none_left : (p : Problem) (round : Round) (s : State) (i : ℕ) → IsOrder p round.order → IsKnown p round s i [] → (g : List ℕ) → Fits round.language p s g → length g ≤ i → ⊥
+none_left p round s i order known g fits l = ⊎_elim
+    (λ less. known.none_below g fits less)
+    (λ most. let k = filter (member g) round.order in nothing k (known.all k (in_places p round s i order g fits (omega (arith, l, most)))))
+    (cases_lt (length g) i)
+
 next : (p : Problem) (round : Round) (s : State) (i : ℕ) (groups : List (List ℕ)) → IsOrder p round.order → IsKnown p round s i [] → AreGroupsOf p round s (i + 1) groups → IsKnown p round s (i + 1) groups
-next p round s i groups order known are = exact p round s (i + 1) groups none are
-  where
-    none : (g : List ℕ) → Fits round.language p s g → length g < i + 1 → ⊥
-    none g fits l = ⊎_elim
-        (λ less. known.none_below g fits less)
-        (λ most. let k = filter (member g) round.order in nothing k (known.all k (in_places p round s i order g fits (omega (arith, l, most)))))
-        (cases_lt (length g) i)
+next p round s i groups order known are = exact p round s (i + 1) groups (λ g fits l. none_left p round s i order known g fits (omega (arith, l))) are
 
 -- some of what is known, at a state into which no other groups fit
 narrower : (p : Problem) (round : Round) (s t : State) (i : ℕ) (Is : List ℕ → Type 0) (groups those : List (List ℕ)) → ((g : List ℕ) → Fits round.language p t g → Fits round.language p s g)

@@ -1,0 +1,6 @@
+pub mod EmptyBounds
+pub mod LeafLines
+pub mod Endings
+pub mod PlacedWeights
+pub mod Weighing
+pub mod WeightSteps

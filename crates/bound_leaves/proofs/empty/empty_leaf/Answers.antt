@@ -1,0 +1,14 @@
+use Rattle.std.proofs.Common.{refl, map}
+use Rattle.grouping_problem.specs.ProblemValue.{problem_of}
+use Rattle.proof_trees.specs.RoundValue.{round_of}
+use Rattle.certificate_text.specs.Trees.{allowance_of}
+use Rattle.line_verdicts.specs.Placed.{state_at}
+use Rattle.bound_leaves.proofs.Endings.{given_empty}
+use Rattle.bound_leaves.proofs.empty.empty_leaf.Goals as goal
+
+pub returns-in_ok-empty_lines-in-Some : goal.returns-in_ok-empty_lines-in-Some
+returns-in_ok-empty_lines-in-Some g c =
+    let lines = c.in_ok-empty_lines-in-Some.field-0.items in
+    let ends = c.in-Some.ensures in
+    given_empty (problem_of c.args.ordered.now.problem) (round_of c.args.round.now) (state_at c.args.ordered.now.order g.C.CountySet.test c.args.state.now) c.requires.limit c.args.size c.in-Some.last _ (map allowance_of lines) c.requires.none ends.0 ends.1 refl
+    c.in_ok-empty_lines-in-Some.ensures

@@ -1,0 +1,14 @@
+-- A leaf that a search ends a state with.
+use Rattle.std.specs.List.{AllByRecursion}
+use Rattle.grouping_laws.specs.Problem.{Problem}
+use Rattle.proof_trees.specs.Round.{Round}
+use Rattle.proof_trees.specs.State.{State}
+use Rattle.proof_trees.specs.Leaves.{IsValidLeaf}
+use Rattle.certificate_text.specs.declared.tree.Leaf.{Leaf}
+use Rattle.certificate_text.specs.Trees.{leaf_of, leaf_items}
+use Rattle.tree_spelling.specs.TreeItems.{FitsInTree}
+
+-- the leaf is valid at the state, and its numbers are in the ranges of its lines
+pub record IsGiven (p : Problem) (round : Round) (s : State) (leaf : Leaf) : Type 0 where
+  pub valid : IsValidLeaf p round s (leaf_of leaf)
+  pub lines : AllByRecursion (FitsInTree round.language) (leaf_items (leaf_of leaf))

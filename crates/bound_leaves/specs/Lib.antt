@@ -1,0 +1,4 @@
+pub mod GivenLeaf
+pub mod EmptyLines
+pub mod Missing
+pub mod PlacedWeights

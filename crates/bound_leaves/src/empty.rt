@@ -1,0 +1,144 @@
+ghost use Rattle.std.specs.Prelude.{◌≡◌, ℕ, ◌≤◌, map, length, IfOk, MatchOption};
+ghost use Rattle.grouping_problem.specs.ProblemValue.{problem_of};
+ghost use Rattle.proof_trees.specs.RoundValue.{round_of};
+ghost use Rattle.certificate_text.specs.Trees.{allowance_of, leaf_of};
+ghost use Rattle.line_verdicts.specs.Placed.{state_at, IsPlaced};
+ghost use Rattle.known_groups.specs.Standing.{StandsAhead, NoneUpTo};
+ghost use Rattle.bound_leaves.specs.GivenLeaf.{IsGiven};
+ghost use Rattle.bound_leaves.specs.EmptyLines.{IsEmptyLine, AreEmptyThrough, EndsWith};
+ghost use Rattle.bound_leaves.specs.Missing.{TargetEndsAt};
+
+use crate::standing::first_difference;
+use bound_proofs::groups_of_size;
+use bound_verdicts::{closed_of_size, room_left};
+use certificate_lines::{Allowance, Weights};
+use certificate_text::Leaf;
+use ordered_counties::Ordered;
+use place_sets::CountySet;
+use proof_trees::{Round, State};
+use std::alloc::{AllocError, Global};
+
+/// The line of a bound leaf for a size, in counties, that no group has: `room` where too few counties are open to one,
+/// else `weigh 1` without weights.
+fn empty_line<C: CountySet>(
+    alloc: Global,
+    ordered: &Ordered,
+    state: &State<C>,
+    size: u16,
+) -> Result<Allowance, AllocError>
+    requires fits { length ordered.now.order ≤ C.PLACES }
+    requires placed { IsPlaced (length ordered.now.order) C.test state.now }
+    ensures { IfOk
+        result
+        (λ line. IsEmptyLine (problem_of ordered.now.problem) (state_at ordered.now.order C.test state.now) size (allowance_of line)) }
+{
+    if room_left(alloc, ordered, state, size, 0)? < u32::from(size) {
+        return Ok(Allowance::Room);
+    }
+    Ok(Allowance::Weigh {
+        quota: 1,
+        weights: Weights::new(Vec::new(alloc)),
+    })
+}
+
+/// Such lines for the sizes from 1 through the last one.
+fn empty_lines<C: CountySet>(
+    alloc: Global,
+    ordered: &Ordered,
+    state: &State<C>,
+    last: u16,
+) -> Result<Vec<Allowance>, AllocError>
+    requires fits { length ordered.now.order ≤ C.PLACES }
+    requires placed { IsPlaced (length ordered.now.order) C.test state.now }
+    ensures { IfOk
+        result
+        (λ v. AreEmptyThrough (problem_of ordered.now.problem) (state_at ordered.now.order C.test state.now) last (map allowance_of v.items)) }
+{
+    let mut lines = Vec::new(alloc);
+    for below in 0..last {
+        lines.push(empty_line(alloc, ordered, state, below + 1)?)?;
+    }
+    Ok(lines)
+}
+
+/// A bound leaf of such lines for the sizes below one, and then this line for that size.
+pub(crate) fn ending_leaf<C: CountySet>(
+    alloc: Global,
+    ordered: &Ordered,
+    state: &State<C>,
+    size: u16,
+    last: Allowance,
+) -> Result<Leaf, AllocError>
+    requires fits { length ordered.now.order ≤ C.PLACES }
+    requires placed { IsPlaced (length ordered.now.order) C.test state.now }
+    requires size { 1 ≤ size }
+    ensures { IfOk
+        result
+        (λ leaf. EndsWith (problem_of ordered.now.problem) (state_at ordered.now.order C.test state.now) size (allowance_of last) (leaf_of leaf)) }
+{
+    let mut lines = empty_lines(alloc, ordered, state, size - 1)?;
+    lines.push(last)?;
+    Ok(Leaf::Bound(lines))
+}
+
+/// Where no group of at most so many counties fits, the last size of a bound leaf: the first one of which fewer groups
+/// are closed than the target has, or the limit where all counts are the target's.
+fn last_size<C: CountySet>(
+    ordered: &Ordered,
+    round: &Round,
+    state: &State<C>,
+    size: u16,
+) -> Option<u16>
+    requires placed { IsPlaced (length ordered.now.order) C.test state.now }
+    requires small { size ≤ round.now.limit }
+    ensures { MatchOption
+        result
+        (size ≡ round.now.limit → StandsAhead (round_of round.now) (state_at ordered.now.order C.test state.now))
+        (λ last. (last ≤ size) × TargetEndsAt (round_of round.now) (state_at ordered.now.order C.test state.now) last) }
+{
+    let Some(target) = &round.target else {
+        return None;
+    };
+    let Some(first) = first_difference(ordered, target, state, size) else {
+        if size < round.limit {
+            return None;
+        }
+        return Some(size);
+    };
+    let closed = closed_of_size(ordered, state, first) as usize;
+    if closed < groups_of_size(target, first) {
+        return Some(first);
+    }
+    None
+}
+
+/// A bound leaf where no group of at most so many counties fits. Its lines go through the first size of which fewer
+/// groups are closed than the target has, or through the limit where all counts are the target's. `None` where more
+/// groups are closed at the first size that differs, where none differs below the limit, and where there is no target.
+///
+/// An error comes where memory was refused.
+pub fn empty_leaf<C: CountySet>(
+    alloc: Global,
+    ordered: &Ordered,
+    round: &Round,
+    state: &State<C>,
+    size: u16,
+) -> Result<Option<Leaf>, AllocError>
+    requires fits { length ordered.now.order ≤ C.PLACES }
+    requires placed { IsPlaced (length ordered.now.order) C.test state.now }
+    requires order { ordered.now.order ≡ round.now.order }
+    requires limit { round.now.limit ≤ 128 }
+    requires small { size ≤ round.now.limit }
+    requires none { NoneUpTo (problem_of ordered.now.problem) (round_of round.now) (state_at ordered.now.order C.test state.now) size }
+    ensures { IfOk
+        result
+        (λ found. MatchOption
+        found
+        (size ≡ round.now.limit → StandsAhead (round_of round.now) (state_at ordered.now.order C.test state.now))
+        (λ leaf. IsGiven (problem_of ordered.now.problem) (round_of round.now) (state_at ordered.now.order C.test state.now) leaf)) }
+{
+    match last_size(ordered, round, state, size) {
+        Some(last) => Ok(Some(Leaf::Bound(empty_lines(alloc, ordered, state, last)?))),
+        None => Ok(None),
+    }
+}

@@ -1,0 +1,19 @@
+//! Leaves that a search by branch and bound ends a state with: a stuck or a seats leaf, and bound leaves whose lines
+//! for the sizes below the last one allow no group.
+//!
+//! Each function tests its leaf's rule before it gives the leaf, and the leaf's numbers are in the ranges of its
+//! lines. A state is told by the places of an order, and what is said of it by codes. Any form of sets of places
+//! serves. `specs/` has the definitions: `GivenLeaf`, `EmptyLines` and `Missing`.
+#![tactic(auto)]
+
+mod empty;
+mod room;
+mod standing;
+mod weighed;
+mod whole;
+
+pub use empty::empty_leaf;
+pub use room::room_leaf;
+pub use standing::wanted_more;
+pub use weighed::weighed_leaf;
+pub use whole::whole_leaf;

@@ -1,0 +1,65 @@
+ghost use Rattle.std.specs.Prelude.{◌≡◌, ◌≤◌, ⊤, length, MatchOption};
+ghost use Rattle.grouping_laws.specs.Grouping.{counts, sets_of};
+ghost use Rattle.proof_trees.specs.RoundValue.{round_of};
+ghost use Rattle.line_verdicts.specs.Placed.{state_at, IsPlaced};
+ghost use Rattle.known_groups.specs.Standing.{IsLevel};
+ghost use Rattle.bound_leaves.specs.Missing.{DiffersAt, IsMissing};
+
+use bound_proofs::groups_of_size;
+use bound_verdicts::closed_of_size;
+use county_codes::Grouping;
+use ordered_counties::Ordered;
+use place_sets::CountySet;
+use proof_trees::{Round, State};
+
+/// The first size from 1 through the last one, in counties, of which there are not as many closed groups as the target
+/// has; `None` where there are as many of each.
+pub(crate) fn first_difference<C: CountySet>(
+    ordered: &Ordered,
+    target: &Grouping,
+    state: &State<C>,
+    last: u16,
+) -> Option<u16>
+    requires placed { IsPlaced (length ordered.now.order) C.test state.now }
+    ensures { MatchOption
+        result
+        (IsLevel (counts (sets_of target.now.groups.items)) (state_at ordered.now.order C.test state.now) last)
+        (λ size. DiffersAt (counts (sets_of target.now.groups.items)) (state_at ordered.now.order C.test state.now) last size) }
+{
+    for below in 0..last {
+        let size = below + 1;
+        let closed = closed_of_size(ordered, state, size) as usize;
+        if closed != groups_of_size(target, size) {
+            return Some(size);
+        }
+    }
+    None
+}
+
+/// How many more groups of a size, in counties, the target has than are closed, where of each smaller size there are
+/// as many; `None` where none is missing, where a smaller size differs, and where there is no target.
+pub fn wanted_more<C: CountySet>(
+    ordered: &Ordered,
+    round: &Round,
+    state: &State<C>,
+    size: u16,
+) -> Option<u32>
+    requires fits { length ordered.now.order ≤ C.PLACES }
+    requires placed { IsPlaced (length ordered.now.order) C.test state.now }
+    requires order { ordered.now.order ≡ round.now.order }
+    requires limit { round.now.limit ≤ 128 }
+    ensures { MatchOption result ⊤ (λ k. IsMissing (round_of round.now) (state_at ordered.now.order C.test state.now) size k) }
+{
+    let Some(target) = &round.target else {
+        return None;
+    };
+    if first_difference(ordered, target, state, size.saturating_sub(1)).is_some() {
+        return None;
+    }
+    let closed = closed_of_size(ordered, state, size) as usize;
+    let wanted = groups_of_size(target, size);
+    if wanted <= closed {
+        return None;
+    }
+    u32::try_from(wanted - closed).ok()
+}

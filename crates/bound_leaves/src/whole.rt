@@ -1,0 +1,76 @@
+ghost use Rattle.std.specs.Prelude.{◌≡◌, ℕ, ◌≤◌, length, IfOk, MatchOption};
+ghost use Rattle.grouping_problem.specs.ProblemValue.{problem_of};
+ghost use Rattle.ordered_counties.specs.OrderedValue.{problem_at};
+ghost use Rattle.county_regions.specs.Rows.{AreRows};
+ghost use Rattle.proof_trees.specs.RoundValue.{round_of};
+ghost use Rattle.proof_trees.specs.Leaves.{IsStuck, IsOffSeats};
+ghost use Rattle.line_verdicts.specs.Placed.{state_at, IsPlaced};
+ghost use Rattle.bound_leaves.specs.GivenLeaf.{IsGiven};
+
+use bound_proofs::stuck_county;
+use certificate_text::Leaf;
+use line_verdicts::judge_seats;
+use ordered_counties::Ordered;
+use place_sets::CountySet;
+use proof_trees::{Round, State};
+use std::alloc::{AllocError, Global};
+
+/// A stuck leaf that is valid at the state, its code in the range of its line; `None` exactly where there is none.
+fn stuck_leaf<C: CountySet>(
+    alloc: Global,
+    ordered: &Ordered,
+    near: &[C],
+    round: &Round,
+    state: &State<C>,
+) -> Result<Option<Leaf>, AllocError>
+    requires fits { length ordered.now.order ≤ C.PLACES }
+    requires rows { AreRows C C.test (problem_at ordered.now) (length ordered.now.order) near.now }
+    requires placed { IsPlaced (length ordered.now.order) C.test state.now }
+    ensures { IfOk
+        result
+        (λ found. MatchOption
+        found
+        ((c : ℕ) → ¬ IsStuck (problem_of ordered.now.problem) (state_at ordered.now.order C.test state.now) c)
+        (λ leaf. IsGiven (problem_of ordered.now.problem) (round_of round.now) (state_at ordered.now.order C.test state.now) leaf)) }
+{
+    match stuck_county(alloc, ordered, near, state)? {
+        Some(county) => {
+            let _small = county.get();
+            Ok(Some(Leaf::Stuck(county)))
+        }
+        None => Ok(None),
+    }
+}
+
+/// A stuck leaf that is valid at the state, the one around the first place where there is any, else the seats leaf
+/// where it is valid; `None` exactly where there is neither.
+///
+/// `near` are the rows of the order (`neighbour_rows`). An error comes where memory was refused.
+pub fn whole_leaf<C: CountySet>(
+    alloc: Global,
+    ordered: &Ordered,
+    near: &[C],
+    round: &Round,
+    state: &State<C>,
+) -> Result<Option<Leaf>, AllocError>
+    requires fits { length ordered.now.order ≤ C.PLACES }
+    requires rows { AreRows C C.test (problem_at ordered.now) (length ordered.now.order) near.now }
+    requires placed { IsPlaced (length ordered.now.order) C.test state.now }
+    requires order { ordered.now.order ≡ round.now.order }
+    requires limit { round.now.limit ≤ 128 }
+    ensures { IfOk
+        result
+        (λ found. MatchOption
+        found
+        (((c : ℕ) → ¬ IsStuck (problem_of ordered.now.problem) (state_at ordered.now.order C.test state.now) c)
+        × ¬ IsOffSeats (problem_of ordered.now.problem) (state_at ordered.now.order C.test state.now))
+        (λ leaf. IsGiven (problem_of ordered.now.problem) (round_of round.now) (state_at ordered.now.order C.test state.now) leaf)) }
+{
+    if let Some(leaf) = stuck_leaf(alloc, ordered, near, round, state)? {
+        return Ok(Some(leaf));
+    }
+    if judge_seats(alloc, ordered, near, state)?.is_none() {
+        return Ok(Some(Leaf::Seats));
+    }
+    Ok(None)
+}

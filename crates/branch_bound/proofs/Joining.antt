@@ -1,0 +1,94 @@
+-- A branch behind those of a search so far.
+use Rattle.std.proofs.Common.{◌≡◌, ℕ, ◌≤◌, List, [], ◌∷◌, ◌++◌, length, map, filter, All, AllPairs, Option, Some, refl, ap, sym, ◌∙◌, subst, arith}
+use Rattle.std.specs.List.{AllByRecursion}
+use Rattle.grouping_laws.specs.Problem.{Problem}
+use Rattle.grouping_laws.specs.Sets.{member}
+use Rattle.grouping_laws.specs.Grouping.{Grouping, sets_of}
+use Rattle.grouping_laws.specs.GroupsFrom.{IsBefore}
+use Rattle.grouping_laws.specs.Places.{codes_at}
+use Rattle.ordered_counties.specs.OrderedValue.{code_at}
+use Rattle.proof_trees.specs.Round.{Round}
+use Rattle.proof_trees.specs.declared.language.Language.{Language}
+use Rattle.proof_trees.specs.declared.language.Language.TheVariants.{Plain, Wide}
+use Rattle.proof_trees.specs.State.{State, close, raise}
+use Rattle.proof_trees.specs.Tree.{Tree, leaf, branch, Takes, no_take, take, groups_of}
+use Rattle.proof_trees.specs.Groups.{AreGroupsAt}
+use Rattle.proof_trees.specs.Proving.{NamesLimit, CanBranch, Proves, EachProves}
+use Rattle.certificate_lines.specs.Lines.{most}
+use Rattle.certificate_lines.specs.Fits.{Fits}
+use Rattle.certificate_lines.specs.declared.item.Item.{Item}
+use Rattle.certificate_lines.specs.declared.item.Item.TheVariants as item
+use Rattle.certificate_lines.specs.declared.item.Opening.TheVariants as opening
+use Rattle.certificate_lines.specs.declared.item.Wanted.TheVariants as want
+use Rattle.certificate_text.specs.declared.tree.Branch.{Branch}
+use Rattle.certificate_text.specs.declared.tree.Take.{Take, Take'}
+use Rattle.certificate_text.specs.Trees.{tree_of, branch_onto, take_onto, list_of_takes, items_of_tree, items_of_takes}
+use Rattle.certificate_text.proofs.TreeViews.{list_onto, items_of_branch, items_of_branches, branches_more}
+use Rattle.tree_spelling.specs.TreeItems.{FitsInTree}
+use Rattle.branch_bound.specs.Searching.{IsSorted, AreTakesOf, IsTakeOf}
+
+pub joined : (bs : List Branch) (b : Branch) (tree : Tree) → list_onto (bs ++ b ∷ []) tree ≡ list_onto bs (branch_onto b tree)
+joined [] b tree = refl
+joined (a ∷ bs) b tree = ap (branch_onto a) (joined bs b tree)
+
+wide_names : (language : Language) (size : ℕ) → language ≡ Wide → NamesLimit language (Some size)
+wide_names language size e = subst (λ l. NamesLimit l (Some size)) (sym e) tt
+
+-- what proves the raised state proves, behind one branch more, the first one
+pub branch_step : (p : Problem) (round : Round) (first s : State) (county size : ℕ) (bs news : List Branch) (b : Branch) (takes : Takes) → round.language ≡ Wide → CanBranch round s county size → AreGroupsAt p round s county size (groups_of takes) → EachProves takes p round s
+    → ((raised : Tree) → branch_onto b raised ≡ branch county (Some size) takes raised) → news ≡ bs ++ b ∷ [] → ((tree : Tree) → Proves tree p round s → Proves (list_onto bs tree) p round first)
+    → (tree : Tree) → Proves tree p round (raise county size s) → Proves (list_onto news tree) p round first
+branch_step p round first s county size bs news b takes wide can groups each made pushed whole tree proves =
+    let here : Proves (branch county (Some size) takes tree) p round s = (wide_names round.language size wide, can, groups, each, proves) in
+    let put : Proves (branch_onto b tree) p round s = subst (λ (t : Tree). Proves t p round s) (sym (made tree)) here in
+    subst (λ (l : List Branch). Proves (list_onto l tree) p round first) (sym pushed) (subst (λ (t : Tree). Proves t p round first) (sym (joined bs b tree)) (whole (branch_onto b tree) put))
+
+pub all_append : {X : Type 0} (P : X → Type 0) (xs ys : List X) → AllByRecursion P xs → AllByRecursion P ys → AllByRecursion P (xs ++ ys)
+all_append P [] ys a b = b
+all_append P (x ∷ xs) ys a b = (a.0, all_append P xs ys a.1 b)
+
+pub all_parts : {X : Type 0} (P : X → Type 0) (xs ys : List X) → AllByRecursion P (xs ++ ys) → AllByRecursion P xs × AllByRecursion P ys
+all_parts P [] ys a = (tt, a)
+all_parts P (x ∷ xs) ys a = let rest = all_parts P xs ys a.1 in ((a.0, rest.0), rest.1)
+
+branch_fits : (language : Language) (county size : ℕ) → language ≡ Wide → county ≤ 99999 → 1 ≤ size → size ≤ most → FitsInTree language (item.Opens (opening.Branch county (Some size)))
+branch_fits language county size e c from to = subst (λ l. Fits (want.Tree l 1) (item.Opens (opening.Branch county (Some size)))) (sym e) (c, from, to, omega arith)
+
+pub lines_step : (language : Language) (county size : ℕ) (bs news : List Branch) (b : Branch) (takes : Takes) → language ≡ Wide → county ≤ 99999 → 1 ≤ size → size ≤ most → AllByRecursion (FitsInTree language) (items_of_takes takes)
+    → items_of_branch b ≡ item.Opens (opening.Branch county (Some size)) ∷ (items_of_takes takes ++ item.Mark ∷ []) → news ≡ bs ++ b ∷ [] → AllByRecursion (FitsInTree language) (items_of_branches bs) → AllByRecursion (FitsInTree language) (items_of_branches news)
+lines_step language county size bs news b takes wide small from to lines made pushed before =
+    let here : AllByRecursion (FitsInTree language) (items_of_branch b) =
+    subst (λ (l : List Item). AllByRecursion (FitsInTree language) l) (sym made) (branch_fits language county size wide small from to, all_append (FitsInTree language) (items_of_takes takes) (item.Mark ∷ []) lines (tt, tt)) in
+    subst (λ (l : List Branch). AllByRecursion (FitsInTree language) (items_of_branches l)) (sym pushed)
+    (subst (λ (l : List Item). AllByRecursion (FitsInTree language) l) (sym (branches_more bs b)) (all_append (FitsInTree language) (items_of_branches bs) (items_of_branch b) before here))
+
+-- one take more
+pub take_step : (p : Problem) (round : Round) (s : State) (groups : List (List ℕ)) (group : List ℕ) (ts : List Take) (t : Take) → AreTakesOf p round s groups ts → IsTakeOf p round s group t → AreTakesOf p round s (groups ++ group ∷ []) (ts ++ t ∷ [])
+take_step p round s groups group ts t are is = record {
+  groups_are = groups_behind ts ∙ ap (λ l. l ++ group ∷ []) are.groups_are;
+  each = each_behind ts are.each;
+  lines = lines_behind ts are.lines;
+}
+  where
+    groups_behind : (us : List Take) → groups_of (list_of_takes (us ++ t ∷ [])) ≡ groups_of (list_of_takes us) ++ group ∷ []
+    groups_behind [] = ap groups_of (is.is no_take)
+    groups_behind (Take' codes tree ∷ us) = ap (λ l. codes ∷ l) (groups_behind us)
+
+    each_behind : (us : List Take) → EachProves (list_of_takes us) p round s → EachProves (list_of_takes (us ++ t ∷ [])) p round s
+    each_behind [] e = subst (λ (x : Takes). EachProves x p round s) (sym (is.is no_take)) (is.proves, tt)
+    each_behind (Take' codes tree ∷ us) e = (e.0, each_behind us e.1)
+
+    lines_behind : (us : List Take) → AllByRecursion (FitsInTree round.language) (items_of_takes (list_of_takes us)) → AllByRecursion (FitsInTree round.language) (items_of_takes (list_of_takes (us ++ t ∷ [])))
+    lines_behind [] e = subst (λ (x : Takes). AllByRecursion (FitsInTree round.language) (items_of_takes x)) (sym (is.is no_take)) (is.lines.0, all_append (FitsInTree round.language) (items_of_tree is.tree) [] is.lines.1 tt)
+    lines_behind (Take' codes tree ∷ us) e =
+        let parts = all_parts (FitsInTree round.language) (items_of_tree (tree_of tree)) (items_of_takes (list_of_takes us)) e.1 in
+        (e.0, all_append (FitsInTree round.language) (items_of_tree (tree_of tree)) (items_of_takes (list_of_takes (us ++ t ∷ []))) parts.0 (lines_behind us parts.1))
+
+-- the codes at one place more
+pub codes_end : (order places : List ℕ) (i : ℕ) → codes_at order (places ++ i ∷ []) ≡ codes_at order places ++ code_at order i ∷ []
+codes_end order [] i = refl
+codes_end order (x ∷ xs) i = ap (λ l. code_at order x ∷ l) (codes_end order xs i)
+
+-- groups that stand in one order stand in an equal one
+pub sorted_as : (order other : List ℕ) (groups : Grouping) → order ≡ other → AllPairs (IsBefore order) (sets_of groups) → All (λ m. filter (member m.codes) order ≡ m.codes) groups → IsSorted other groups
+sorted_as order other groups same turn codes = subst (λ o. IsSorted o groups) same (record { in_turn = turn; in_order = codes })

@@ -1,0 +1,76 @@
+-- The positions of a search: what is known at one goes with it.
+use Rattle.std.proofs.Common.{◌≡◌, ℕ, ◌+◌, ◌≤◌, ◌<◌, Bool, true, List, [], length, filter, refl, sym, ap, ◌∙◌, subst, arith, Contains}
+use Rattle.grouping_laws.specs.Sets.{member, Inside}
+use Rattle.grouping_laws.specs.Problem.{IsProblem}
+use Rattle.grouping_laws.specs.GroupsFrom.{IsOrder}
+use Rattle.grouping_problem.specs.ProblemValue.{problem_of}
+use Rattle.growing_sets.specs.Listing.{AreBelow}
+use Rattle.ordered_counties.specs.OrderedValue.{code_at}
+use Rattle.proof_trees.specs.State.{State, close, raise}
+use Rattle.proof_trees.specs.Fitting.{IsLive}
+use Rattle.proof_trees.specs.Groups.{IsGroupAt, AreGroupsAt}
+use Rattle.proof_trees.specs.Proving.{CanBranch}
+use Rattle.proof_trees.proofs.Branches.{branch_keeps_state}
+use Rattle.proof_trees.proofs.Completion.{open_least}
+use Rattle.proof_trees.specs.declared.state.State.{State as StateHeld}
+use Rattle.line_verdicts.specs.Placed.{codes_of_set, codes_of_sets, IsPlaced, IsClosable}
+use Rattle.known_groups.specs.Known.{IsCandidate, IsKnown, AreThose, IsApart, Lacks, Has}
+use Rattle.known_groups.proofs.KnownGroups.{known_serves}
+use Rattle.known_groups.proofs.Closing.{candidate_closable}
+use Rattle.branch_bound.specs.Searching.{problem_in, round_in, state_in, IsGround, IsAt, IsChoice}
+use Rattle.branch_bound.specs.declared.ground.Ground.{Ground}
+use Rattle.branch_bound.specs.declared.position.Position.{Position}
+
+module _ (C : Type 0) (test : C → ℕ → Bool) (places : ℕ) (g : Ground C) (ground : IsGround places test g) where
+  abbrev sets : List C → List (List ℕ)
+  sets = codes_of_sets g.ordered.now.order test
+
+  pub taken_groups : (s : State) (at : Position C) (c : ℕ) (those found : List (List ℕ)) → IsAt test g s at → AreThose g.ordered.now.order (Has c) (codes_of_sets g.ordered.now.order test at.groups.items) those
+      → AreThose g.ordered.now.order (IsLive (problem_in g) (state_in g test at.state)) those found → AreGroupsAt (problem_in g) (round_in g) s c at.size found
+  taken_groups s at c those found is has live =
+      known_serves.takes (problem_in g) (round_in g) s at.size c (sets at.groups.items) those found ground.wide is.known (subst (λ o. AreThose o (Has c) (sets at.groups.items) those) ground.order has)
+      (subst (λ z. AreThose g.round.now.order (IsLive (problem_in g) z) those found) is.is (subst (λ o. AreThose o (IsLive (problem_in g) (state_in g test at.state)) those found) ground.order live))
+
+  pub closable : (s : State) (at : Position C) (c : ℕ) (group : C) → IsOrder (problem_in g) g.ordered.now.order → ((x : ℕ) → test group x ≡ true → x < length g.ordered.now.order) → IsAt test g s at → IsGroupAt (problem_in g) (round_in g) s c at.size (codes_of_set g.ordered.now.order test group)
+      → IsClosable test at.state group
+  closable s at c group order below is fits =
+      let codes = codes_of_set g.ordered.now.order test group in
+      let here : IsCandidate (problem_in g) (round_in g) (state_in g test at.state) (length codes) codes =
+      subst (λ z. IsCandidate (problem_in g) (round_in g) z (length codes) codes) (sym is.is) (record { lawful = fits.fits.lawful; inside = fits.fits.inside; in_order = fits.in_order; size = refl }) in
+      candidate_closable C test g.ordered.now.order (problem_in g) order (round_in g) at.state is.placed (length codes) group below here
+
+  pub closed_at : (s : State) (at next : Position C) (c : ℕ) (group : C) → IsProblem (problem_in g) → IsAt test g s at → IsGroupAt (problem_in g) (round_in g) s c at.size (codes_of_set g.ordered.now.order test group)
+      → IsPlaced (length g.ordered.now.order) test next.state → state_in g test next.state ≡ close (codes_of_set g.ordered.now.order test group) (state_in g test at.state) → next.size ≡ at.size → AreBelow (length g.ordered.now.order) test next.groups.items
+      → AreThose g.ordered.now.order (IsApart (codes_of_set g.ordered.now.order test group)) (codes_of_sets g.ordered.now.order test at.groups.items) (codes_of_sets g.ordered.now.order test next.groups.items)
+      → IsAt test g (close (codes_of_set g.ordered.now.order test group) s) next
+  closed_at s at next c group problem is fits placed value size below those =
+      let codes = codes_of_set g.ordered.now.order test group in
+      record {
+        placed = placed;
+        is = value ∙ ap (close codes) is.is;
+        state = (branch_keeps_state).closed_state (problem_in g) (round_in g) s codes is.state fits.fits (omega (arith, fits.small, is.small));
+        small = omega (arith, size, is.small);
+        below = below;
+        known = subst (λ n. IsKnown (problem_in g) (round_in g) (close codes s) n (sets next.groups.items)) (sym size)
+            (known_serves.closed (problem_in g) (round_in g) s at.size codes (sets at.groups.items) (sets next.groups.items) problem is.state fits.fits is.known
+            (subst (λ o. AreThose o (IsApart codes) (sets at.groups.items) (sets next.groups.items)) ground.order those));
+      }
+
+  pub raised_at : (s : State) (at next : Position C) (c : ℕ) → IsAt test g s at → CanBranch (round_in g) s c at.size → IsPlaced (length g.ordered.now.order) test next.state → state_in g test next.state ≡ raise c at.size (state_in g test at.state) → next.size ≡ at.size
+      → AreBelow (length g.ordered.now.order) test next.groups.items → AreThose g.ordered.now.order (Lacks c) (codes_of_sets g.ordered.now.order test at.groups.items) (codes_of_sets g.ordered.now.order test next.groups.items)
+      → IsAt test g (raise c at.size s) next
+  raised_at s at next c is can placed value size below those = record {
+    placed = placed;
+    is = value ∙ ap (raise c at.size) is.is;
+    state = (branch_keeps_state).raised_state (problem_in g) (round_in g) s c at.size is.state can;
+    small = omega (arith, size, is.small);
+    below = below;
+    known = subst (λ n. IsKnown (problem_in g) (round_in g) (raise c at.size s) n (sets next.groups.items)) (sym size)
+        (known_serves.raised (problem_in g) (round_in g) s at.size c (sets at.groups.items) (sets next.groups.items) (omega (arith, open_least s at.size c can.is_open)) is.known
+        (subst (λ o. AreThose o (Lacks c) (sets at.groups.items) (sets next.groups.items)) ground.order those));
+  }
+
+  -- one may branch at a county of a group that is known
+  pub choice_can : (s : State) (at : Position C) (place : ℕ) → IsAt test g s at → IsChoice test g.ordered.now.order at.groups.items place → CanBranch (round_in g) s (code_at g.ordered.now.order place) at.size
+  choice_can s at place is choice =
+      known_serves.can (problem_in g) (round_in g) s at.size (code_at g.ordered.now.order place) choice.group ground.wide is.small (is.known.each choice.group choice.known) choice.has

@@ -1,0 +1,111 @@
+-- Certificates of the rounds of a search, and what they show.
+use Rattle.std.proofs.Common.{◌≡◌, ℕ, ◌≤◌, List, [], length, Option, Some, None, Result, Ok, Err, IfOk, Vec, Global, refl, sym, ap, ◌∙◌, subst, arith, All}
+use Rattle.std.specs.List.Sorted.{IsStrictlyIncreasing}
+use Rattle.county_codes.specs.declared.group.Group.{Group}
+use Rattle.county_codes.specs.declared.group.Grouping.{Grouping as GroupingHeld}
+use Rattle.grouping_laws.specs.Problem.{Problem, IsProblem}
+use Rattle.grouping_laws.specs.Grouping.{Grouping, IsImpossible}
+use Rattle.grouping_laws.specs.GroupsFrom.{IsOrder}
+use Rattle.grouping_laws.proofs.Digits.{often_member}
+use Rattle.proof_trees.specs.Round.{Round}
+use Rattle.proof_trees.specs.declared.language.Language.{Language}
+use Rattle.proof_trees.specs.declared.language.Language.TheVariants.{Plain, Wide}
+use Rattle.proof_trees.specs.declared.round.Round.{Round as RoundHeld}
+use Rattle.proof_trees.specs.RoundValue.{round_of}
+use Rattle.proof_trees.specs.State.{State, empty_state}
+use Rattle.proof_trees.specs.Certificate.{IsCertificate, TargetFits, Conclusion}
+use Rattle.proof_trees.specs.Tree.{leaf, Tree as TreeValue}
+use Rattle.proof_trees.specs.Proving.{Proves}
+use Rattle.proof_trees.proofs.Agreement.{certificate_shows}
+use Rattle.certificate_lines.specs.Fits.{AreCodes}
+use Rattle.certificate_text.specs.declared.tree.Leaf.{Leaf}
+use Rattle.certificate_text.specs.declared.tree.Tree.{Tree, roll-Tree}
+use Rattle.certificate_text.specs.declared.tree.Branch.{Branch}
+use Rattle.certificate_text.specs.declared.certificate.Certificate.{Certificate as CertificateHeld}
+use Rattle.certificate_text.specs.Trees.{leaf_of, tree_of, certificate_of}
+use Rattle.certificate_text.proofs.TreeViews.{list_onto, made_tree}
+use Rattle.tree_spelling.specs.TreeItems.{HasLines, TargetHasLines}
+use Rattle.tree_spelling.proofs.Texts.{have_texts}
+use Rattle.bound_leaves.specs.GivenLeaf.{IsGiven}
+use Rattle.branch_bound.specs.Searching.{IsProof}
+use Rattle.branch_bound.specs.Solving.{IsTarget}
+use Rattle.branch_bound.specs.Answered.{Certifies, IsFoundOpen, IsAnswer, NamesBest, SaysWhether}
+use Rattle.branch_bound.proofs.Orders.{stands_in_order}
+use Rattle.branch_bound.specs.declared.answer.Answer.{Answer}
+use Rattle.branch_bound.specs.declared.answer.Answer.TheVariants.{Best, Impossible, Open}
+
+-- a round with a tree that proves it where nothing is closed
+certified : (p : Problem) (r : Round) (round : RoundHeld) (tree : Tree) → round_of round ≡ r → IsOrder p r.order → TargetFits p r.limit r.target → length r.order ≤ 128 → r.limit ≤ 128 → AreCodes round.order → TargetHasLines r.target
+    → IsProof p r (empty_state p) tree → Certifies p r.language r.target (record { round = round; tree = tree })
+certified p r round tree e order fits few small codes target proof =
+    subst (λ (x : Round). IsOrder p x.order → TargetFits p x.limit x.target → length x.order ≤ 128 → x.limit ≤ 128 → TargetHasLines x.target → IsProof p x (empty_state p) tree → Certifies p x.language x.target c) e whole order fits few small target proof
+  where
+    c : CertificateHeld
+    c = record { round = round; tree = tree }
+
+    whole : IsOrder p round.order → TargetFits p round.limit (round_of round).target → length round.order ≤ 128 → round.limit ≤ 128 → TargetHasLines (round_of round).target → IsProof p (round_of round) (empty_state p) tree
+        → Certifies p round.language (round_of round).target c
+    whole order fits few small target proof =
+        let is : IsCertificate p (certificate_of c).round (certificate_of c).tree = record { order = order; target = fits; proof = proof.0 } in
+        record { proves = is; target_is = refl; language_is = refl; spelled = have_texts.certificate p (certificate_of c) is few codes small target proof.1 }
+
+-- the certificate of a target that is best
+best_certified : (p : Problem) (order : List ℕ) (limit : ℕ) (g : Grouping) (round : RoundHeld) (tree : Tree) → IsOrder p order → length order ≤ 128 → IsTarget p order g → limit ≤ 128 → All (λ (m : Group). length m.codes ≤ limit) g
+    → round_of round ≡ record { order = order; limit = limit; target = Some g; language = Wide } → AreCodes round.order → IsProof p (record { order = order; limit = limit; target = Some g; language = Wide }) (empty_state p) tree
+    → Certifies p Wide (Some g) (record { round = round; tree = tree })
+best_certified p order limit g round tree whole few target small large e codes proof =
+    certified p (record { order = order; limit = limit; target = Some g; language = Wide }) round tree e whole (target.lawful, large) few small codes target.lines proof
+
+-- the answer that a target is best
+pub best_answer : (p : Problem) (order : List ℕ) (limit : ℕ) (g : GroupingHeld) (round : RoundHeld) (tree : Tree) → IsOrder p order → length order ≤ 128 → IsStrictlyIncreasing order → IsTarget p order g.groups.items → limit ≤ 128
+    → All (λ (m : Group). length m.codes ≤ limit) g.groups.items → round_of round ≡ record { order = order; limit = limit; target = Some g.groups.items; language = Wide } → AreCodes round.order
+    → IsProof p (record { order = order; limit = limit; target = Some g.groups.items; language = Wide }) (empty_state p) tree → (allowed : ℕ) → 1 ≤ allowed → IsAnswer p allowed (Best g (record { round = round; tree = tree }))
+best_answer p order limit g round tree whole few ascending target small large e codes proof allowed some =
+    (some, best_certified p order limit g.groups.items round tree whole few target small large e codes proof, stands_in_order order ascending g.groups.items target.sorted)
+
+-- a leaf alone
+leaf_proof : (p : Problem) (r : Round) (s : State) (branches : Vec Branch Global) (last : Leaf) → branches.items ≡ [] → IsGiven p r s last → IsProof p r s (roll-Tree (record { branches = branches; leaf = last }))
+leaf_proof p r s branches last none given =
+    let made : tree_of (roll-Tree (record { branches = branches; leaf = last })) ≡ leaf (leaf_of last) = made_tree branches last ∙ alone branches.items none in
+    subst (λ (t : TreeValue). Proves t p r s × HasLines r.language t) (sym made) (given.valid, given.lines)
+  where
+    alone : (bs : List Branch) → bs ≡ [] → list_onto bs (leaf (leaf_of last)) ≡ leaf (leaf_of last)
+    alone bs e = ap (λ (l : List Branch). list_onto l (leaf (leaf_of last))) e
+
+-- the certificate that no grouping is lawful
+pub impossible_certified : (p : Problem) (order : List ℕ) (round : RoundHeld) (branches : Vec Branch Global) (last : Leaf) → IsOrder p order → length order ≤ 128 → round_of round ≡ record { order = order; limit = 0; target = None; language = Plain } → AreCodes round.order
+    → branches.items ≡ [] → IsGiven p (round_of round) (empty_state p) last → Certifies p Plain None (record { round = round; tree = roll-Tree (record { branches = branches; leaf = last }) })
+impossible_certified p order round branches last whole few e codes none given =
+    let r : Round = record { order = order; limit = 0; target = None; language = Plain } in
+    certified p r round (roll-Tree (record { branches = branches; leaf = last })) e whole tt few (omega arith) codes tt (leaf_proof p r (empty_state p) branches last none (subst (λ (x : Round). IsGiven p x (empty_state p) last) e given))
+
+-- what a certificate shows of the target that it names
+shown : (p : Problem) (language : Language) (target : Option Grouping) (c : CertificateHeld) → Certifies p language target c → Conclusion p target
+shown p language target c is = subst (Conclusion p) is.target_is (certificate_shows p (certificate_of c).round (certificate_of c).tree is.proves)
+
+pub answer_names_best : (p : Problem) (limit : ℕ) (a : Answer) → IsAnswer p limit a → NamesBest p a
+answer_names_best p limit (Best g c) is = shown p Wide (Some g.groups.items) c is.1
+answer_names_best p limit (Impossible c) is = tt
+answer_names_best p limit (Open found steps) is = tt
+
+found_possible : (p : Problem) (limit : ℕ) (found : Option GroupingHeld) → IsFoundOpen p limit found → 1 ≤ limit → IsImpossible p → ⊥
+found_possible p limit None is some none = absurd (omega (arith, is, some))
+found_possible p limit (Some g) is some none = none g.groups.items is.0
+
+pub answer_says_whether : (p : Problem) (limit : ℕ) (a : Answer) → IsAnswer p limit a → SaysWhether p limit a
+answer_says_whether p limit (Best g c) is = λ none. none g.groups.items (shown p Wide (Some g.groups.items) c is.1).lawful
+answer_says_whether p limit (Impossible c) is = shown p Plain None c is.1
+answer_says_whether p limit (Open found steps) is = found_possible p limit found is.1
+
+-- what an answer says of a problem, where memory was not refused
+pub solved_best : {E : Type 0} (p q : Problem) (limit allowed : ℕ) (r : Result Answer E) → p ≡ q → limit ≡ allowed → IfOk r (IsAnswer p limit) → IfOk r (NamesBest q)
+solved_best p q limit allowed (Ok a) e k is = subst (λ (x : Problem). NamesBest x a) e (answer_names_best p limit a is)
+solved_best p q limit allowed (Err f) e k is = tt
+
+pub solved_whether : {E : Type 0} (p q : Problem) (limit allowed : ℕ) (r : Result Answer E) → p ≡ q → limit ≡ allowed → IfOk r (IsAnswer p limit) → IfOk r (SaysWhether q allowed)
+solved_whether p q limit allowed (Ok a) e k is = subst (λ (x : Problem). SaysWhether x allowed a) e (subst (λ n. SaysWhether p n a) k (answer_says_whether p limit a is))
+solved_whether p q limit allowed (Err f) e k is = tt
+
+-- the codes of a problem's counties are an order of them
+pub listed_order : (p : Problem) (order : List ℕ) → IsProblem p → order ≡ p.counties → IsOrder p order
+listed_order p order is e = subst (IsOrder p) (sym e) (λ c. often_member p.counties c (is.once c))

@@ -1,0 +1,120 @@
+-- What the search keeps and comes to.
+use Rattle.std.proofs.Common.{◌≡◌, ℕ, ◌+◌, ◌≤◌, ◌<◌, Bool, true, List, [], ◌∷◌, ◌++◌, length, map, take, get_or, Vec, Global, refl, sym, ap, ◌∙◌, subst, arith, Contains, Option, Some, inl, inr}
+use Rattle.std.specs.List.{AllByRecursion}
+use Rattle.std.proofs.lemmas.List.{map-append, take_more}
+use Rattle.grouping_laws.specs.Problem.{Problem}
+use Rattle.grouping_laws.specs.Grouping.{Grouping}
+use Rattle.grouping_laws.proofs.Elements.{Has, has_get, contains_from_has}
+use Rattle.county_codes.specs.declared.group.Grouping.{Grouping as GroupingHeld}
+use Rattle.certificate_lines.specs.Lines.{most}
+use Rattle.certificate_lines.specs.Fits.{AreCodes, IsSet}
+use Rattle.certificate_lines.specs.declared.item.Item.{Item}
+use Rattle.certificate_text.specs.declared.tree.Leaf.{Leaf as DeclaredLeaf}
+use Rattle.certificate_text.specs.declared.tree.Branch.{Branch, roll-Branch}
+use Rattle.certificate_text.specs.declared.tree.Take.{Take, roll-Take}
+use Rattle.certificate_text.specs.declared.tree.Tree.{Tree as DeclaredTree, roll-Tree}
+use Rattle.certificate_text.specs.Trees.{tree_of, leaf_of, leaf_items, take_onto, list_of_takes}
+use Rattle.certificate_text.proofs.TreeViews.{list_onto, items_of_branches, made_tree, tree_items, made_takes, made_branch}
+use Rattle.line_verdicts.specs.Placed.{codes_of_set, codes_of_sets}
+use Rattle.proof_trees.specs.Agreement.{Agrees}
+use Rattle.proof_trees.specs.Fitting.{Fits}
+use Rattle.proof_trees.specs.Groups.{IsGroupAt, AreGroupsAt}
+use Rattle.proof_trees.specs.Proving.{Proves, CanBranch}
+use Rattle.proof_trees.specs.Round.{Round}
+use Rattle.proof_trees.specs.declared.language.Language.TheVariants.{Wide}
+use Rattle.proof_trees.specs.State.{State, close, raise}
+use Rattle.proof_trees.specs.Tree.{Tree, leaf, Takes}
+use Rattle.proof_trees.specs.Tree as tree
+use Rattle.proof_trees.proofs.Branches.{branch_keeps_state}
+use Rattle.proof_trees.proofs.Completion.{open_least}
+use Rattle.tree_spelling.specs.TreeItems.{FitsInTree, HasLines}
+use Rattle.bound_leaves.specs.GivenLeaf.{IsGiven}
+use Rattle.branch_bound.specs.Searching.{state_in, IsAt, IsProof, IsBetter, IsOutcome, IsTakeOf, AreTakesOf, IsChoice}
+use Rattle.branch_bound.specs.declared.ground.Ground.{Ground}
+use Rattle.branch_bound.specs.declared.position.Position.{Position}
+use Rattle.branch_bound.proofs.Joining.{all_append, take_step, branch_step, lines_step}
+
+-- a position is at its own state
+pub own : (C : Type 0) (test : C → ℕ → Bool) (g : Ground C) (s : State) (at : Position C) → IsAt test g s at → IsAt test g (state_in g test at.state) at
+own C test g s at is = subst (λ z. IsAt test g z at) (sym is.is) is
+
+-- a take that is made of codes and a tree
+made_take_onto : (codes : List ℕ) (t : DeclaredTree) (others : Takes) → take_onto (roll-Take (record { codes = codes; tree = t })) others ≡ tree.take codes (tree_of t) others
+unfolding roll-Take denote.Hole.Carrier.roll
+made_take_onto codes t others = refl
+
+-- the take of a group, where its tree proves the state at which it is closed
+pub take_made : (p : Problem) (round : Round) (s closed : State) (group codes : List ℕ) (t : DeclaredTree) → closed ≡ close group s → codes ≡ group → IsSet codes → IsProof p round closed t → IsTakeOf p round s group (roll-Take (record { codes = codes; tree = t }))
+take_made p round s closed group codes t is same set proof = record {
+  tree = tree_of t;
+  is = λ others. made_take_onto codes t others ∙ ap (λ z. tree.take z (tree_of t) others) same;
+  proves = subst (λ z. Proves (tree_of t) p round z) is proof.0;
+  lines = (subst IsSet same set, proof.1);
+}
+
+-- a better grouping where a group is closed is one
+pub better_closed : (p : Problem) (round : Round) (s closed : State) (group : List ℕ) (g : GroupingHeld) → closed ≡ close group s → Fits round.language p s group → IsBetter p round closed g → IsBetter p round s g
+better_closed p round s closed group g is fits better = record {
+  found = (better.found.0, (branch_keeps_state).closed_agrees round.language p s group g.groups.items fits (subst (λ z. Agrees z g.groups.items) is better.found.1), better.found.2);
+  sorted = better.sorted;
+  lines = better.lines;
+}
+
+pub better_as : (p : Problem) (round : Round) (first s : State) (g : GroupingHeld) → ((h : Grouping) → Agrees s h → Agrees first h) → IsBetter p round s g → IsBetter p round first g
+better_as p round first s g agrees better = record {
+  found = (better.found.0, agrees g.groups.items better.found.1, better.found.2);
+  sorted = better.sorted;
+  lines = better.lines;
+}
+
+-- an item of a list, by its index
+pub listed : {C : Type 0} (groups : List C) (i : ℕ) (item : C) → i < length groups → item ≡ get_or groups i item → Has groups item
+listed groups i item l e = subst (Has groups) (sym e) (has_get groups i item l)
+
+has_mapped : {X Y : Type 0} (f : X → Y) (xs : List X) (x : X) → Has xs x → Has (map f xs) (f x)
+has_mapped f [] x h = h
+has_mapped f (y ∷ xs) x (inl e) = inl (ap f e)
+has_mapped f (y ∷ xs) x (inr h) = inr (has_mapped f xs x h)
+
+module _ (C : Type 0) (test : C → ℕ → Bool) (order : List ℕ) (p : Problem) (round : Round) (s : State) (groups : List C) where
+  -- each of the groups of a branch is one
+  pub group_there : (c limit i : ℕ) (item : C) → AreGroupsAt p round s c limit (codes_of_sets order test groups) → i < length groups → item ≡ get_or groups i item → IsGroupAt p round s c limit (codes_of_set order test item)
+  group_there c limit i item are l e =
+      ((are.each (codes_of_set order test item)).0 (contains_from_has (codes_of_sets order test groups) (codes_of_set order test item) (has_mapped (codes_of_set order test) groups item (listed groups i item l e))))
+
+  -- one take more
+  pub takes_more : (i : ℕ) (item : C) (ts news : List Take) (t : Take) → i < length groups → item ≡ get_or groups i item → news ≡ ts ++ t ∷ [] → IsTakeOf p round s (codes_of_set order test item) t → AreTakesOf p round s (codes_of_sets order test (take i groups)) ts
+      → AreTakesOf p round s (codes_of_sets order test (take (i + 1) groups)) news
+  takes_more i item ts news t l e push is are =
+      let f = codes_of_set order test in
+      subst (λ z. AreTakesOf p round s (codes_of_sets order test (take (i + 1) groups)) z) (sym push)
+      (subst (λ z. AreTakesOf p round s z (ts ++ t ∷ [])) (sym (ap (map f) (take_more groups i item l ∙ ap (λ z. take i groups ++ z ∷ []) (sym e)) ∙ map-append f (take i groups) (item ∷ [])))
+      (take_step p round s (codes_of_sets order test (take i groups)) (codes_of_set order test item) ts t are is))
+
+-- a leaf behind the branches so far
+pub leaf_end : (p : Problem) (round : Round) (first s : State) (branches : Vec Branch Global) (last : DeclaredLeaf) → ((t : Tree) → Proves t p round s → Proves (list_onto branches.items t) p round first) → AllByRecursion (FitsInTree round.language) (items_of_branches branches.items)
+    → IsGiven p round s last → IsProof p round first (roll-Tree (record { branches = branches; leaf = last }))
+leaf_end p round first s branches last whole lines given = (
+  subst (λ (t : Tree). Proves t p round first) (sym (made_tree branches last)) (whole (leaf (leaf_of last)) given.valid),
+  subst (λ (l : List Item). AllByRecursion (FitsInTree round.language) l) (sym (tree_items branches last)) (all_append (FitsInTree round.language) (items_of_branches branches.items) (leaf_items (leaf_of last)) lines given.lines),
+)
+
+module _ (p : Problem) (round : Round) (first s : State) (county size : ℕ) (bs news : List Branch) (takes : Vec Take Global) (wide : round.language ≡ Wide) (pushed : news ≡ bs ++ roll-Branch (record { county = county; limit = Some size; takes = takes }) ∷ []) where
+  -- a tree where the county is raised, behind one branch more
+  pub branched : (next : State) (groups : List (List ℕ)) → CanBranch round s county size → AreGroupsAt p round s county size groups → AreTakesOf p round s groups takes.items → next ≡ raise county size s → ((t : Tree) → Proves t p round s → Proves (list_onto bs t) p round first)
+      → (t : Tree) → Proves t p round next → Proves (list_onto news t) p round first
+  branched next groups can all are raised whole t proves =
+      branch_step p round first s county size bs news (roll-Branch (record { county = county; limit = Some size; takes = takes })) (list_of_takes takes.items) wide can (subst (AreGroupsAt p round s county size) (sym are.groups_are) all) are.each
+      (λ r. made_takes county (Some size) takes r) pushed whole t (subst (λ z. Proves t p round z) raised proves)
+
+  pub branched_lines : (groups : List (List ℕ)) → county ≤ 99999 → 1 ≤ size → size ≤ most → AreTakesOf p round s groups takes.items → AllByRecursion (FitsInTree round.language) (items_of_branches bs) → AllByRecursion (FitsInTree round.language) (items_of_branches news)
+  branched_lines groups small from to are lines =
+      lines_step round.language county size bs news (roll-Branch (record { county = county; limit = Some size; takes = takes })) (list_of_takes takes.items) wide small from to are.lines (made_branch county (Some size) takes) pushed lines
+
+-- what agrees where a county is raised agreed before
+pub raised_agrees : (round : Round) (s next : State) (county size : ℕ) (h : Grouping) → CanBranch round s county size → next ≡ raise county size s → Agrees next h → Agrees s h
+raised_agrees round s next county size h can raised a = (branch_keeps_state).raised_agrees s county size h (omega (arith, open_least s size county can.is_open)) (subst (λ z. Agrees z h) raised a)
+
+-- a county to branch at is in a group of a county or more
+pub choice_size : (C : Type 0) (test : C → ℕ → Bool) (g : Ground C) (s : State) (at : Position C) (place : ℕ) → IsAt test g s at → IsChoice test g.ordered.now.order at.groups.items place → 1 ≤ at.size
+choice_size C test g s at place is choice = let c = is.known.each choice.group choice.known in omega (arith, c.size, c.lawful.connected.some_county)

@@ -1,0 +1,24 @@
+use Rattle.std.proofs.Common.{◌+◌, subst, refl, ◌∙◌, arith}
+use Rattle.proof_trees.specs.Leaves.{IsStuck}
+use Rattle.proof_trees.specs.Groups.{AreGroupsOf}
+use Rattle.line_verdicts.specs.Placed.{codes_of_sets}
+use Rattle.branch_bound.specs.Searching.{problem_in, round_in, state_in, IsNext}
+use Rattle.branch_bound.proofs.Verdicts.{sized_at}
+use Rattle.branch_bound.proofs.judging.judge_sizes.Goals as goal
+
+pub next_size-requires-clause-no_stuck : goal.next_size-requires-clause-no_stuck
+next_size-requires-clause-no_stuck g c = λ x stuck. c.requires.no_stuck x (subst (λ z. IsStuck (problem_in c.args.ground.now) (state_in c.args.ground.now g.C.CountySet.test z) x) c.loop-position.invariant.state stuck)
+
+pub loop-position-preserved : goal.loop-position-preserved
+loop-position-preserved g c =
+    let test = g.C.CountySet.test in
+    let ground = c.args.ground.now in
+    let inv = c.loop-position.invariant in
+    let size = c.loop-position.position.size in
+    let found = subst (λ z. IsNext test ground (state_in ground test c.loop-position.position.state) size z) c.in-Ok-Groups.field-0-is c.in-Ok-Groups.ensures.next in
+    record {
+      at = sized_at g.row.C.Denot test g.C.CountySet.PLACES ground c.requires.ground c.places-places.ensures.order (state_in ground test c.args.position.state) c.loop-position.position inv.at _ c.in-Ok-Groups.ensures.none refl refl found.0 found.1 (subst (λ z. AreGroupsOf (problem_in ground) (round_in ground) (state_in ground test z) (size + 1) (codes_of_sets ground.ordered.now.order test c.in-Ok-Groups.groups.items)) inv.state found.2);
+      state = inv.state;
+      more = omega (arith, inv.more, c.next_size.ensures.more);
+      limit = c.next_size.ensures.limit ∙ inv.limit;
+    }

@@ -1,0 +1,26 @@
+use Rattle.std.proofs.Common.{refl, subst, AllPairs, arith}
+use Rattle.grouping_laws.specs.Grouping.{sets_of}
+use Rattle.grouping_laws.specs.GroupsFrom.{IsBefore}
+use Rattle.branch_bound.specs.Searching.{state_in}
+use Rattle.branch_bound.proofs.Verdicts.{none_at}
+use Rattle.branch_bound.proofs.Joining.{sorted_as}
+use Rattle.branch_bound.proofs.judging.next_size.Goals as goal
+
+pub empty_leaf-requires-clause-none : goal.empty_leaf-requires-clause-none
+empty_leaf-requires-clause-none g c =
+    none_at g.row.C.Denot g.C.CountySet.test g.C.CountySet.PLACES c.args.ground.now c.requires.ground c.places-places.ensures.order (state_in c.args.ground.now g.C.CountySet.test c.args.position.now.state) c.args.position.now c.requires.at c.requires.none
+
+pub finished_grouping-requires-clause-none : goal.finished_grouping-requires-clause-none
+finished_grouping-requires-clause-none g c = λ group fits small.
+    none_at g.row.C.Denot g.C.CountySet.test g.C.CountySet.PLACES c.args.ground.now c.requires.ground c.places-places.ensures.order (state_in c.args.ground.now g.C.CountySet.test c.args.position.now.state) c.args.position.now c.requires.at c.requires.none group fits (omega (arith, small, c.if-size-round.true))
+
+pub returns-then-size-round-clause-next : goal.returns-then-size-round-clause-next
+returns-then-size-round-clause-next g c = record {
+  found = c.in_ok-found.ensures.found;
+  sorted = sorted_as c.args.ground.now.ordered.now.order c.args.ground.now.round.now.order c.in_ok-found.found.groups.items c.requires.ground.order c.in_ok-found.ensures.in_turn c.in_ok-found.ensures.in_order;
+  lines = c.in_ok-found.ensures.lines;
+}
+
+pub room_leaf-requires-clause-none : goal.room_leaf-requires-clause-none
+room_leaf-requires-clause-none g c = λ group fits small.
+    none_at g.row.C.Denot g.C.CountySet.test g.C.CountySet.PLACES c.args.ground.now c.requires.ground c.places-places.ensures.order (state_in c.args.ground.now g.C.CountySet.test c.args.position.now.state) c.args.position.now c.requires.at c.requires.none group fits (omega (arith, small))

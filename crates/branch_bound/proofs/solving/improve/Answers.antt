@@ -1,0 +1,10 @@
+use Rattle.std.proofs.Common.{◌≡◌, Err, ap, arith}
+use Rattle.branch_bound.proofs.Orders.{stands_in_order}
+use Rattle.branch_bound.proofs.solving.improve.Goals as goal
+
+pub returns-in-Err-StepLimit : goal.returns-in-Err-StepLimit
+returns-in-Err-StepLimit g c =
+    let target = c.loop-tree.invariant.target in
+    let all : c.used.result ≡ c.args.steps.now.limit =
+    omega (arith, c.used.ensures.value, c.in-Err-StepLimit.ensures.stopped (ap Err c.in-Err-StepLimit.field-0-is), c.prove_round.ensures.limit, c.loop-tree.invariant.limit) in
+    record { answer = (all, (target.lawful, stands_in_order c.args.ordered.now.order c.requires.order c.loop-tree.target.groups.items target.sorted)) }

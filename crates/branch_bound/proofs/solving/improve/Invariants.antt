@@ -1,0 +1,13 @@
+use Rattle.std.proofs.Common.{◌≡◌, ◌-◌}
+use Rattle.grouping_problem.specs.ProblemValue.{problem_of}
+use Rattle.branch_bound.specs.Solving.{IsTarget}
+use Rattle.branch_bound.proofs.solving.improve.Given as goal
+
+abbrev pub invariant-loop-tree : goal.invariant-loop-tree
+invariant-loop-tree g l = record {
+  target : IsTarget (problem_of l.ordered.problem) l.ordered.order l.target.groups.items;
+  limit : l.steps.limit ≡ l.fn.steps.limit;
+}
+
+abbrev pub decreases-loop-tree : goal.decreases-loop-tree
+decreases-loop-tree g l = l.steps.limit - l.steps.used

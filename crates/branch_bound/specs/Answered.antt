@@ -1,0 +1,50 @@
+-- What a desk answers.
+use Rattle.std.specs.Prelude.{ℕ, ◌≡◌, ◌≤◌, ◌<◌, List, length, All, AllPairs, Option, Some, None, ◌⊎◌, ⊤}
+use Rattle.std.specs.List.Sorted.{IsStrictlyIncreasing}
+use Rattle.grouping_laws.specs.Problem.{Problem}
+use Rattle.grouping_laws.specs.Grouping.{Grouping, Lawful, sets_of, IsBest, IsImpossible}
+use Rattle.grouping_laws.specs.GroupsFrom.{IsLesser}
+use Rattle.county_codes.specs.declared.group.Grouping.{Grouping as GroupingHeld}
+use Rattle.proof_trees.specs.declared.language.Language.{Language}
+use Rattle.proof_trees.specs.declared.language.Language.TheVariants.{Plain, Wide}
+use Rattle.proof_trees.specs.Certificate.{IsCertificate}
+use Rattle.certificate_text.specs.declared.certificate.Certificate.{Certificate as CertificateHeld}
+use Rattle.certificate_text.specs.Trees.{certificate_of}
+use Rattle.certificate_text.specs.Spelled.{IsSpelling}
+use Rattle.branch_bound.specs.declared.answer.Answer.{Answer}
+use Rattle.branch_bound.specs.declared.answer.Answer.TheVariants.{Best, Impossible, Open}
+
+-- a certificate of the problem in the language, whose target is this one, and which a text spells
+pub record Certifies (p : Problem) (language : Language) (target : Option Grouping) (c : CertificateHeld) : Type 0 where
+  pub proves : IsCertificate p (certificate_of c).round (certificate_of c).tree
+  pub target_is : (certificate_of c).round.target ≡ target
+  pub language_is : (certificate_of c).round.language ≡ language
+  pub spelled : (text : List ℕ) × IsSpelling text (certificate_of c)
+
+-- the groups stand by size and then by codes, and the codes of each ascend
+pub record StandsInOrder (g : Grouping) : Type 0 where
+  pub groups : AllPairs (λ a b. (length a < length b) ⊎ ((length a ≡ length b) × IsLesser a b)) (sets_of g)
+  pub codes : All (λ m. IsStrictlyIncreasing m.codes) g
+
+-- a lawful grouping was found, unless no step was allowed
+abbrev pub IsFoundOpen : Problem → ℕ → Option GroupingHeld → Type 0
+IsFoundOpen p limit None = limit ≡ 0
+IsFoundOpen p limit (Some g) = Lawful p g.groups.items × StandsInOrder g.groups.items
+
+-- Best, with a certificate that names the grouping; that none is lawful, with a certificate of that; or that all steps that were allowed
+-- were taken. With no step it is always open.
+abbrev pub IsAnswer : Problem → ℕ → Answer → Type 0
+IsAnswer p limit (Best g c) = (1 ≤ limit) × Certifies p Wide (Some g.groups.items) c × StandsInOrder g.groups.items
+IsAnswer p limit (Impossible c) = (1 ≤ limit) × Certifies p Plain None c
+IsAnswer p limit (Open found steps) = (steps ≡ limit) × IsFoundOpen p limit found
+
+-- the grouping that is named is lawful, and no lawful one is greater
+abbrev pub NamesBest : Problem → Answer → Type 0
+NamesBest p (Best g c) = IsBest p g.groups.items
+NamesBest p _ = ⊤
+
+-- Impossible is said exactly where no grouping is lawful, unless no step was allowed
+abbrev pub SaysWhether : Problem → ℕ → Answer → Type 0
+SaysWhether p limit (Impossible c) = IsImpossible p
+SaysWhether p limit (Best g c) = ¬ IsImpossible p
+SaysWhether p limit (Open found steps) = 1 ≤ limit → ¬ IsImpossible p

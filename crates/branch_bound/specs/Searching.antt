@@ -1,0 +1,131 @@
+-- What a search by branch and bound keeps at a state, and what it answers.
+use Rattle.std.specs.Prelude.{ℕ, ◌+◌, ◌≡◌, ◌≤◌, ◌<◌, Bool, true, List, ◌∷◌, filter, length, All, AllPairs, Contains}
+use Rattle.std.specs.List.{AllByRecursion}
+use Rattle.county_codes.specs.declared.group.Grouping.{Grouping as GroupingHeld}
+use Rattle.grouping_laws.specs.Sets.{member}
+use Rattle.grouping_laws.specs.Problem.{Problem}
+use Rattle.grouping_laws.specs.Grouping.{Grouping, sets_of}
+use Rattle.grouping_laws.specs.GroupsFrom.{IsBefore}
+use Rattle.grouping_problem.specs.ProblemValue.{problem_of}
+use Rattle.ordered_counties.specs.OrderedValue.{problem_at, code_at}
+use Rattle.county_regions.specs.Rows.{AreRows}
+use Rattle.growing_sets.specs.Listing.{AreBelow}
+use Rattle.proof_trees.specs.Round.{Round}
+use Rattle.proof_trees.specs.declared.language.Language.TheVariants.{Wide}
+use Rattle.proof_trees.specs.RoundValue.{round_of}
+use Rattle.proof_trees.specs.State.{State, IsState, close}
+use Rattle.proof_trees.specs.declared.state.State.{State as StateHeld}
+use Rattle.proof_trees.specs.Groups.{AreGroupsAt, AreGroupsOf}
+use Rattle.proof_trees.specs.Tree.{groups_of, take, Tree as TreeValue, Takes as TakesValue}
+use Rattle.proof_trees.specs.Proving.{Proves, EachProves}
+use Rattle.proof_trees.specs.Search.{IsFound}
+use Rattle.certificate_text.specs.declared.tree.Tree.{Tree}
+use Rattle.certificate_text.specs.declared.tree.Take.{Take}
+use Rattle.certificate_text.specs.Trees.{tree_of, take_onto, list_of_takes, items_of_takes, items_of_tree}
+use Rattle.certificate_lines.specs.declared.item.Item.TheVariants as item
+use Rattle.line_verdicts.specs.Placed.{state_at, codes_of_sets, IsPlaced}
+use Rattle.tree_spelling.specs.TreeItems.{FitsInTree, HasLines, HasTargetLines}
+use Rattle.known_groups.specs.Known.{IsKnown}
+use Rattle.bound_leaves.specs.GivenLeaf.{IsGiven}
+use Rattle.branch_bound.specs.declared.ground.Ground.{Ground}
+use Rattle.branch_bound.specs.declared.position.Position.{Position}
+use Rattle.branch_bound.specs.declared.outcome.Outcome.{Outcome}
+use Rattle.branch_bound.specs.declared.outcome.Outcome.TheVariants as outcome
+use Rattle.branch_bound.specs.declared.outcome.Verdict.{Verdict}
+use Rattle.branch_bound.specs.declared.outcome.Verdict.TheVariants as verdict
+use Rattle.branch_bound.specs.declared.outcome.Next.{Next}
+use Rattle.branch_bound.specs.declared.outcome.Next.TheVariants as next
+use Rattle.branch_bound.specs.declared.outcome.Taken.{Taken}
+use Rattle.branch_bound.specs.declared.outcome.Taken.TheVariants as taken
+use Rattle.branch_bound.specs.declared.outcome.Takes.{Takes}
+use Rattle.branch_bound.specs.declared.outcome.Takes.TheVariants as takes
+
+-- the problem, the round and the order that a search goes by, and a state by its codes
+abbrev pub problem_in : {C : Type 0} → Ground C → Problem
+problem_in g = problem_of g.ordered.now.problem
+
+abbrev pub round_in : {C : Type 0} → Ground C → Round
+round_in g = round_of g.round.now
+
+abbrev pub state_in : {C : Type 0} → Ground C → (C → ℕ → Bool) → StateHeld C → State
+state_in g test s = state_at g.ordered.now.order test s
+
+-- the rows are those of the order, which is the round's, the sets have room for its places, and the round is a wide one
+pub record IsGround {C : Type 0} (places : ℕ) (test : C → ℕ → Bool) (g : Ground C) : Type 0 where
+  pub fits : length g.ordered.now.order ≤ places
+  pub rows : AreRows C test (problem_at g.ordered.now) (length g.ordered.now.order) g.near.now
+  pub order : g.ordered.now.order ≡ g.round.now.order
+  pub small : g.round.now.limit ≤ 128
+  pub wide : g.round.now.language ≡ Wide
+
+-- A position is at a state of the round, of which the groups of so many counties, at most the limit, are known.
+pub record IsAt {C : Type 0} (test : C → ℕ → Bool) (g : Ground C) (s : State) (at : Position C) : Type 0 where
+  pub placed : IsPlaced (length g.ordered.now.order) test at.state
+  pub is : state_in g test at.state ≡ s
+  pub state : IsState (problem_in g) (round_in g) s
+  pub small : at.size ≤ g.round.now.limit
+  pub below : AreBelow (length g.ordered.now.order) test at.groups.items
+  pub known : IsKnown (problem_in g) (round_in g) s at.size (codes_of_sets g.ordered.now.order test at.groups.items)
+
+-- the groups stand by size and then by places, and the codes of each in the order of places
+pub record IsSorted (order : List ℕ) (g : Grouping) : Type 0 where
+  pub in_turn : AllPairs (IsBefore order) (sets_of g)
+  pub in_order : All (λ m. filter (member m.codes) order ≡ m.codes) g
+
+-- a proof tree, whose numbers are in the ranges of its lines
+abbrev pub IsProof : Problem → Round → State → Tree → Type 0
+IsProof p round s tree = Proves (tree_of tree) p round s × HasLines round.language (tree_of tree)
+
+-- a lawful grouping that agrees with the state and is greater than the target, sorted
+pub record IsBetter (p : Problem) (round : Round) (s : State) (g : GroupingHeld) : Type 0 where
+  pub found : IsFound p round s g.groups.items
+  pub sorted : IsSorted round.order g.groups.items
+  pub lines : HasTargetLines g.groups.items
+
+abbrev pub IsOutcome : Problem → Round → State → Outcome → Type 0
+IsOutcome p round s (outcome.Proved tree) = IsProof p round s tree
+IsOutcome p round s (outcome.Better g) = IsBetter p round s g
+
+-- a take of the group, with its proof tree
+pub record IsTakeOf (p : Problem) (round : Round) (s : State) (group : List ℕ) (t : Take) : Type 0 where
+  pub tree : TreeValue
+  pub is : (others : TakesValue) → take_onto t others ≡ take group tree others
+  pub proves : Proves tree p round (close group s)
+  pub lines : AllByRecursion (FitsInTree round.language) (item.Takes group ∷ items_of_tree tree)
+
+abbrev pub IsTaken : Problem → Round → State → List ℕ → Taken → Type 0
+IsTaken p round s group (taken.Proved t) = IsTakeOf p round s group t
+IsTaken p round s group (taken.Better g) = IsBetter p round s g
+
+-- takes of these groups, each with its proof tree
+pub record AreTakesOf (p : Problem) (round : Round) (s : State) (groups : List (List ℕ)) (list : List Take) : Type 0 where
+  pub groups_are : groups_of (list_of_takes list) ≡ groups
+  pub each : EachProves (list_of_takes list) p round s
+  pub lines : AllByRecursion (FitsInTree round.language) (items_of_takes (list_of_takes list))
+
+-- all takes of a branch, each with its proof tree
+abbrev pub AreTakesAt : Problem → Round → State → ℕ → ℕ → Takes → Type 0
+AreTakesAt p round s county limit (takes.Proved list) = (groups : List (List ℕ)) × AreGroupsAt p round s county limit groups × AreTakesOf p round s groups list.items
+AreTakesAt p round s county limit (takes.Better g) = IsBetter p round s g
+
+-- a county of a group that is known
+pub record IsChoice {C : Type 0} (test : C → ℕ → Bool) (order : List ℕ) (groups : List C) (place : ℕ) : Type 0 where
+  pub below : place < length order
+  pub group : List ℕ
+  pub known : Contains (codes_of_sets order test groups) group
+  pub has : member group (code_at order place) ≡ true
+
+-- a leaf that is valid, a grouping that is better, or a county to branch at
+abbrev pub IsVerdict : {C : Type 0} → (C → ℕ → Bool) → Ground C → State → Verdict C → Type 0
+IsVerdict test g s (verdict.Leaf leaf) = IsGiven (problem_in g) (round_in g) s leaf
+IsVerdict test g s (verdict.Better found) = IsBetter (problem_in g) (round_in g) s found
+IsVerdict test g s (verdict.Branch place at) = IsAt test g s at × IsChoice test g.ordered.now.order at.groups.items place
+
+-- where no group of at most so many counties fits: a leaf that is valid, a grouping that is better, or the groups of one county more
+abbrev pub IsNext : {C : Type 0} → (C → ℕ → Bool) → Ground C → State → ℕ → Next C → Type 0
+IsNext test g s size (next.Leaf leaf) = IsGiven (problem_in g) (round_in g) s leaf
+IsNext test g s size (next.Better found) = IsBetter (problem_in g) (round_in g) s found
+IsNext test g s size (next.Groups groups) =
+    (size < g.round.now.limit)
+    × AreBelow (length g.ordered.now.order) test groups.items
+    × AreGroupsOf (problem_in g) (round_in g) s (size + 1) (codes_of_sets g.ordered.now.order test groups.items)

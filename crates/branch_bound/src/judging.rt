@@ -1,0 +1,263 @@
+//! How a state ends, or at which county a search branches there.
+
+ghost use Rattle.std.specs.Prelude.{◌≡◌, ℕ, ◌+◌, ◌≤◌, ◌<◌, List, [], length, All, IfOk, OnOk, IsErrOf, MatchOption, ⊤};
+ghost use Rattle.proof_trees.specs.Leaves.{IsStuck, IsOffSeats};
+ghost use Rattle.fitting_groups.specs.declared.stop.Stop.{Stop};
+ghost use Rattle.bound_leaves.specs.GivenLeaf.{IsGiven};
+ghost use Rattle.branch_bound.specs.Searching.{problem_in, round_in, state_in, IsGround, IsAt, IsVerdict, IsNext};
+
+use crate::ground::Ground;
+use crate::outcome::{Next, Verdict};
+use crate::position::Position;
+use bound_leaves::{empty_leaf, room_leaf, wanted_more, weighed_leaf, whole_leaf};
+use certificate_text::Leaf;
+use finished_groupings::finished_grouping;
+use fitting_groups::Stop;
+use group_weights::{county_of_choice, weigh};
+use known_groups::{groups_of_size, live_groups};
+use ordered_counties::Steps;
+use place_sets::CountySet;
+use std::alloc::AllocError;
+
+/// What a state of which no group fits of at most the size that is known ends with, or the groups of one county more.
+fn next_size<C: CountySet>(
+    ground: &Ground<C>,
+    position: &Position<C>,
+    steps: &mut Steps,
+) -> Result<Next<C>, Stop>
+    requires ground { IsGround C.PLACES C.test ground.now }
+    requires at { IsAt C.test ground.now (state_in ground.now C.test position.now.state) position.now }
+    requires none { position.now.groups.items ≡ [] }
+    requires no_stuck { (c : ℕ) → ¬ IsStuck (problem_in ground.now) (state_in ground.now C.test position.now.state) c }
+    requires no_seats { ¬ IsOffSeats (problem_in ground.now) (state_in ground.now C.test position.now.state) }
+    ensures none { position.now.groups.items ≡ [] }
+    ensures next { IfOk result (IsNext C.test ground.now (state_in ground.now C.test position.now.state) position.now.size) }
+    ensures more { steps.old.used ≤ steps.new.used }
+    ensures limit { steps.new.limit ≡ steps.old.limit }
+    ensures stopped { IsErrOf result Stop.StepLimit → steps.new.used ≡ steps.new.limit }
+{
+    let Ground {
+        alloc,
+        ordered,
+        near,
+        round,
+    } = ground;
+    let Position { state, size, .. } = position;
+    let _places = ordered.places();
+    if let Some(leaf) = empty_leaf(*alloc, ordered, round, state, *size)? {
+        return Ok(Next::Leaf(leaf));
+    }
+    if *size == round.limit {
+        let found = finished_grouping(*alloc, ordered, near, round, state)?;
+        return Ok(Next::Better(found));
+    }
+    if let Some(leaf) = room_leaf(*alloc, ordered, round, state, *size + 1)? {
+        return Ok(Next::Leaf(leaf));
+    }
+    match groups_of_size(*alloc, ordered, near, round, state, *size + 1, steps) {
+        Ok(groups) => Ok(Next::Groups(groups)),
+        Err(stop) => Err(stop),
+    }
+}
+
+/// A branch at a county of the groups, chosen by the weights.
+fn branch_at<C: CountySet>(
+    ground: &Ground<C>,
+    position: Position<C>,
+    weights: &[u32],
+) -> Result<Verdict<C>, AllocError>
+    requires ground { IsGround C.PLACES C.test ground.now }
+    requires at { IsAt C.test ground.now (state_in ground.now C.test position.state) position }
+    requires some { 1 ≤ length position.groups.items }
+    requires count { length weights.now ≡ length ground.now.ordered.now.order }
+    ensures { IfOk result (IsVerdict C.test ground.now (state_in ground.now C.test position.state)) }
+{
+    let places = ground.ordered.places();
+    match county_of_choice(ground.alloc, places, &position.groups, weights)? {
+        Some(place) => Ok(Verdict::Branch(place, position)),
+        None => unreachable!(),
+    }
+}
+
+/// A bound leaf by weights, where they give one, else a branch.
+fn weighed<C: CountySet>(
+    ground: &Ground<C>,
+    position: Position<C>,
+    wanted: u32,
+) -> Result<Verdict<C>, AllocError>
+    requires ground { IsGround C.PLACES C.test ground.now }
+    requires at { IsAt C.test ground.now (state_in ground.now C.test position.state) position }
+    requires some { 1 ≤ length position.groups.items }
+    ensures { IfOk result (IsVerdict C.test ground.now (state_in ground.now C.test position.state)) }
+{
+    let Ground {
+        alloc,
+        ordered,
+        round,
+        ..
+    } = ground;
+    let Position {
+        state,
+        size,
+        groups,
+        ..
+    } = &position;
+    let weights = weigh(*alloc, ordered.places(), groups, *size, wanted)?;
+    if let Some(leaf) = weighed_leaf(*alloc, ordered, round, state, *size, groups, &weights)? {
+        return Ok(Verdict::Leaf(leaf));
+    }
+    branch_at(ground, position, &weights)
+}
+
+/// A bound leaf by weights, where groups of the size are wanted and weights give one, else a branch.
+fn judge_groups<C: CountySet>(
+    ground: &Ground<C>,
+    position: Position<C>,
+) -> Result<Verdict<C>, AllocError>
+    requires ground { IsGround C.PLACES C.test ground.now }
+    requires at { IsAt C.test ground.now (state_in ground.now C.test position.state) position }
+    requires some { 1 ≤ length position.groups.items }
+    ensures { IfOk result (IsVerdict C.test ground.now (state_in ground.now C.test position.state)) }
+{
+    match wanted_more(ground.ordered, ground.round, &position.state, position.size) {
+        Some(wanted) => weighed(ground, position, wanted),
+        None => {
+            let weights = vec![in ground.alloc; 0; usize::from(ground.ordered.places())]?;
+            branch_at(ground, position, &weights)
+        }
+    }
+}
+
+/// Goes from size to size until there are groups, and says how the state ends or at which county it branches.
+fn judge_sizes<C: CountySet>(
+    ground: &Ground<C>,
+    position: Position<C>,
+    steps: &mut Steps,
+) -> Result<Verdict<C>, Stop>
+    requires ground { IsGround C.PLACES C.test ground.now }
+    requires at { IsAt C.test ground.now (state_in ground.now C.test position.state) position }
+    requires no_stuck { (c : ℕ) → ¬ IsStuck (problem_in ground.now) (state_in ground.now C.test position.state) c }
+    requires no_seats { ¬ IsOffSeats (problem_in ground.now) (state_in ground.now C.test position.state) }
+    ensures verdict { IfOk result (IsVerdict C.test ground.now (state_in ground.now C.test position.state)) }
+    ensures more { steps.old.used ≤ steps.new.used }
+    ensures limit { steps.new.limit ≡ steps.old.limit }
+    ensures stopped { IsErrOf result Stop.StepLimit → steps.new.used ≡ steps.new.limit }
+{
+    let _places = ground.ordered.places();
+    let mut position = position;
+    while position.groups.is_empty() {
+        match next_size(ground, &position, steps) {
+            Ok(Next::Leaf(leaf)) => return Ok(Verdict::Leaf(leaf)),
+            Ok(Next::Better(found)) => return Ok(Verdict::Better(found)),
+            Ok(Next::Groups(groups)) => {
+                position.size += 1;
+                position.groups = groups;
+                position.tested = true;
+            }
+            Err(stop) => return Err(stop),
+        }
+    }
+    match judge_groups(ground, position) {
+        Ok(verdict) => Ok(verdict),
+        Err(refused) => Err(refused.into()),
+    }
+}
+
+/// The position without the groups that are dead, where a group was closed since they were left out. A step is taken
+/// for each group.
+fn without_dead<C: CountySet>(
+    ground: &Ground<C>,
+    position: Position<C>,
+    steps: &mut Steps,
+) -> Result<Position<C>, Stop>
+    requires ground { IsGround C.PLACES C.test ground.now }
+    requires at { IsAt C.test ground.now (state_in ground.now C.test position.state) position }
+    ensures at { IfOk result (λ at. IsAt C.test ground.now (state_in ground.now C.test position.state) at × (at.state ≡ position.state)) }
+    ensures more { steps.old.used ≤ steps.new.used }
+    ensures limit { steps.new.limit ≡ steps.old.limit }
+    ensures stopped { IsErrOf result Stop.StepLimit → steps.new.used ≡ steps.new.limit }
+{
+    let _places = ground.ordered.places();
+    if position.tested {
+        return Ok(position);
+    }
+    let Position {
+        state,
+        size,
+        groups,
+        ..
+    } = position;
+    match live_groups(
+        ground.alloc,
+        ground.ordered,
+        ground.near,
+        &state,
+        &groups,
+        steps,
+    ) {
+        Ok(groups) => Ok(Position {
+            state,
+            size,
+            groups,
+            tested: true,
+        }),
+        Err(stop) => Err(stop),
+    }
+}
+
+/// A bound leaf where there is no room for as many groups of the size that is known as are wanted.
+fn present_room<C: CountySet>(
+    ground: &Ground<C>,
+    position: &Position<C>,
+) -> Result<Option<Leaf>, AllocError>
+    requires ground { IsGround C.PLACES C.test ground.now }
+    requires at { IsAt C.test ground.now (state_in ground.now C.test position.now.state) position.now }
+    ensures { IfOk result (λ found. MatchOption found ⊤ (IsGiven (problem_in ground.now) (round_in ground.now) (state_in ground.now C.test position.now.state))) }
+{
+    if position.size == 0 {
+        return Ok(None);
+    }
+    room_leaf(
+        ground.alloc,
+        ground.ordered,
+        ground.round,
+        &position.state,
+        position.size,
+    )
+}
+
+/// How the state ends, or at which county the search branches there. A step is taken for the state.
+pub(crate) fn judge<C: CountySet>(
+    ground: &Ground<C>,
+    position: Position<C>,
+    steps: &mut Steps,
+) -> Result<Verdict<C>, Stop>
+    requires ground { IsGround C.PLACES C.test ground.now }
+    requires at { IsAt C.test ground.now (state_in ground.now C.test position.state) position }
+    ensures verdict { IfOk result (IsVerdict C.test ground.now (state_in ground.now C.test position.state)) }
+    ensures counted { OnOk result (steps.old.used < steps.new.used) }
+    ensures left { OnOk result (steps.old.used < steps.old.limit) }
+    ensures more { steps.old.used ≤ steps.new.used }
+    ensures limit { steps.new.limit ≡ steps.old.limit }
+    ensures stopped { IsErrOf result Stop.StepLimit → steps.new.used ≡ steps.new.limit }
+{
+    let Ground {
+        alloc,
+        ordered,
+        near,
+        round,
+    } = ground;
+    if !steps.tick() {
+        return Err(Stop::StepLimit);
+    }
+    if let Some(leaf) = whole_leaf(*alloc, ordered, near, round, &position.state)? {
+        return Ok(Verdict::Leaf(leaf));
+    }
+    if let Some(leaf) = present_room(ground, &position)? {
+        return Ok(Verdict::Leaf(leaf));
+    }
+    match without_dead(ground, position, steps) {
+        Ok(position) => judge_sizes(ground, position, steps),
+        Err(stop) => Err(stop),
+    }
+}

@@ -1,0 +1,61 @@
+use crate::position::Position;
+use certificate_text::{Certificate, Leaf, Take, Tree};
+use county_codes::Grouping;
+
+/// What a search says of a state.
+#[derive(Drop)]
+pub(crate) enum Outcome {
+    /// No lawful grouping that agrees with the state is greater than the target: its proof tree.
+    Proved(Tree),
+    /// A lawful grouping that agrees with the state and is greater than the target.
+    Better(Grouping),
+}
+
+/// How a state ends, or how the search goes on.
+#[derive(Drop)]
+pub(crate) enum Verdict<C> {
+    /// A leaf that is valid.
+    Leaf(Leaf),
+    /// A lawful grouping that agrees with the state and is greater than the target.
+    Better(Grouping),
+    /// A branch at the county at this place, with what is known of the groups.
+    Branch(u16, Position<C>),
+}
+
+/// What follows where no group of at most some size fits.
+#[derive(Drop)]
+pub(crate) enum Next<C> {
+    /// A leaf that is valid.
+    Leaf(Leaf),
+    /// A lawful grouping that agrees with the state and is greater than the target.
+    Better(Grouping),
+    /// The groups of one county more.
+    Groups(Vec<C>),
+}
+
+/// What a take of a branch ends with.
+#[derive(Drop)]
+pub(crate) enum Taken {
+    /// The take with its proof tree.
+    Proved(Take),
+    /// A greater grouping was found where its group is closed.
+    Better(Grouping),
+}
+
+/// What all takes of a branch end with.
+#[derive(Drop)]
+pub(crate) enum Takes {
+    /// Each with its proof tree.
+    Proved(Vec<Take>),
+    /// A greater grouping was found where the group of one of them is closed.
+    Better(Grouping),
+}
+
+/// What a search begins with.
+#[derive(Drop)]
+pub(crate) enum First {
+    /// A lawful grouping.
+    Found(Grouping),
+    /// A certificate that no grouping is lawful.
+    Impossible(Certificate),
+}

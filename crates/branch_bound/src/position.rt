@@ -1,0 +1,12 @@
+use proof_trees::State;
+
+/// Where a search stands: a state, and what is known of its groups. None of fewer than `size` counties fits, and
+/// `groups` has all of `size` counties that fit, by their lists of places, and maybe dead ones.
+#[derive(Drop)]
+pub(crate) struct Position<C> {
+    pub(crate) state: State<C>,
+    pub(crate) size: u16,
+    pub(crate) groups: Vec<C>,
+    /// Whether dead groups were left out since a group was closed.
+    pub(crate) tested: bool,
+}

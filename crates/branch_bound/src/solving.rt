@@ -1,0 +1,312 @@
+//! The desk: rounds of the search, each from the state at which nothing is closed.
+
+ghost use Rattle.std.specs.Prelude.{◌≡◌, ℕ, ◌≤◌, ◌<◌, Some, None, length, All, IfOk, OnOk, IsErrOf};
+ghost use Rattle.std.specs.List.Sorted.{IsStrictlyIncreasing};
+ghost use Rattle.certificate_lines.specs.Fits.{AreCodes};
+ghost use Rattle.county_regions.specs.Rows.{AreRows};
+ghost use Rattle.grouping_problem.specs.ProblemValue.{problem_of};
+ghost use Rattle.ordered_counties.specs.OrderedValue.{problem_at};
+ghost use Rattle.proof_trees.specs.declared.language.Language.TheVariants.{Plain, Wide};
+ghost use Rattle.proof_trees.specs.RoundValue.{round_of};
+ghost use Rattle.proof_trees.specs.State.{empty_state};
+ghost use Rattle.fitting_groups.specs.declared.stop.Stop.{Stop};
+ghost use Rattle.branch_bound.specs.Searching.{IsOutcome, IsProof};
+ghost use Rattle.branch_bound.specs.Solving.{IsTarget, IsFirst};
+ghost use Rattle.bound_leaves.specs.GivenLeaf.{IsGiven};
+ghost use Rattle.branch_bound.specs.Answered.{IsAnswer, Certifies, NamesBest, SaysWhether};
+
+use crate::answer::Answer;
+use crate::ground::Ground;
+use crate::moves::first_position;
+use crate::outcome::{First, Outcome};
+use crate::search::prove;
+use bound_leaves::whole_leaf;
+use certificate_text::{Certificate, Leaf, Tree};
+use county_codes::{Codes, Grouping, listed_codes};
+use county_regions::neighbour_rows;
+use finished_groupings::finished_grouping;
+use fitting_groups::Stop;
+use grouping_problem::Problem;
+use line_verdicts::first_state;
+use ordered_counties::{OrderFault, Ordered, Steps};
+use place_sets::{CountySet, Places};
+use proof_trees::{Language, Round, State};
+use std::alloc::{AllocError, Global};
+
+/// The limit of the first round, in counties.
+const FIRST_LIMIT: u16 = 2;
+
+/// The limit of the round after one of that limit: rounds of small groups come first, since they are quick and their
+/// better groupings spare the later ones most of the work.
+fn limit_after(limit: u16) -> u16 {
+    match limit {
+        2 => 3,
+        3 => 4,
+        4 => 6,
+        _ => u16::MAX,
+    }
+}
+
+/// How many counties the largest group of a grouping has.
+fn largest_size(grouping: &Grouping) -> u16
+    requires few { All (λ m. length m.codes ≤ 128) grouping.now.groups.items }
+    ensures bound { result ≤ 128 }
+    ensures large { All (λ m. length m.codes ≤ result) grouping.now.groups.items }
+{
+    let mut largest = 0;
+    for group in &grouping.groups {
+        largest = largest.max(group.codes.as_slice().len() as u16);
+    }
+    largest
+}
+
+/// The codes of an order, for a round.
+fn order_of(alloc: Global, ordered: &Ordered) -> Result<Codes, AllocError>
+    ensures value { IfOk result (λ codes. codes ≡ ordered.now.order) }
+    ensures small { IfOk result AreCodes }
+{
+    let mut codes = Vec::new(alloc);
+    for place in 0..ordered.places() {
+        let code = ordered.code(place);
+        let _small = code.get();
+        codes.push(code)?;
+    }
+    Ok(Codes::new(codes))
+}
+
+/// The round of a target, up to groups of so many counties.
+fn round_for(
+    alloc: Global,
+    ordered: &Ordered,
+    target: &Grouping,
+    limit: u16,
+) -> Result<Round, AllocError>
+    ensures value { IfOk result (λ round. round_of round ≡ record { order = ordered.now.order; limit = limit; target = Some target.now.groups.items; language = Wide }) }
+    ensures codes { IfOk result (λ round. AreCodes round.order) }
+{
+    Ok(Round {
+        order: order_of(alloc, ordered)?,
+        limit,
+        target: Some(target.copy()?),
+        language: Language::Wide,
+    })
+}
+
+/// A round of the search: a proof tree of it, or a greater grouping.
+fn prove_round<C: CountySet>(
+    alloc: Global,
+    ordered: &Ordered,
+    near: &[C],
+    target: &Grouping,
+    limit: u16,
+    steps: &mut Steps,
+) -> Result<Outcome, Stop>
+    requires fits { length ordered.now.order ≤ C.PLACES }
+    requires rows { AreRows C C.test (problem_at ordered.now) (length ordered.now.order) near.now }
+    requires small { limit ≤ 128 }
+    ensures outcome { IfOk
+        result
+        (IsOutcome
+        (problem_of ordered.now.problem)
+        (record { order = ordered.now.order; limit = limit; target = Some target.now.groups.items; language = Wide })
+        (empty_state (problem_of ordered.now.problem))) }
+    ensures counted { OnOk result (steps.old.used < steps.new.used) }
+    ensures within { OnOk result (steps.new.used ≤ steps.new.limit) }
+    ensures limit { steps.new.limit ≡ steps.old.limit }
+    ensures stopped { IsErrOf result Stop.StepLimit → steps.new.used ≡ steps.new.limit }
+{
+    let _places = ordered.places();
+    let round = round_for(alloc, ordered, target, limit)?;
+    let ground = Ground {
+        alloc,
+        ordered,
+        near,
+        round: &round,
+    };
+    let first = first_position(&ground)?;
+    let outcome = prove(&ground, first, steps);
+    let _used = steps.used();
+    outcome
+}
+
+/// The answer that a grouping is best, which a tree proves in the round whose limit is the size of its largest group.
+fn best(
+    alloc: Global,
+    ordered: &Ordered,
+    target: Grouping,
+    limit: u16,
+    tree: Tree,
+) -> Result<Answer, AllocError>
+    requires target { IsTarget (problem_of ordered.now.problem) ordered.now.order target.groups.items }
+    requires small { limit ≤ 128 }
+    requires large { All (λ m. length m.codes ≤ limit) target.groups.items }
+    requires order { IsStrictlyIncreasing ordered.now.order }
+    requires tree { IsProof
+        (problem_of ordered.now.problem)
+        (record { order = ordered.now.order; limit = limit; target = Some target.groups.items; language = Wide })
+        (empty_state (problem_of ordered.now.problem))
+        tree }
+    ensures answer { IfOk result (λ answer. (allowed : ℕ) → 1 ≤ allowed → IsAnswer (problem_of ordered.now.problem) allowed answer) }
+{
+    let _places = ordered.places();
+    let round = round_for(alloc, ordered, &target, limit)?;
+    Ok(Answer::Best(target, Certificate { round, tree }))
+}
+
+/// The answer that a search comes to from a lawful grouping: rounds with each greater grouping as the next target, and
+/// with larger and larger limits, until the limit is the size of the target's largest group.
+fn improve<C: CountySet>(
+    alloc: Global,
+    ordered: &Ordered,
+    near: &[C],
+    first: Grouping,
+    steps: &mut Steps,
+) -> Result<Answer, AllocError>
+    requires fits { length ordered.now.order ≤ C.PLACES }
+    requires rows { AreRows C C.test (problem_at ordered.now) (length ordered.now.order) near.now }
+    requires order { IsStrictlyIncreasing ordered.now.order }
+    requires target { IsTarget (problem_of ordered.now.problem) ordered.now.order first.groups.items }
+    requires some { 1 ≤ steps.old.limit }
+    ensures answer { IfOk result (IsAnswer (problem_of ordered.now.problem) steps.old.limit) }
+{
+    let _places = ordered.places();
+    let mut target = first;
+    let mut cap = FIRST_LIMIT;
+    loop {
+        let largest = largest_size(&target);
+        let limit = cap.min(largest);
+        match prove_round(alloc, ordered, near, &target, limit, steps) {
+            Ok(Outcome::Proved(tree)) => {
+                if limit == largest {
+                    return best(alloc, ordered, target, limit, tree);
+                }
+                cap = limit_after(cap);
+            }
+            Ok(Outcome::Better(found)) => target = found,
+            Err(Stop::StepLimit) => {
+                return Ok(Answer::Open {
+                    found: Some(target),
+                    steps: steps.used(),
+                });
+            }
+            Err(Stop::Memory) => return Err(AllocError),
+        }
+    }
+}
+
+/// The round without a target of a problem of which a lawful grouping is looked for: groups of no size are closed.
+fn first_round(alloc: Global, ordered: &Ordered) -> Result<Round, AllocError>
+    ensures value { IfOk result (λ round. round_of round ≡ record { order = ordered.now.order; limit = 0; target = None; language = Plain }) }
+    ensures codes { IfOk result (λ round. AreCodes round.order) }
+{
+    Ok(Round {
+        order: order_of(alloc, ordered)?,
+        limit: 0,
+        target: None,
+        language: Language::Plain,
+    })
+}
+
+/// The certificate that no grouping is lawful, by a leaf that is valid where nothing is closed.
+fn impossible(alloc: Global, ordered: &Ordered, round: Round, leaf: Leaf) -> Certificate
+    requires value { round_of round ≡ record { order = ordered.now.order; limit = 0; target = None; language = Plain } }
+    requires codes { AreCodes round.order }
+    requires leaf { IsGiven (problem_of ordered.now.problem) (round_of round) (empty_state (problem_of ordered.now.problem)) leaf }
+    ensures { Certifies (problem_of ordered.now.problem) Plain None result }
+{
+    let _places = ordered.places();
+    let branches = Vec::new(alloc);
+    let tree = Tree { branches, leaf };
+    Certificate { round, tree }
+}
+
+/// The first lawful grouping, that of the connected parts, or a certificate that none is lawful.
+fn first_found<C: CountySet>(
+    alloc: Global,
+    ordered: &Ordered,
+    near: &[C],
+) -> Result<First, AllocError>
+    requires fits { length ordered.now.order ≤ C.PLACES }
+    requires rows { AreRows C C.test (problem_at ordered.now) (length ordered.now.order) near.now }
+    ensures { IfOk result (IsFirst (problem_of ordered.now.problem) ordered.now.order) }
+{
+    let _places = ordered.places();
+    let round = first_round(alloc, ordered)?;
+    let state: State<C> = first_state(alloc, ordered)?;
+    match whole_leaf(alloc, ordered, near, &round, &state)? {
+        Some(leaf) => Ok(First::Impossible(impossible(alloc, ordered, round, leaf))),
+        None => {
+            let found = finished_grouping(alloc, ordered, near, &round, &state)?;
+            Ok(First::Found(found))
+        }
+    }
+}
+
+/// What a desk answers of counties in ascending order of their codes, where a step is left.
+fn solve_ordered<C: CountySet>(
+    alloc: Global,
+    ordered: &Ordered,
+    steps: &mut Steps,
+) -> Result<Answer, AllocError>
+    requires fits { length ordered.now.order ≤ C.PLACES }
+    requires order { IsStrictlyIncreasing ordered.now.order }
+    requires some { 1 ≤ steps.old.limit }
+    ensures answer { IfOk result (IsAnswer (problem_of ordered.now.problem) steps.old.limit) }
+{
+    let near: Vec<C> = neighbour_rows(alloc, ordered)?;
+    match first_found(alloc, ordered, &near)? {
+        First::Impossible(certificate) => Ok(Answer::Impossible(certificate)),
+        First::Found(found) => improve(alloc, ordered, &near, found, steps),
+    }
+}
+
+/// What `solve` says, by any form of sets of places that has room for the counties of the problem.
+///
+/// # Errors
+///
+/// Where memory was refused.
+pub fn solve_over<C: CountySet>(
+    alloc: Global,
+    problem: &Problem,
+    step_limit: u64,
+) -> Result<Answer, AllocError>
+    requires fits { length problem.now.counties ≤ C.PLACES }
+    ensures answer { IfOk result (IsAnswer (problem_of problem.now) step_limit) }
+    ensures best { IfOk result (NamesBest (problem_of problem.now)) }
+    ensures impossible { IfOk result (SaysWhether (problem_of problem.now) step_limit) }
+{
+    let mut steps = Steps::new(step_limit);
+    if !steps.tick() {
+        return Ok(Answer::Open {
+            found: None,
+            steps: steps.used(),
+        });
+    }
+    let order = listed_codes(alloc, problem.counties())?;
+    match Ordered::build(alloc, problem, &order) {
+        Ok(ordered) => solve_ordered::<C>(alloc, &ordered, &mut steps),
+        Err(OrderFault::Memory) => Err(AllocError),
+        Err(OrderFault::WrongOrder) => unreachable!(),
+    }
+}
+
+/// The best grouping of a problem with its certificate, or that none is lawful with a certificate of that, or that it
+/// is open since the steps ran out, with the best grouping that was found.
+///
+/// A step is a state that is entered, a set that is grown or a group that is tested for being live. With a limit of 0
+/// the answer is always open; with a limit of 1 or more `Impossible` is answered exactly where no grouping is lawful.
+/// Best is the grouping whose counts of groups by size are the greatest, the count of the smallest size first
+/// (Stephenson v. Bartlett, in the form of Carter et al.). The certificate of Best is a wide one, that of Impossible
+/// a plain one; a text spells each.
+///
+/// # Errors
+///
+/// Where memory was refused.
+pub fn solve(alloc: Global, problem: &Problem, step_limit: u64) -> Result<Answer, AllocError>
+    ensures answer { IfOk result (IsAnswer (problem_of problem.now) step_limit) }
+    ensures best { IfOk result (NamesBest (problem_of problem.now)) }
+    ensures impossible { IfOk result (SaysWhether (problem_of problem.now) step_limit) }
+{
+    let _counties = problem.counties();
+    solve_over::<Places>(alloc, problem, step_limit)
+}
