@@ -1,0 +1,13 @@
+use Rattle.std.proofs.Common.{◌≡◌, map, length}
+use Rattle.std.specs.Vec.{vec_items}
+use Rattle.grouping_problem.specs.ProblemValue.{problem_of}
+use Rattle.proof_trees.specs.RoundValue.{round_of}
+use Rattle.line_verdicts.specs.Placed.{state_at}
+use Rattle.bound_proofs.specs.CountLeaves.{AreListsFrom}
+use Rattle.solved_problems.proofs.leaves.groups_by_size.Given as goal
+
+abbrev pub invariant-loop-below : goal.invariant-loop-below
+invariant-loop-below g l = record {
+  count : length l.lists.items ≡ l.below;
+  lists : AreListsFrom g.C.CountySet.test l.ordered.order (problem_of l.ordered.problem) (round_of l.round) (state_at l.ordered.order g.C.CountySet.test l.state) 1 (map vec_items l.lists.items);
+}

@@ -1,0 +1,44 @@
+//! The cases of a file.
+
+use anyhow::Result;
+use field_lines::RawLines;
+use std::alloc::Global;
+use std::str;
+
+/// A case: what is tried, its name, and its bytes.
+#[derive(Drop)]
+pub struct Case<'a> {
+    /// What is tried.
+    pub kind: &'a str,
+    /// What the case is called.
+    pub name: &'a str,
+    /// The bytes.
+    pub bytes: Vec<u8>,
+}
+
+/// The kind and the name on the line that begins a case, if it begins one.
+fn title<'a>(line: &'a [u8]) -> Option<(&'a str, &'a str)> {
+    let words = str::from_utf8(line).ok()?;
+    words.strip_prefix("== ")?.split_once(": ")
+}
+
+/// The cases of a text. Lines in front of the first are left out.
+pub fn cases_of<'a>(alloc: Global, text: &'a [u8]) -> Result<Vec<Case<'a>>> {
+    let mut cases: Vec<Case<'a>> = Vec::new(alloc);
+    let mut lines = RawLines::new(text);
+    for _ in 0..text.len() {
+        let Some(piece) = lines.next_piece() else {
+            break;
+        };
+        if let Some((kind, name)) = title(piece.bytes) {
+            let bytes = Vec::new(alloc);
+            cases.push(Case { kind, name, bytes })?;
+        } else if let Some(case) = cases.last_mut() {
+            case.bytes.extend_from_slice(piece.bytes)?;
+            if piece.ended {
+                case.bytes.push(b'\n')?;
+            }
+        }
+    }
+    Ok(cases)
+}
