@@ -1,15 +1,15 @@
 -- What the steps of a run of a case give together.
 use Rattle.std.proofs.Common.{◌≡◌, ◌∙◌, ◌++◌, ◌==◌, ℕ, true, List, [], ◌∷◌, Some, refl, sym, ap, subst, map}
 use Rattle.std.specs.Prelude.{reverse}
-use Rattle.std.specs.Option.{option_or}
+use Rattle.std.specs.Option.{option_or, option_map}
 use Rattle.std.proofs.lemmas.List.{reverse-append, map_push}
 use mathlib.Core.Path.{fun_ext}
-use Rattle.cli.specs.Answer.{Answered}
-use Rattle.shelves.specs.Files.{File, Files, held}
+use Rattle.program_answers.specs.Answer.{Answered}
+use Rattle.shelves.specs.Files.{File, Files, held, with_files}
 use Rattle.std.specs.List.{slice_split}
 use Rattle.field_lines.specs.Raw.{raw_lines}
 use Rattle.cli.specs.Case.{case_files, first_line, is_case}
-use Rattle.cli.specs.Run.{IsRunAnswer}
+use Rattle.command_runs.specs.Run.{IsRunAnswer}
 use Rattle.cli.specs.CaseRun.{WordsOver, stored_text, IsCaseAnswer}
 use Rattle.shelves.specs.Memory.{files_of}
 use Rattle.shelves.specs.declared.memory.MemoryFile.{MemoryFile}
@@ -19,15 +19,16 @@ nothing_stored : (stored files : List File) → stored ≡ [] → (λ name. opti
 nothing_stored stored files none = fun_ext (λ name. rw none refl)
 
 -- an answer over such a shelf, with the files that were stored since
-pub words_over : (stored files : List File) (words : List (List ℕ)) (text after : List ℕ) (status : ℕ) (now : List File)
-    → stored ≡ [] → Some now ≡ Some stored → after ≡ text ++ stored_text now
-    → IsRunAnswer (Some (λ name. option_or (held stored name) (held files name))) 0 0 words (record { text = text; status = status })
+pub words_over : (began files now : List File) (words : List (List ℕ)) (text after : List ℕ) (status : ℕ) (stored : List File)
+    → began ≡ [] → Some now ≡ option_map (λ held. with_files held stored) (Some began) → after ≡ text ++ stored_text now
+    → IsRunAnswer (Some (λ name. option_or (held began name) (held files name))) words 0 0 stored (record { text = text; status = status })
     → WordsOver files words (record { text = after; status = status })
-words_over stored files words text after status now none kept is answer =
-    let same : now ≡ [] = some_same kept ∙ none in
+words_over began files now words text after status stored none kept is answer =
+    let same : now ≡ with_files [] stored = some_same kept ∙ ap (λ (l : List File). with_files l stored) none in
     record {
       run = record { text = text; status = status };
-      answer = subst (λ (f : Files). IsRunAnswer (Some f) 0 0 words (record { text = text; status = status })) (nothing_stored stored files none) answer;
+      stored = stored;
+      answer = subst (λ (f : Files). IsRunAnswer (Some f) words 0 0 stored (record { text = text; status = status })) (nothing_stored began files none) answer;
       followed = ap (λ (t : List ℕ). record { text = t; status = status }) (is ∙ ap (λ (l : List File). text ++ stored_text l) same);
     }
   where

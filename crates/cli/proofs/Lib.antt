@@ -1,2 +1,3 @@
-pub mod RunLemmas
 pub mod CaseLemmas
+pub mod SolveLemmas
+pub mod CommandLemmas

@@ -3,10 +3,10 @@ use Rattle.std.specs.Prelude.{◌≡◌, ◌⊎◌, ◌<◌, ◌≤◌, ◌++◌
 use Rattle.std.specs.List.{flat_map}
 use Rattle.shelves.specs.declared.whole.WholeFault.{WholeFault}
 use Rattle.shelves.specs.declared.whole.WholeFault.TheVariants.{TooLarge, Failed, Memory}
-use Rattle.cli.specs.Answer.{Answered, memory_answer}
-use Rattle.shelves.specs.Files.{File, held}
+use Rattle.program_answers.specs.Answer.{Answered, memory_answer}
+use Rattle.shelves.specs.Files.{File, held, with_files}
 use Rattle.cli.specs.Case.{case_files, case_words, is_case}
-use Rattle.cli.specs.Run.{IsRunAnswer}
+use Rattle.command_runs.specs.Run.{IsRunAnswer}
 use Rattle.cli.specs.Delivery.{Delivers}
 
 -- the files that were stored: a line `file NAME` and the bytes of each
@@ -17,11 +17,12 @@ stored_text files = flat_map (λ f. codes "file " ++ f.name ++ codes "\n" ++ f.b
 abbrev pub followed_by : Answered → List File → Answered
 followed_by a stored = record { text = a.text ++ stored_text stored; status = a.status }
 
--- the answer to words over files, followed by the files that were stored: no command stores one yet
+-- the answer to words over files, followed by the files that were stored, each name once
 pub record WordsOver (files : List File) (words : List (List ℕ)) (a : Answered) : Type 0 where
   pub run : Answered
-  pub answer : IsRunAnswer (Some (held files)) 0 0 words run
-  pub followed : a ≡ followed_by run []
+  pub stored : List File
+  pub answer : IsRunAnswer (Some (held files)) words 0 0 stored run
+  pub followed : a ≡ followed_by run (with_files [] stored)
 
 -- the answer to the text of a case: none where its first line or a file's name isn't text; else that to its words over its files, of
 -- which a later one counts in the place of an earlier one of its name

@@ -1,10 +1,4 @@
-pub mod Answer
-pub mod Answers
-pub mod Refusals
-pub mod Course
-pub mod ProblemCourse
-pub mod PlanCourse
+pub mod Ends
 pub mod Case
-pub mod Run
 pub mod Delivery
 pub mod CaseRun

@@ -2,10 +2,10 @@
 
 ghost use Rattle.std.specs.Prelude.{◌≡◌, ◌≤◌, ◌<◌, ℕ, All, length, map};
 ghost use Rattle.std.specs.List.Sorted.{IsStrictlyIncreasing};
-ghost use Rattle.cli.specs.Answers.{answer_of, Comes};
-ghost use Rattle.cli.specs.Run.{audit_step, audit_course};
+ghost use Rattle.program_answers.specs.Answers.{answer_of, Comes};
+ghost use Rattle.command_runs.specs.JudgeCourse.{audit_step, audit_course};
 
-use crate::answer::{Answer, Refusal};
+use program_answers::{Answer, Refusal};
 use crate::files::load_grouping;
 use crate::plan_files::{load_assignments, load_blocks};
 use crate::problem::load_problem;

@@ -7,15 +7,14 @@ ghost use Rattle.shelves.specs.Files.{File};
 ghost use Rattle.shelves.specs.Memory.{files_of};
 ghost use Rattle.cli.specs.Case.{whole_line, file_name, first_line, case_files, is_case, are_named, with_open, parts_of};
 ghost use Rattle.shelves.specs.declared.whole.WholeFault.{WholeFault};
-ghost use Rattle.cli.specs.Answer.{Answered};
-ghost use Rattle.cli.specs.Answers.{answer_of};
+ghost use Rattle.program_answers.specs.Answer.{Answered};
+ghost use Rattle.program_answers.specs.Answers.{answer_of};
 ghost use Rattle.cli.specs.Delivery.{texts};
 ghost use Rattle.cli.specs.CaseRun.{stored_text, WordsOver, IsCaseAnswer, IsWhole, IsReadAnswer, DeliversCase};
 
-use crate::answer::Answer;
 use crate::command::{deliver, words_answer};
-use crate::refusal::MEMORY;
 use field_lines::{Piece, RawLines, Source};
+use program_answers::{Answer, MEMORY};
 use shelves::{MemoryFile, MemoryShelf, Sink, WholeFault, read_whole};
 use std::alloc::{AllocError, Global};
 

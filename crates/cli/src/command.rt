@@ -1,16 +1,19 @@
-ghost use Rattle.std.specs.Prelude.{◌≡◌, ◌⊎◌, true, false, IfOk, OnOk, List, ℕ};
-ghost use Rattle.std.specs.Io.KnownBytes.{Appends};
-ghost use Rattle.cli.specs.Answer.{Answered, memory_answer};
-ghost use Rattle.cli.specs.Answers.{answer_of, Comes};
-ghost use Rattle.cli.specs.Run.{command_course, CommandRun, IsEndAnswer, IsRunAnswer, HasState};
+ghost use Rattle.std.specs.Prelude.{◌≡◌, List, IfOk};
+ghost use Rattle.shelves.specs.Files.{File};
+ghost use Rattle.program_answers.specs.Answer.{Answered};
+ghost use Rattle.program_answers.specs.Answers.{answer_of, said_by};
+ghost use Rattle.command_runs.specs.Storing.{HasStored};
+ghost use Rattle.command_runs.specs.Run.{CommandRun, IsEndAnswer, IsRunAnswer, HasState};
 ghost use Rattle.cli.specs.Delivery.{Delivers, texts};
+ghost use Rattle.cli.specs.Ends.{said_of};
 
-use crate::answer::{Answer, Refusal};
 use crate::audit::audit;
+use crate::check::check;
 use crate::judge::judge;
-use crate::refusal::MEMORY;
 use crate::size::size;
+use crate::solve::solve;
 use command_words::{CommandWords, WordsEnd, parse};
+use program_answers::{Answer, MEMORY, Refusal};
 use shelves::{Shelf, Sink};
 use std::alloc::{AllocError, Global};
 
@@ -21,13 +24,15 @@ fn command_end<H: Shelf>(
     shelf: &mut H,
 ) -> Result<Answer, Refusal>
     requires { HasState command }
-    ensures course { Comes answer_of result (command_course (H.contents shelf.old) command.entry (H.failure_count shelf.old) (H.failure_count shelf.new)) }
-    ensures same { H.contents shelf.new ≡ H.contents shelf.old }
-    ensures kept { H.stored shelf.new ≡ H.stored shelf.old }
+    ensures { (stored : List File)
+        × HasStored (H.contents shelf.old) (H.contents shelf.new) (H.stored shelf.old) (H.stored shelf.new) stored
+        × CommandRun (H.contents shelf.old) command.entry (H.failure_count shelf.old) (H.failure_count shelf.new) stored (said_by result) }
 {
     match command {
         CommandWords::Size(words) => size(alloc, words, shelf),
         CommandWords::Judge(words) => judge(alloc, words, shelf),
+        CommandWords::Solve(words) => solve(alloc, words, shelf),
+        CommandWords::Check(words) => check(alloc, words, shelf),
         CommandWords::Audit(words) => audit(alloc, words, shelf),
     }
 }
@@ -39,9 +44,9 @@ fn command_answer<H: Shelf>(
     shelf: &mut H,
 ) -> Result<Answer, AllocError>
     requires { HasState command }
-    ensures answer { IfOk result (λ a. CommandRun (H.contents shelf.old) (H.failure_count shelf.old) (H.failure_count shelf.new) command.entry (answer_of a)) }
-    ensures same { H.contents shelf.new ≡ H.contents shelf.old }
-    ensures kept { H.stored shelf.new ≡ H.stored shelf.old }
+    ensures { (stored : List File)
+        × HasStored (H.contents shelf.old) (H.contents shelf.new) (H.stored shelf.old) (H.stored shelf.new) stored
+        × CommandRun (H.contents shelf.old) command.entry (H.failure_count shelf.old) (H.failure_count shelf.new) stored (said_of result) }
 {
     match command_end(alloc, command, shelf) {
         Ok(answer) => Ok(answer),
@@ -67,9 +72,9 @@ pub(crate) fn words_answer<H: Shelf>(
     words: &[&str],
     shelf: &mut H,
 ) -> Result<Answer, AllocError>
-    ensures answer { IfOk result (λ a. IsRunAnswer (H.contents shelf.old) (H.failure_count shelf.old) (H.failure_count shelf.new) (texts words.now) (answer_of a)) }
-    ensures same { H.contents shelf.new ≡ H.contents shelf.old }
-    ensures kept { H.stored shelf.new ≡ H.stored shelf.old }
+    ensures { (stored : List File)
+        × HasStored (H.contents shelf.old) (H.contents shelf.new) (H.stored shelf.old) (H.stored shelf.new) stored
+        × IsRunAnswer (H.contents shelf.old) (texts words.now) (H.failure_count shelf.old) (H.failure_count shelf.new) stored (said_of result) }
 {
     match parse(alloc, words) {
         Ok(command) => command_answer(alloc, command, shelf),
@@ -88,18 +93,19 @@ pub(crate) fn deliver<W: Sink>(out: &mut W, text: &[u8], status: u8) -> u8
 }
 
 /// Runs one command and answers the exit status. The words are those after the program's name. The answer
-/// is composed whole and then written.
+/// is composed whole, files are stored, and then the answer is written.
 ///
-/// The status is 0 for an answer and for help, 1 where `judge` finds a fault of the grouping or `audit` finds
-/// anything, 2 for usage, 4 where the input was refused, 5 where a file could not be had or memory was refused
-/// (the line is then `memory`), and 5 where the writing failed: how much went out is then not said. Nothing is
-/// stored, and the files stay as they were.
+/// The status is 0 for an answer and for help, 1 where `judge` finds a fault of the grouping, `audit` finds anything,
+/// `solve` or `check` that no grouping is lawful, or `check` that the text is no certificate, 2 for usage, 3 where
+/// the steps of `solve` or the budget of `check` ran out, 4 where the input was refused, 5 where a file could not be had
+/// or stored or memory was refused (the line is then `memory`), and 5 where the writing failed: how much went out is
+/// then not said. Only `solve` stores files: the certificate, and then the grouping. What was stored before a fault stays
+/// stored.
 pub fn run<H: Shelf, W: Sink>(alloc: Global, words: &[&str], shelf: &mut H, out: &mut W) -> u8
-    ensures answer { (a : Answered)
-        × ((a ≡ memory_answer) ⊎ IsRunAnswer (H.contents shelf.old) (H.failure_count shelf.old) (H.failure_count shelf.new) (texts words.now) a)
+    ensures { (a : Answered) × (stored : List File)
+        × HasStored (H.contents shelf.old) (H.contents shelf.new) (H.stored shelf.old) (H.stored shelf.new) stored
+        × IsRunAnswer (H.contents shelf.old) (texts words.now) (H.failure_count shelf.old) (H.failure_count shelf.new) stored a
         × Delivers (W.is_failed out.new) (W.contents out.old) (W.contents out.new) a result }
-    ensures same { H.contents shelf.new ≡ H.contents shelf.old }
-    ensures kept { H.stored shelf.new ≡ H.stored shelf.old }
 {
     match words_answer(alloc, words, shelf) {
         Ok(answer) => deliver(out, &answer.text, answer.status),

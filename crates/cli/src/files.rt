@@ -2,12 +2,12 @@
 
 ghost use Rattle.std.specs.Prelude.{◌≡◌, ◌≤◌, ℕ};
 ghost use Rattle.grouping_problem.specs.ProblemValue.{codes_of};
-ghost use Rattle.cli.specs.Answers.{Comes};
-ghost use Rattle.cli.specs.Course.{load_step};
-ghost use Rattle.cli.specs.ProblemCourse.{counties_of, pairs_of, pairs_in, links_in, withdrawn_in, grouping_in, links_of, withdrawn_of, adjacency_of, grouping_of};
+ghost use Rattle.program_answers.specs.Answers.{Comes};
+ghost use Rattle.command_runs.specs.Course.{load_step};
+ghost use Rattle.command_runs.specs.ProblemCourse.{counties_of, pairs_of, pairs_in, links_in, withdrawn_in, grouping_in, links_of, withdrawn_of, adjacency_of, grouping_of};
 
-use crate::answer::Refusal;
-use crate::refusal::{InputFile, refuse_codes, refuse_file, refuse_load};
+use program_answers::Refusal;
+use program_answers::{InputFile, refuse_codes, refuse_file, refuse_load};
 use adjacency_reader::{Link, apply_links, read_links, read_pairs, read_withdrawn};
 use command_words::{CommonWords, ProblemWords};
 use county_codes::{County, CountyCode, Grouping, Withdrawn, listed_codes};

@@ -1,13 +1,13 @@
 //! The subcommand `judge`.
 
 ghost use Rattle.std.specs.Prelude.{◌≡◌, ◌≤◌, ℕ};
-ghost use Rattle.cli.specs.Answers.{answer_of, Comes};
-ghost use Rattle.cli.specs.Run.{judge_step, judge_course};
+ghost use Rattle.program_answers.specs.Answers.{answer_of, Comes};
+ghost use Rattle.command_runs.specs.JudgeCourse.{judge_step, judge_course};
 
-use crate::answer::{Answer, Refusal};
+use program_answers::{Answer, Refusal};
 use crate::files::load_grouping;
 use crate::problem::load_problem;
-use crate::refusal::refuse_verdict;
+use program_answers::refuse_verdict;
 use command_words::JudgeWords;
 use county_codes::Grouping;
 use grouping_judge::judge as judge_grouping;

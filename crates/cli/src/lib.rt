@@ -1,16 +1,17 @@
 //! What the program `countygroups` does with its words, its files and its output.
 #![tactic(auto)]
 
-mod answer;
 mod audit;
 mod case;
+mod check;
 mod command;
 mod files;
 mod judge;
 mod plan_files;
 mod problem;
-mod refusal;
 mod size;
+mod solve;
+mod storing;
 
 pub use case::{MAX_CASE, run_case};
 pub use command::run;

@@ -2,12 +2,12 @@
 
 ghost use Rattle.std.specs.Prelude.{◌≡◌, ◌≤◌, ◌<◌, ℕ, All, IfOk, map, vec_len};
 ghost use Rattle.std.specs.List.Sorted.{IsStrictlyIncreasing};
-ghost use Rattle.cli.specs.Answers.{Comes};
-ghost use Rattle.cli.specs.PlanCourse.{blocks_in, blocks_of, assignments_in, assignments_of};
+ghost use Rattle.program_answers.specs.Answers.{Comes};
+ghost use Rattle.command_runs.specs.PlanCourse.{blocks_in, blocks_of, assignments_in, assignments_of};
 
-use crate::answer::Refusal;
+use program_answers::Refusal;
 use crate::files::load;
-use crate::refusal::{refuse_assignments, refuse_file};
+use program_answers::{refuse_assignments, refuse_file};
 use baf_auditor::{Assignment, read_assignments};
 use command_words::CommonWords;
 use pl94_counties::{Block, read_blocks};

@@ -1,12 +1,12 @@
 //! The problem that a command works on.
 
 ghost use Rattle.std.specs.Prelude.{◌≡◌, ◌≤◌, ℕ};
-ghost use Rattle.cli.specs.Answers.{Comes};
-ghost use Rattle.cli.specs.ProblemCourse.{build_step, problem_in};
+ghost use Rattle.program_answers.specs.Answers.{Comes};
+ghost use Rattle.command_runs.specs.ProblemCourse.{build_step, problem_in};
 
-use crate::answer::Refusal;
+use program_answers::Refusal;
 use crate::files::{load_adjacency, load_counties, load_withdrawn};
-use crate::refusal::refuse_problem;
+use program_answers::refuse_problem;
 use command_words::ProblemWords;
 use county_codes::{County, CountyCode, Withdrawn};
 use grouping_problem::Problem;

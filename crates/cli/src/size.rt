@@ -1,10 +1,10 @@
 //! The subcommand `size`.
 
 ghost use Rattle.std.specs.Prelude.{◌≡◌, ◌≤◌};
-ghost use Rattle.cli.specs.Answers.{answer_of, Comes};
-ghost use Rattle.cli.specs.Run.{size_course};
+ghost use Rattle.program_answers.specs.Answers.{answer_of, Comes};
+ghost use Rattle.command_runs.specs.JudgeCourse.{size_course};
 
-use crate::answer::{Answer, Refusal};
+use program_answers::{Answer, Refusal};
 use crate::files::load_counties;
 use crate::problem::build;
 use command_words::CommonWords;

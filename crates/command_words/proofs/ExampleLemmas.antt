@@ -57,3 +57,24 @@ help = refl
 help_of_size : faults_of (codes "size" ∷ codes "-h" ∷ []) ≡ kind.DisplayHelp ∷ []
 unfolding clap_on_literals countygroups faults_of
 help_of_size = refl
+
+-- `solve` with the steps that it has where none are given, with the most, and with one more than the most
+abbrev solved : List Text
+solved = codes "solve" ∷ codes "--geo=a" ∷ codes "--segment=b" ∷ codes "--chamber=50" ∷ codes "--adjacency=c" ∷ []
+
+default_steps : option_map (λ p. first_of (codes "steps") p.1) (subcommand_in solved) ≡ Some (Some (codes "10000000"))
+unfolding clap_on_literals countygroups subcommand_in
+default_steps = refl
+
+most_steps : takes_words (solved ++ codes "--steps=18446744073709551615" ∷ []) ≡ true
+unfolding clap_on_literals countygroups takes_words
+most_steps = refl
+
+too_many_steps : faults_of (solved ++ codes "--steps=18446744073709551616" ∷ []) ≡ kind.ValueValidation ∷ []
+unfolding clap_on_literals countygroups faults_of
+too_many_steps = refl
+
+-- `check` without a certificate
+no_certificate : faults_of (codes "check" ∷ codes "--geo=a" ∷ codes "--segment=b" ∷ codes "--chamber=50" ∷ codes "--adjacency=c" ∷ []) ≡ kind.MissingRequiredArgument ∷ []
+unfolding clap_on_literals countygroups faults_of
+no_certificate = refl

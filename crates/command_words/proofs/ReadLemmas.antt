@@ -1,5 +1,5 @@
 -- What the getters read of the options that have a value.
-use Rattle.std.proofs.Common.{◌++◌, ◌∷◌, [], ◌≡◌, ◌⊎◌, ◌∙◌, ◌<◌, ◌≤◌, ◌^◌, ℕ, Bool, true, false, true≢false, refl, sym, ap, subst, inl, inr, List, Option, Some, None, Result, is_some}
+use Rattle.std.proofs.Common.{◌++◌, ◌∷◌, [], ◌≡◌, ◌⊎◌, ◌∙◌, ◌<◌, ◌≤◌, ◌^◌, ℕ, Bool, true, false, true≢false, refl, sym, ap, subst, inl, inr, List, Option, Some, None, Result, codes, is_some}
 use Rattle.std.specs.Prelude.{option_map, pos, slice_get}
 use Rattle.std.proofs.lemmas.List.Elements.{All-cons, All-head, All-nil, All-tail}
 use Rattle.std.specs.Borrow.{Bor}
@@ -88,6 +88,10 @@ module _ (f : Found) (a : Rule) (h : HasValue (rows_of f) a) where
   default_spells text n none is spells =
       let same : h.text ≡ text = let one : Some h.text ≡ Some text = sym (h.default none) ∙ is in cc in
       subst (λ (t : Text). Spells t n) same spells
+
+-- the default of the options of steps
+pub is_ten_million : (n : ℕ) → Spells (codes "10000000") n → n ≡ 10000000
+is_ten_million n spells = let same : pos 10000000 ≡ pos n = spells.1 in cc
 
 -- the values of the first of these options
 pub front_values : (options more : List Rule) (rows : List Row) → HasValues (options ++ more) rows → HasValues options rows

@@ -5,7 +5,7 @@ use Rattle.clap.specs.Simple.{new_shape}
 use Rattle.clap.specs.declared.builder.action.ArgAction.TheVariants.{Set}
 use Rattle.clap.specs.declared.builder.command.Command.{Command}
 use Rattle.clap.specs.declared.builder.command.Command.TheViews.{out-Command}
-use Rattle.clap.specs.declared.builder.value_parser.ValueParser.TheVariants.{Signed}
+use Rattle.clap.specs.declared.builder.value_parser.ValueParser.TheVariants.{Signed, Unsigned}
 
 -- `--name VALUE`
 abbrev pub text_option : Text → Rule
@@ -23,6 +23,10 @@ of_number low high option = record option { parser = Some (Signed (pos low) (pos
 abbrev pub with_default : Text → Rule → Rule
 with_default text option = record option { defaults = text ∷ [] }
 
+-- the option, of a number of steps from 0 to 18,446,744,073,709,551,615, by default 10,000,000
+abbrev pub of_steps : Rule → Rule
+of_steps option = with_default (codes "10000000") (record option { parser = Some (Unsigned 0 18446744073709551615) })
+
 -- the options of each subcommand: the two files, the number of seats and the state
 abbrev pub common_options : List Rule
 common_options = required (text_option (codes "geo")) ∷ required (text_option (codes "segment"))
@@ -39,6 +43,15 @@ problem_options = common_options ++ required (text_option (codes "adjacency")) �
 abbrev pub judge_options : List Rule
 judge_options = problem_options ++ required (text_option (codes "grouping")) ∷ []
 
+-- the options of `solve`: those that give a problem, the most steps of the search, and the files of the
+-- certificate and of the grouping, which need not be given
+abbrev pub solve_options : List Rule
+solve_options = problem_options ++ of_steps (text_option (codes "steps")) ∷ text_option (codes "certificate") ∷ text_option (codes "out") ∷ []
+
+-- the options of `check`: those that give a problem, the file of the certificate, and the most steps of the checker
+abbrev pub check_options : List Rule
+check_options = problem_options ++ required (text_option (codes "certificate")) ∷ of_steps (text_option (codes "budget")) ∷ []
+
 -- the options of `audit`: those of `judge`, and the file of the assignments
 abbrev pub audit_options : List Rule
 audit_options = judge_options ++ required (text_option (codes "assignments")) ∷ []
@@ -49,7 +62,9 @@ subcommand name options = record (new_shape name) { rules = options }
 
 -- the subcommands of the program
 abbrev pub subcommands : List Shape
-subcommands = subcommand (codes "size") common_options ∷ subcommand (codes "judge") judge_options ∷ subcommand (codes "audit") audit_options ∷ []
+subcommands = subcommand (codes "size") common_options ∷ subcommand (codes "judge") judge_options
+    ∷ subcommand (codes "solve") solve_options ∷ subcommand (codes "check") check_options
+    ∷ subcommand (codes "audit") audit_options ∷ []
 
 -- the program without its subcommands: it has no option of its own and requires a subcommand
 abbrev pub countygroups_alone : App

@@ -9,11 +9,13 @@ use Rattle.clap.specs.declared.error.kind.ErrorKind.TheVariants.{DisplayHelp, Ou
 use Rattle.command_words.specs.Command.{countygroups}
 use Rattle.command_words.specs.Options.{Spells}
 use Rattle.command_words.specs.declared.words.CommandWords.{CommandWords}
-use Rattle.command_words.specs.declared.words.CommandWords.TheVariants.{Audit, Judge, Size}
+use Rattle.command_words.specs.declared.words.CommandWords.TheVariants.{Audit, Check, Judge, Size, Solve}
 use Rattle.command_words.specs.declared.words.AuditWords.{AuditWords}
+use Rattle.command_words.specs.declared.words.CheckWords.{CheckWords}
 use Rattle.command_words.specs.declared.words.CommonWords.{CommonWords}
 use Rattle.command_words.specs.declared.words.JudgeWords.{JudgeWords}
 use Rattle.command_words.specs.declared.words.ProblemWords.{ProblemWords}
+use Rattle.command_words.specs.declared.words.SolveWords.{SolveWords}
 use Rattle.command_words.specs.declared.end.WordsEnd.{WordsEnd}
 use Rattle.command_words.specs.declared.end.WordsEnd.TheVariants.{Help, Usage, Memory}
 
@@ -60,6 +62,23 @@ pub record SaysJudge (rows : List Row) (words : JudgeWords) : Type 0 where
   pub problem : SaysProblem rows words.problem
   pub grouping : first_of (codes "grouping") rows ≡ Some words.grouping.now
 
+-- the values of the options of `solve` say which problem is meant, how many steps the search may take, and
+-- the files that its certificate and its grouping are written to
+pub record SaysSolve (rows : List Row) (words : SolveWords) : Type 0 where
+  pub problem : SaysProblem rows words.problem
+  pub steps : GivesNumber (codes "steps") rows words.steps
+  pub default : is_given (codes "steps") rows ≡ false → words.steps ≡ 10000000
+  pub certificate : GivesText (codes "certificate") rows words.certificate
+  pub out : GivesText (codes "out") rows words.out
+
+-- the values of the options of `check` say which problem and which certificate are meant, and how many steps
+-- the checker may take
+pub record SaysCheck (rows : List Row) (words : CheckWords) : Type 0 where
+  pub problem : SaysProblem rows words.problem
+  pub certificate : first_of (codes "certificate") rows ≡ Some words.certificate.now
+  pub budget : GivesNumber (codes "budget") rows words.budget
+  pub default : is_given (codes "budget") rows ≡ false → words.budget ≡ 10000000
+
 -- the values of the options of `audit` say which problem, which grouping and which assignments are meant
 pub record SaysAudit (rows : List Row) (words : AuditWords) : Type 0 where
   pub problem : SaysProblem rows words.problem
@@ -70,6 +89,8 @@ pub record SaysAudit (rows : List Row) (words : AuditWords) : Type 0 where
 abbrev pub SaysCommand : Text × List Row → CommandWords → Type 0
 SaysCommand p (Size words) = (p.0 ≡ codes "size") × SaysCommon p.1 words
 SaysCommand p (Judge words) = (p.0 ≡ codes "judge") × SaysJudge p.1 words
+SaysCommand p (Solve words) = (p.0 ≡ codes "solve") × SaysSolve p.1 words
+SaysCommand p (Check words) = (p.0 ≡ codes "check") × SaysCheck p.1 words
 SaysCommand p (Audit words) = (p.0 ≡ codes "audit") × SaysAudit p.1 words
 
 -- the words mean the command

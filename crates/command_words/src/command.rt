@@ -1,7 +1,7 @@
 //! The command `countygroups`, as `clap` parses it.
 ghost use Rattle.std.specs.Prelude.{◌≡◌, IfOk, codes, false};
 ghost use Rattle.clap.specs.Words.{app_of, rule_of};
-ghost use Rattle.command_words.specs.Command.{HasMore, HasShape, countygroups, countygroups_alone, subcommand, of_number, common_options, problem_options, judge_options, audit_options, required, text_option, with_default};
+ghost use Rattle.command_words.specs.Command.{HasMore, HasShape, countygroups, countygroups_alone, subcommand, of_number, common_options, problem_options, judge_options, solve_options, check_options, audit_options, of_steps, required, text_option, with_default};
 
 use clap::{Arg, ArgAction, Command, value_parser};
 use std::alloc::{AllocError, Global};
@@ -44,6 +44,16 @@ fn state_option<'a>(alloc: Global) -> Arg<'a>
     text_option(alloc, "state", "CODE", "The state's FIPS code, 0 to 99")
         .value_parser(value_parser!(u8).range(0..=99))
         .default_value("37")
+}
+
+/// An option `--name STEPS`, from 0 to 18,446,744,073,709,551,615, by default 10,000,000.
+fn steps_option<'a>(alloc: Global, name: &'a str, help: &'a str) -> Arg<'a>
+    ensures rule { rule_of result ≡ of_steps (text_option name.entry.now) }
+    ensures local { result.global ≡ false }
+{
+    text_option(alloc, name, "STEPS", help)
+        .value_parser(value_parser!(u64))
+        .default_value("10000000")
 }
 
 /// The command with the options that each subcommand has.
@@ -89,6 +99,37 @@ fn judge_command<'a>(alloc: Global) -> Result<Command<'a>, AllocError>
     judge.arg(grouping)
 }
 
+/// The subcommand `solve`.
+fn solve_command<'a>(alloc: Global) -> Result<Command<'a>, AllocError>
+    ensures { IfOk result (λ c. HasShape c (subcommand (codes "solve") solve_options)) }
+{
+    let solve = Command::new(alloc, "solve").about("Finds the best grouping and its certificate");
+    let solve = with_problem_options(alloc, solve)?;
+    let steps = steps_option(alloc, "steps", "The most steps of the search");
+    let solve = solve.arg(steps)?;
+    let certificate = text_option(
+        alloc,
+        "certificate",
+        "FILE",
+        "The file to write the certificate to",
+    );
+    let solve = solve.arg(certificate)?;
+    let out = text_option(alloc, "out", "FILE", "The file to write the grouping to");
+    solve.arg(out)
+}
+
+/// The subcommand `check`.
+fn check_command<'a>(alloc: Global) -> Result<Command<'a>, AllocError>
+    ensures { IfOk result (λ c. HasShape c (subcommand (codes "check") check_options)) }
+{
+    let check = Command::new(alloc, "check").about("Checks a certificate");
+    let check = with_problem_options(alloc, check)?;
+    let certificate = file_option(alloc, "certificate", "The certificate");
+    let check = check.arg(certificate)?;
+    let budget = steps_option(alloc, "budget", "The most steps of the checker");
+    check.arg(budget)
+}
+
 /// The subcommand `audit`.
 fn audit_command<'a>(alloc: Global) -> Result<Command<'a>, AllocError>
     ensures { IfOk result (λ c. HasShape c (subcommand (codes "audit") audit_options)) }
@@ -123,6 +164,10 @@ pub(crate) fn program<'a>(alloc: Global) -> Result<Command<'a>, AllocError>
     let program = program_alone(alloc)?.subcommand(size)?;
     let judge = judge_command(alloc)?;
     let program = program.subcommand(judge)?;
+    let solve = solve_command(alloc)?;
+    let program = program.subcommand(solve)?;
+    let check = check_command(alloc)?;
+    let program = program.subcommand(check)?;
     let audit = audit_command(alloc)?;
     program.subcommand(audit)
 }

@@ -18,4 +18,6 @@ mod end;
 mod words;
 
 pub use end::WordsEnd;
-pub use words::{AuditWords, CommandWords, CommonWords, JudgeWords, ProblemWords, parse};
+pub use words::{
+    AuditWords, CheckWords, CommandWords, CommonWords, JudgeWords, ProblemWords, SolveWords, parse,
+};

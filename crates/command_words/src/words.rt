@@ -3,9 +3,9 @@ ghost use Rattle.std.specs.Prelude.{◌≡◌, [], IfErr, IfOk, MatchResult, tru
 ghost use Rattle.std.specs.Option.{IsSomeAnd};
 ghost use Rattle.clap.specs.Walk.{texts};
 ghost use Rattle.clap.specs.Words.{FailsBy, found_of, kind_of, rows_of, subcommand_rows_of};
-ghost use Rattle.command_words.specs.Command.{audit_options, common_options, judge_options, problem_options};
+ghost use Rattle.command_words.specs.Command.{audit_options, check_options, common_options, judge_options, problem_options, solve_options};
 ghost use Rattle.command_words.specs.Options.{HasCommand, HasValues};
-ghost use Rattle.command_words.specs.Words.{EndsBy, Means, SaysAudit, SaysCommand, SaysCommon, SaysJudge, SaysProblem, faults_of, subcommand_in, takes_words};
+ghost use Rattle.command_words.specs.Words.{EndsBy, Means, SaysAudit, SaysCheck, SaysCommand, SaysCommon, SaysJudge, SaysProblem, SaysSolve, faults_of, subcommand_in, takes_words};
 
 use crate::WordsEnd;
 use crate::command::program;
@@ -20,6 +20,10 @@ pub enum CommandWords<'a> {
     Size(CommonWords<'a>),
     /// The judge of a grouping.
     Judge(JudgeWords<'a>),
+    /// The search for the best grouping.
+    Solve(SolveWords<'a>),
+    /// The check of a certificate.
+    Check(CheckWords<'a>),
     /// The audit of a plan's assignments.
     Audit(AuditWords<'a>),
 }
@@ -57,6 +61,30 @@ pub struct JudgeWords<'a> {
     pub problem: ProblemWords<'a>,
     /// The name of the file of the grouping.
     pub grouping: &'a str,
+}
+
+/// The options of `solve`.
+#[derive(Clone, Copy, Debug)]
+pub struct SolveWords<'a> {
+    /// The options that give the problem.
+    pub problem: ProblemWords<'a>,
+    /// The most steps of the search; 10,000,000 where the words give none.
+    pub steps: u64,
+    /// The name of the file that the certificate is written to, where the words give one.
+    pub certificate: Option<&'a str>,
+    /// The name of the file that the grouping is written to, where the words give one.
+    pub out: Option<&'a str>,
+}
+
+/// The options of `check`.
+#[derive(Clone, Copy, Debug)]
+pub struct CheckWords<'a> {
+    /// The options that give the problem.
+    pub problem: ProblemWords<'a>,
+    /// The name of the file of the certificate.
+    pub certificate: &'a str,
+    /// The most steps of the checker; 10,000,000 where the words give none.
+    pub budget: u64,
 }
 
 /// The options of `audit`.
@@ -107,6 +135,31 @@ fn judge_words<'a>(found: &ArgMatches<'a>) -> JudgeWords<'a>
     }
 }
 
+/// What the values of the options of `solve` say.
+fn solve_words<'a>(found: &ArgMatches<'a>) -> SolveWords<'a>
+    requires { HasValues solve_options (rows_of (found_of found.now)) }
+    ensures { SaysSolve (rows_of (found_of found.now)) result }
+{
+    SolveWords {
+        problem: problem_words(found),
+        steps: found.get_one::<u64>("steps").unwrap(),
+        certificate: found.get_str("certificate"),
+        out: found.get_str("out"),
+    }
+}
+
+/// What the values of the options of `check` say.
+fn check_words<'a>(found: &ArgMatches<'a>) -> CheckWords<'a>
+    requires { HasValues check_options (rows_of (found_of found.now)) }
+    ensures { SaysCheck (rows_of (found_of found.now)) result }
+{
+    CheckWords {
+        problem: problem_words(found),
+        certificate: found.get_str("certificate").unwrap(),
+        budget: found.get_one::<u64>("budget").unwrap(),
+    }
+}
+
 /// What the values of the options of `audit` say.
 fn audit_words<'a>(found: &ArgMatches<'a>) -> AuditWords<'a>
     requires { HasValues audit_options (rows_of (found_of found.now)) }
@@ -127,6 +180,8 @@ fn command_words<'a>(name: &str, found: &ArgMatches<'a>) -> CommandWords<'a>
     match name {
         "size" => CommandWords::Size(common_words(found)),
         "judge" => CommandWords::Judge(judge_words(found)),
+        "solve" => CommandWords::Solve(solve_words(found)),
+        "check" => CommandWords::Check(check_words(found)),
         "audit" => CommandWords::Audit(audit_words(found)),
         _ => unreachable!(),
     }

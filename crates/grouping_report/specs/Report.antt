@@ -41,6 +41,10 @@ abbrev pub group_lines : Problem → ℕ → Grouping → List ℕ
 group_lines p i [] = []
 group_lines p i (s ∷ ss) = group_line i s.seats (people_of p s.codes) s.codes ++ group_lines p (i + 1) ss
 
--- the report of a lawful grouping
-abbrev pub report_text : ProblemValue → Grouping → List ℕ
-report_text v g = head_lines v ++ answer_line (codes "lawful") ++ counts_line (sets_of g) ++ group_lines (problem_of v) 1 g
+-- the report of an answer with its grouping
+abbrev pub report_text : ProblemValue → List ℕ → Grouping → List ℕ
+report_text v answer g = head_lines v ++ answer_line answer ++ counts_line (sets_of g) ++ group_lines (problem_of v) 1 g
+
+-- the words of an answer that is open after so many steps
+unfoldable pub open_words : ℕ → List ℕ
+open_words steps = codes "open after " ++ decimal steps ++ codes " steps"

@@ -1,8 +1,39 @@
+ghost use Rattle.std.specs.Prelude.{IfOk};
+ghost use Rattle.grouping_report.specs.Outcomes.{SameOutcome};
+
 use county_codes::Grouping;
+use std::alloc::AllocError;
 
 /// What is reported of a problem.
 #[derive(Debug, Drop)]
 pub enum Outcome {
     /// The grouping is lawful.
     Lawful(Grouping),
+    /// The grouping is lawful, and none is greater.
+    Best(Grouping),
+    /// No grouping is lawful.
+    Impossible,
+    /// The steps ran out: the best lawful grouping that was found, if any, and how many steps were taken.
+    Open(Option<Grouping>, u64),
+}
+
+impl Outcome {
+    /// An equal outcome.
+    ///
+    /// # Errors
+    ///
+    /// `AllocError` where memory was refused.
+    pub fn copy(&self) -> Result<Outcome, AllocError>
+        ensures { IfOk result (λ outcome. SameOutcome outcome self.now) }
+    {
+        match self {
+            Outcome::Lawful(grouping) => Ok(Outcome::Lawful(grouping.copy()?)),
+            Outcome::Best(grouping) => Ok(Outcome::Best(grouping.copy()?)),
+            Outcome::Impossible => Ok(Outcome::Impossible),
+            Outcome::Open(None, steps) => Ok(Outcome::Open(None, *steps)),
+            Outcome::Open(Some(grouping), steps) => {
+                Ok(Outcome::Open(Some(grouping.copy()?), *steps))
+            }
+        }
+    }
 }

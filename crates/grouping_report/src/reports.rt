@@ -1,17 +1,15 @@
 //! The report of a problem and what was found of it.
 
-ghost use Rattle.std.specs.Prelude.{◌≡◌, ℕ, ◌++◌, ◌≤◌, OnOk, IfOk, length, codes};
+ghost use Rattle.std.specs.Prelude.{◌≡◌, ℕ, ◌++◌, ◌≤◌, OnOk, IfOk, codes};
 ghost use Rattle.grouping_laws.specs.Sets.{stands};
 ghost use Rattle.grouping_problem.specs.ProblemValue.{problem_of};
 ghost use Rattle.grouping_laws.specs.Grouping.{Lawful, sets_of, counts as counts_by_size};
-ghost use Rattle.grouping_judge.specs.CountList.{count_at};
-ghost use Rattle.grouping_report.specs.Report.{head_lines, answer_line, longest_size, numbers_to, counts_line, group_line, group_lines, report_text};
-ghost use Rattle.grouping_report.specs.Outcomes.{IsTrueOf, outcome_text};
+ghost use Rattle.grouping_report.specs.Report.{head_lines, answer_line, longest_size, numbers_to, counts_line, group_line, group_lines, report_text, open_words};
+ghost use Rattle.grouping_report.specs.Outcomes.{NamesLawful, outcome_text};
 
 use crate::outcome::Outcome;
 use crate::text::{push_codes, push_number};
 use county_codes::{Group, Grouping};
-use grouping_judge::{Counts, GroupingFault, judge};
 use grouping_problem::Problem;
 use std::alloc::{AllocError, Global};
 
@@ -40,56 +38,49 @@ fn push_answer(out: &mut Vec<u8>, answer: &[u8]) -> Result<(), AllocError>
     out.extend_from_slice(b"\n")
 }
 
-/// Appends the counts of sizes from 1 to the longest, each after a blank.
-fn push_numbers(out: &mut Vec<u8>, counts: &Counts) -> Result<(), AllocError>
-    ensures { OnOk result (out.new.items ≡ out.old.items ++ numbers_to (count_at counts.now) (length counts.now)) }
+/// The size of the longest group, 0 without groups.
+fn longest_group(groups: &[Group]) -> usize
+    ensures { result ≡ longest_size (sets_of groups.now) }
 {
-    for shorter in 0..counts.longest() {
+    let mut longest = 0;
+    for group in groups {
+        longest = longest.max(group.codes.as_slice().len());
+    }
+    longest
+}
+
+/// How many groups have so many counties.
+#[tactic(auto, using(crate::proofs::ReportLemmas::count_of_size))]
+fn groups_of_size(groups: &[Group], size: usize) -> usize
+    ensures { result ≡ counts_by_size (sets_of groups.now) size }
+{
+    groups
+        .iter()
+        .filter(|group| group.codes.as_slice().len() == size)
+        .count()
+}
+
+/// Appends how many groups have each size from 1 to the longest, each number after a blank.
+fn push_numbers(out: &mut Vec<u8>, groups: &[Group]) -> Result<(), AllocError>
+    ensures { OnOk result (out.new.items ≡ out.old.items ++ numbers_to (counts_by_size (sets_of groups.now)) (longest_size (sets_of groups.now))) }
+{
+    for shorter in 0..longest_group(groups) {
         out.extend_from_slice(b" ")?;
-        push_number(out, u64::from(counts.of(shorter + 1)))?;
+        push_number(out, groups_of_size(groups, shorter + 1) as u64)?;
     }
     Ok(())
 }
 
-/// The counts of a lawful grouping.
-fn counts_of(alloc: Global, problem: &Problem, grouping: &Grouping) -> Result<Counts, AllocError>
-    requires { Lawful (problem_of problem.now) grouping.now.groups.items }
-    ensures { IfOk result (λ list. numbers_to (count_at list) (length list) ≡ numbers_to (counts_by_size (sets_of grouping.now.groups.items)) (longest_size (sets_of grouping.now.groups.items))) }
-{
-    match judge(alloc, problem, grouping) {
-        Ok(counts) => {
-            let _longest = counts.longest();
-            Ok(counts)
-        }
-        Err(GroupingFault::Memory) => Err(AllocError),
-        Err(_) => unreachable!(),
-    }
-}
-
-/// Appends the line of the counts.
-fn push_all_counts(out: &mut Vec<u8>, counts: &Counts) -> Result<(), AllocError>
-    ensures { OnOk result (out.new.items ≡ out.old.items ++ (codes "counts" ++ numbers_to (count_at counts.now) (length counts.now) ++ codes "\n")) }
-{
-    out.extend_from_slice(b"counts")?;
-    push_numbers(out, counts)?;
-    out.extend_from_slice(b"\n")
-}
-
 /// Appends how many groups have each size, up to the longest, or `none` without groups.
-fn push_counts(
-    alloc: Global,
-    out: &mut Vec<u8>,
-    problem: &Problem,
-    grouping: &Grouping,
-) -> Result<(), AllocError>
-    requires { Lawful (problem_of problem.now) grouping.now.groups.items }
-    ensures { OnOk result (out.new.items ≡ out.old.items ++ counts_line (sets_of grouping.now.groups.items)) }
+fn push_counts(out: &mut Vec<u8>, groups: &[Group]) -> Result<(), AllocError>
+    ensures { OnOk result (out.new.items ≡ out.old.items ++ counts_line (sets_of groups.now)) }
 {
-    if grouping.groups.is_empty() {
+    if groups.is_empty() {
         return out.extend_from_slice(b"counts none\n");
     }
-    let counts = counts_of(alloc, problem, grouping)?;
-    push_all_counts(out, &counts)
+    out.extend_from_slice(b"counts")?;
+    push_numbers(out, groups)?;
+    out.extend_from_slice(b"\n")
 }
 
 /// Appends the line of a group.
@@ -120,32 +111,87 @@ fn push_groups(out: &mut Vec<u8>, problem: &Problem, groups: &[Group]) -> Result
     Ok(())
 }
 
-/// The report of a lawful grouping.
-fn lawful_report(
-    alloc: Global,
-    problem: &Problem,
-    grouping: &Grouping,
-) -> Result<Vec<u8>, AllocError>
-    requires { Lawful (problem_of problem.now) grouping.now.groups.items }
-    ensures { IfOk result (λ v. v.items ≡ report_text problem.now grouping.now.groups.items) }
+/// The report of an answer without a grouping: its two first parts alone.
+fn top_report(alloc: Global, problem: &Problem, answer: &[u8]) -> Result<Vec<u8>, AllocError>
+    ensures { IfOk result (λ v. v.items ≡ head_lines problem.now ++ answer_line answer.now) }
 {
     let mut out = Vec::new(alloc);
     push_head(&mut out, problem)?;
-    push_answer(&mut out, b"lawful")?;
-    push_counts(alloc, &mut out, problem, grouping)?;
-    push_groups(&mut out, problem, grouping.groups.as_slice())?;
+    push_answer(&mut out, answer)?;
     Ok(out)
 }
 
-/// The report of a problem: its people, its chamber, the seats left and the number of its counties, the
-/// answer, the counts of groups by size from one county on, and each group with its number from 1, its seats,
-/// its people and its counties. What the outcome says has to be true of the problem. It fails only where a
-/// growth was refused.
+/// The report of an answer with a lawful grouping.
+fn full_report(
+    alloc: Global,
+    problem: &Problem,
+    answer: &[u8],
+    grouping: &Grouping,
+) -> Result<Vec<u8>, AllocError>
+    requires { Lawful (problem_of problem.now) grouping.now.groups.items }
+    ensures { IfOk result (λ v. v.items ≡ report_text problem.now answer.now grouping.now.groups.items) }
+{
+    let groups = grouping.groups.as_slice();
+    let mut out = Vec::new(alloc);
+    push_head(&mut out, problem)?;
+    push_answer(&mut out, answer)?;
+    push_counts(&mut out, groups)?;
+    push_groups(&mut out, problem, groups)?;
+    Ok(out)
+}
+
+/// `open after STEPS steps`.
+#[tactic(auto, unfolding(crate::specs::Report::open_words))]
+fn open_answer(alloc: Global, steps: u64) -> Result<Vec<u8>, AllocError>
+    ensures { IfOk result (λ v. v.items ≡ open_words steps) }
+{
+    let mut out = Vec::from_slice(alloc, b"open after ")?;
+    push_number(&mut out, steps)?;
+    out.extend_from_slice(b" steps")?;
+    Ok(out)
+}
+
+/// The report of a problem that is open after so many steps, none of which found a lawful grouping.
+fn open_report(alloc: Global, problem: &Problem, steps: u64) -> Result<Vec<u8>, AllocError>
+    ensures { IfOk result (λ v. v.items ≡ (head_lines problem.now ++ answer_line (open_words steps)) ++ codes "grouping none\n") }
+{
+    let answer = open_answer(alloc, steps)?;
+    let mut out = top_report(alloc, problem, &answer)?;
+    out.extend_from_slice(b"grouping none\n")?;
+    Ok(out)
+}
+
+/// The report of a problem that is open after so many steps, which found a lawful grouping.
+fn found_report(
+    alloc: Global,
+    problem: &Problem,
+    grouping: &Grouping,
+    steps: u64,
+) -> Result<Vec<u8>, AllocError>
+    requires { Lawful (problem_of problem.now) grouping.now.groups.items }
+    ensures { IfOk result (λ v. v.items ≡ report_text problem.now (open_words steps) grouping.now.groups.items) }
+{
+    let answer = open_answer(alloc, steps)?;
+    full_report(alloc, problem, &answer, grouping)
+}
+
+/// The report of a problem: its people, its chamber, the seats left and the number of its counties, and the answer. Where the
+/// outcome has a grouping, the counts of its groups by size from one county on follow, and each group with its number from 1,
+/// its seats, its people and its counties; where it is open and has none, the line `grouping none`. The grouping has to be lawful;
+/// that it is best, that none is lawful, or that so many steps were taken is reported as the outcome says it.
+///
+/// # Errors
+///
+/// `AllocError` where a growth was refused.
 pub fn report(alloc: Global, problem: &Problem, outcome: &Outcome) -> Result<Vec<u8>, AllocError>
-    requires { IsTrueOf problem.now outcome.now }
+    requires { NamesLawful problem.now outcome.now }
     ensures { IfOk result (λ v. v.items ≡ outcome_text problem.now outcome.now) }
 {
     match outcome {
-        Outcome::Lawful(grouping) => lawful_report(alloc, problem, grouping),
+        Outcome::Lawful(grouping) => full_report(alloc, problem, b"lawful", grouping),
+        Outcome::Best(grouping) => full_report(alloc, problem, b"best", grouping),
+        Outcome::Impossible => top_report(alloc, problem, b"impossible"),
+        Outcome::Open(None, steps) => open_report(alloc, problem, *steps),
+        Outcome::Open(Some(grouping), steps) => found_report(alloc, problem, grouping, *steps),
     }
 }

@@ -30,3 +30,13 @@ with_file (f ∷ fs) name bytes =
 -- the files under their names, one changed
 abbrev pub with_bytes : Files → List ℕ → List ℕ → Files
 with_bytes files name bytes other = if bytes_eq name other then Some bytes else files other
+
+-- the files with others put in turn
+abbrev pub with_files : List File → List File → List File
+with_files files [] = files
+with_files files (f ∷ fs) = with_files (with_file files f.name f.bytes) fs
+
+-- the files under their names, with others put in turn
+abbrev pub with_all : Files → List File → Files
+with_all files [] = files
+with_all files (f ∷ fs) = with_all (with_bytes files f.name f.bytes) fs

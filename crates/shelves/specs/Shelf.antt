@@ -27,3 +27,12 @@ CountsFault before after fault = before ≤ after
 abbrev pub IsCounted : {X : Type 0} → ℕ → ℕ → Result X ShelfFault → Type 0
 IsCounted before after (Ok x) = before ≤ after
 IsCounted before after (Err fault) = CountsFault before after fault
+
+-- What storing these bytes answers where the device has failed so often before: Missing only where the device failed with its count at the
+-- last value; TooLarge only above the limit. Device and Memory are counted elsewhere.
+abbrev pub IsStore : {X : Type 0} → ℕ → List ℕ → Result X ShelfFault → Type 0
+IsStore failures bytes (Ok x) = Unit {0}
+IsStore failures bytes (Err Missing) = failures ≡ 2 ^ 64 - 1
+IsStore failures bytes (Err TooLarge) = 1073741824 < length bytes
+IsStore failures bytes (Err Device) = Unit {0}
+IsStore failures bytes (Err Memory) = Unit {0}

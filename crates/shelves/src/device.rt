@@ -1,6 +1,8 @@
-ghost use Rattle.std.specs.Prelude.{◌≡◌, ◌<◌, ◌≤◌, None};
+ghost use Rattle.std.specs.Prelude.{◌≡◌, ◌≢◌, ◌-◌, ◌^◌, ◌<◌, ◌≤◌, None};
 ghost use Rattle.shelves.specs.Shelf.{CountsFault};
+ghost use Rattle.shelves.specs.declared.shelf.ShelfFault.TheVariants.{Missing, TooLarge};
 
+use crate::replace::replace_file;
 use crate::shelf::{MAX_FILE, Shelf, ShelfFault};
 use crate::whole::{WholeFault, read_whole};
 use field_lines::Reading;
@@ -36,7 +38,9 @@ fn is_too_large(file: &impl OpenFile) -> bool {
 
 /// Counts a failure of the device. Where the count is at its last value it stays, and the fault is `Missing`.
 fn device_fault(failures: &mut u64) -> ShelfFault
-    ensures { CountsFault failures.old failures.new result }
+    ensures counted { CountsFault failures.old failures.new result }
+    ensures missing { result ≡ Missing → failures.old ≡ 2 ^ 64 - 1 }
+    ensures not_large { result ≢ TooLarge }
 {
     match failures.checked_add(1) {
         Some(more) => {
@@ -47,14 +51,26 @@ fn device_fault(failures: &mut u64) -> ShelfFault
     }
 }
 
-/// The fault that an error of the system is.
-fn fault_of(error: &Error, failures: &mut u64) -> ShelfFault
+/// The fault that an error of the system is at a store: `Memory` where memory was refused, else a failure of the
+/// device, also where the name's folder isn't there.
+fn store_fault(error: &Error, failures: &mut u64) -> ShelfFault
+    ensures counted { CountsFault failures.old failures.new result }
+    ensures missing { result ≡ Missing → failures.old ≡ 2 ^ 64 - 1 }
+    ensures not_large { result ≢ TooLarge }
+{
+    match error.kind() {
+        ErrorKind::OutOfMemory => ShelfFault::Memory,
+        _ => device_fault(failures),
+    }
+}
+
+/// The fault that an error of the system is at a load: as at a store, but for a file that isn't there.
+fn load_fault(error: &Error, failures: &mut u64) -> ShelfFault
     ensures { CountsFault failures.old failures.new result }
 {
     match error.kind() {
         ErrorKind::NotFound => ShelfFault::Missing,
-        ErrorKind::OutOfMemory => ShelfFault::Memory,
-        _ => device_fault(failures),
+        _ => store_fault(error, failures),
     }
 }
 
@@ -69,7 +85,7 @@ impl<R: Files + AllocGlobal> Shelf for FileShelf<R> {
     fn load(&mut self, alloc: Global, name: &str) -> Result<Vec<u8>, ShelfFault> {
         let file = match fs::open(&self.rt, name) {
             Ok(file) => file,
-            Err(error) => return Err(fault_of(&error, &mut self.failures)),
+            Err(error) => return Err(load_fault(&error, &mut self.failures)),
         };
         if is_too_large(&file) {
             return Err(ShelfFault::TooLarge);
@@ -82,11 +98,15 @@ impl<R: Files + AllocGlobal> Shelf for FileShelf<R> {
         }
     }
 
+    /// A file is put under its name whole or not at all. The bytes go to a new file beside it, in the same folder,
+    /// whose name is this one with `.part` behind it (where a file has that name, the first free one of `.part2`,
+    /// `.part3` and `.part4`). That file is renamed once the device has all bytes, and has the permissions of a new
+    /// file; a link of the name is replaced. At a fault what stood under the name is as it was, and the new file is
+    /// removed if that can be done. A name that is a folder, a device or a read-only file is a failure of the device.
     fn store(&mut self, alloc: Global, name: &str, bytes: &[u8]) -> Result<(), ShelfFault> {
-        let _ = alloc;
-        match fs::write(&self.rt, name, bytes) {
+        match replace_file(&self.rt, alloc, name, bytes) {
             Ok(()) => Ok(()),
-            Err(error) => Err(fault_of(&error, &mut self.failures)),
+            Err(error) => Err(store_fault(&error, &mut self.failures)),
         }
     }
 

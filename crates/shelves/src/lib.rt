@@ -4,6 +4,7 @@
 
 mod device;
 mod memory;
+mod replace;
 mod shelf;
 mod sink;
 mod whole;

@@ -1,6 +1,6 @@
 ghost use Rattle.std.specs.Prelude.{◌≡◌, ℕ, ◌<◌, ◌≤◌, List, Option, IfOk, OnOk, OnErr, option_map, vec_len};
 ghost use Rattle.shelves.specs.Files.{File, Files, with_file, with_bytes};
-ghost use Rattle.shelves.specs.Shelf.{IsLoad, IsCounted};
+ghost use Rattle.shelves.specs.Shelf.{IsLoad, IsStore, IsCounted};
 ghost use Rattle.shelves.specs.declared.shelf.ShelfFault.TheVariants.{Memory};
 
 use std::alloc::{AllocError, Global};
@@ -64,12 +64,15 @@ pub trait Shelf {
     ///
     /// # Errors
     ///
-    /// `Device` only where the count of failures rose. The files are then as before, where the shelf tells them.
+    /// `Device` where the device failed, and the count of failures rose. `Missing` only where the device failed with
+    /// its count at the last value; `TooLarge` only above 1,073,741,824 bytes; `Memory` where a growth was refused.
+    /// At each the files are as before, where the shelf tells them.
     fn store(&mut self, alloc: Global, name: &str, bytes: &[u8]) -> Result<(), ShelfFault>
         ensures put { OnOk result (contents self.new ≡ option_map (λ files. with_bytes files name.now bytes.now) (contents self.old)) }
         ensures listed { OnOk result (stored self.new ≡ option_map (λ files. with_file files name.now bytes.now) (stored self.old)) }
         ensures same { OnErr result (contents self.new ≡ contents self.old) }
         ensures kept { OnErr result (stored self.new ≡ stored self.old) }
+        ensures answer { IsStore (failure_count self.old) bytes.now result }
         ensures counted { IsCounted (failure_count self.old) (failure_count self.new) result };
 
     /// How often the device has failed.

@@ -2,6 +2,7 @@ ghost use Rattle.std.specs.Prelude.{◌≡◌, ℕ, Bool, true, false, List, Opt
 ghost use Rattle.std.specs.Io.KnownBytes.{Appends};
 ghost use Rattle.std.specs.Result.{is_err};
 
+use std::io;
 use std::io::Write;
 use thiserror::Error;
 
@@ -18,7 +19,7 @@ pub trait Sink {
     /// Whether the last write answered an error.
     ghost is_failed: { Self → Bool };
 
-    /// Writes all the bytes.
+    /// Writes all the bytes, and keeps none back.
     ///
     /// # Errors
     ///
@@ -32,7 +33,7 @@ pub trait Sink {
         ensures { result ≡ is_failed self.now };
 }
 
-/// A writer of std as a sink.
+/// A writer of std as a sink. Each `put` flushes it, so that what it keeps back and can't pass on is a fault too.
 #[derive(Drop)]
 pub struct Writing<W> {
     writer: W,
@@ -52,13 +53,21 @@ impl<W: Write> Writing<W> {
     }
 }
 
+/// Writes all the bytes and flushes the writer.
+fn write_through<W: Write>(writer: &mut W, bytes: &[u8]) -> io::Result<()>
+    ensures { OnOk result (Appends (W.contents writer.old) (W.contents writer.new) bytes.now) }
+{
+    writer.write_all(bytes)?;
+    writer.flush()
+}
+
 impl<W: Write> Sink for Writing<W> {
     ghost contents = { λ s. W.contents s.writer };
 
     ghost is_failed = { λ s. s.failed };
 
     fn put(&mut self, bytes: &[u8]) -> Result<(), SinkFault> {
-        match self.writer.write_all(bytes) {
+        match write_through(&mut self.writer, bytes) {
             Ok(()) => {
                 self.failed = false;
                 Ok(())

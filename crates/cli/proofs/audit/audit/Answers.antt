@@ -6,13 +6,13 @@ use Rattle.pl94_counties.specs.declared.blocks.Block.{Block}
 use Rattle.assignment_file.specs.declared.assignments.Assignment.{Assignment}
 use Rattle.command_words.specs.declared.words.AuditWords.{AuditWords}
 use Rattle.shelves.specs.Files.{Files}
-use Rattle.cli.specs.Answer.{Answered}
-use Rattle.cli.specs.Answers.{answer_of, Comes, Meets}
-use Rattle.cli.specs.Course.{Course, ◌>>=◌}
-use Rattle.cli.specs.ProblemCourse.{problem_in, grouping_of}
-use Rattle.cli.specs.PlanCourse.{blocks_of, assignments_of}
-use Rattle.cli.specs.Run.{audit_step}
-use Rattle.cli.proofs.RunLemmas.{handed_on, went_on}
+use Rattle.program_answers.specs.Answer.{Answered}
+use Rattle.program_answers.specs.Answers.{answer_of, Comes, Meets}
+use Rattle.command_runs.specs.Course.{Course, ◌>>=◌}
+use Rattle.command_runs.specs.ProblemCourse.{problem_in, grouping_of}
+use Rattle.command_runs.specs.PlanCourse.{blocks_of, assignments_of}
+use Rattle.command_runs.specs.JudgeCourse.{audit_step}
+use Rattle.command_runs.proofs.RunLemmas.{handed_on, went_on}
 use Rattle.cli.proofs.audit.audit.Goals as goal
 
 -- the findings of the assignments of a file, where the problem, the blocks and the grouping are known

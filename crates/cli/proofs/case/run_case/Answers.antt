@@ -3,8 +3,8 @@ use Rattle.std.proofs.Common.{◌≡◌, false, ◌≤◌, ℕ, List, Some, None
 use Rattle.std.specs.Prelude.{Ok, Err, codes}
 use Rattle.shelves.specs.declared.whole.WholeFault.{WholeFault}
 use Rattle.shelves.specs.declared.whole.WholeFault.TheVariants.{TooLarge, Failed, Memory}
-use Rattle.cli.specs.Answer.{Answered, memory_answer}
-use Rattle.cli.specs.Answers.{answer_of}
+use Rattle.program_answers.specs.Answer.{Answered, memory_answer}
+use Rattle.program_answers.specs.Answers.{answer_of}
 use Rattle.cli.specs.Delivery.{Delivers}
 use Rattle.cli.specs.CaseRun.{IsCaseAnswer}
 use Rattle.cli.proofs.case.run_case.Goals as goal

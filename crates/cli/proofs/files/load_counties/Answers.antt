@@ -2,11 +2,11 @@ use Rattle.std.proofs.Common.{◌≡◌, ℕ, List, Option, subst, refl}
 use Rattle.std.specs.Prelude.{Ok, Err}
 use Rattle.pl94_counties.specs.Counties.{county_list}
 use Rattle.shelves.specs.Files.{Files}
-use Rattle.cli.specs.Answers.{Meets, IsShown}
-use Rattle.cli.specs.Course.{◌>>=◌, load_step}
-use Rattle.cli.specs.Refusals.{pl94_answer}
-use Rattle.cli.specs.ProblemCourse.{counties_in}
-use Rattle.cli.proofs.RunLemmas.{handed_on, went_on, met_later, refused}
+use Rattle.program_answers.specs.Answers.{Meets, IsShown}
+use Rattle.command_runs.specs.Course.{◌>>=◌, load_step}
+use Rattle.program_answers.specs.Refusals.{pl94_answer}
+use Rattle.command_runs.specs.ProblemCourse.{counties_in}
+use Rattle.command_runs.proofs.RunLemmas.{handed_on, went_on, met_later, refused}
 use Rattle.cli.proofs.files.load_counties.Goals as goal
 
 pub returns-in_err-segment-clause-course : goal.returns-in_err-segment-clause-course

@@ -1,5 +1,5 @@
-use Rattle.cli.specs.ProblemCourse.{grouping_in}
-use Rattle.cli.proofs.RunLemmas.{read_file}
+use Rattle.command_runs.specs.ProblemCourse.{grouping_in}
+use Rattle.command_runs.proofs.RunLemmas.{read_file}
 use Rattle.cli.proofs.files.load_grouping.Goals as goal
 
 pub returns-clause-course : goal.returns-clause-course

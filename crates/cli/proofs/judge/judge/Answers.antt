@@ -2,12 +2,12 @@ use Rattle.std.proofs.Common.{ℕ, List, Option, subst}
 use Rattle.std.specs.Prelude.{Ok, Err}
 use Rattle.grouping_problem.specs.ProblemValue.{ProblemValue}
 use Rattle.shelves.specs.Files.{Files}
-use Rattle.cli.specs.Answer.{Answered}
-use Rattle.cli.specs.Answers.{answer_of, Meets}
-use Rattle.cli.specs.Course.{Course, ◌>>=◌}
-use Rattle.cli.specs.ProblemCourse.{problem_in, grouping_of}
-use Rattle.cli.specs.Run.{judge_step}
-use Rattle.cli.proofs.RunLemmas.{handed_on, went_on}
+use Rattle.program_answers.specs.Answer.{Answered}
+use Rattle.program_answers.specs.Answers.{answer_of, Meets}
+use Rattle.command_runs.specs.Course.{Course, ◌>>=◌}
+use Rattle.command_runs.specs.ProblemCourse.{problem_in, grouping_of}
+use Rattle.command_runs.specs.JudgeCourse.{judge_step}
+use Rattle.command_runs.proofs.RunLemmas.{handed_on, went_on}
 use Rattle.cli.proofs.judge.judge.Goals as goal
 
 -- the verdict on the grouping of a file, where the problem is known

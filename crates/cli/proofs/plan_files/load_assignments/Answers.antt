@@ -1,5 +1,5 @@
-use Rattle.cli.specs.PlanCourse.{assignments_in}
-use Rattle.cli.proofs.RunLemmas.{read_file}
+use Rattle.command_runs.specs.PlanCourse.{assignments_in}
+use Rattle.command_runs.proofs.RunLemmas.{read_file}
 use Rattle.cli.proofs.plan_files.load_assignments.Goals as goal
 
 pub returns-clause-course : goal.returns-clause-course

@@ -1,10 +1,10 @@
 use Rattle.std.proofs.Common.{◌≡◌, ℕ, List, Option, subst}
 use Rattle.std.specs.Prelude.{Ok, Err}
 use Rattle.shelves.specs.Files.{Files}
-use Rattle.cli.specs.Answers.{Comes, Meets}
-use Rattle.cli.specs.Course.{◌>>=◌, load_step}
-use Rattle.cli.specs.PlanCourse.{blocks_in}
-use Rattle.cli.proofs.RunLemmas.{handed_on, went_on, read_file}
+use Rattle.program_answers.specs.Answers.{Comes, Meets}
+use Rattle.command_runs.specs.Course.{◌>>=◌, load_step}
+use Rattle.command_runs.specs.PlanCourse.{blocks_in}
+use Rattle.command_runs.proofs.RunLemmas.{handed_on, went_on, read_file}
 use Rattle.cli.proofs.plan_files.load_blocks.Goals as goal
 
 pub returns-in_err-segment-clause-course : goal.returns-in_err-segment-clause-course

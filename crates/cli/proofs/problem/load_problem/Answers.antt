@@ -5,10 +5,10 @@ use Rattle.county_codes.specs.declared.withdrawn.Withdrawn.{Withdrawn}
 use Rattle.grouping_problem.specs.ProblemValue.{ProblemValue, codes_of}
 use Rattle.command_words.specs.declared.words.ProblemWords.{ProblemWords}
 use Rattle.shelves.specs.Files.{Files}
-use Rattle.cli.specs.Answers.{Comes, Meets}
-use Rattle.cli.specs.Course.{Course, ◌>>=◌}
-use Rattle.cli.specs.ProblemCourse.{counties_of, adjacency_of, withdrawn_of, build_step}
-use Rattle.cli.proofs.RunLemmas.{handed_on, went_on}
+use Rattle.program_answers.specs.Answers.{Comes, Meets}
+use Rattle.command_runs.specs.Course.{Course, ◌>>=◌}
+use Rattle.command_runs.specs.ProblemCourse.{counties_of, adjacency_of, withdrawn_of, build_step}
+use Rattle.command_runs.proofs.RunLemmas.{handed_on, went_on}
 use Rattle.cli.proofs.problem.load_problem.Goals as goal
 
 -- the problem, where the counties and the pairs are known

@@ -2,12 +2,12 @@ use Rattle.std.proofs.Common.{◌≡◌, ℕ, List, [], refl, subst, ap}
 use Rattle.std.specs.Prelude.{Ok, Err}
 use Rattle.county_codes.specs.declared.county.County.{County}
 use Rattle.grouping_report.specs.SizeTable.{size_text}
-use Rattle.cli.specs.Answer.{Answered}
-use Rattle.cli.specs.Answers.{answer_of, Meets}
-use Rattle.cli.specs.Course.{Course, ◌>>=◌, value_step}
-use Rattle.cli.specs.ProblemCourse.{counties_of, build_step}
-use Rattle.cli.specs.Run.{success}
-use Rattle.cli.proofs.RunLemmas.{handed_on, went_on, came}
+use Rattle.program_answers.specs.Answer.{Answered}
+use Rattle.program_answers.specs.Answers.{answer_of, Meets}
+use Rattle.command_runs.specs.Course.{Course, ◌>>=◌, value_step}
+use Rattle.command_runs.specs.ProblemCourse.{counties_of, build_step}
+use Rattle.program_answers.specs.Answer.{success}
+use Rattle.command_runs.proofs.RunLemmas.{handed_on, went_on, came}
 use Rattle.cli.proofs.size.size.Goals as goal
 
 -- the table of counties

@@ -3,11 +3,11 @@
 ghost use Rattle.std.specs.Prelude.{◌≡◌, ◌≢◌, ℕ, ◌++◌, OnOk, IfOk, codes, decimal};
 ghost use Rattle.pl94_counties.specs.declared.fault.Pl94Kind.TheVariants as kinds;
 ghost use Rattle.grouping_problem.specs.declared.fault.ProblemFault.TheVariants as problem;
-ghost use Rattle.cli.specs.Answers.{Refuses, IsShown};
+ghost use Rattle.program_answers.specs.Answers.{Refuses, IsShown};
 ghost use Rattle.grouping_report.specs.Digits.{five_digits};
 ghost use Rattle.seat_lines.specs.declared.fault.CodeLineKind.TheVariants as lines_of_codes;
 ghost use Rattle.assignment_file.specs.declared.fault.AssignmentKind.TheVariants as lines_of_assignments;
-ghost use Rattle.cli.specs.Refusals.{line_fault_word, kind_word, code_line_word, assignment_word, assignment_answer, cut_line, file_word, input_of as input_file_of, refused_line, input_answer, pl94_answer, code_file_answer, fault_line, verdict_answer, after_blank, problem_words, refused_problem, problem_answer, shelf_word, device_line, shelf_answer};
+ghost use Rattle.program_answers.specs.Refusals.{line_fault_word, kind_word, code_line_word, assignment_word, assignment_answer, cut_line, file_word, input_of as input_file_of, refused_line, input_answer, pl94_answer, code_file_answer, fault_line, verdict_answer, after_blank, problem_words, refused_problem, problem_answer, shelf_word, device_line, shelf_answer};
 
 use crate::answer::Refusal;
 use baf_auditor::{AssignmentFault, AssignmentKind};
@@ -21,8 +21,8 @@ use seat_lines::{CodeLineFault, CodeLineKind};
 use shelves::ShelfFault;
 use std::alloc::{AllocError, Global};
 
-/// The line where memory was refused.
-pub(crate) const MEMORY: &[u8] = b"memory\n";
+/// The line that the program writes where memory was refused, with exit status 5. It is at hand without any memory.
+pub const MEMORY: &[u8] = b"memory\n";
 
 fn word_of_line_fault(fault: LineFault) -> &'static [u8]
     ensures { result.now ≡ line_fault_word fault }
@@ -80,9 +80,9 @@ fn word_of_assignment(kind: AssignmentKind) -> &'static [u8]
     }
 }
 
-/// An input file that is a cut text.
+/// An input file whose text is read line by line, as a refusal names it.
 #[derive(Clone, Copy)]
-pub(crate) enum InputFile {
+pub enum InputFile {
     /// The PL 94-171 geographic header.
     Geo,
     /// The PL 94-171 data segment 1.
@@ -134,12 +134,7 @@ fn line_of_cut(fault: LineFault, line: u32) -> u32
 
 /// `refused FILE KIND line L`.
 #[tactic(auto, unfolding(crate::specs::Refusals::refused_line))]
-pub(crate) fn refused_text(
-    alloc: Global,
-    file: &[u8],
-    kind: &[u8],
-    line: u32,
-) -> Result<Vec<u8>, AllocError>
+fn refused_text(alloc: Global, file: &[u8], kind: &[u8], line: u32) -> Result<Vec<u8>, AllocError>
     ensures { IfOk result (λ v. v.items ≡ refused_line file.now kind.now line) }
 {
     let mut out = Vec::from_slice(alloc, b"refused ")?;
@@ -159,8 +154,9 @@ fn refuse_input(alloc: Global, file: InputFile, kind: &[u8], line: u32) -> Refus
     Refusal::of_text(refused_text(alloc, word_of_file(file), kind, line), 4)
 }
 
-/// The refusal of a fault of a PL 94-171 file.
-pub(crate) fn refuse_file(alloc: Global, fault: Pl94Fault) -> Refusal
+/// The refusal of a fault of a PL 94-171 file: `refused FILE KIND line L` with exit status 4, or `Memory` where the fault is that or
+/// the line found no memory. The line counts from 1; it is 0 where the file has too many lines.
+pub fn refuse_file(alloc: Global, fault: Pl94Fault) -> Refusal
     ensures answer { Refuses (pl94_answer fault) result }
     ensures shown { IsShown result → fault.kind ≢ kinds.Memory }
 {
@@ -172,8 +168,9 @@ pub(crate) fn refuse_file(alloc: Global, fault: Pl94Fault) -> Refusal
     refuse_input(alloc, input_of(fault.file), word_of_kind(fault.kind), line)
 }
 
-/// The refusal of a fault of a file whose lines have county codes.
-pub(crate) fn refuse_codes(alloc: Global, file: InputFile, fault: CodeLineFault) -> Refusal
+/// The refusal of a fault of a file whose lines have county codes: `refused FILE KIND line L` with exit status 4, or `Memory` where the
+/// fault is that or the line found no memory. The line counts from 1; it is 0 where the file has too many lines.
+pub fn refuse_codes(alloc: Global, file: InputFile, fault: CodeLineFault) -> Refusal
     ensures answer { Refuses (code_file_answer file fault) result }
     ensures shown { IsShown result → fault.kind ≢ lines_of_codes.Memory }
 {
@@ -185,8 +182,9 @@ pub(crate) fn refuse_codes(alloc: Global, file: InputFile, fault: CodeLineFault)
     refuse_input(alloc, file, word_of_code_line(fault.kind), line)
 }
 
-/// The refusal of a fault of an assignment file.
-pub(crate) fn refuse_assignments(alloc: Global, fault: AssignmentFault) -> Refusal
+/// The refusal of a fault of an assignment file: `refused assignments KIND line L` with exit status 4, or `Memory` where the fault is
+/// that or the line found no memory. The line counts from 1; it is 0 where the file has too many lines.
+pub fn refuse_assignments(alloc: Global, fault: AssignmentFault) -> Refusal
     ensures answer { Refuses (assignment_answer fault) result }
     ensures shown { IsShown result → fault.kind ≢ lines_of_assignments.Memory }
 {
@@ -210,8 +208,9 @@ fn fault_text(alloc: Global, fault: GroupingFault) -> Result<Vec<u8>, AllocError
     Ok(out)
 }
 
-/// The answer to a fault of a grouping, with exit status 1.
-pub(crate) fn refuse_verdict(alloc: Global, fault: GroupingFault) -> Refusal
+/// The answer to a fault of a grouping: `fault KIND` with its group, its county or its seats, and exit status 1, or `Memory` where the
+/// fault is that or the line found no memory.
+pub fn refuse_verdict(alloc: Global, fault: GroupingFault) -> Refusal
     ensures { Refuses (verdict_answer fault) result }
 {
     if fault == GroupingFault::Memory {
@@ -246,7 +245,7 @@ fn push_word_number(out: &mut Vec<u8>, word: &[u8], number: u64) -> Result<(), A
 }
 
 /// Appends a word.
-fn push_word(out: &mut Vec<u8>, word: &[u8]) -> Result<(), AllocError>
+pub(crate) fn push_word(out: &mut Vec<u8>, word: &[u8]) -> Result<(), AllocError>
     ensures { OnOk result (out.new.items ≡ out.old.items ++ word.now) }
 {
     out.extend_from_slice(word)
@@ -284,8 +283,9 @@ fn problem_text(alloc: Global, fault: ProblemFault) -> Result<Vec<u8>, AllocErro
     Ok(out)
 }
 
-/// The refusal of a fault of a problem.
-pub(crate) fn refuse_problem(alloc: Global, fault: ProblemFault) -> Refusal
+/// The refusal of a fault of a problem: `refused problem KIND` with its codes or its set, and exit status 4, or `Memory` where the fault
+/// is that or the line found no memory.
+pub fn refuse_problem(alloc: Global, fault: ProblemFault) -> Refusal
     ensures answer { Refuses (problem_answer fault) result }
     ensures shown { IsShown result → fault ≢ problem.Memory }
 {
@@ -308,7 +308,7 @@ fn word_of_shelf_fault(fault: ShelfFault) -> &'static [u8]
 
 /// `device NAME KIND`.
 #[tactic(auto, unfolding(crate::specs::Refusals::device_line))]
-pub(crate) fn device_text(alloc: Global, name: &[u8], kind: &[u8]) -> Result<Vec<u8>, AllocError>
+fn device_text(alloc: Global, name: &[u8], kind: &[u8]) -> Result<Vec<u8>, AllocError>
     ensures { IfOk result (λ v. v.items ≡ device_line name.now kind.now) }
 {
     let mut out = Vec::from_slice(alloc, b"device ")?;
@@ -319,8 +319,9 @@ pub(crate) fn device_text(alloc: Global, name: &[u8], kind: &[u8]) -> Result<Vec
     Ok(out)
 }
 
-/// The refusal of a fault of the shelf under a name.
-pub(crate) fn refuse_load(alloc: Global, name: &str, fault: ShelfFault) -> Refusal
+/// The refusal of a fault of the shelf under a name: `device NAME KIND` with exit status 5, or `Memory` where the fault is that or the
+/// line found no memory.
+pub fn refuse_load(alloc: Global, name: &str, fault: ShelfFault) -> Refusal
     ensures { Refuses (shelf_answer name.now fault) result }
 {
     if fault == ShelfFault::Memory {

@@ -1,9 +1,9 @@
 -- Answers and refusals of the code as those of the definitions.
 use Rattle.std.specs.Prelude.{◌≡◌, ⊤, Result, Ok, Err}
-use Rattle.cli.specs.declared.answer.Answer.{Answer}
-use Rattle.cli.specs.declared.answer.Refusal.{Refusal}
-use Rattle.cli.specs.declared.answer.Refusal.TheVariants.{Shown, Memory}
-use Rattle.cli.specs.Answer.{Answered}
+use Rattle.program_answers.specs.declared.answer.Answer.{Answer}
+use Rattle.program_answers.specs.declared.answer.Refusal.{Refusal}
+use Rattle.program_answers.specs.declared.answer.Refusal.TheVariants.{Shown, Memory}
+use Rattle.program_answers.specs.Answer.{Answered, memory_answer}
 
 -- the answer's text and status
 abbrev pub answer_of : Answer → Answered
@@ -28,3 +28,9 @@ Meets Memory P = ⊤
 abbrev pub Comes : {T X : Type 0} → (T → X) → Result T Refusal → (Result X Answered → Type 0) → Type 0
 Comes view (Ok value) R = R (Ok (view value))
 Comes view (Err refusal) R = Meets refusal (λ a. R (Err a))
+
+-- the answer that a call came to: what was refused shows its own, and memory the program's line for it
+abbrev pub said_by : Result Answer Refusal → Answered
+said_by (Ok a) = answer_of a
+said_by (Err (Shown a)) = answer_of a
+said_by (Err Memory) = memory_answer

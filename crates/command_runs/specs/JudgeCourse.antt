@@ -1,5 +1,5 @@
--- What a run answers.
-use Rattle.std.specs.Prelude.{◌≡◌, ◌⊎◌, ◌≤◌, ℕ, true, List, [], ◌∷◌, Option, Result, Ok, Err, string_bytes}
+-- The steps of the commands that store no file: the size table, the judge of a grouping and the audit of a plan.
+use Rattle.std.specs.Prelude.{◌≡◌, ℕ, List, [], ◌∷◌, Option, Result, Ok, Err, codes}
 use Rattle.grouping_judge.specs.declared.grouping_fault.GroupingFault.{GroupingFault}
 use Rattle.grouping_problem.specs.ProblemValue.{ProblemValue, problem_of}
 use Rattle.grouping_laws.specs.Grouping.{Grouping, Lawful}
@@ -11,24 +11,15 @@ use Rattle.pl94_counties.specs.declared.blocks.Block.{Block}
 use Rattle.assignment_file.specs.declared.assignments.Assignment.{Assignment}
 use Rattle.baf_auditor.specs.Findings.{AreFindings}
 use Rattle.baf_auditor.specs.declared.finding.Finding.{Finding}
-use Rattle.command_words.specs.Words.{Means, EndsBy, faults_of, takes_words}
-use Rattle.command_words.specs.declared.words.CommandWords.{CommandWords}
-use Rattle.command_words.specs.declared.words.CommandWords.TheVariants.{Size, Judge, Audit}
 use Rattle.command_words.specs.declared.words.CommonWords.{CommonWords}
 use Rattle.command_words.specs.declared.words.JudgeWords.{JudgeWords}
 use Rattle.command_words.specs.declared.words.AuditWords.{AuditWords}
-use Rattle.command_words.specs.declared.end.WordsEnd.{WordsEnd}
-use Rattle.command_words.specs.declared.end.WordsEnd.TheVariants.{Help, Usage, Memory}
 use Rattle.shelves.specs.Files.{Files}
-use Rattle.cli.specs.Answer.{Answered, memory_answer}
-use Rattle.cli.specs.Refusals.{verdict_answer}
-use Rattle.cli.specs.Course.{Course, ◌>>=◌, call_step, value_step, EndsIn}
-use Rattle.cli.specs.ProblemCourse.{counties_of, build_step, problem_in, grouping_of}
-use Rattle.cli.specs.PlanCourse.{blocks_of, assignments_of}
-
--- an answer with exit status 0
-abbrev pub success : List ℕ → Answered
-success text = record { text = text; status = 0 }
+use Rattle.program_answers.specs.Answer.{Answered, success}
+use Rattle.program_answers.specs.Refusals.{verdict_answer}
+use Rattle.command_runs.specs.Course.{Course, ◌>>=◌, call_step, value_step}
+use Rattle.command_runs.specs.ProblemCourse.{counties_of, build_step, problem_in, grouping_of}
+use Rattle.command_runs.specs.PlanCourse.{blocks_of, assignments_of}
 
 -- `size`: the size table of the counties, without pairs and withdrawn sets
 abbrev pub size_course : Option Files → CommonWords → Course Answered
@@ -36,7 +27,7 @@ size_course files words = counties_of files words >>= λ counties. build_step wo
 
 -- the report of a lawful grouping, or the fault of one that isn't
 abbrev pub IsJudged : ProblemValue → Grouping → Result Answered GroupingFault → Type 0
-IsJudged v g (Ok a) = Lawful (problem_of v) g × (a ≡ success (report_text v g))
+IsJudged v g (Ok a) = Lawful (problem_of v) g × (a ≡ success (report_text v (codes "lawful") g))
 IsJudged v g (Err fault) = IsFault (problem_of v) g fault
 
 -- the step that judges a grouping
@@ -68,32 +59,3 @@ audit_step v g blocks lines = value_step (IsAudited v g blocks lines)
 abbrev pub audit_course : Option Files → AuditWords → Course Answered
 audit_course files words =
     problem_in files words.problem >>= λ v. blocks_of files words.problem.common >>= λ blocks. grouping_of files words.grouping.now >>= λ g. assignments_of files words.assignments.now >>= audit_step v g blocks
-
--- the steps of a command
-abbrev pub command_course : Option Files → CommandWords → Course Answered
-command_course files (Size words) = size_course files words
-command_course files (Judge words) = judge_course files words
-command_course files (Audit words) = audit_course files words
-
--- a run of a command over a shelf whose device failed so often before and after it; a growth may be refused in any
-abbrev pub CommandRun : Option Files → ℕ → ℕ → CommandWords → Answered → Type 0
-CommandRun files before after command a = (a ≡ memory_answer) ⊎ EndsIn (command_course files command) before after a
-
--- the words give no command: help ends with 0 and usage with 2, with clap's text
-abbrev pub IsEndAnswer : WordsEnd → Answered → Type 0
-IsEndAnswer (Help text) a = a ≡ record { text = string_bytes text; status = 0 }
-IsEndAnswer (Usage text) a = a ≡ record { text = string_bytes text; status = 2 }
-IsEndAnswer Memory a = a ≡ memory_answer
-
--- The answer to words: that of the command that they mean, or the end that they come to. Words that clap takes mean a command, so
--- they end neither in help nor in usage.
-abbrev pub IsRunAnswer : Option Files → ℕ → ℕ → List (List ℕ) → Answered → Type 0
-IsRunAnswer files before after words a =
-    ((command : CommandWords) × Means words command × (faults_of words ≡ []) × CommandRun files before after command a)
-    ⊎ ((end : WordsEnd) × EndsBy (faults_of words) end × (takes_words words ≡ true → end ≡ Memory) × IsEndAnswer end a)
-
--- the command's state has two digits
-abbrev pub HasState : CommandWords → Type 0
-HasState (Size words) = words.state ≤ 99
-HasState (Judge words) = words.problem.common.state ≤ 99
-HasState (Audit words) = words.problem.common.state ≤ 99

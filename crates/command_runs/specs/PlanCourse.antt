@@ -6,8 +6,8 @@ use Rattle.assignment_file.specs.declared.assignments.Assignment.{Assignment}
 use Rattle.assignment_file.specs.Assignments.{assignment_list}
 use Rattle.command_words.specs.declared.words.CommonWords.{CommonWords}
 use Rattle.shelves.specs.Files.{Files}
-use Rattle.cli.specs.Refusals.{pl94_answer, assignment_answer}
-use Rattle.cli.specs.Course.{Course, ◌>>=◌, load_step, call_step}
+use Rattle.program_answers.specs.Refusals.{pl94_answer, assignment_answer}
+use Rattle.command_runs.specs.Course.{Course, ◌>>=◌, load_step, call_step}
 
 -- the blocks that two files give
 abbrev pub blocks_in : ℕ → List ℕ → List ℕ → Course (List Block)

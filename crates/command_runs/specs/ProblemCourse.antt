@@ -17,9 +17,9 @@ use Rattle.seat_lines.specs.GroupingLines.{grouping_list}
 use Rattle.command_words.specs.declared.words.CommonWords.{CommonWords}
 use Rattle.command_words.specs.declared.words.ProblemWords.{ProblemWords}
 use Rattle.shelves.specs.Files.{Files}
-use Rattle.cli.specs.declared.refusal.InputFile.TheVariants.{Adjacency, Links, Withdrawn, Grouping}
-use Rattle.cli.specs.Refusals.{pl94_answer, code_file_answer, problem_answer}
-use Rattle.cli.specs.Course.{Course, ◌>>=◌, load_step, call_step, value_step, optional_step}
+use Rattle.program_answers.specs.declared.refusal.InputFile.TheVariants.{Adjacency, Links, Withdrawn, Grouping}
+use Rattle.program_answers.specs.Refusals.{pl94_answer, code_file_answer, problem_answer}
+use Rattle.command_runs.specs.Course.{Course, ◌>>=◌, load_step, call_step, value_step, optional_step}
 
 -- the counties that two files give
 abbrev pub counties_in : ℕ → List ℕ → List ℕ → Course (List County)

@@ -9,12 +9,12 @@ use Rattle.shelves.specs.Shelf.{IsLoad}
 use Rattle.grouping_problem.specs.declared.fault.ProblemFault.{ProblemFault}
 use Rattle.grouping_problem.specs.declared.fault.ProblemFault.TheVariants as problem
 use Rattle.grouping_problem.specs.Building.{IsRefused}
-use Rattle.cli.specs.declared.answer.Refusal.{Refusal}
-use Rattle.cli.specs.declared.answer.Refusal.TheVariants.{Shown, Memory}
-use Rattle.cli.specs.Answer.{Answered}
+use Rattle.program_answers.specs.declared.answer.Refusal.{Refusal}
+use Rattle.program_answers.specs.declared.answer.Refusal.TheVariants.{Shown, Memory}
+use Rattle.program_answers.specs.Answer.{Answered}
 use Rattle.std.specs.Result.{IsErrAnd}
-use Rattle.cli.specs.Answers.{Comes, Meets, Refuses, IsShown}
-use Rattle.cli.specs.Course.{Course, ◌>>=◌, load_step, call_step}
+use Rattle.program_answers.specs.Answers.{Comes, Meets, Refuses, IsShown}
+use Rattle.command_runs.specs.Course.{Course, ◌>>=◌, load_step, call_step}
 
 -- a claim on an answer, changed
 pub if_ok : {X E : Type 0} (P Q : X → Type 0) (r : Result X E) → ((x : X) → P x → Q x) → IfOk r P → IfOk r Q

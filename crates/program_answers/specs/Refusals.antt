@@ -16,14 +16,14 @@ use Rattle.assignment_file.specs.declared.fault.AssignmentFault.{AssignmentFault
 use Rattle.grouping_report.specs.FaultWords.{grouping_fault_words}
 use Rattle.grouping_judge.specs.declared.grouping_fault.GroupingFault.{GroupingFault}
 use Rattle.grouping_judge.specs.declared.grouping_fault.GroupingFault.TheVariants as verdict
-use Rattle.cli.specs.declared.refusal.InputFile.{InputFile}
-use Rattle.cli.specs.declared.refusal.InputFile.TheVariants.{Geo, Segment1, Adjacency, Links, Withdrawn, Grouping, Assignments}
+use Rattle.program_answers.specs.declared.refusal.InputFile.{InputFile}
+use Rattle.program_answers.specs.declared.refusal.InputFile.TheVariants.{Geo, Segment1, Adjacency, Links, Withdrawn, Grouping, Assignments}
 use Rattle.grouping_problem.specs.declared.fault.ProblemFault.{ProblemFault}
 use Rattle.grouping_problem.specs.declared.fault.ProblemFault.TheVariants as problem
 use Rattle.shelves.specs.declared.shelf.ShelfFault.{ShelfFault}
 use Rattle.shelves.specs.declared.shelf.ShelfFault.TheVariants as shelf
 use Rattle.grouping_report.specs.Digits.{five_digits}
-use Rattle.cli.specs.Answer.{Answered, memory_answer}
+use Rattle.program_answers.specs.Answer.{Answered, memory_answer}
 
 -- the word of a line fault
 abbrev pub line_fault_word : LineFault → List ℕ

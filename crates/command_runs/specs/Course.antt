@@ -1,11 +1,11 @@
 -- Courses: what a command comes to, step by step, up to the first fault that it meets.
-use Rattle.std.specs.Prelude.{◌≡◌, ◌⊎◌, ℕ, List, Option, Some, None, Result, Ok, Err}
+use Rattle.std.specs.Prelude.{◌≡◌, ◌≤◌, ◌⊎◌, ℕ, List, length, Option, Some, None, Result, Ok, Err}
 use Rattle.std.specs.Borrow.{Bor}
 use Rattle.shelves.specs.declared.shelf.ShelfFault.{ShelfFault}
 use Rattle.shelves.specs.Files.{Files}
 use Rattle.shelves.specs.Shelf.{IsLoad, IsCounted}
-use Rattle.cli.specs.Answer.{Answered}
-use Rattle.cli.specs.Refusals.{shelf_answer}
+use Rattle.program_answers.specs.Answer.{Answered}
+use Rattle.program_answers.specs.Refusals.{shelf_answer}
 
 -- what steps come to: a value, or the answer to the first fault met, where the shelf's device had failed so often before them
 -- and so often after them
@@ -29,9 +29,10 @@ infixl 10 ◌>>=◌
 abbrev pub ◌>>=◌ : {X Y : Type 0} → Course X → (X → Course Y) → Course Y
 ◌>>=◌ first next before after end = Stops first before after end ⊎ GoesOn first next before after end
 
--- a file is loaded: its bytes, or the answer to what the shelf says of its name
+-- a file is loaded: its bytes, which are no more than a shelf may give, or the answer to what the shelf says of its name
 abbrev pub load_step : Option Files → List ℕ → Course (List ℕ)
-load_step files name before after (Ok bytes) = IsLoad {X = List ℕ} (λ b. b) files before name (Ok bytes) × IsCounted {X = List ℕ} before after (Ok bytes)
+load_step files name before after (Ok bytes) =
+    IsLoad {X = List ℕ} (λ b. b) files before name (Ok bytes) × IsCounted {X = List ℕ} before after (Ok bytes) × (length bytes ≤ 1073741824)
 load_step files name before after (Err a) =
     (fault : ShelfFault) × IsLoad {X = List ℕ} (λ b. b) files before name (Err fault) × IsCounted {X = List ℕ} before after (Err fault) × (a ≡ shelf_answer name fault)
 

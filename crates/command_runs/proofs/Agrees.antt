@@ -1,0 +1,140 @@
+-- Runs of `solve` and of `check` agree.
+use Rattle.std.proofs.Common.{◌≡◌, ◌≢◌, ◌≤◌, ℕ, List, ◌∷◌, ◌++◌, Option, Some, None, inl, inr, refl, sym, ap, ap₂, subst, ◌∙◌, arith}
+use Rattle.std.specs.Prelude.{Ok}
+use Rattle.std.specs.Borrow.{Bor}
+use Rattle.grouping_problem.specs.ProblemValue.{ProblemValue, problem_of}
+use Rattle.certificate_text.specs.Trees.{certificate_of}
+use Rattle.branch_bound.specs.declared.answer.Answer as desk
+use Rattle.branch_bound.specs.declared.answer.Answer.TheVariants.{Best, Impossible, Open}
+use Rattle.branch_bound.specs.Answered.{IsAnswer, NamesBest, SaysWhether}
+use Rattle.desk_texts.proofs.Agrees as texts
+use Rattle.command_words.specs.declared.words.SolveWords.{SolveWords}
+use Rattle.command_words.specs.declared.words.CommandWords.TheVariants.{Solve}
+use Rattle.shelves.specs.Files.{File, Files}
+use Rattle.program_answers.specs.Answer.{Answered, memory_answer}
+use Rattle.command_runs.specs.ProblemCourse.{problem_in}
+use Rattle.command_runs.specs.SolveCourse.{Solved, Says, IsSolved, solve_course, named_file, files_to_store}
+use Rattle.command_runs.specs.CheckCourse.{IsChecked}
+use Rattle.command_runs.specs.Storing.{store_steps, said_after}
+use Rattle.command_runs.specs.Run.{CommandRun}
+use Rattle.command_runs.specs.Headline.{ChecksAs, IsStoredProof, ShowsBest, ShowsImpossible, RunsAgree}
+use Rattle.command_runs.proofs.Refusing.{IsRefusal, Refuses, bind_refuses, problem_refuses, value_refuses}
+use Rattle.command_runs.proofs.StoreLemmas.{refusal_status, all_stored}
+use Rattle.command_runs.proofs.SameProblem.{problem_repeats}
+use Rattle.command_runs.proofs.Checking.{IsAgreed, best_answer, impossible_answer, checked_best, checked_impossible, check_agrees}
+
+-- what a run said, after it stored all its files
+record HasSaid (files : Files) (words : SolveWords) (before : ℕ) (stored : List File) (a : Answered) : Type 0 where
+  pub v : ProblemValue
+  pub between : ℕ
+  pub problem : problem_in (Some files) words.problem before between (Ok v)
+  pub s : Solved
+  pub solved : IsSolved v words.steps s
+  pub all : stored ≡ files_to_store words s
+  pub said : a ≡ s.answer
+
+same_status : (a b : Answered) → a ≡ b → a.status ≡ b.status
+same_status a b e = ap (λ (x : Answered). x.status) e
+
+module _ (files : Files) (words : SolveWords) (before after : ℕ) (stored : List File) (a : Answered) where
+  -- no refusal has status 0 or 1
+  not_refused : a.status ≤ 1 → IsRefusal a → ⊥
+  not_refused low (inl s) = omega arith
+  not_refused low (inr s) = omega arith
+
+  solve_refuses : Refuses (solve_course (Some files) words)
+  solve_refuses = bind_refuses _ _ (problem_refuses (Some files) words.problem) (λ v. value_refuses (IsSolved v words.steps))
+
+  said_of : (s : Solved) (between : ℕ) (refusal : Option Answered) → a.status ≤ 1 → solve_course (Some files) words before between (Ok s)
+      → store_steps (files_to_store words s) between after stored refusal → a ≡ said_after refusal s.answer → HasSaid files words before stored a
+  said_of s between refusal low (inl stop) steps said = absurd stop
+  said_of s between None low (inr g) steps said = record {
+    v = g.value;
+    between = g.between;
+    problem = g.given;
+    s = s;
+    solved = g.goes_on.1;
+    all = all_stored (files_to_store words s) between after stored steps;
+    said = said;
+  }
+  said_of s between (Some refusal) low (inr g) steps said =
+      absurd (not_refused low (inr (same_status a refusal said ∙ refusal_status (files_to_store words s) between after stored refusal steps)))
+
+  has_said : CommandRun (Some files) (Solve words) before after stored a → a.status ≤ 1 → HasSaid files words before stored a
+  has_said (inl none) low = absurd (not_refused low (inr (same_status a memory_answer none.0)))
+  has_said (inr (inl stop)) low = absurd (not_refused low (solve_refuses before after a stop.0))
+  has_said (inr (inr h)) low = said_of h.0 h.1 h.2 low h.3 h.4 h.5
+
+-- the certificate is the first file that is stored
+stored_first : (words : SolveWords) (s : Solved) (name : Bor (List ℕ)) (text : List ℕ) → words.certificate ≡ Some name → s.certificate ≡ Some text
+    → files_to_store words s ≡ record { name = name.now; bytes = text } ∷ named_file words.out s.grouping
+stored_first words s name text named spelled =
+    ap₂ (λ (n : Option (Bor (List ℕ))) (t : Option (List ℕ)). named_file n t ++ named_file words.out s.grouping) named spelled
+
+-- what every check of a text says, every check of the stored certificate says
+module _ (files : Files) (words : SolveWords) (before : ℕ) (stored : List File) (a : Answered) (h : HasSaid files words before stored a) (text : List ℕ)
+    (checked : (budget : ℕ) (b : Answered) → IsChecked h.v budget text b → IsAgreed a b) where
+  checks_as : ChecksAs files words text a
+  checks_as others check start end none b same certificate (inl memory) = inr (inr (same_status b memory_answer memory.0))
+  checks_as others check start end none b same certificate (inr run) =
+      check_agrees others check h.v text a
+      (λ first last r steps. problem_repeats files others words.problem check.problem same h.v before h.between first last r h.problem steps)
+      certificate (checked check.budget) start end b run.0
+
+  stored_proof : h.s.certificate ≡ Some text → IsStoredProof files words stored a
+  stored_proof spelled name named = (text, named_file words.out h.s.grouping, h.all ∙ stored_first words h.s name text named spelled, checks_as)
+
+module _ (files : Files) (words : SolveWords) (before : ℕ) (stored : List File) (a : Answered) (h : HasSaid files words before stored a) where
+  answer_is : (s : Solved) → h.s ≡ s → a ≡ s.answer
+  answer_is s e = h.said ∙ ap (λ (x : Solved). x.answer) e
+
+  -- the answer to what was found has another status
+  other_status : (s : Solved) (n m : ℕ) → h.s ≡ s → a.status ≡ n → s.answer.status ≡ m → n ≢ m → ⊥
+  other_status s n m e is other apart = apart (sym is ∙ same_status a s.answer (answer_is s e) ∙ other)
+
+  shows_best : (found : desk.Answer) → IsAnswer (problem_of h.v) words.steps found → NamesBest (problem_of h.v) found → Says h.v found h.s → a.status ≡ 0 → ShowsBest files words before stored a
+  shows_best (Best g c) is best said zero =
+      let report : a ≡ best_answer h.v g = answer_is _ said.2 in
+      record {
+        v = h.v;
+        between = h.between;
+        problem = h.problem;
+        grouping = g;
+        best = best;
+        report = report;
+        proof = stored_proof files words before stored a h said.0
+            (λ budget b checked. subst (λ (x : Answered). IsAgreed x b) (sym report) (checked_best h.v said.0 budget b checked g
+            (λ verdict. texts.agrees.best (problem_of h.v) said.0 (certificate_of c) g.groups.items budget verdict said.1 is.1.proves is.1.target_is)))
+            (ap (λ (x : Solved). x.certificate) said.2);
+      }
+  shows_best (Impossible c) is best said zero = absurd (other_status _ 0 1 said.2 zero refl (omega arith))
+  shows_best (Open None steps) is best said zero = absurd (other_status _ 0 3 said zero refl (omega arith))
+  shows_best (Open (Some g) steps) is best said zero = absurd (other_status _ 0 3 said zero refl (omega arith))
+
+  shows_impossible : (found : desk.Answer) → IsAnswer (problem_of h.v) words.steps found → SaysWhether (problem_of h.v) words.steps found → Says h.v found h.s → a.status ≡ 1 → ShowsImpossible files words before stored a
+  shows_impossible (Best g c) is whether said one = absurd (other_status _ 1 0 said.2 one refl (omega arith))
+  shows_impossible (Impossible c) is whether said one =
+      let report : a ≡ impossible_answer h.v = answer_is _ said.2 in
+      record {
+        v = h.v;
+        between = h.between;
+        problem = h.problem;
+        impossible = whether;
+        report = report;
+        proof = stored_proof files words before stored a h said.0
+            (λ budget b checked. subst (λ (x : Answered). IsAgreed x b) (sym report) (checked_impossible h.v said.0 budget b checked
+            (λ verdict. texts.agrees.impossible (problem_of h.v) said.0 (certificate_of c) budget verdict said.1 is.1.proves is.1.target_is)))
+            (ap (λ (x : Solved). x.certificate) said.2);
+      }
+  shows_impossible (Open None steps) is whether said one = absurd (other_status _ 1 3 said one refl (omega arith))
+  shows_impossible (Open (Some g) steps) is whether said one = absurd (other_status _ 1 3 said one refl (omega arith))
+
+pub agrees : RunsAgree
+agrees = record {
+  best = λ files words before after stored a run zero.
+      let h = has_said files words before after stored a run (omega (arith, zero)) in
+      shows_best files words before stored a h h.solved.found h.solved.is h.solved.best h.solved.said zero;
+  impossible = λ files words before after stored a run one.
+      let h = has_said files words before after stored a run (omega (arith, one)) in
+      shows_impossible files words before stored a h h.solved.found h.solved.is h.solved.whether h.solved.said one;
+}

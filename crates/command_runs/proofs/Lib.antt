@@ -1,0 +1,8 @@
+pub mod RunLemmas
+pub mod StoreLemmas
+pub mod OneList
+pub mod Refusing
+pub mod Repeating
+pub mod SameProblem
+pub mod Checking
+pub mod Agrees

@@ -1,0 +1,126 @@
+-- The status in which steps end where they meet a fault.
+use Rattle.std.proofs.Common.{◌≡◌, ◌⊎◌, ℕ, List, [], Option, Some, None, inl, inr, refl, ap, ◌∙◌}
+use Rattle.std.specs.Prelude.{Result, Err}
+use Rattle.std.specs.Borrow.{Bor}
+use Rattle.shelves.specs.declared.shelf.ShelfFault.{ShelfFault}
+use Rattle.shelves.specs.declared.shelf.ShelfFault.TheVariants as shelf
+use Rattle.shelves.specs.Files.{Files}
+use Rattle.pl94_counties.specs.declared.fault.Pl94Kind.{Pl94Kind}
+use Rattle.pl94_counties.specs.declared.fault.Pl94Kind.TheVariants as kinds
+use Rattle.seat_lines.specs.declared.fault.CodeLineKind.{CodeLineKind}
+use Rattle.seat_lines.specs.declared.fault.CodeLineKind.TheVariants as lines
+use Rattle.seat_lines.specs.declared.fault.CodeLineFault.{CodeLineFault}
+use Rattle.grouping_problem.specs.declared.fault.ProblemFault.{ProblemFault}
+use Rattle.grouping_problem.specs.declared.fault.ProblemFault.TheVariants as problem
+use Rattle.grouping_problem.specs.ProblemValue.{codes_of}
+use Rattle.pl94_counties.specs.Counties.{county_list}
+use Rattle.adjacency_reader.specs.Pairs.{IsPairsAnswer}
+use Rattle.adjacency_reader.specs.Links.{link_list}
+use Rattle.adjacency_reader.specs.Withdrawn.{withdrawn_list}
+use Rattle.adjacency_reader.specs.Adjacent.{AreLinked}
+use Rattle.program_answers.specs.declared.refusal.InputFile.{InputFile}
+use Rattle.program_answers.specs.declared.refusal.InputFile.TheVariants.{Adjacency, Links, Withdrawn}
+use Rattle.program_answers.specs.Answer.{Answered}
+use Rattle.program_answers.specs.Refusals.{shelf_answer, file_answer, pl94_answer, code_line_answer, code_file_answer, problem_answer}
+use Rattle.command_words.specs.declared.words.CommonWords.{CommonWords}
+use Rattle.command_words.specs.declared.words.ProblemWords.{ProblemWords}
+use Rattle.command_runs.specs.Course.{Course, ◌>>=◌, load_step, call_step, value_step, optional_step}
+use Rattle.command_runs.specs.ProblemCourse.{counties_of, pairs_of, pairs_in, links_of, links_in, withdrawn_of, withdrawn_in, adjacency_of, IsBuilt, problem_in}
+
+-- the status of a refusal: 4 for a file or a problem, 5 for a shelf or for memory
+abbrev pub IsRefusal : Answered → Type 0
+IsRefusal a = (a.status ≡ 4) ⊎ (a.status ≡ 5)
+
+pub shelf_status : (name : List ℕ) (fault : ShelfFault) → (shelf_answer name fault).status ≡ 5
+shelf_status name shelf.Missing = refl
+shelf_status name shelf.TooLarge = refl
+shelf_status name shelf.Device = refl
+shelf_status name shelf.Memory = refl
+
+file_status : (file : InputFile) (kind : Pl94Kind) (line : ℕ) → IsRefusal (file_answer file kind line)
+file_status file kinds.TooFewFields line = inl refl
+file_status file kinds.BadCode line = inl refl
+file_status file kinds.BadNumber line = inl refl
+file_status file kinds.DoubleRecord line = inl refl
+file_status file kinds.NoRecord line = inl refl
+file_status file kinds.DoubleCounty line = inl refl
+file_status file kinds.DoubleBlock line = inl refl
+file_status file kinds.NoCounties line = inl refl
+file_status file kinds.NoBlocks line = inl refl
+file_status file kinds.TooMany line = inl refl
+file_status file (kinds.Lower fault) line = inl refl
+file_status file kinds.Memory line = inr refl
+
+code_line_status : (file : InputFile) (kind : CodeLineKind) (line : ℕ) → IsRefusal (code_line_answer file kind line)
+code_line_status file lines.TooFewFields line = inl refl
+code_line_status file lines.BadSign line = inl refl
+code_line_status file lines.BadSeats line = inl refl
+code_line_status file lines.BadCode line = inl refl
+code_line_status file (lines.Lower fault) line = inl refl
+code_line_status file lines.Memory line = inr refl
+
+problem_status : (fault : ProblemFault) → IsRefusal (problem_answer fault)
+problem_status problem.SeatsOutOfRange = inl refl
+problem_status problem.TooManyCounties = inl refl
+problem_status (problem.DoubleCounty code) = inl refl
+problem_status problem.NoPeople = inl refl
+problem_status (problem.EmptyWithdrawn set) = inl refl
+problem_status (problem.UnknownWithdrawn code) = inl refl
+problem_status (problem.WithdrawnTwice code) = inl refl
+problem_status problem.WithdrawnSeats = inl refl
+problem_status (problem.UnknownPair a b) = inl refl
+problem_status problem.Memory = inr refl
+
+-- an answer that is a refusal's
+as_refused : (a b : Answered) → a ≡ b → IsRefusal b → IsRefusal a
+as_refused a b e (inl s) = inl (ap (λ (x : Answered). x.status) e ∙ s)
+as_refused a b e (inr s) = inr (ap (λ (x : Answered). x.status) e ∙ s)
+
+-- the steps end in no other answers
+abbrev pub Refuses : {X : Type 0} → Course X → Type 0
+Refuses steps = (before after : ℕ) (a : Answered) → steps before after (Err a) → IsRefusal a
+
+pub bind_refuses : {X Y : Type 0} (first : Course X) (next : X → Course Y) → Refuses first → ((x : X) → Refuses (next x)) → Refuses (first >>= next)
+bind_refuses first next f n before after a (inl stop) = f before after a stop
+bind_refuses first next f n before after a (inr on) = n on.value on.between after a on.goes_on
+
+load_refuses : (files : Option Files) (name : List ℕ) → Refuses (load_step files name)
+load_refuses files name before after a h = as_refused a (shelf_answer name h.0) h.3 (inr (shelf_status name h.0))
+
+call_refuses : {X F : Type 0} (refuse : F → Answered) (R : Result X F → Type 0) → ((fault : F) → IsRefusal (refuse fault)) → Refuses (call_step refuse R)
+call_refuses refuse R all before after a h = as_refused a (refuse h.1.0) h.1.2 (all h.1.0)
+
+pub value_refuses : {X : Type 0} (P : X → Type 0) → Refuses (value_step P)
+value_refuses P before after a h = absurd h
+
+optional_refuses : {X : Type 0} (value : X) (steps : List ℕ → Course X) (name : Option (Bor (List ℕ))) → ((file : List ℕ) → Refuses (steps file)) → Refuses (optional_step value steps name)
+optional_refuses value steps None all = value_refuses (λ x. x ≡ value)
+optional_refuses value steps (Some name) all = all name.now
+
+counties_refuse : (files : Option Files) (words : CommonWords) → Refuses (counties_of files words)
+counties_refuse files words =
+    bind_refuses _ _ (load_refuses files words.geo.now) (λ geo.
+    bind_refuses _ _ (load_refuses files words.segment.now) (λ segment.
+    call_refuses pl94_answer (λ counties. county_list geo segment words.state ≡ counties) (λ fault. file_status _ fault.kind fault.line)))
+
+code_file_refuses : {X : Type 0} (file : InputFile) (R : Result X CodeLineFault → Type 0) → Refuses (call_step (code_file_answer file) R)
+code_file_refuses file R = call_refuses (code_file_answer file) R (λ fault. code_line_status file fault.kind fault.line)
+
+adjacency_refuses : (files : Option Files) (listed : List ℕ) (words : ProblemWords) → Refuses (adjacency_of files listed words)
+adjacency_refuses files listed words =
+    bind_refuses (pairs_of files listed words.adjacency.now) _
+    (bind_refuses (load_step files words.adjacency.now) (pairs_in listed) (load_refuses files words.adjacency.now) (λ text. code_file_refuses Adjacency (IsPairsAnswer text listed)))
+    (λ pairs. bind_refuses (links_of files words.links) _
+    (optional_refuses [] _ words.links (λ file. bind_refuses (load_step files file) links_in (load_refuses files file) (λ text. code_file_refuses Links (λ links. link_list text ≡ links))))
+    (λ links. value_refuses (AreLinked pairs links)))
+
+withdrawn_refuses : (files : Option Files) (name : Option (Bor (List ℕ))) → Refuses (withdrawn_of files name)
+withdrawn_refuses files name = optional_refuses [] _ name (λ file. bind_refuses (load_step files file) withdrawn_in (load_refuses files file) (λ text. code_file_refuses Withdrawn (λ sets. withdrawn_list text ≡ sets)))
+
+-- a problem that isn't had
+pub problem_refuses : (files : Option Files) (words : ProblemWords) → Refuses (problem_in files words)
+problem_refuses files words =
+    bind_refuses _ _ (counties_refuse files words.common) (λ counties.
+    bind_refuses _ _ (adjacency_refuses files (codes_of counties) words) (λ pairs.
+    bind_refuses _ _ (withdrawn_refuses files words.withdrawn) (λ withdrawn.
+    call_refuses problem_answer (IsBuilt counties pairs withdrawn words.common.chamber) problem_status)))

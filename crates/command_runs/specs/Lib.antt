@@ -1,0 +1,9 @@
+pub mod Course
+pub mod ProblemCourse
+pub mod PlanCourse
+pub mod JudgeCourse
+pub mod SolveCourse
+pub mod CheckCourse
+pub mod Storing
+pub mod Run
+pub mod Headline

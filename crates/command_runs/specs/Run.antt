@@ -1,0 +1,65 @@
+-- What a run answers, and which files it stores.
+use Rattle.std.specs.Prelude.{◌≡◌, ◌⊎◌, ◌≤◌, ℕ, true, List, [], Option, string_bytes}
+use Rattle.command_words.specs.Words.{Means, EndsBy, faults_of, takes_words}
+use Rattle.command_words.specs.declared.words.CommandWords.{CommandWords}
+use Rattle.command_words.specs.declared.words.CommandWords.TheVariants.{Size, Judge, Solve, Check, Audit}
+use Rattle.command_words.specs.declared.end.WordsEnd.{WordsEnd}
+use Rattle.command_words.specs.declared.end.WordsEnd.TheVariants.{Help, Usage, Memory}
+use Rattle.shelves.specs.Files.{File, Files}
+use Rattle.program_answers.specs.Answer.{Answered, memory_answer}
+use Rattle.command_runs.specs.Course.{EndsIn}
+use Rattle.command_runs.specs.JudgeCourse.{size_course, judge_course, audit_course}
+use Rattle.command_runs.specs.SolveCourse.{SolveEnds}
+use Rattle.command_runs.specs.CheckCourse.{check_course}
+
+-- A command ends with its answer, over a shelf whose device failed so often before and after it, with these files stored: only `solve`
+-- stores any.
+abbrev pub CommandEnds : Option Files → CommandWords → ℕ → ℕ → List File → Answered → Type 0
+CommandEnds files (Size words) before after stored a = EndsIn (size_course files words) before after a × (stored ≡ [])
+CommandEnds files (Judge words) before after stored a = EndsIn (judge_course files words) before after a × (stored ≡ [])
+CommandEnds files (Solve words) before after stored a = SolveEnds files words before after stored a
+CommandEnds files (Check words) before after stored a = EndsIn (check_course files words) before after a × (stored ≡ [])
+CommandEnds files (Audit words) before after stored a = EndsIn (audit_course files words) before after a × (stored ≡ [])
+
+-- nothing was stored, since a growth was refused
+abbrev pub IsOutOfMemory : List File → Answered → Type 0
+IsOutOfMemory stored a = (a ≡ memory_answer) × (stored ≡ [])
+
+-- a run of a command; a growth may be refused in any
+abbrev pub CommandRun : Option Files → CommandWords → ℕ → ℕ → List File → Answered → Type 0
+CommandRun files command before after stored a = IsOutOfMemory stored a ⊎ CommandEnds files command before after stored a
+
+-- the words give no command: help ends with 0 and usage with 2, with clap's text
+abbrev pub IsEndAnswer : WordsEnd → Answered → Type 0
+IsEndAnswer (Help text) a = a ≡ record { text = string_bytes text; status = 0 }
+IsEndAnswer (Usage text) a = a ≡ record { text = string_bytes text; status = 2 }
+IsEndAnswer Memory a = a ≡ memory_answer
+
+-- the words end before any command, and nothing is stored
+pub record EndsAtWords (words : List (List ℕ)) (stored : List File) (a : Answered) : Type 0 where
+  pub end : WordsEnd
+  pub by : EndsBy (faults_of words) end
+  pub taken : takes_words words ≡ true → end ≡ Memory
+  pub answer : IsEndAnswer end a
+  pub none_stored : stored ≡ []
+
+-- the words mean a command, which is run
+pub record RunsCommand (files : Option Files) (words : List (List ℕ)) (before after : ℕ) (stored : List File) (a : Answered) : Type 0 where
+  pub command : CommandWords
+  pub meant : Means words command
+  pub taken : faults_of words ≡ []
+  pub run : CommandRun files command before after stored a
+
+-- The answer to words, and the files that were stored: that of the command that they mean, or the end that they come to. Words that clap
+-- takes mean a command, so they end neither in help nor in usage. A growth may be refused before anything is stored.
+abbrev pub IsRunAnswer : Option Files → List (List ℕ) → ℕ → ℕ → List File → Answered → Type 0
+IsRunAnswer files words before after stored a =
+    IsOutOfMemory stored a ⊎ (EndsAtWords words stored a ⊎ RunsCommand files words before after stored a)
+
+-- the command's state has two digits
+abbrev pub HasState : CommandWords → Type 0
+HasState (Size words) = words.state ≤ 99
+HasState (Judge words) = words.problem.common.state ≤ 99
+HasState (Solve words) = words.problem.common.state ≤ 99
+HasState (Check words) = words.problem.common.state ≤ 99
+HasState (Audit words) = words.problem.common.state ≤ 99

@@ -1,0 +1,10 @@
+//! What a run of the program comes to: the steps of each command from its files to its answer and to the files that it stores.
+//!
+//! The definitions stand in `specs/`: `Course` (steps up to the first fault), `ProblemCourse` and `PlanCourse` (from files to values),
+//! `JudgeCourse`, `SolveCourse` and `CheckCourse` (the commands), `Storing` (files that are stored), `Run`, and `Headline` (what runs of
+//! `solve` and `check` promise together).
+#![tactic(auto)]
+
+mod laws;
+
+pub use laws::runs_agree;

@@ -1,0 +1,4 @@
+pub mod Answer
+pub mod Answers
+pub mod Refusals
+pub mod CheckLines

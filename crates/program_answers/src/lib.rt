@@ -1,0 +1,17 @@
+//! What the program answers where a command ends before its own text: the line that stands in the place of any other, and its exit
+//! status.
+//!
+//! The definitions stand in `specs/`: `Answer` (a text and a status), `Answers` (those of the code as those of the definitions),
+//! `Refusals` (the lines of faults) and `CheckLines` (the line of a text that is no certificate).
+#![tactic(auto)]
+
+mod answer;
+mod check_lines;
+mod refusal;
+
+pub use answer::{Answer, Refusal};
+pub use check_lines::{budget_answer, no_answer};
+pub use refusal::{
+    InputFile, MEMORY, refuse_assignments, refuse_codes, refuse_file, refuse_load, refuse_problem,
+    refuse_verdict,
+};

@@ -1,0 +1,60 @@
+use std::alloc::Global;
+use std::fs::{File, OpenFile};
+use std::io::{Error, ErrorKind, Write};
+use std::rt::Files;
+use std::{fs, io};
+
+/// What stands behind the wanted name in that of the new file: the first that no file has.
+const SUFFIXES: &[&str] = &[".part", ".part2", ".part3", ".part4"];
+
+/// Whether a file may be put under the name: nothing has it, or a plain file that isn't read-only.
+fn may_replace<R: Files>(rt: &R, name: &str) -> bool {
+    match fs::metadata(rt, name) {
+        Ok(metadata) => metadata.is_file() && !metadata.permissions().readonly(),
+        Err(_) => true,
+    }
+}
+
+/// A new file beside the wanted one, and its name. No file that was there is opened.
+fn new_file_beside<R: Files>(rt: &R, alloc: Global, name: &str) -> io::Result<(R::File, String)> {
+    for suffix in SUFFIXES {
+        let part = format!(in alloc; "{name}{suffix}")?;
+        match File::create_new(rt, part.as_str()) {
+            Ok(file) => return Ok((file, part)),
+            Err(error) if error.kind() == ErrorKind::AlreadyExists => {}
+            Err(error) => return Err(error),
+        }
+    }
+    Err(Error::from(ErrorKind::AlreadyExists))
+}
+
+/// Writes the bytes to a file, up to the device, and closes it.
+fn fill<F: Write + OpenFile + Drop>(mut file: F, bytes: &[u8]) -> io::Result<()> {
+    file.write_all(bytes)?;
+    file.sync_all()
+}
+
+/// Puts a file of these bytes under a name whole or not at all: they go to a new file beside it, which is then
+/// renamed.
+///
+/// # Errors
+///
+/// `OutOfMemory` where a growth was refused, `PermissionDenied` where the name is that of a folder, a device or a
+/// read-only file, `AlreadyExists` where all names of new files are taken, else what the system says. What stood
+/// under the name is then as it was, and the new file is removed if that can be done.
+pub(crate) fn replace_file<R: Files>(
+    rt: &R,
+    alloc: Global,
+    name: &str,
+    bytes: &[u8],
+) -> io::Result<()> {
+    if !may_replace(rt, name) {
+        return Err(Error::from(ErrorKind::PermissionDenied));
+    }
+    let (file, part) = new_file_beside(rt, alloc, name)?;
+    let put = fill(file, bytes).and_then(|()| fs::rename(rt, part.as_str(), name));
+    if put.is_err() {
+        let _ = fs::remove_file(rt, part.as_str());
+    }
+    put
+}
