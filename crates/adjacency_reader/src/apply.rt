@@ -38,6 +38,10 @@ fn apply(linked: &mut BTreeSet<(CountyCode, CountyCode)>, link: &Link) -> Result
 /// does nothing, and neither does a cut of a pair that isn't there. `pairs` may come in any order, either
 /// way round, and more than once; a pair of a county with itself is dropped. A pair that a link adds stays
 /// even where one of its counties is in no list, for the problem to refuse.
+///
+/// # Errors
+///
+/// `AllocError` where a growth was refused.
 pub fn apply_links(
     alloc: Global,
     pairs: &[(CountyCode, CountyCode)],

@@ -65,7 +65,9 @@ fn add_link(links: &mut Vec<Link>, line: &[u8]) -> Result<(), CodeLineKind>
 
 /// The links of a text, in order: pairs that a state adds to the adjacent counties or cuts from them, as a
 /// bridge or open water asks. The text is a cut text (`Lines` of `field_lines`), and a line is cut into
-/// fields at each pipe: field 1 is `+` or `-`, and fields 2 and 3 are codes of five digits.
+/// fields at each pipe: field 1 is `+` or `-`, and fields 2 and 3 are codes of five digits. The format is
+/// this project's own. What links are for is the rule that a group of counties is contiguous (North Carolina
+/// Constitution, art. II, secs. 3 and 5; *Stephenson v. Bartlett*, 355 N.C. 354 (2002), 357 N.C. 301 (2003)).
 ///
 /// # Errors
 ///

@@ -34,7 +34,10 @@ fn add_set(alloc: Global, sets: &mut Vec<Withdrawn>, line: &[u8]) -> Result<(), 
 
 /// The withdrawn sets of a text, in order: counties that were taken out beforehand, with their seats. The
 /// text is a cut text (`Lines` of `field_lines`), and a line is cut into fields at each pipe: field 1 is
-/// the number of seats, 1 to 1,000, and each field from the second on is a code of five digits.
+/// the number of seats, 1 to 1,000, and each field from the second on is a code of five digits. The format is
+/// this project's own. That such counties are taken out first is the rule of *Stephenson v. Bartlett*, 355 N.C.
+/// 354 (2002) and 357 N.C. 301 (2003), on the North Carolina Constitution, art. II, secs. 2 to 5: the districts
+/// that the Voting Rights Act requires are formed before the others.
 ///
 /// # Errors
 ///

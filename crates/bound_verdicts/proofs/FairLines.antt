@@ -28,7 +28,7 @@ use Rattle.certificate_text.specs.Trees as held
 use Rattle.verdicts.specs.Leaves.{NamesForeign, HasLightGroup}
 use Rattle.line_verdicts.specs.Placed.{codes_of_set, codes_of_sets}
 use Rattle.bound_verdicts.specs.Weights.{weights_of, county_weight}
-use Rattle.bound_verdicts.proofs.OpenCounties.{open_at}
+use Rattle.line_verdicts.proofs.OpenCounties.{open_at}
 
 -- sums of terms that are the same for each element
 total_each : (f h : ℕ → ℕ) (xs : List ℕ) → ((x : ℕ) → Has xs x → f x ≡ h x) → total f xs ≡ total h xs

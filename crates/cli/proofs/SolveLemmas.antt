@@ -1,5 +1,5 @@
 -- What a run of `solve` comes to, by its parts.
-use Rattle.std.proofs.Common.{◌≡◌, ◌++◌, ℕ, List, [], ◌∷◌, Option, Some, None, inl, inr, refl, sym, subst}
+use Rattle.std.proofs.Common.{◌≡◌, ◌++◌, ℕ, List, [], Option, Some, None, inl, inr, refl, sym, subst}
 use Rattle.std.specs.Prelude.{Result, Ok, Err, option_map}
 use Rattle.std.specs.Borrow.{Bor}
 use Rattle.std.specs.Option.{option_copied}
@@ -10,7 +10,7 @@ use Rattle.command_words.specs.declared.words.CommandWords.TheVariants.{Solve}
 use Rattle.program_answers.specs.declared.answer.Answer.{Answer}
 use Rattle.program_answers.specs.declared.answer.Refusal.{Refusal}
 use Rattle.program_answers.specs.declared.answer.Refusal.TheVariants.{Shown, Memory}
-use Rattle.program_answers.specs.Answer.{Answered, memory_answer}
+use Rattle.program_answers.specs.Answer.{memory_answer}
 use Rattle.program_answers.specs.Answers.{answer_of, said_by, Meets}
 use Rattle.command_runs.specs.Storing.{store_steps}
 use Rattle.command_runs.specs.SolveCourse.{Solved, solve_course, files_to_store}

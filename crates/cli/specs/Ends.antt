@@ -1,13 +1,11 @@
 -- What calls of the code came to, as the definitions say it.
-use Rattle.std.specs.Prelude.{◌≡◌, Option, Some, None, Result, Ok, Err, option_map}
+use Rattle.std.specs.Prelude.{Option, Some, None, Result, Ok, Err}
 use Rattle.std.specs.declared.alloc.AllocError.{AllocError}
 use Rattle.program_answers.specs.declared.answer.Answer.{Answer}
 use Rattle.program_answers.specs.declared.answer.Refusal.{Refusal}
 use Rattle.program_answers.specs.declared.answer.Refusal.TheVariants.{Shown, Memory}
 use Rattle.program_answers.specs.Answer.{Answered, memory_answer}
 use Rattle.program_answers.specs.Answers.{answer_of}
-use Rattle.command_runs.specs.SolveCourse as course
-use Rattle.cli.specs.declared.solve.Solved.{Solved}
 
 -- the answer that a call came to: where a growth was refused, the line for it
 abbrev pub said_of : Result Answer AllocError → Answered
@@ -19,7 +17,3 @@ abbrev pub refusal_by : Result (Unit {0}) Refusal → Option Answered
 refusal_by (Ok x) = None
 refusal_by (Err (Shown a)) = Some (answer_of a)
 refusal_by (Err Memory) = Some memory_answer
-
--- the answer and the texts of `solve`
-abbrev pub solved_of : Solved → course.Solved
-solved_of s = record { answer = answer_of s.answer; certificate = option_map (λ t. t.items) s.certificate; grouping = option_map (λ t. t.items) s.grouping }

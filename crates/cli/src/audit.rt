@@ -5,7 +5,6 @@ ghost use Rattle.std.specs.List.Sorted.{IsStrictlyIncreasing};
 ghost use Rattle.program_answers.specs.Answers.{answer_of, Comes};
 ghost use Rattle.command_runs.specs.JudgeCourse.{audit_step, audit_course};
 
-use program_answers::{Answer, Refusal};
 use crate::files::load_grouping;
 use crate::plan_files::{load_assignments, load_blocks};
 use crate::problem::load_problem;
@@ -15,6 +14,7 @@ use county_codes::Grouping;
 use grouping_problem::Problem;
 use grouping_report::findings_text;
 use pl94_counties::Block;
+use program_answers::{Answer, Refusal};
 use shelves::Shelf;
 use std::alloc::Global;
 

@@ -6,12 +6,11 @@ ghost use Rattle.program_answers.specs.Answers.{Comes};
 ghost use Rattle.command_runs.specs.Course.{load_step};
 ghost use Rattle.command_runs.specs.ProblemCourse.{counties_of, pairs_of, pairs_in, links_in, withdrawn_in, grouping_in, links_of, withdrawn_of, adjacency_of, grouping_of};
 
-use program_answers::Refusal;
-use program_answers::{InputFile, refuse_codes, refuse_file, refuse_load};
 use adjacency_reader::{Link, apply_links, read_links, read_pairs, read_withdrawn};
 use command_words::{CommonWords, ProblemWords};
 use county_codes::{County, CountyCode, Grouping, Withdrawn, listed_codes};
 use pl94_counties::read_counties;
+use program_answers::{InputFile, Refusal, refuse_codes, refuse_file, refuse_load};
 use seat_lines::read_grouping;
 use shelves::Shelf;
 use std::alloc::Global;

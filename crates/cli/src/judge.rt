@@ -4,15 +4,14 @@ ghost use Rattle.std.specs.Prelude.{◌≡◌, ◌≤◌, ℕ};
 ghost use Rattle.program_answers.specs.Answers.{answer_of, Comes};
 ghost use Rattle.command_runs.specs.JudgeCourse.{judge_step, judge_course};
 
-use program_answers::{Answer, Refusal};
 use crate::files::load_grouping;
 use crate::problem::load_problem;
-use program_answers::refuse_verdict;
 use command_words::JudgeWords;
 use county_codes::Grouping;
 use grouping_judge::judge as judge_grouping;
 use grouping_problem::Problem;
 use grouping_report::{Outcome, report};
+use program_answers::{Answer, Refusal, refuse_verdict};
 use shelves::Shelf;
 use std::alloc::Global;
 

@@ -5,12 +5,11 @@ ghost use Rattle.std.specs.List.Sorted.{IsStrictlyIncreasing};
 ghost use Rattle.program_answers.specs.Answers.{Comes};
 ghost use Rattle.command_runs.specs.PlanCourse.{blocks_in, blocks_of, assignments_in, assignments_of};
 
-use program_answers::Refusal;
 use crate::files::load;
-use program_answers::{refuse_assignments, refuse_file};
 use baf_auditor::{Assignment, read_assignments};
 use command_words::CommonWords;
 use pl94_counties::{Block, read_blocks};
+use program_answers::{Refusal, refuse_assignments, refuse_file};
 use shelves::Shelf;
 use std::alloc::Global;
 

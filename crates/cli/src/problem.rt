@@ -4,12 +4,11 @@ ghost use Rattle.std.specs.Prelude.{◌≡◌, ◌≤◌, ℕ};
 ghost use Rattle.program_answers.specs.Answers.{Comes};
 ghost use Rattle.command_runs.specs.ProblemCourse.{build_step, problem_in};
 
-use program_answers::Refusal;
 use crate::files::{load_adjacency, load_counties, load_withdrawn};
-use program_answers::refuse_problem;
 use command_words::ProblemWords;
 use county_codes::{County, CountyCode, Withdrawn};
 use grouping_problem::Problem;
+use program_answers::{Refusal, refuse_problem};
 use shelves::Shelf;
 use std::alloc::Global;
 

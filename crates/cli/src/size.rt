@@ -4,11 +4,11 @@ ghost use Rattle.std.specs.Prelude.{◌≡◌, ◌≤◌};
 ghost use Rattle.program_answers.specs.Answers.{answer_of, Comes};
 ghost use Rattle.command_runs.specs.JudgeCourse.{size_course};
 
-use program_answers::{Answer, Refusal};
 use crate::files::load_counties;
 use crate::problem::build;
 use command_words::CommonWords;
 use grouping_report::size_table;
+use program_answers::{Answer, Refusal};
 use shelves::Shelf;
 use std::alloc::Global;
 

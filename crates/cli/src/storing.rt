@@ -11,12 +11,7 @@ use shelves::Shelf;
 use std::alloc::Global;
 
 /// Stores a file, or refuses what the shelf says of it.
-fn store<H: Shelf>(
-    alloc: Global,
-    name: &str,
-    bytes: &[u8],
-    shelf: &mut H,
-) -> Result<(), Refusal>
+fn store<H: Shelf>(alloc: Global, name: &str, bytes: &[u8], shelf: &mut H) -> Result<(), Refusal>
     ensures { (stored : List File)
         × HasStored (H.contents shelf.old) (H.contents shelf.new) (H.stored shelf.old) (H.stored shelf.new) stored
         × store_steps (record { name = name.now; bytes = bytes.now } ∷ []) (H.failure_count shelf.old) (H.failure_count shelf.new) stored (refusal_by result) }

@@ -7,3 +7,4 @@ pub mod CheckCourse
 pub mod Storing
 pub mod Run
 pub mod Headline
+pub mod Texts

@@ -5,6 +5,10 @@
 //! `solve` and `check` promise together).
 #![tactic(auto)]
 
+mod checker_report;
+mod desk_report;
 mod laws;
 
+pub use checker_report::check_and_say;
+pub use desk_report::{Solved, solve_and_say};
 pub use laws::runs_agree;

@@ -54,6 +54,7 @@ fn check_codes(alloc: Global, problem: &Problem, groups: &[Group]) -> Result<(),
     ensures few { OnOk result (length groups.now ≤ 128) }
     ensures small { OnOk result (All (λ s. length s.codes ≤ 128) groups.now) }
     ensures test { MatchResult result (λ _. NoneMissing (problem_of problem.now) groups.now) (IsFault (problem_of problem.now) groups.now) }
+    ensures memory { IfErr result (λ fault. fault ≡ Memory → NoneEmpty groups.now) }
 {
     if let Some(group) = empty_group(groups) {
         return Err(GroupingFault::EmptyGroup(group));
@@ -158,13 +159,22 @@ fn tally(alloc: Global, groups: &[Group]) -> Result<Counts, AllocError>
 /// The counts of a lawful grouping, or the first fault. A grouping is lawful where each county of the
 /// problem stands exactly once in its groups and no other code does, each group is connected inside itself
 /// and has seats that its people suit, and the seats add up to those left (*Stephenson v. Bartlett*).
-/// `Memory` comes only where a growth was refused.
+///
+/// # Errors
+///
+/// The first that occurs: `EmptyGroup` with the number, from 1, of the first group without codes;
+/// `UnknownCounty` with the first group and code that is no county of the problem; `Twice` with the first code,
+/// in reading order, that stood before; `Missing` with the least county that stands in no group;
+/// `NotConnected` and then `OutOfWindow` with the first such group; and `SeatsTotal` with the seats of all
+/// groups and those left. `Memory` comes only where a growth was refused, and never in the place of
+/// `EmptyGroup`, which is found before anything grows.
 pub fn judge(alloc: Global, problem: &Problem, grouping: &Grouping) -> Result<Counts, GroupingFault>
     ensures counts { IfOk result (λ list. (size : ℕ) → count_at list size ≡ counts (sets_of grouping.now.groups.items) size) }
     ensures lawful { IfOk result (λ _. Lawful (problem_of problem.now) grouping.now.groups.items) }
     ensures few { IfOk result (λ _. length grouping.now.groups.items ≤ 128) }
     ensures fault { IfErr result (IsFault (problem_of problem.now) grouping.now.groups.items) }
     ensures unlawful { IfErr result (λ fault. fault ≢ Memory → ¬ Lawful (problem_of problem.now) grouping.now.groups.items) }
+    ensures memory { IfErr result (λ fault. fault ≡ Memory → NoneEmpty grouping.now.groups.items) }
 {
     let groups = grouping.groups.as_slice();
     check_codes(alloc, problem, groups)?;

@@ -1,8 +1,9 @@
-ghost use Rattle.std.specs.Prelude.{◌≡◌, ℕ, ◌+◌, ◌<◌, ◌≤◌, ◌^◌, ◌==◌, ◌&&◌, ◌||◌, not, find, filter, length, map, None, Some, IfOk, MatchOption, MatchResult, option_map};
+ghost use Rattle.std.specs.Prelude.{◌≡◌, ℕ, ◌+◌, ◌<◌, ◌≤◌, ◌^◌, ◌==◌, ◌&&◌, ◌||◌, not, find, filter, length, map, None, Some, IfOk, IfErr, MatchOption, MatchResult, option_map};
 ghost use Rattle.std.specs.List.{position_from, list_any};
 ghost use Rattle.std.specs.List.Sorted.{IsPermutation, IsStrictlyIncreasing};
 ghost use Rattle.std.specs.Option.{option_copied};
 ghost use Rattle.grouping_laws.specs.Sets.{member};
+ghost use Rattle.grouping_problem.specs.declared.fault.ProblemFault.TheVariants.{Memory};
 ghost use Rattle.grouping_problem.specs.ProblemValue.{codes_of};
 ghost use Rattle.grouping_problem.specs.Building.{people_in, seats_in, codes_in, first_repeated, first_unlisted, first_empty, is_strange, is_left, joins, withdrawn_fault, problem_fault, IsProblemOf, IsRefused};
 
@@ -144,7 +145,17 @@ fn pairs_of(
 impl Problem {
     /// The problem of the listed counties, the pairs of adjacent codes, the withdrawn sets and a chamber's
     /// seats, or the first fault. A pair of a county with itself is ignored, and so is a pair of listed
-    /// counties of which at least one is withdrawn. `Memory` comes only where a growth was refused.
+    /// counties of which at least one is withdrawn.
+    ///
+    /// # Errors
+    ///
+    /// The first that occurs: `SeatsOutOfRange` for a chamber of no seat or of more than 1,000;
+    /// `TooManyCounties` for more than 128 counties; `DoubleCounty` with the first code that stood before;
+    /// `NoPeople`; `EmptyWithdrawn` with the number, from 1, of the first set without codes or seats;
+    /// `UnknownWithdrawn` and `WithdrawnTwice` with the first such code of the sets; `WithdrawnSeats` where
+    /// the sets have more seats than the chamber; and `UnknownPair` with the first pair of two different codes
+    /// of which one isn't listed. `Memory` comes only where a growth was refused, and never in the place of
+    /// the first two, which are found before anything grows.
     pub fn build(
         alloc: Global,
         counties: &[County],
@@ -154,6 +165,7 @@ impl Problem {
     ) -> Result<Problem, ProblemFault>
         ensures problem { IfOk result (IsProblemOf counties.now pairs.now withdrawn.now chamber) }
         ensures fault { IsRefused (problem_fault counties.now pairs.now withdrawn.now chamber) result }
+        ensures memory { IfErr result (λ fault. fault ≡ Memory → (1 ≤ chamber) × (chamber ≤ 1000) × (length counties.now ≤ 128)) }
     {
         if chamber == 0 || chamber > MAX_SEATS {
             return Err(ProblemFault::SeatsOutOfRange);

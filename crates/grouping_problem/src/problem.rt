@@ -129,6 +129,10 @@ impl Problem {
 
     /// The least and the greatest number of people that suit the seats (1 to 2,000); where the first is
     /// above the second, none suits.
+    ///
+    /// The rule is that of the North Carolina Constitution, art. II, secs. 2 to 5, as *Stephenson v. Bartlett*,
+    /// 355 N.C. 354 (2002) and 357 N.C. 301 (2003), reads it: each district of a group of counties lies at or
+    /// within five percent of the ideal population, which is the people of all counties by the chamber's seats.
     pub fn district_bounds(&self, seats: u16) -> (u64, u64)
         requires some { 1 ≤ seats }
         requires few { seats ≤ 2000 }

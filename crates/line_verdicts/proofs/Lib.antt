@@ -3,3 +3,4 @@ pub mod PlacedLemmas
 pub mod LeafLemmas
 pub mod TurnLemmas
 pub mod GroupLemmas
+pub mod OpenCounties

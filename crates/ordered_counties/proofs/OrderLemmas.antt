@@ -1,12 +1,11 @@
 -- Orders of a problem's counties, and the problem by their places.
-use Rattle.std.proofs.Common.{◌≡◌, ℕ, zero, suc, ◌+◌, ◌*◌, ◌≤◌, ◌<◌, Bool, true, false, ◌&&◌, ◌↔◌, IsTrue, ◌-◌, ◌++◌, List, [], ◌∷◌, nat_lt, map, length, get_or, Option, Some, None, refl, sym, ap, ◌∙◌, arith}
+use Rattle.std.proofs.Common.{◌≡◌, ℕ, zero, suc, ◌+◌, ◌*◌, ◌≤◌, ◌<◌, Bool, true, false, ◌&&◌, ◌↔◌, IsTrue, ◌-◌, ◌++◌, List, [], ◌∷◌, map, length, get_or, Option, Some, None, refl, sym, ap, ◌∙◌, arith}
 use Rattle.std.specs.List.{flat_map}
 use Rattle.std.proofs.lemmas.List.{get_or-map, length-map, get_or_append_left, get_or-append_right, length-append}
 use Rattle.std.specs.Option.{is_none}
 use Rattle.std.proofs.Math.Nat.{mul-le-mul_left}
-use Rattle.std.proofs.lemmas.Bool.{ltb-true, false≢true}
-use Rattle.std.proofs.lemmas.Bool.Decides.{nat_tests}
-use Rattle.grouping_laws.specs.Sets.{digit, total, often, member}
+use Rattle.std.proofs.lemmas.Bool.{false≢true}
+use Rattle.grouping_laws.specs.Sets.{digit, total, member}
 use Rattle.grouping_laws.specs.Problem.{Problem, IsProblem, people_of}
 use Rattle.grouping_problem.specs.ProblemValue.{ProblemValue, problem_of, codes_of}
 use Rattle.grouping_problem.specs.Building.{first_repeated, first_unlisted, people_in}
@@ -14,9 +13,8 @@ use Rattle.grouping_laws.specs.GroupsFrom.{IsOrder}
 use Rattle.grouping_laws.specs.Places.{places_below}
 use Rattle.ordered_counties.specs.OrderedValue.{code_at, at_places, rows_of}
 use Rattle.place_sets.proofs.Sums.{digit_one, often_none, often_some, total-map, total_ones, total_alike}
-use Rattle.grouping_laws.proofs.Digits.{often_member, digit_true}
+use Rattle.grouping_laws.proofs.Digits.{often_member}
 use Rattle.county_codes.proofs.CodeListLemmas.{repeated_none, repeated_some, unlisted_none, unlisted_some}
-use Rattle.place_sets.proofs.PlaceSets.{often_below, often_above}
 use Rattle.grouping_problem.proofs.PeopleLemmas.{people_within}
 
 alike : (a b : Bool) → (a ≡ true → b ≡ true) → (b ≡ true → a ≡ true) → a ≡ b

@@ -71,6 +71,10 @@ fn share_out(alloc: Global, ranges: &[(u16, u16)], rest: u16) -> Result<Vec<u16>
 /// the problem as their sum; `None` exactly where there are no such numbers. The people of all entries are
 /// at most those of the problem. Each entry gets its least number, and the rest goes to the first that have
 /// room.
+///
+/// # Errors
+///
+/// `AllocError` where a growth was refused, also in the place of `None`.
 pub fn allot(
     alloc: Global,
     problem: &Problem,

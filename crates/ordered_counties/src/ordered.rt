@@ -99,9 +99,14 @@ fn adjacency_rows(
 }
 
 impl<'a> Ordered<'a> {
-    /// The problem by places of the order, or `WrongOrder` exactly where the order has not each county of
-    /// the problem once or names another code. `Memory` comes only where a growth was refused. The order is
-    /// copied; the adjacency of each two counties is looked up once.
+    /// The problem by places of the order. The order is copied; the adjacency of each two counties is looked
+    /// up once.
+    ///
+    /// # Errors
+    ///
+    /// `WrongOrder` where the order has not each county of the problem once or names another code. `Memory`
+    /// where a growth was refused, also in the place of `WrongOrder`, as the codes of the problem are listed
+    /// first.
     pub fn build(
         alloc: Global,
         problem: &'a Problem,
@@ -119,6 +124,18 @@ impl<'a> Ordered<'a> {
             rows: adjacency_rows(alloc, problem, order)?,
             order: order.to_vec(alloc)?,
             problem,
+        })
+    }
+
+    /// An equal value over the same problem, or an error where memory was refused.
+    pub fn copy(&self) -> Result<Ordered<'a>, AllocError>
+        ensures { IfOk result (λ ordered. ordered ≡ self.now) }
+    {
+        Ok(Ordered {
+            problem: self.problem,
+            order: self.order.clone()?,
+            people: self.people.clone()?,
+            rows: self.rows.clone()?,
         })
     }
 

@@ -1,5 +1,10 @@
 //! Lines of county codes: what may be wrong with a file of them, the seats and codes of a line of a withdrawn set or of
 //! a group, and groupings read from their lines.
+//!
+//! ```
+//! let (seats, codes) = seats_and_codes(alloc, b"2|37183|37063", 1, 1_000)?;    // 2, and two codes
+//! let grouping = read_grouping(alloc, b"2|37183|37063\n1|37001\n")?;           // two groups
+//! ```
 #![tactic(auto)]
 
 mod fault;

@@ -1,6 +1,7 @@
-ghost use Rattle.std.specs.Prelude.{◌≡◌, length, drop};
-ghost use Rattle.field_lines.specs.Fields.{fields_of};
-ghost use Rattle.field_lines.specs.Number.{digits_of};
+ghost use Rattle.std.specs.Prelude.{◌≡◌, length, drop, true, is_some, IfErr};
+ghost use Rattle.std.specs.Option.{option_and_then};
+ghost use Rattle.field_lines.specs.Fields.{fields_of, field_of};
+ghost use Rattle.field_lines.specs.Number.{number_in as number_spelled, digits_of};
 ghost use Rattle.field_lines.specs.Values.{GivesUnless};
 ghost use Rattle.seat_lines.specs.SeatLine.{codes_on, seat_line};
 ghost use Rattle.seat_lines.specs.declared.fault.CodeLineKind.TheVariants.{Memory};
@@ -41,8 +42,8 @@ fn codes_in(alloc: Global, line: &[u8]) -> Result<Codes, CodeLineKind>
 /// # Errors
 ///
 /// `TooFewFields` where the line has fewer than 2 fields; else `BadSeats` where field 1 isn't such a
-/// number; else `BadCode` where a later field isn't five digits. `Memory` in the place of `BadCode` or of
-/// an answer.
+/// number; else `BadCode` where a later field isn't five digits. `Memory` comes only where a growth was
+/// refused, in the place of `BadCode` or of an answer, and never in that of the first two.
 #[tactic(auto, unfolding(crate::specs::SeatLine::seat_line))]
 pub fn seats_and_codes(
     alloc: Global,
@@ -50,7 +51,11 @@ pub fn seats_and_codes(
     least: u16,
     greatest: u16,
 ) -> Result<(u16, Codes), CodeLineKind>
-    ensures { GivesUnless (λ f. f ≡ Memory) (λ r. (r.0, r.1)) result (seat_line least greatest line.now) }
+    ensures value { GivesUnless (λ f. f ≡ Memory) (λ r. (r.0, r.1)) result (seat_line least greatest line.now) }
+    ensures memory { IfErr
+        result
+        (λ kind. kind ≡ Memory
+        → (is_some (field_of 124 2 line.now) ≡ true) × (is_some (option_and_then (number_spelled least greatest) (field_of 124 1 line.now)) ≡ true)) }
 {
     let seats = field_at(line, DELIMITER, 0).ok_or(CodeLineKind::TooFewFields)?;
     field_at(line, DELIMITER, 1).ok_or(CodeLineKind::TooFewFields)?;

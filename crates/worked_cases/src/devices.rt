@@ -1,10 +1,12 @@
 //! Commands whose input, output or files fail.
-ghost use Rattle.std.specs.Prelude.{None};
+ghost use Rattle.std.specs.Prelude.{◌≡◌, ◌≢◌, ◌-◌, ◌^◌, None};
+ghost use Rattle.shelves.specs.Shelf.{CountsFault};
+ghost use Rattle.shelves.specs.declared.shelf.ShelfFault.TheVariants.{Missing, TooLarge};
 
 use anyhow::Result;
-use cli::{MemoryShelf, Shelf, ShelfFault, Sink, Writing, run, run_case};
+use cli::{MemoryFile, MemoryShelf, Shelf, ShelfFault, Sink, Writing, run, run_case};
 use field_lines::{Reading, Source};
-use std::alloc::Global;
+use std::alloc::{AllocError, Global};
 use std::io;
 use std::io::{Read, Write};
 
@@ -39,13 +41,34 @@ impl Read for Endless {
     }
 }
 
-/// A shelf whose loads fail from the nth on, and whose count of failures begins anywhere.
+/// A shelf whose calls fail from the nth on, loads and stores, and whose count of failures begins anywhere.
 #[derive(Drop)]
 struct Failing {
     files: MemoryShelf,
-    loads: u32,
+    calls: u32,
     fails_at: u32,
     failures: u64,
+}
+
+/// Counts a call, and answers whether it is to fail.
+fn fails(calls: &mut u32, fails_at: u32) -> bool {
+    *calls = calls.saturating_add(1);
+    fails_at <= *calls
+}
+
+/// Counts a failure of the device. Where the count is at its last value it stays, and the fault is `Missing`.
+fn device_fault(failures: &mut u64) -> ShelfFault
+    ensures counted { CountsFault failures.old failures.new result }
+    ensures missing { result ≡ Missing → failures.old ≡ 2 ^ 64 - 1 }
+    ensures not_large { result ≢ TooLarge }
+{
+    match failures.checked_add(1) {
+        Some(more) => {
+            *failures = more;
+            ShelfFault::Device
+        }
+        None => ShelfFault::Missing,
+    }
 }
 
 impl Shelf for Failing {
@@ -56,25 +79,24 @@ impl Shelf for Failing {
     ghost failure_count = { λ s. s.failures };
 
     fn load(&mut self, alloc: Global, name: &str) -> Result<Vec<u8>, ShelfFault> {
-        self.loads = self.loads.saturating_add(1);
-        if self.loads < self.fails_at {
-            return match self.files.load(alloc, name) {
-                Ok(bytes) => Ok(bytes),
-                Err(ShelfFault::Device) => Err(ShelfFault::Missing),
-                Err(fault) => Err(fault),
-            };
+        if fails(&mut self.calls, self.fails_at) {
+            return Err(device_fault(&mut self.failures));
         }
-        match self.failures.checked_add(1) {
-            Some(more) => {
-                self.failures = more;
-                Err(ShelfFault::Device)
-            }
-            None => Err(ShelfFault::Missing),
+        match self.files.load(alloc, name) {
+            Ok(bytes) => Ok(bytes),
+            Err(ShelfFault::Device) => Err(ShelfFault::Missing),
+            Err(fault) => Err(fault),
         }
     }
 
-    fn store(&mut self, _alloc: Global, _name: &str, _bytes: &[u8]) -> Result<(), ShelfFault> {
-        Err(ShelfFault::TooLarge)
+    fn store(&mut self, alloc: Global, name: &str, bytes: &[u8]) -> Result<(), ShelfFault> {
+        if fails(&mut self.calls, self.fails_at) {
+            return Err(device_fault(&mut self.failures));
+        }
+        match self.files.store(alloc, name, bytes) {
+            Ok(()) => Ok(()),
+            Err(_) => Err(ShelfFault::Memory),
+        }
     }
 
     fn failures(&self) -> u64 {
@@ -92,27 +114,30 @@ const FILES: &[(&str, &[u8])] = &[
     ("seg", b"||||1|94\n"),
 ];
 
-/// A shelf of the files.
-fn shelf_of_files(alloc: Global) -> Result<MemoryShelf, ShelfFault> {
-    let mut files = MemoryShelf::new(alloc, Vec::new(alloc));
-    for (name, bytes) in FILES {
-        files.store(alloc, name, bytes)?;
+/// A shelf of these files.
+pub(crate) fn shelf_of(alloc: Global, files: &[(&str, &[u8])]) -> Result<MemoryShelf, AllocError> {
+    let mut listed = Vec::new(alloc);
+    for (name, bytes) in files {
+        listed.push(MemoryFile {
+            name: String::from_str(alloc, name)?,
+            bytes: Vec::from_slice(alloc, bytes)?,
+        })?;
     }
-    Ok(files)
+    Ok(MemoryShelf::new(alloc, listed))
 }
 
-/// A shelf of one county and empty files, whose loads fail from the nth on.
-fn failing_at(alloc: Global, fails_at: u32, failures: u64) -> Result<Failing, ShelfFault> {
+/// A shelf of one county and empty files, whose calls fail from the nth on.
+fn failing_at(alloc: Global, fails_at: u32, failures: u64) -> Result<Failing, AllocError> {
     Ok(Failing {
-        files: shelf_of_files(alloc)?,
-        loads: 0,
+        files: shelf_of(alloc, FILES)?,
+        calls: 0,
         fails_at,
         failures,
     })
 }
 
 /// What a command writes over a shelf, and its exit status.
-fn outcome<H: Shelf>(alloc: Global, words: &[&str], shelf: &mut H) -> (Vec<u8>, u8) {
+pub(crate) fn outcome<H: Shelf>(alloc: Global, words: &[&str], shelf: &mut H) -> (Vec<u8>, u8) {
     let mut bytes = Vec::new(alloc);
     let status = run(alloc, words, shelf, &mut Writing::new(&mut bytes));
     (bytes, status)
@@ -125,12 +150,21 @@ fn show_written(rt: &HostRuntime, written: &[u8], status: u8, failures: u64) -> 
     Ok(())
 }
 
-/// Prints what a command writes over a shelf whose loads fail from the nth on, its exit status, and how often the
-/// device has failed.
+/// Prints the names of the files that were stored.
+fn show_stored(rt: &HostRuntime, files: &MemoryShelf) -> Result<()> {
+    for file in files.stored_files() {
+        println!(rt; "stored {}", file.name.as_str())?;
+    }
+    Ok(())
+}
+
+/// Prints what a command writes over a shelf whose calls fail from the nth on, its exit status, how often the device
+/// has failed, and the names of the files that were stored.
 fn show_run(rt: &HostRuntime, words: &[&str], fails_at: u32, failures: u64) -> Result<()> {
     let mut shelf = failing_at(rt.alloc(), fails_at, failures)?;
     let (bytes, status) = outcome(rt.alloc(), words, &mut shelf);
-    show_written(rt, &bytes, status, shelf.failures())
+    show_written(rt, &bytes, status, shelf.failures())?;
+    show_stored(rt, &shelf.files)
 }
 
 /// What a case from a reader writes, its exit status, and whether the reader failed.
@@ -194,6 +228,31 @@ fn show_failing_files(rt: &HostRuntime) -> Result<()> {
     show_run(rt, WORDS, 1, u64::MAX)
 }
 
+/// Words that load three files of the shelf and store two.
+const STORING_WORDS: &[&str] = &[
+    "solve",
+    "--geo",
+    "geo",
+    "--segment",
+    "seg",
+    "--chamber",
+    "4",
+    "--adjacency",
+    "adj",
+    "--certificate",
+    "c",
+    "--out",
+    "out",
+];
+
+/// Prints what a device gives that fails at each store in turn, and at none.
+fn show_failing_stores(rt: &HostRuntime) -> Result<()> {
+    for fails_at in 4..=6 {
+        show_run(rt, STORING_WORDS, fails_at, 0)?;
+    }
+    show_run(rt, STORING_WORDS, 4, u64::MAX)
+}
+
 /// A case whose words are no text.
 const WORDS_OF_BYTES: &[u8] = b"size --geo \xff --segment seg --chamber 4\n";
 
@@ -212,6 +271,7 @@ fn show_inputs(rt: &HostRuntime) -> Result<()> {
 pub(crate) fn show(rt: &HostRuntime) -> Result<()> {
     show_run(rt, &[], 1, 0)?;
     show_failing_files(rt)?;
+    show_failing_stores(rt)?;
     show_broken_output(rt)?;
     show_inputs(rt)
 }

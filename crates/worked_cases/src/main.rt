@@ -7,6 +7,7 @@
 #![tactic(auto)]
 
 mod cases;
+mod certificates;
 mod counts;
 mod devices;
 mod lines;
@@ -32,7 +33,8 @@ fn show_calls(rt: &HostRuntime) -> Result<()> {
     links::show(rt)?;
     texts::show(rt)?;
     shelf::show(rt)?;
-    devices::show(rt)
+    devices::show(rt)?;
+    certificates::show(rt)
 }
 
 /// Shows the cases, the calls and the real files.

@@ -2,6 +2,7 @@
 
 use anyhow::Result;
 use cli::{FileShelf, MemoryShelf, Shelf};
+use std::fs;
 
 /// Prints what a name gives, and how often the device has failed.
 fn show_load<H: Shelf>(rt: &HostRuntime, shelf: &mut H, name: &str) -> Result<()> {
@@ -9,6 +10,37 @@ fn show_load<H: Shelf>(rt: &HostRuntime, shelf: &mut H, name: &str) -> Result<()
         Ok(bytes) => println!(rt; "{name}: {:?}", str::from_utf8(&bytes)?)?,
         Err(fault) => println!(rt; "{name}: {fault}, failures {}", shelf.failures())?,
     }
+    Ok(())
+}
+
+/// Prints what storing under a name gives, and how often the device has failed.
+fn show_store<H: Shelf>(rt: &HostRuntime, shelf: &mut H, name: &str, text: &str) -> Result<()> {
+    match shelf.store(rt.alloc(), name, text.as_bytes()) {
+        Ok(()) => println!(rt; "store {name}")?,
+        Err(fault) => println!(rt; "store {name}: {fault}, failures {}", shelf.failures())?,
+    }
+    Ok(())
+}
+
+/// Prints what stores of the machine's files give, and what is left beside them.
+fn show_stored_files(rt: &HostRuntime) -> Result<()> {
+    let mut machine = FileShelf::new(rt);
+    for (name, text) in [
+        ("stored", "1"),
+        ("stored", "2"),
+        ("stored/x", "3"),
+        ("no such folder/x", "4"),
+        (".", "5"),
+        ("stored.part", "6"),
+        ("stored", "7"),
+    ] {
+        show_store(rt, &mut machine, name, text)?;
+        show_load(rt, &mut machine, "stored")?;
+        show_load(rt, &mut machine, "stored.part")?;
+    }
+    show_load(rt, &mut machine, "stored.part2")?;
+    fs::remove_file(rt, "stored.part")?;
+    fs::remove_file(rt, "stored")?;
     Ok(())
 }
 
@@ -33,5 +65,6 @@ pub(crate) fn show(rt: &HostRuntime) -> Result<()> {
     let mut machine = FileShelf::new(rt);
     show_load(rt, &mut machine, "no such file")?;
     show_load(rt, &mut machine, ".")?;
+    show_stored_files(rt)?;
     show_memory(rt)
 }

@@ -7,7 +7,7 @@ use Rattle.proof_trees.specs.BoundLines.{room_at}
 use Rattle.proof_trees.specs.StateValue.{state_of}
 use Rattle.proof_trees.specs.Places.{IsStateAt, in_codes}
 use Rattle.proof_trees.proofs.PlaceStates.{states_have_codes}
-use Rattle.bound_verdicts.proofs.OpenCounties.{room_same, room_few}
+use Rattle.line_verdicts.proofs.OpenCounties.{room_same, room_few}
 use Rattle.bound_verdicts.proofs.bound.room_left.Goals as goal
 
 pub returns-clause-value : goal.returns-clause-value

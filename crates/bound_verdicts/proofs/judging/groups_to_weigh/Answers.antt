@@ -12,7 +12,7 @@ use Rattle.proof_trees.specs.Groups.{AreGroupsOf, IsSetWithin}
 use Rattle.proof_trees.specs.Places.{IsStateAt, in_codes}
 use Rattle.proof_trees.proofs.PlaceStates.{states_have_codes}
 use Rattle.bound_verdicts.proofs.Counting.{steps_counted}
-use Rattle.bound_verdicts.proofs.OpenCounties.{groups_by_codes, set_within, within_below}
+use Rattle.line_verdicts.proofs.OpenCounties.{groups_by_codes, set_within, within_below}
 use Rattle.bound_verdicts.proofs.judging.groups_to_weigh.Goals as goal
 
 pub returns-in-Ok-clause-groups : goal.returns-in-Ok-clause-groups

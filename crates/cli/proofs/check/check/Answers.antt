@@ -1,5 +1,5 @@
-use Rattle.std.proofs.Common.{◌≡◌, ℕ, List, Option, subst}
-use Rattle.std.specs.Prelude.{Ok, Err}
+use Rattle.std.proofs.Common.{Option, subst}
+use Rattle.std.specs.Prelude.{Err}
 use Rattle.grouping_problem.specs.ProblemValue.{ProblemValue}
 use Rattle.command_words.specs.declared.words.CheckWords.{CheckWords}
 use Rattle.shelves.specs.Files.{Files}

@@ -1,7 +1,7 @@
-use Rattle.std.proofs.Common.{◌≡◌, ℕ, List, [], Option, refl, sym, subst}
-use Rattle.shelves.specs.Files.{File, Files}
+use Rattle.std.proofs.Common.{List, [], refl, sym, subst}
+use Rattle.shelves.specs.Files.{File}
 use Rattle.command_words.specs.declared.words.CommandWords.{CommandWords}
-use Rattle.command_words.specs.declared.words.CommandWords.TheVariants.{Size, Judge, Solve, Check, Audit}
+use Rattle.command_words.specs.declared.words.CommandWords.TheVariants.{Size, Judge, Check, Audit}
 use Rattle.program_answers.specs.Answers.{said_by}
 use Rattle.command_runs.specs.JudgeCourse.{size_course, judge_course, audit_course}
 use Rattle.command_runs.specs.CheckCourse.{check_course}
@@ -19,10 +19,11 @@ returns-in-Size g c =
     let last = g.H.Shelf.stored c.size.new.shelf in
     let before = g.H.Shelf.failure_count c.args.shelf.now in
     let after = g.H.Shelf.failure_count c.size.new.shelf in
-    subst (λ (command : CommandWords). (x : List File) × HasStored files later listed last x × CommandRun files command before after x (said_by c.size.result)) (sym c.in-Size.is)
-    ([],
-    none_stored files later listed last c.size.ensures.same c.size.ensures.kept,
-    quiet_run files (Size c.in-Size.words) (size_course files c.in-Size.words) before after c.size.result (λ a h. (h, refl)) c.size.ensures.course)
+    subst (λ (command : CommandWords). (x : List File) × HasStored files later listed last x × CommandRun files command before after x (said_by c.size.result)) (sym c.in-Size.is) (
+      [],
+      none_stored files later listed last c.size.ensures.same c.size.ensures.kept,
+      quiet_run files (Size c.in-Size.words) (size_course files c.in-Size.words) before after c.size.result (λ a h. (h, refl)) c.size.ensures.course,
+    )
 
 pub returns-in-Judge : goal.returns-in-Judge
 returns-in-Judge g c =
@@ -32,10 +33,11 @@ returns-in-Judge g c =
     let last = g.H.Shelf.stored c.judge.new.shelf in
     let before = g.H.Shelf.failure_count c.args.shelf.now in
     let after = g.H.Shelf.failure_count c.judge.new.shelf in
-    subst (λ (command : CommandWords). (x : List File) × HasStored files later listed last x × CommandRun files command before after x (said_by c.judge.result)) (sym c.in-Judge.is)
-    ([],
-    none_stored files later listed last c.judge.ensures.same c.judge.ensures.kept,
-    quiet_run files (Judge c.in-Judge.words) (judge_course files c.in-Judge.words) before after c.judge.result (λ a h. (h, refl)) c.judge.ensures.course)
+    subst (λ (command : CommandWords). (x : List File) × HasStored files later listed last x × CommandRun files command before after x (said_by c.judge.result)) (sym c.in-Judge.is) (
+      [],
+      none_stored files later listed last c.judge.ensures.same c.judge.ensures.kept,
+      quiet_run files (Judge c.in-Judge.words) (judge_course files c.in-Judge.words) before after c.judge.result (λ a h. (h, refl)) c.judge.ensures.course,
+    )
 
 pub returns-in-Solve : goal.returns-in-Solve
 returns-in-Solve g c =
@@ -56,10 +58,11 @@ returns-in-Check g c =
     let last = g.H.Shelf.stored c.check.new.shelf in
     let before = g.H.Shelf.failure_count c.args.shelf.now in
     let after = g.H.Shelf.failure_count c.check.new.shelf in
-    subst (λ (command : CommandWords). (x : List File) × HasStored files later listed last x × CommandRun files command before after x (said_by c.check.result)) (sym c.in-Check.is)
-    ([],
-    none_stored files later listed last c.check.ensures.same c.check.ensures.kept,
-    quiet_run files (Check c.in-Check.words) (check_course files c.in-Check.words) before after c.check.result (λ a h. (h, refl)) c.check.ensures.course)
+    subst (λ (command : CommandWords). (x : List File) × HasStored files later listed last x × CommandRun files command before after x (said_by c.check.result)) (sym c.in-Check.is) (
+      [],
+      none_stored files later listed last c.check.ensures.same c.check.ensures.kept,
+      quiet_run files (Check c.in-Check.words) (check_course files c.in-Check.words) before after c.check.result (λ a h. (h, refl)) c.check.ensures.course,
+    )
 
 pub returns-in-Audit : goal.returns-in-Audit
 returns-in-Audit g c =
@@ -69,7 +72,8 @@ returns-in-Audit g c =
     let last = g.H.Shelf.stored c.audit.new.shelf in
     let before = g.H.Shelf.failure_count c.args.shelf.now in
     let after = g.H.Shelf.failure_count c.audit.new.shelf in
-    subst (λ (command : CommandWords). (x : List File) × HasStored files later listed last x × CommandRun files command before after x (said_by c.audit.result)) (sym c.in-Audit.is)
-    ([],
-    none_stored files later listed last c.audit.ensures.same c.audit.ensures.kept,
-    quiet_run files (Audit c.in-Audit.words) (audit_course files c.in-Audit.words) before after c.audit.result (λ a h. (h, refl)) c.audit.ensures.course)
+    subst (λ (command : CommandWords). (x : List File) × HasStored files later listed last x × CommandRun files command before after x (said_by c.audit.result)) (sym c.in-Audit.is) (
+      [],
+      none_stored files later listed last c.audit.ensures.same c.audit.ensures.kept,
+      quiet_run files (Audit c.in-Audit.words) (audit_course files c.in-Audit.words) before after c.audit.result (λ a h. (h, refl)) c.audit.ensures.course,
+    )

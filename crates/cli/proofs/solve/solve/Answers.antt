@@ -2,15 +2,16 @@ use Rattle.std.proofs.Common.{◌≡◌, List, [], Option, subst}
 use Rattle.shelves.specs.Files.{File, Files}
 use Rattle.command_runs.specs.Storing.{HasStored}
 use Rattle.command_runs.proofs.StoreLemmas.{none_stored}
-use Rattle.cli.specs.Ends.{solved_of}
+use Rattle.command_runs.specs.Texts.{solved_of}
 use Rattle.cli.proofs.SolveLemmas.{refused_run, stopped_run, ended_run}
 use Rattle.cli.proofs.solve.solve.Goals as goal
 
 pub returns-in_err-solved : goal.returns-in_err-solved
-returns-in_err-solved g c =
-    ([],
-    none_stored (g.H.Shelf.contents c.args.shelf.now) (g.H.Shelf.contents c.solve_files.new.shelf) (g.H.Shelf.stored c.args.shelf.now) (g.H.Shelf.stored c.solve_files.new.shelf) c.solve_files.ensures.same c.solve_files.ensures.kept,
-    refused_run (g.H.Shelf.contents c.args.shelf.now) c.args.words (g.H.Shelf.failure_count c.args.shelf.now) (g.H.Shelf.failure_count c.solve_files.new.shelf) c.in_err-solved.field-0.0 c.from_residual.result c.from_residual.ensures.1 c.in_err-solved.ensures.course)
+returns-in_err-solved g c = (
+  [],
+  none_stored (g.H.Shelf.contents c.args.shelf.now) (g.H.Shelf.contents c.solve_files.new.shelf) (g.H.Shelf.stored c.args.shelf.now) (g.H.Shelf.stored c.solve_files.new.shelf) c.solve_files.ensures.same c.solve_files.ensures.kept,
+  refused_run (g.H.Shelf.contents c.args.shelf.now) c.args.words (g.H.Shelf.failure_count c.args.shelf.now) (g.H.Shelf.failure_count c.solve_files.new.shelf) c.in_err-solved.field-0.0 c.from_residual.result c.from_residual.ensures.1 c.in_err-solved.ensures.course,
+)
 
 -- the shelf was as it was until the files were stored
 from_start : (files files_then after : Option Files) (listed listed_then last : Option (List File)) (stored : List File)
@@ -24,10 +25,11 @@ returns-in_err-store_solved g c =
     let before = g.H.Shelf.failure_count c.args.shelf.now in
     let between = g.H.Shelf.failure_count c.solve_files.new.shelf in
     let after = g.H.Shelf.failure_count c.store_solved.new.shelf in
-    let end = c.in_err-store_solved.ensures in
-    (end.0,
-    from_start files (g.H.Shelf.contents c.solve_files.new.shelf) (g.H.Shelf.contents c.store_solved.new.shelf) (g.H.Shelf.stored c.args.shelf.now) (g.H.Shelf.stored c.solve_files.new.shelf) (g.H.Shelf.stored c.store_solved.new.shelf) end.0 c.solve_files.ensures.same c.solve_files.ensures.kept end.1,
-    stopped_run files c.args.words (solved_of c.in_ok-solved.solved) before between after end.0 c.in_err-store_solved.field-0.0 c.from_residual-in_err-store_solved.result c.from_residual-in_err-store_solved.ensures.1 c.in_ok-solved.ensures.course end.2)
+    let end = c.in_err-store_solved.ensures in (
+      end.0,
+      from_start files (g.H.Shelf.contents c.solve_files.new.shelf) (g.H.Shelf.contents c.store_solved.new.shelf) (g.H.Shelf.stored c.args.shelf.now) (g.H.Shelf.stored c.solve_files.new.shelf) (g.H.Shelf.stored c.store_solved.new.shelf) end.0 c.solve_files.ensures.same c.solve_files.ensures.kept end.1,
+      stopped_run files c.args.words (solved_of c.in_ok-solved.solved) before between after end.0 c.in_err-store_solved.field-0.0 c.from_residual-in_err-store_solved.result c.from_residual-in_err-store_solved.ensures.1 c.in_ok-solved.ensures.course end.2,
+    )
 
 pub returns : goal.returns
 returns g c =
@@ -35,7 +37,8 @@ returns g c =
     let before = g.H.Shelf.failure_count c.args.shelf.now in
     let between = g.H.Shelf.failure_count c.solve_files.new.shelf in
     let after = g.H.Shelf.failure_count c.store_solved.new.shelf in
-    let end = c.in_ok-store_solved.ensures in
-    (end.0,
-    from_start files (g.H.Shelf.contents c.solve_files.new.shelf) (g.H.Shelf.contents c.store_solved.new.shelf) (g.H.Shelf.stored c.args.shelf.now) (g.H.Shelf.stored c.solve_files.new.shelf) (g.H.Shelf.stored c.store_solved.new.shelf) end.0 c.solve_files.ensures.same c.solve_files.ensures.kept end.1,
-    ended_run files c.args.words (solved_of c.in_ok-solved.solved) before between after end.0 c.in_ok-solved.ensures.course end.2)
+    let end = c.in_ok-store_solved.ensures in (
+      end.0,
+      from_start files (g.H.Shelf.contents c.solve_files.new.shelf) (g.H.Shelf.contents c.store_solved.new.shelf) (g.H.Shelf.stored c.args.shelf.now) (g.H.Shelf.stored c.solve_files.new.shelf) (g.H.Shelf.stored c.store_solved.new.shelf) end.0 c.solve_files.ensures.same c.solve_files.ensures.kept end.1,
+      ended_run files c.args.words (solved_of c.in_ok-solved.solved) before between after end.0 c.in_ok-solved.ensures.course end.2,
+    )

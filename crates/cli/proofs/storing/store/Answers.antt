@@ -1,6 +1,5 @@
-use Rattle.std.proofs.Common.{◌≡◌, ◌∷◌, [], Some, inl, inr, refl, ap}
-use Rattle.program_answers.specs.Answers.{answer_of}
-use Rattle.program_answers.specs.Answer.{Answered, memory_answer}
+use Rattle.std.proofs.Common.{◌∷◌, [], Some, inl, inr, refl, ap}
+use Rattle.program_answers.specs.Answer.{Answered}
 use Rattle.program_answers.specs.Refusals.{shelf_answer}
 use Rattle.program_answers.specs.declared.answer.Refusal.{Refusal}
 use Rattle.program_answers.specs.declared.answer.Refusal.TheVariants.{Shown, Memory}
@@ -12,10 +11,11 @@ use Rattle.cli.specs.Ends.{refusal_by}
 use Rattle.cli.proofs.storing.store.Goals as goal
 
 pub returns-in-Ok : goal.returns-in-Ok
-returns-in-Ok g c =
-    (record { name = c.args.name.now; bytes = c.args.bytes.now } ∷ [],
-    record { contents = c.in-Ok.ensures.put; list = c.in-Ok.ensures.listed },
-    inr (g.H.Shelf.failure_count c.store.new.self, [], c.in-Ok.ensures.counted, refl, (refl, refl, refl)))
+returns-in-Ok g c = (
+  record { name = c.args.name.now; bytes = c.args.bytes.now } ∷ [],
+  record { contents = c.in-Ok.ensures.put; list = c.in-Ok.ensures.listed },
+  inr (g.H.Shelf.failure_count c.store.new.self, [], c.in-Ok.ensures.counted, refl, (refl, refl, refl)),
+)
 
 -- what is refused with this answer has it, or memory was refused
 answered : (a : Answered) (refusal : Refusal) → Refuses a refusal → IsAnsweredBy (refusal_by (Err refusal)) a
@@ -23,13 +23,14 @@ answered a (Shown s) h = inl (ap (λ (b : Answered). Some b) h)
 answered a Memory h = inr refl
 
 pub returns-in-Err : goal.returns-in-Err
-returns-in-Err g c =
-    ([],
-    none_stored (g.H.Shelf.contents c.args.shelf.now) (g.H.Shelf.contents c.store.new.self) (g.H.Shelf.stored c.args.shelf.now) (g.H.Shelf.stored c.store.new.self) c.in-Err.ensures.same c.in-Err.ensures.kept,
-    inl (record {
-      fault = c.in-Err.fault;
-      is = c.in-Err.ensures.answer;
-      counted = c.in-Err.ensures.counted;
-      none_stored = refl;
-      answer = answered (shelf_answer c.args.name.now c.in-Err.fault) c.refuse_load.result c.refuse_load.ensures;
-    }))
+returns-in-Err g c = (
+  [],
+  none_stored (g.H.Shelf.contents c.args.shelf.now) (g.H.Shelf.contents c.store.new.self) (g.H.Shelf.stored c.args.shelf.now) (g.H.Shelf.stored c.store.new.self) c.in-Err.ensures.same c.in-Err.ensures.kept,
+  inl (record {
+    fault = c.in-Err.fault;
+    is = c.in-Err.ensures.answer;
+    counted = c.in-Err.ensures.counted;
+    none_stored = refl;
+    answer = answered (shelf_answer c.args.name.now c.in-Err.fault) c.refuse_load.result c.refuse_load.ensures;
+  }),
+)

@@ -14,7 +14,7 @@ use Rattle.proof_trees.specs.Groups.{AreGroupsOf}
 use Rattle.proof_trees.specs.Places.{IsStateAt, in_codes}
 use Rattle.proof_trees.proofs.PlaceStates.{states_have_codes}
 use Rattle.line_verdicts.specs.Placed.{codes_of_sets}
-use Rattle.bound_verdicts.proofs.OpenCounties.{groups_by_codes}
+use Rattle.line_verdicts.proofs.OpenCounties.{groups_by_codes}
 use Rattle.known_groups.proofs.size_groups.groups_of_size.Goals as goal
 
 pub returns-clause-groups : goal.returns-clause-groups

@@ -1,6 +1,6 @@
 use Rattle.std.proofs.Common.{◌≡◌, ℕ, ◌+◌, ◌-◌, ◌≤◌, ◌∙◌, List, sym, ap, subst, arith}
 use Rattle.grouping_laws.specs.Sets.{total}
-use Rattle.grouping_problem.specs.ProblemValue.{ProblemValue, problem_of}
+use Rattle.grouping_problem.specs.ProblemValue.{problem_of}
 use Rattle.ordered_counties.specs.Allot.{AreRuns, SuitEach, least_sum, greatest_sum, shared_out}
 use Rattle.ordered_counties.proofs.AllotLemmas.{few_seats, between_sums, least-le-greatest, runs_rise, shared_suits, shared_sum}
 use Rattle.ordered_counties.proofs.allotting.allot.Goals.{then-left-least-via-then-left-least, then-left-least-via-else-left-least+then-most-left}

@@ -1,0 +1,9 @@
+-- Values of the code as the definitions have them.
+use Rattle.std.specs.Prelude.{option_map}
+use Rattle.program_answers.specs.Answers.{answer_of}
+use Rattle.command_runs.specs.SolveCourse as course
+use Rattle.command_runs.specs.declared.desk_report.Solved.{Solved}
+
+-- the answer and the texts of `solve`
+abbrev pub solved_of : Solved → course.Solved
+solved_of s = record { answer = answer_of s.answer; certificate = option_map (λ t. t.items) s.certificate; grouping = option_map (λ t. t.items) s.grouping }

@@ -1,0 +1,139 @@
+//! What `solve` says of a problem.
+
+ghost use Rattle.std.specs.Prelude.{◌≡◌, ℕ, List, IfOk, option_map};
+ghost use Rattle.grouping_problem.specs.ProblemValue.{problem_of};
+ghost use Rattle.grouping_laws.specs.Grouping.{Lawful};
+ghost use Rattle.grouping_report.specs.GroupingText.{grouping_text as text_of};
+ghost use Rattle.grouping_report.specs.Outcomes.{NamesLawful};
+ghost use Rattle.grouping_report.specs.declared.outcome.Outcome.TheVariants as outcome;
+ghost use Rattle.certificate_text.specs.Trees.{certificate_of};
+ghost use Rattle.certificate_text.specs.Spelled.{IsSpelling};
+ghost use Rattle.branch_bound.specs.Answered.{IsAnswer, NamesBest};
+ghost use Rattle.branch_bound.specs.declared.answer.Answer.TheVariants as desk;
+ghost use Rattle.command_runs.specs.SolveCourse.{Says, IsSolved};
+ghost use Rattle.command_runs.specs.Texts.{solved_of};
+
+use branch_bound::{Answer as DeskAnswer, solve as solve_problem};
+use certificate_text::{Certificate, WriteFault, write};
+use county_codes::Grouping;
+use grouping_problem::Problem;
+use grouping_report::{Outcome, grouping_text, report};
+use program_answers::Answer;
+use std::alloc::{AllocError, Global};
+
+/// What `solve` says, and the texts for its files.
+#[derive(Drop)]
+pub struct Solved {
+    /// The report, with status 0 where a grouping is best, 1 where none is lawful and 3 where the steps ran out.
+    pub answer: Answer,
+    /// The text of the certificate; none where the steps ran out.
+    pub certificate: Option<Vec<u8>>,
+    /// The lines of the grouping that is best, or that was found when the steps ran out.
+    pub grouping: Option<Vec<u8>>,
+}
+
+/// The text of a certificate that has one.
+fn certificate_lines(alloc: Global, certificate: &Certificate) -> Result<Vec<u8>, AllocError>
+    requires { (text : List ℕ) × IsSpelling text (certificate_of certificate.now) }
+    ensures { IfOk result (λ v. IsSpelling v.items (certificate_of certificate.now)) }
+{
+    match write(alloc, certificate) {
+        Ok(text) => Ok(text),
+        Err(WriteFault::Memory) => Err(AllocError),
+        Err(WriteFault::NoSpelling) => unreachable!(),
+    }
+}
+
+/// The best grouping, with its certificate.
+fn say_best(
+    alloc: Global,
+    problem: &Problem,
+    grouping: Grouping,
+    certificate: Certificate,
+) -> Result<Solved, AllocError>
+    requires lawful { Lawful (problem_of problem.now) grouping.groups.items }
+    requires spelled { (text : List ℕ) × IsSpelling text (certificate_of certificate) }
+    ensures { IfOk result (λ s. Says problem.now (desk.Best grouping certificate) (solved_of s)) }
+{
+    let lines = certificate_lines(alloc, &certificate)?;
+    let groups = grouping_text(alloc, &grouping)?;
+    let text = report(alloc, problem, &Outcome::Best(grouping))?;
+    Ok(Solved {
+        answer: Answer { text, status: 0 },
+        certificate: Some(lines),
+        grouping: Some(groups),
+    })
+}
+
+/// That no grouping is lawful, with the certificate of that.
+fn say_impossible(
+    alloc: Global,
+    problem: &Problem,
+    certificate: Certificate,
+) -> Result<Solved, AllocError>
+    requires { (text : List ℕ) × IsSpelling text (certificate_of certificate) }
+    ensures { IfOk result (λ s. Says problem.now (desk.Impossible certificate) (solved_of s)) }
+{
+    let lines = certificate_lines(alloc, &certificate)?;
+    let text = report(alloc, problem, &Outcome::Impossible)?;
+    Ok(Solved {
+        answer: Answer { text, status: 1 },
+        certificate: Some(lines),
+        grouping: None,
+    })
+}
+
+/// The lines of a grouping, where there is one.
+fn lines_of(alloc: Global, found: &Option<Grouping>) -> Result<Option<Vec<u8>>, AllocError>
+    ensures { IfOk result (λ lines. option_map (λ t. t.items) lines ≡ option_map (λ g. text_of g.groups.items) found.now) }
+{
+    match found {
+        Some(grouping) => Ok(Some(grouping_text(alloc, grouping)?)),
+        None => Ok(None),
+    }
+}
+
+/// That the steps ran out, with the grouping that was found.
+fn say_open(
+    alloc: Global,
+    problem: &Problem,
+    found: Option<Grouping>,
+    steps: u64,
+) -> Result<Solved, AllocError>
+    requires { NamesLawful problem.now (outcome.Open found steps) }
+    ensures { IfOk result (λ s. Says problem.now (desk.Open found steps) (solved_of s)) }
+{
+    let groups = lines_of(alloc, &found)?;
+    let text = report(alloc, problem, &Outcome::Open(found, steps))?;
+    Ok(Solved {
+        answer: Answer { text, status: 3 },
+        certificate: None,
+        grouping: groups,
+    })
+}
+
+/// What is said of the answer of a desk.
+fn say(alloc: Global, problem: &Problem, found: DeskAnswer) -> Result<Solved, AllocError>
+    requires answer { (limit : ℕ) × IsAnswer (problem_of problem.now) limit found }
+    requires best { NamesBest (problem_of problem.now) found }
+    ensures { IfOk result (λ s. Says problem.now found (solved_of s)) }
+{
+    match found {
+        DeskAnswer::Best(grouping, certificate) => say_best(alloc, problem, grouping, certificate),
+        DeskAnswer::Impossible(certificate) => say_impossible(alloc, problem, certificate),
+        DeskAnswer::Open { found, steps } => say_open(alloc, problem, found, steps),
+    }
+}
+
+/// What `solve` says of a problem: a desk answers with at most so many steps, and its answer is told as a report, with the
+/// texts of its certificate and of its grouping.
+///
+/// # Errors
+///
+/// `AllocError` where memory was refused.
+pub fn solve_and_say(alloc: Global, problem: &Problem, steps: u64) -> Result<Solved, AllocError>
+    ensures { IfOk result (λ s. IsSolved problem.now steps (solved_of s)) }
+{
+    let found = solve_problem(alloc, problem, steps)?;
+    say(alloc, problem, found)
+}
