@@ -1,5 +1,5 @@
 -- A branch behind those of a search so far.
-use Rattle.std.proofs.Common.{◌≡◌, ℕ, ◌≤◌, List, [], ◌∷◌, ◌++◌, length, map, filter, All, AllPairs, Option, Some, refl, ap, sym, ◌∙◌, subst, arith}
+use Rattle.std.proofs.Common.{◌≡◌, ℕ, ◌≤◌, List, [], ◌∷◌, ◌++◌, filter, All, AllPairs, Some, refl, ap, sym, ◌∙◌, subst, arith}
 use Rattle.std.specs.List.{AllByRecursion}
 use Rattle.grouping_laws.specs.Problem.{Problem}
 use Rattle.grouping_laws.specs.Sets.{member}
@@ -9,9 +9,9 @@ use Rattle.grouping_laws.specs.Places.{codes_at}
 use Rattle.ordered_counties.specs.OrderedValue.{code_at}
 use Rattle.proof_trees.specs.Round.{Round}
 use Rattle.proof_trees.specs.declared.language.Language.{Language}
-use Rattle.proof_trees.specs.declared.language.Language.TheVariants.{Plain, Wide}
-use Rattle.proof_trees.specs.State.{State, close, raise}
-use Rattle.proof_trees.specs.Tree.{Tree, leaf, branch, Takes, no_take, take, groups_of}
+use Rattle.proof_trees.specs.declared.language.Language.TheVariants.{Wide}
+use Rattle.proof_trees.specs.State.{State, raise}
+use Rattle.proof_trees.specs.Tree.{Tree, branch, Takes, no_take, groups_of}
 use Rattle.proof_trees.specs.Groups.{AreGroupsAt}
 use Rattle.proof_trees.specs.Proving.{NamesLimit, CanBranch, Proves, EachProves}
 use Rattle.certificate_lines.specs.Lines.{most}
@@ -22,7 +22,7 @@ use Rattle.certificate_lines.specs.declared.item.Opening.TheVariants as opening
 use Rattle.certificate_lines.specs.declared.item.Wanted.TheVariants as want
 use Rattle.certificate_text.specs.declared.tree.Branch.{Branch}
 use Rattle.certificate_text.specs.declared.tree.Take.{Take, Take'}
-use Rattle.certificate_text.specs.Trees.{tree_of, branch_onto, take_onto, list_of_takes, items_of_tree, items_of_takes}
+use Rattle.certificate_text.specs.Trees.{tree_of, branch_onto, list_of_takes, items_of_tree, items_of_takes}
 use Rattle.certificate_text.proofs.TreeViews.{list_onto, items_of_branch, items_of_branches, branches_more}
 use Rattle.tree_spelling.specs.TreeItems.{FitsInTree}
 use Rattle.branch_bound.specs.Searching.{IsSorted, AreTakesOf, IsTakeOf}

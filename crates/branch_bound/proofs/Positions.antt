@@ -1,9 +1,7 @@
 -- The positions of a search: what is known at one goes with it.
-use Rattle.std.proofs.Common.{◌≡◌, ℕ, ◌+◌, ◌≤◌, ◌<◌, Bool, true, List, [], length, filter, refl, sym, ap, ◌∙◌, subst, arith, Contains}
-use Rattle.grouping_laws.specs.Sets.{member, Inside}
+use Rattle.std.proofs.Common.{◌≡◌, ℕ, ◌<◌, Bool, true, List, length, refl, sym, ap, ◌∙◌, subst, arith}
 use Rattle.grouping_laws.specs.Problem.{IsProblem}
 use Rattle.grouping_laws.specs.GroupsFrom.{IsOrder}
-use Rattle.grouping_problem.specs.ProblemValue.{problem_of}
 use Rattle.growing_sets.specs.Listing.{AreBelow}
 use Rattle.ordered_counties.specs.OrderedValue.{code_at}
 use Rattle.proof_trees.specs.State.{State, close, raise}
@@ -12,7 +10,6 @@ use Rattle.proof_trees.specs.Groups.{IsGroupAt, AreGroupsAt}
 use Rattle.proof_trees.specs.Proving.{CanBranch}
 use Rattle.proof_trees.proofs.Branches.{branch_keeps_state}
 use Rattle.proof_trees.proofs.Completion.{open_least}
-use Rattle.proof_trees.specs.declared.state.State.{State as StateHeld}
 use Rattle.line_verdicts.specs.Placed.{codes_of_set, codes_of_sets, IsPlaced, IsClosable}
 use Rattle.known_groups.specs.Known.{IsCandidate, IsKnown, AreThose, IsApart, Lacks, Has}
 use Rattle.known_groups.proofs.KnownGroups.{known_serves}

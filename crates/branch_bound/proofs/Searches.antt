@@ -1,5 +1,5 @@
 -- What the search keeps and comes to.
-use Rattle.std.proofs.Common.{◌≡◌, ℕ, ◌+◌, ◌≤◌, ◌<◌, Bool, true, List, [], ◌∷◌, ◌++◌, length, map, take, get_or, Vec, Global, refl, sym, ap, ◌∙◌, subst, arith, Contains, Option, Some, inl, inr}
+use Rattle.std.proofs.Common.{◌≡◌, ℕ, ◌+◌, ◌≤◌, ◌<◌, Bool, List, [], ◌∷◌, ◌++◌, length, map, take, get_or, Vec, Global, refl, sym, ap, ◌∙◌, subst, arith, Some, inl, inr}
 use Rattle.std.specs.List.{AllByRecursion}
 use Rattle.std.proofs.lemmas.List.{map-append, take_more}
 use Rattle.grouping_laws.specs.Problem.{Problem}
@@ -7,7 +7,7 @@ use Rattle.grouping_laws.specs.Grouping.{Grouping}
 use Rattle.grouping_laws.proofs.Elements.{Has, has_get, contains_from_has}
 use Rattle.county_codes.specs.declared.group.Grouping.{Grouping as GroupingHeld}
 use Rattle.certificate_lines.specs.Lines.{most}
-use Rattle.certificate_lines.specs.Fits.{AreCodes, IsSet}
+use Rattle.certificate_lines.specs.Fits.{IsSet}
 use Rattle.certificate_lines.specs.declared.item.Item.{Item}
 use Rattle.certificate_text.specs.declared.tree.Leaf.{Leaf as DeclaredLeaf}
 use Rattle.certificate_text.specs.declared.tree.Branch.{Branch, roll-Branch}
@@ -27,9 +27,9 @@ use Rattle.proof_trees.specs.Tree.{Tree, leaf, Takes}
 use Rattle.proof_trees.specs.Tree as tree
 use Rattle.proof_trees.proofs.Branches.{branch_keeps_state}
 use Rattle.proof_trees.proofs.Completion.{open_least}
-use Rattle.tree_spelling.specs.TreeItems.{FitsInTree, HasLines}
+use Rattle.tree_spelling.specs.TreeItems.{FitsInTree}
 use Rattle.bound_leaves.specs.GivenLeaf.{IsGiven}
-use Rattle.branch_bound.specs.Searching.{state_in, IsAt, IsProof, IsBetter, IsOutcome, IsTakeOf, AreTakesOf, IsChoice}
+use Rattle.branch_bound.specs.Searching.{state_in, IsAt, IsProof, IsBetter, IsTakeOf, AreTakesOf, IsChoice}
 use Rattle.branch_bound.specs.declared.ground.Ground.{Ground}
 use Rattle.branch_bound.specs.declared.position.Position.{Position}
 use Rattle.branch_bound.proofs.Joining.{all_append, take_step, branch_step, lines_step}

@@ -1,17 +1,14 @@
 -- What the judging of a state rests on.
 use Rattle.std.proofs.Common.{◌≡◌, ℕ, ◌+◌, ◌≤◌, ◌<◌, Bool, true, false, List, [], ◌∷◌, length, map, refl, sym, ap, ◌∙◌, subst, arith, All, Contains, inl, inr}
 use Rattle.std.proofs.lemmas.Bool.{false≢true}
-use Rattle.grouping_laws.specs.Sets.{member}
 use Rattle.grouping_laws.specs.GroupsFrom.{IsOrder, place}
 use Rattle.grouping_laws.proofs.Elements.{Has, has_all, has_from_contains, contains_from_has}
 use Rattle.grouping_laws.proofs.PlaceProblem.{order_once}
 use Rattle.growing_sets.specs.Listing.{AreBelow}
 use Rattle.growing_sets.proofs.PlaceLists.{some_member}
-use Rattle.ordered_counties.specs.OrderedValue.{code_at}
 use Rattle.proof_trees.specs.State.{State}
 use Rattle.proof_trees.specs.Fitting.{Fits, IsLive}
 use Rattle.proof_trees.specs.Groups.{AreGroupsOf}
-use Rattle.proof_trees.specs.declared.state.State.{State as StateHeld}
 use Rattle.line_verdicts.specs.Placed.{codes_of_set, codes_of_sets, IsPlaced}
 use Rattle.known_groups.specs.Known.{IsKnown, IsCandidate, AreThose}
 use Rattle.known_groups.proofs.KnownGroups.{known_serves, none_left}

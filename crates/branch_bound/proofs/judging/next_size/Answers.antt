@@ -1,6 +1,4 @@
-use Rattle.std.proofs.Common.{refl, subst, AllPairs, arith}
-use Rattle.grouping_laws.specs.Grouping.{sets_of}
-use Rattle.grouping_laws.specs.GroupsFrom.{IsBefore}
+use Rattle.std.proofs.Common.{arith}
 use Rattle.branch_bound.specs.Searching.{state_in}
 use Rattle.branch_bound.proofs.Verdicts.{none_at}
 use Rattle.branch_bound.proofs.Joining.{sorted_as}

@@ -1,4 +1,4 @@
-use Rattle.std.proofs.Common.{◌+◌, ◌≡◌, ◌≤◌, ℕ, ◌∷◌, ◌++◌, [], List, cond, refl, ap, sym, ◌∙◌, subst, append-nil, map, get_or, arith}
+use Rattle.std.proofs.Common.{◌+◌, ◌≡◌, ◌≤◌, ℕ, ◌∷◌, ◌++◌, [], List, cond, ap, sym, ◌∙◌, subst, append-nil, arith}
 use Rattle.std.specs.List.{AllByRecursion}
 use Rattle.place_sets.specs.CountySet.{places_of}
 use Rattle.place_sets.proofs.PlaceSums.{places_step}

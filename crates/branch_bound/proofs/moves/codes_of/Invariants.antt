@@ -1,5 +1,4 @@
-use Rattle.std.proofs.Common.{◌≡◌, ◌≤◌}
-use Rattle.std.specs.List.{AllByRecursion}
+use Rattle.std.proofs.Common.{◌≡◌}
 use Rattle.place_sets.specs.CountySet.{places_of}
 use Rattle.grouping_laws.specs.Places.{codes_at}
 use Rattle.certificate_lines.specs.Fits.{AreCodes}

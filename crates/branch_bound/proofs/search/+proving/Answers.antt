@@ -1,4 +1,4 @@
-use Rattle.std.proofs.Common.{◌≡◌, ◌+◌, ◌<◌, ◌≤◌, ℕ, true, length, take, take_all, refl, sym, ap, ◌∙◌, subst, arith}
+use Rattle.std.proofs.Common.{◌≡◌, ◌<◌, ℕ, true, length, sym, ap, ◌∙◌, subst, arith}
 use Rattle.grouping_laws.proofs.Elements.{has_all}
 use Rattle.ordered_counties.specs.OrderedValue.{code_at}
 use Rattle.line_verdicts.specs.Placed.{codes_of_set, codes_of_sets}
@@ -7,9 +7,9 @@ use Rattle.proof_trees.specs.Agreement.{Agrees}
 use Rattle.proof_trees.specs.State.{raise}
 use Rattle.proof_trees.specs.Groups.{AreGroupsAt}
 use Rattle.proof_trees.specs.Proving.{Proves, CanBranch}
-use Rattle.branch_bound.specs.Searching.{problem_in, round_in, state_in, IsAt, IsOutcome, IsTaken, AreTakesAt, AreTakesOf, IsVerdict}
+use Rattle.branch_bound.specs.Searching.{problem_in, round_in, state_in, IsOutcome, IsTaken, AreTakesAt, IsVerdict}
 use Rattle.branch_bound.proofs.Positions.{choice_can}
-use Rattle.branch_bound.proofs.Searches.{own, take_made, better_closed, better_as, listed, group_there, takes_more, leaf_end, branched, branched_lines, raised_agrees, choice_size}
+use Rattle.branch_bound.proofs.Searches.{own, better_closed, better_as, listed, group_there, takes_more, leaf_end, branched, branched_lines, raised_agrees, choice_size}
 use Rattle.branch_bound.proofs.search.+proving.Goals as goal
 
 pub prove-returns-in-Ok-Leaf-clause-outcome : goal.prove-returns-in-Ok-Leaf-clause-outcome

@@ -1,4 +1,4 @@
-use Rattle.std.proofs.Common.{◌≡◌, ◌≤◌, ◌+◌, ◌*◌, ◌-◌, List, take}
+use Rattle.std.proofs.Common.{◌≡◌, ◌≤◌, ◌+◌, ◌*◌, ◌-◌, take}
 use Rattle.std.specs.List.{AllByRecursion}
 use Rattle.grouping_laws.specs.Grouping.{Grouping}
 use Rattle.line_verdicts.specs.Placed.{codes_of_sets}
