@@ -36,7 +36,12 @@ fn say(alloc: Global, problem: &Problem, verdict: Verdict) -> Result<Answer, All
 /// # Errors
 ///
 /// `AllocError` where memory was refused.
-pub fn check_and_say(alloc: Global, problem: &Problem, text: &[u8], budget: u64) -> Result<Answer, AllocError>
+pub fn check_and_say(
+    alloc: Global,
+    problem: &Problem,
+    text: &[u8],
+    budget: u64,
+) -> Result<Answer, AllocError>
     ensures { IfOk result (λ a. IsChecked problem.now budget text.now (answer_of a)) }
 {
     let verdict = check(alloc, problem, text, budget)?;
