@@ -1,15 +1,16 @@
 #!/usr/bin/env bash
-# Judges the Senate's county groups of 2023 against the 2020 census, and prints the size tables of North Carolina's House
-# (120 seats) and Senate (50 seats). See `./quickstart.sh --help`.
+# Finds the best county groups of North Carolina's Senate (50 seats) and House (120 seats) by the 2020 census, with their
+# certificates, and checks both. See `./quickstart.sh --help`.
 set -euo pipefail
 
 usage() {
     cat <<'TEXT'
 usage: ./quickstart.sh [--unproved]
 
-Without a word: proves the program and all that it stands on, builds it, and runs it on the files in data/nc2020. The first
-time that takes some 18 minutes on four cores, later a few seconds.
---unproved: builds the program and runs it, and proves nothing (a minute).
+Without a word: proves the program and all that it stands on, builds it, and solves and checks Senate and House by the files in
+data/nc2020; certificates and groupings are stored in crates/countygroups/out/nc2020. The first time that takes some 40 minutes on
+four cores, later a few seconds.
+--unproved: builds the program and solves both, and proves and stores nothing (two minutes).
 TEXT
 }
 
@@ -34,24 +35,28 @@ command -v rt >/dev/null || refuse "there is no \`rt\` on the path: it comes wit
 
 top=$(cd "$(dirname "$0")" && pwd)
 data=$top/data/nc2020
-for file in nc2020geo.pl nc000012020.pl county_adjacency2023.txt senate2023.grouping; do
+for file in nc2020geo.pl nc000012020.pl county_adjacency2023.txt; do
     [ -r "$data/$file" ] || refuse "$data/$file can't be read"
 done
 cd "$top/crates/countygroups"
 
-# The words of the three runs, each after its heading.
-census=(--geo nc2020geo.pl --segment nc000012020.pl)
-runs=(judge size_house size_senate)
+# The words of the runs, each after its heading.
+runs=(solve_senate check_senate solve_house check_house)
 declare -A title=(
-    [judge]="the Senate's county groups of 2023, judged (well under a second where the program is built)"
-    [size_house]="the size table of the House, 120 seats"
-    [size_senate]="the size table of the Senate, 50 seats"
+    [solve_senate]="the Senate's best county groups, 50 seats (about a second where the program is built)"
+    [check_senate]="the Senate's certificate, checked"
+    [solve_house]="the House's best county groups, 120 seats"
+    [check_house]="the House's certificate, checked"
 )
-words_of() {
+problem() { # FOLDER SEATS
+    printf '%s\n' --geo "$1nc2020geo.pl" --segment "$1nc000012020.pl" --chamber "$2" --adjacency "$1county_adjacency2023.txt"
+}
+words_of() { # RUN FOLDER
     case $1 in
-        judge) printf '%s\n' judge "${census[@]}" --chamber 50 --adjacency county_adjacency2023.txt --grouping senate2023.grouping ;;
-        size_house) printf '%s\n' size "${census[@]}" --chamber 120 ;;
-        size_senate) printf '%s\n' size "${census[@]}" --chamber 50 ;;
+        solve_senate) printf '%s\n' solve; problem "$2" 50; printf '%s\n' --certificate senate.certificate --out senate.grouping ;;
+        check_senate) printf '%s\n' check; problem "$2" 50; printf '%s\n' --certificate senate.certificate ;;
+        solve_house) printf '%s\n' solve; problem "$2" 120; printf '%s\n' --certificate house.certificate --out house.grouping ;;
+        check_house) printf '%s\n' check; problem "$2" 120; printf '%s\n' --certificate house.certificate ;;
     esac
 }
 
@@ -86,28 +91,29 @@ follow() { # PROCESS LOG
 if [ "$unproved" = yes ]; then
     cases=$(mktemp -d)
     trap 'rm -rf "$cases"' EXIT
-    for run in "${runs[@]}"; do
+    for run in solve_senate solve_house; do
         : >"$cases/$run"
-        words_of "$run" >"$cases/$run.args"
+        words_of "$run" "" >"$cases/$run.args"
     done
-    heading "building without proof, then the three runs (a minute)"
-    rt try --cases "$cases" --data nc2020geo.pl="$data/nc2020geo.pl" --data nc000012020.pl="$data/nc000012020.pl" \
-        --data county_adjacency2023.txt="$data/county_adjacency2023.txt" --data senate2023.grouping="$data/senate2023.grouping"
+    heading "building without proof, then both chambers solved (two minutes)"
+    rt try --seconds 300 --cases "$cases" --data nc2020geo.pl="$data/nc2020geo.pl" --data nc000012020.pl="$data/nc000012020.pl" \
+        --data county_adjacency2023.txt="$data/county_adjacency2023.txt"
 else
     log=$top/crates/countygroups/out/quickstart.log
-    mkdir -p "$(dirname "$log")"
-    heading "proving and building the program (some 18 minutes on four cores the first time; the log is $log)"
+    stored=$top/crates/countygroups/out/nc2020
+    mkdir -p "$stored"
+    heading "proving and building the program (some 40 minutes on four cores the first time; the log is $log)"
     rt run -- --version >"$log" 2>&1 &
     process=$!
     follow "$process" "$log"
     wait "$process" || true
     program=$top/crates/countygroups/out/countygroups
     [ -x "$program" ] || refuse "the program was not proved or not built: see $log"
-    cd "$data"
+    cd "$stored"
     for run in "${runs[@]}"; do
         heading "${title[$run]}"
-        mapfile -t words < <(words_of "$run")
+        mapfile -t words < <(words_of "$run" "$data/")
         "$program" "${words[@]}"
     done
-    heading "the program is $program, and the files are in $data"
+    heading "the program is $program; certificates and groupings are in $stored"
 fi
