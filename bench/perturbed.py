@@ -1,8 +1,9 @@
 """Solves problems like those of North Carolina 2020 and prints for each its seats, the lines of its certificate or `open`, and
 the seconds; then how many were answered within the steps that are allowed. People are moved by up to a tenth, some pairs of
-adjacent counties are cut and some counties two steps apart are joined, and a chamber has 30 to 170 seats.
+adjacent counties are cut and some counties two steps apart are joined, and a chamber has 30 to 170 seats. Each certificate is
+checked, and has to give the report that `solve` gave.
 
-python3 bench/perturbed.py crates/solved_problems/out/solved_problems [PROBLEMS [STEPS]]
+python3 bench/perturbed.py crates/countygroups/out/countygroups [PROBLEMS [STEPS]]
 """
 import os
 import random
@@ -57,12 +58,23 @@ def with_links_changed(chance):
     return "\n".join(rows) + "\n"
 
 
+def run(program, command, seats, words, folder):
+    called = [program, command, "--geo", GEO, "--segment", SEGMENT, "--adjacency", ADJACENCY, "--chamber", str(seats), *words]
+    return subprocess.run(called, cwd=folder, capture_output=True, timeout=PATIENCE).stdout
+
+
 def solved(program, folder, seats, steps):
-    """The lines of the certificate, None where it is open, and the seconds."""
+    """The lines of the certificate, None where it is open, and the seconds of `solve`."""
     begun = time.monotonic()
-    done = subprocess.run([program, str(seats), str(steps)], cwd=folder, capture_output=True, timeout=PATIENCE, check=True)
+    report = run(program, "solve", seats, ["--steps", str(steps), "--certificate", "certificate"], folder)
     seconds = time.monotonic() - begun
-    return (None if done.stdout == b"open\n" else done.stdout.count(b"\n")), seconds
+    if b"\nanswer open" in report:
+        return None, seconds
+    said = run(program, "check", seats, ["--certificate", "certificate", "--budget", str(2**64 - 1)], folder)
+    if said != report:
+        sys.exit(f"{seats} seats: the checker says another thing than the desk: {said[:200]}")
+    with open(os.path.join(folder, "certificate"), "rb") as file:
+        return file.read().count(b"\n"), seconds
 
 
 def main(program, count, steps):

@@ -1,24 +1,26 @@
-"""Measures the desk and the checker on the Senate and the House of North Carolina 2020: the steps that the desk takes (the least
-that suffice), the lines and bytes of the certificate, the seconds of processor time and the peak memory of solving; and
-the same of checking, with the least budget that suffices.
+"""Measures `solve` and `check` on the Senate and the House of North Carolina 2020: the steps that the desk takes (the least
+that suffice), the lines and bytes of the certificate, the seconds of processor time and the peak memory; and the same of
+checking, with the least budget that suffices. Each certificate is checked to give the report that `solve` gave.
 
-python3 bench/solve_speed.py crates/solved_problems/out/solved_problems crates/certificate_texts/out/certificate_texts
+python3 bench/solve_speed.py crates/countygroups/out/countygroups
 """
 import os
 import resource
-import shutil
 import subprocess
 import sys
 import tempfile
 
-DATA = "data/nc2020"
+DATA = os.path.abspath("data/nc2020")
+FILES = ["--geo", "nc2020geo.pl", "--segment", "nc000012020.pl", "--adjacency", "county_adjacency2023.txt"]
+PROBLEM = [word if word.startswith("--") else os.path.join(DATA, word) for word in FILES]
 ENOUGH = 10_000_000
 
 
-def run(program, words, folder):
-    """What a program prints, its seconds of processor time, and the peak of its memory in MB."""
+def run(program, command, seats, words, folder):
+    """What a command prints, its seconds of processor time, and the peak of its memory in MB."""
     before = resource.getrusage(resource.RUSAGE_CHILDREN)
-    done = subprocess.run(["/usr/bin/env", "time", "-f", "%M", program, *words], cwd=folder, capture_output=True, check=True)
+    called = ["/usr/bin/env", "time", "-f", "%M", program, command, *PROBLEM, "--chamber", str(seats), *words]
+    done = subprocess.run(called, cwd=folder, capture_output=True)
     after = resource.getrusage(resource.RUSAGE_CHILDREN)
     seconds = after.ru_utime + after.ru_stime - before.ru_utime - before.ru_stime
     return done.stdout, seconds, int(done.stderr.split()[-1]) / 1024
@@ -33,45 +35,21 @@ def least(enough, answers):
     return most
 
 
-def write_problem(folder, seats):
-    people, counties, pairs = {}, [], set()
-    with open(os.path.join(DATA, "nc000012020.pl"), encoding="latin1") as file:
-        people = {f[4]: f[5] for f in (line.split("|") for line in file)}
-    with open(os.path.join(DATA, "nc2020geo.pl"), encoding="latin1") as file:
-        for f in (line.split("|") for line in file):
-            if f[2] == "050":
-                counties.append((f[12] + f[14], people[f[7]]))
-    known = {code for code, _ in counties}
-    with open(os.path.join(DATA, "county_adjacency2023.txt"), encoding="latin1") as file:
-        for f in (line.split("|") for line in file):
-            if len(f) >= 4 and {f[1], f[3]} <= known and f[1] != f[3]:
-                pairs.add(tuple(sorted((f[1], f[3]))))
-    told = [f"chamber {seats}"] + [f"county {code} {count}" for code, count in sorted(counties)]
-    told += [f"pair {a} {b}" for a, b in sorted(pairs)]
-    with open(os.path.join(folder, "problem"), "w") as file:
-        file.write("\n".join(told) + "\n")
-
-
-def measure(desk, checker, folder, seats):
-    text, seconds, memory = run(desk, [str(seats), str(ENOUGH)], folder)
-    steps = least(ENOUGH, lambda n: run(desk, [str(seats), str(n)], folder)[0] != b"open\n")
+def measure(program, folder, seats):
+    report, seconds, memory = run(program, "solve", seats, ["--certificate", "certificate"], folder)
+    steps = least(ENOUGH, lambda n: b"answer open" not in run(program, "solve", seats, ["--steps", str(n)], folder)[0])
+    with open(os.path.join(folder, "certificate"), "rb") as file:
+        text = file.read()
     print(f"{seats} seats: {steps} steps, {text.count(10)} lines, {len(text)} bytes, {seconds:.2f} seconds, {memory:.0f} MB")
-    with open(os.path.join(folder, "text"), "wb") as file:
-        file.write(text)
-    write_problem(folder, seats)
-    said, seconds, memory = run(checker, [str(ENOUGH), "masks"], folder)
-    budget = least(ENOUGH, lambda n: run(checker, [str(n), "masks"], folder)[0] == said)
-    print(f"checked: {said.decode().strip()[:60]}, least budget {budget}, {seconds:.2f} seconds, {memory:.0f} MB")
+    words = ["--certificate", "certificate", "--budget"]
+    said, seconds, memory = run(program, "check", seats, [*words, str(ENOUGH)], folder)
+    budget = least(ENOUGH, lambda n: run(program, "check", seats, [*words, str(n)], folder)[0] != b"budget\n")
+    same = "the same report" if said == report else "ANOTHER REPORT"
+    print(f"checked: {same}, least budget {budget}, {seconds:.2f} seconds, {memory:.0f} MB")
 
 
-def main(desk, checker):
-    with tempfile.TemporaryDirectory() as folder:
-        for name in ("nc2020geo.pl", "nc000012020.pl", "county_adjacency2023.txt"):
-            shutil.copy(os.path.join(DATA, name), folder)
-        for seats in (50, 120):
-            measure(os.path.abspath(desk), os.path.abspath(checker), folder, seats)
-
-
-if len(sys.argv) != 3:
+if len(sys.argv) != 2:
     sys.exit(__doc__)
-main(sys.argv[1], sys.argv[2])
+with tempfile.TemporaryDirectory() as place:
+    for chamber in (50, 120):
+        measure(os.path.abspath(sys.argv[1]), place, chamber)
