@@ -8,9 +8,9 @@ usage() {
 usage: ./quickstart.sh [--unproved]
 
 Without a word: proves the program and all that it stands on, builds it, and solves and checks Senate and House by the files in
-data/nc2020; certificates and groupings are stored in crates/countygroups/out/nc2020. The first time that takes some 40 minutes on
+data/nc2020; certificates and groupings are stored in crates/countygroups/out/nc2020. The first time that takes some 50 minutes on
 four cores, later a few seconds.
---unproved: builds the program and solves both, and proves and stores nothing (two minutes).
+--unproved: builds the program and solves both, and proves and stores nothing (some six minutes).
 TEXT
 }
 
@@ -95,14 +95,14 @@ if [ "$unproved" = yes ]; then
         : >"$cases/$run"
         words_of "$run" "" >"$cases/$run.args"
     done
-    heading "building without proof, then both chambers solved (two minutes)"
+    heading "building without proof, then both chambers solved (some six minutes)"
     rt try --seconds 300 --cases "$cases" --data nc2020geo.pl="$data/nc2020geo.pl" --data nc000012020.pl="$data/nc000012020.pl" \
         --data county_adjacency2023.txt="$data/county_adjacency2023.txt"
 else
     log=$top/crates/countygroups/out/quickstart.log
     stored=$top/crates/countygroups/out/nc2020
     mkdir -p "$stored"
-    heading "proving and building the program (some 40 minutes on four cores the first time; the log is $log)"
+    heading "proving and building the program (some 50 minutes on four cores the first time; the log is $log)"
     rt run -- --version >"$log" 2>&1 &
     process=$!
     follow "$process" "$log"
