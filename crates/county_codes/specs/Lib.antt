@@ -1,2 +1,3 @@
 pub mod CodeLists
 pub mod Counties
+pub mod Groups

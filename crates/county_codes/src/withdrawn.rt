@@ -5,7 +5,7 @@ use std::alloc::{AllocError, Global};
 
 /// A set of counties that was taken out beforehand, with its seats: *Stephenson v. Bartlett* has the
 /// districts that the Voting Rights Act requires formed first.
-#[derive(Debug, Drop)]
+#[derive(Debug, PartialEq, Eq, Drop)]
 pub struct Withdrawn {
     /// The seats of the set, at least 1 in a problem.
     pub seats: u16,
