@@ -8,6 +8,7 @@ ghost use Rattle.grouping_problem.specs.Building.{people_in, seats_in};
 use crate::size::{bounds_for, seats_for, suits_some_seats};
 use county_codes::{County, CountyCode, Withdrawn, copy_sets};
 use std::alloc::AllocError;
+use std::fmt;
 use std::marker::Model;
 
 /// The counties of a state that are to be grouped for one chamber, with what was withdrawn beforehand.
@@ -45,6 +46,19 @@ impl Model for Problem {
         × (people_in p.counties.items ≤ p.total) × IsStrictlyIncreasing (codes_of p.counties.items)
         × (length p.counties.items ≤ 128) × (p.left + seats_in p.withdrawn.items ≡ p.chamber)
         × (length p.withdrawn.items ≤ p.chamber) };
+}
+
+/// How many counties and withdrawn sets there are, the people and the seats; the lists themselves are left out.
+impl fmt::Debug for Problem {
+    fn fmt<W: fmt::Write>(&self, f: &mut fmt::Formatter<W>) -> fmt::Result {
+        f.debug_struct("Problem")
+            .field("counties", &self.counties.len())
+            .field("withdrawn", &self.withdrawn.len())
+            .field("people", &self.total)
+            .field("chamber", &self.chamber)
+            .field("seats_left", &self.left)
+            .finish_non_exhaustive()
+    }
 }
 
 /// Whether some pair names both codes, in either order.
