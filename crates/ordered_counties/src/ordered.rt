@@ -13,6 +13,7 @@ use crate::order_fault::OrderFault;
 use county_codes::{County, CountyCode, listed_codes, repeated_code, unlisted_code};
 use grouping_problem::{Problem, county_people};
 use std::alloc::{AllocError, Global};
+use std::fmt;
 use std::marker::Model;
 
 /// The counties of a problem in an order: the first code of the order has place 0, the next place 1. It
@@ -33,6 +34,16 @@ impl<'a> Model for Ordered<'a> {
     ghost view = { λ s. record { problem = s.problem.now; order = s.order.items } };
 
     ghost invariant = { λ s. IsOrdered s.problem.now s.order.items s.people.items s.rows.items };
+}
+
+/// The problem and how many places there are.
+impl fmt::Debug for Ordered<'_> {
+    fn fmt<W: fmt::Write>(&self, f: &mut fmt::Formatter<W>) -> fmt::Result {
+        f.debug_struct("Ordered")
+            .field("problem", self.problem)
+            .field("places", &self.order.len())
+            .finish_non_exhaustive()
+    }
 }
 
 /// Whether no code is repeated, each is listed and none of the listed ones is left out.
