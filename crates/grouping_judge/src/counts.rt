@@ -25,6 +25,30 @@ impl Model for Counts {
     ghost invariant = { λ s. EndsInMore s.by_size.items × (length s.by_size.items < 2 ^ 16) };
 }
 
+/// Whether the counts of each size are the same.
+impl PartialEq for Counts {
+    ghost use Rattle.std.specs.Prelude.{◌≡◌, ◌↔◌, nat_eq, IsTrue};
+    ghost use Rattle.std.specs.Cmp.{partial_equiv_from_equiv};
+    ghost use Rattle.std.specs.Cmp.Lexicographic.{pointwise, nat_list_eq_equiv};
+
+    ghost eq = { pointwise nat_eq };
+
+    ghost laws = { partial_equiv_from_equiv nat_list_eq_equiv };
+
+    fn eq(&self, other: &Self) -> bool
+        ensures value { result ≡ pointwise nat_eq self.now other.now }
+        ensures same { IsTrue result ↔ (self.now ≡ other.now) }
+    {
+        self.by_size == other.by_size
+    }
+}
+
+impl Eq for Counts {
+    ghost use Rattle.std.specs.Cmp.Lexicographic.{nat_list_eq_equiv};
+
+    ghost laws = { nat_list_eq_equiv };
+}
+
 impl Counts {
     /// How many groups have so many counties.
     pub fn of(&self, size: u16) -> u16
