@@ -68,12 +68,38 @@ fn show_both(rt: &HostRuntime, first: &Counts, second: &Counts) -> Result<()> {
     show_order(rt, second, first)
 }
 
+/// Prints whether counts equal their copy, and others.
+fn show_equal_counts(rt: &HostRuntime, first: &Counts, second: &Counts) -> Result<()> {
+    let (same, other) = (first.copy()? == *first, second == first);
+    println!(rt; "counts equal: their copy {same}, others {other}")?;
+    Ok(())
+}
+
 /// Prints how the counts of one and five stand to those of three pairs.
 fn show_three_pairs(rt: &HostRuntime) -> Result<()> {
     let first = counts_of(rt.alloc(), ONE_AND_FIVE_SETS)?;
     let second = counts_of(rt.alloc(), PAIRS)?;
     show_both(rt, &first, &second)?;
-    show_order(rt, &first.copy()?, &first)
+    show_order(rt, &first.copy()?, &first)?;
+    show_equal_counts(rt, &first, &second)
+}
+
+/// The three pairs, of which the first has two seats.
+const TWO_SEATS: Sets = &[(2, &[1, 3]), (1, &[5, 7]), (1, &[9, 11])];
+
+/// The three pairs, of which the first has its counties the other way round.
+const TURNED: Sets = &[(1, &[3, 1]), (1, &[5, 7]), (1, &[9, 11])];
+
+/// The three pairs, of which the first stands last.
+const MOVED: Sets = &[(1, &[5, 7]), (1, &[9, 11]), (1, &[1, 3])];
+
+/// Prints which groupings equal that of the three pairs.
+fn show_equal(rt: &HostRuntime) -> Result<()> {
+    let pairs = grouping(rt.alloc(), PAIRS)?;
+    for sets in [PAIRS, TWO_SEATS, TURNED, MOVED, &[]] {
+        println!(rt; "equal: {}", grouping(rt.alloc(), sets)? == pairs)?;
+    }
+    Ok(())
 }
 
 /// Groupings of the ring of four with each fault, and with several.
@@ -116,6 +142,7 @@ const BESIDE: &[Sets] = &[&[(2, &[3, 1])], &[(1, &[3])]];
 /// Prints verdicts on groupings.
 pub(crate) fn show(rt: &HostRuntime) -> Result<()> {
     show_three_pairs(rt)?;
+    show_equal(rt)?;
     show_verdicts(rt, FOUR_COUNTY_PATH, PATH)?;
     show_verdicts(rt, THIRTY_NINE_SEATS, APART)?;
     show_verdicts(rt, RING_OF_FOUR, FAULTS)?;

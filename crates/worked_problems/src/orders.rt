@@ -18,8 +18,9 @@ fn show_place(rt: &HostRuntime, ordered: &Ordered, place: u16) -> Result<()> {
     Ok(())
 }
 
-/// Prints the counties of an order, by their places.
+/// Prints an order as a whole, and its counties by their places.
 fn show_places(rt: &HostRuntime, ordered: &Ordered) -> Result<()> {
+    println!(rt; "{ordered:?}")?;
     println!(rt;
         "{} places for {} seats",
         ordered.places(),

@@ -200,11 +200,18 @@ const ONE_OF_THREE: Sketch = Sketch {
     chamber: 3,
 };
 
-/// Prints a problem with a withdrawn set, and its copy.
+/// Prints a problem with a withdrawn set, its copy, and how it is shown as a whole.
 fn show_built(rt: &HostRuntime) -> Result<()> {
     let built = ONE_OF_THREE.problem(rt.alloc())?;
+    let copy = built.copy()?;
     show_problem(rt, &built)?;
-    show_problem(rt, &built.copy()?)
+    show_problem(rt, &copy)?;
+    println!(rt; "{built:?}")?;
+    println!(rt;
+        "withdrawn sets equal: {}",
+        built.withdrawn() == copy.withdrawn()
+    )?;
+    Ok(())
 }
 
 /// Prints the seats that people of the two counties apart suit.
