@@ -60,7 +60,7 @@ fn end_answer(alloc: Global, end: &WordsEnd) -> Result<Answer, AllocError>
     ensures { IfOk result (λ a. IsEndAnswer end.now (answer_of a)) }
 {
     match end {
-        WordsEnd::Help(text) => Answer::new(alloc, text.as_bytes(), 0),
+        WordsEnd::Help(text) | WordsEnd::Version(text) => Answer::new(alloc, text.as_bytes(), 0),
         WordsEnd::Usage(text) => Answer::new(alloc, text.as_bytes(), 2),
         WordsEnd::Memory => Answer::new(alloc, MEMORY, 5),
     }
@@ -95,7 +95,7 @@ pub(crate) fn deliver<W: Sink>(out: &mut W, text: &[u8], status: u8) -> u8
 /// Runs one command and answers the exit status. The words are those after the program's name. The answer
 /// is composed whole, files are stored, and then the answer is written.
 ///
-/// The status is 0 for an answer and for help, 1 where `judge` finds a fault of the grouping, `audit` finds anything,
+/// The status is 0 for an answer, for help and for the version, 1 where `judge` finds a fault of the grouping, `audit` finds anything,
 /// `solve` or `check` that no grouping is lawful, or `check` that the text is no certificate, 2 for usage, 3 where
 /// the steps of `solve` or the budget of `check` ran out, 4 where the input was refused, 5 where a file could not be had
 /// or stored or memory was refused (the line is then `memory`), and 5 where the writing failed: how much went out is

@@ -4,7 +4,7 @@ use Rattle.command_words.specs.Words.{Means, EndsBy, faults_of, takes_words}
 use Rattle.command_words.specs.declared.words.CommandWords.{CommandWords}
 use Rattle.command_words.specs.declared.words.CommandWords.TheVariants.{Size, Judge, Solve, Check, Audit}
 use Rattle.command_words.specs.declared.end.WordsEnd.{WordsEnd}
-use Rattle.command_words.specs.declared.end.WordsEnd.TheVariants.{Help, Usage, Memory}
+use Rattle.command_words.specs.declared.end.WordsEnd.TheVariants.{Help, Version, Usage, Memory}
 use Rattle.shelves.specs.Files.{File, Files}
 use Rattle.program_answers.specs.Answer.{Answered, memory_answer}
 use Rattle.command_runs.specs.Course.{EndsIn}
@@ -29,9 +29,10 @@ IsOutOfMemory stored a = (a ≡ memory_answer) × (stored ≡ [])
 abbrev pub CommandRun : Option Files → CommandWords → ℕ → ℕ → List File → Answered → Type 0
 CommandRun files command before after stored a = IsOutOfMemory stored a ⊎ CommandEnds files command before after stored a
 
--- the words give no command: help ends with 0 and usage with 2, with clap's text
+-- the words give no command: help and the version end with 0 and usage with 2, with clap's text
 abbrev pub IsEndAnswer : WordsEnd → Answered → Type 0
 IsEndAnswer (Help text) a = a ≡ record { text = string_bytes text; status = 0 }
+IsEndAnswer (Version text) a = a ≡ record { text = string_bytes text; status = 0 }
 IsEndAnswer (Usage text) a = a ≡ record { text = string_bytes text; status = 2 }
 IsEndAnswer Memory a = a ≡ memory_answer
 
@@ -51,7 +52,7 @@ pub record RunsCommand (files : Option Files) (words : List (List ℕ)) (before 
   pub run : CommandRun files command before after stored a
 
 -- The answer to words, and the files that were stored: that of the command that they mean, or the end that they come to. Words that clap
--- takes mean a command, so they end neither in help nor in usage. A growth may be refused before anything is stored.
+-- takes mean a command, so they end neither in help, nor in the version, nor in usage. A growth may be refused before anything is stored.
 abbrev pub IsRunAnswer : Option Files → List (List ℕ) → ℕ → ℕ → List File → Answered → Type 0
 IsRunAnswer files words before after stored a =
     IsOutOfMemory stored a ⊎ (EndsAtWords words stored a ⊎ RunsCommand files words before after stored a)

@@ -1,5 +1,5 @@
 -- The words that the command `countygroups` takes have the values of the options of a subcommand.
-use Rattle.std.proofs.Common.{◌≡◌, ◌⊎◌, ◌∙◌, true, false, refl, sym, ap, subst, inl, inr, List, [], ◌∷◌, Result, IfErr, IfOk}
+use Rattle.std.proofs.Common.{◌≡◌, ◌≢◌, ◌⊎◌, ◌∙◌, true, false, refl, sym, ap, subst, inl, inr, List, [], ◌∷◌, Result, IfErr, IfOk}
 use Rattle.std.proofs.lemmas.Result.{IfErr-weaker, IfOk-weaker}
 use Rattle.std.specs.List.{AllByRecursion}
 use Rattle.std.specs.Option.{IsSomeAnd}
@@ -7,7 +7,7 @@ use Rattle.clap.specs.Words.{App, FailsBy, HasMatchesOf, IsAmong, app_of, kind_o
 use Rattle.clap.specs.declared.builder.command.Command.{Command}
 use Rattle.clap.specs.declared.error.Error.{Error}
 use Rattle.clap.specs.declared.error.kind.ErrorKind.{ErrorKind}
-use Rattle.clap.specs.declared.error.kind.ErrorKind.TheVariants.{DisplayHelp, OutOfMemory}
+use Rattle.clap.specs.declared.error.kind.ErrorKind.TheVariants.{DisplayHelp, DisplayVersion, OutOfMemory}
 use Rattle.clap.specs.declared.parser.matches.ArgMatches.{ArgMatches}
 use Rattle.clap.proofs.FaultLemmas.{fails_as}
 use Rattle.clap.specs.Walk.{Text, nothing_held}
@@ -17,7 +17,7 @@ use Rattle.command_words.specs.Command.{audit_options, check_options, common_opt
 use Rattle.command_words.specs.Options.{HasCommand}
 use Rattle.command_words.specs.Words.{EndsAs, EndsBy, faults_of, subcommand_in, takes_words}
 use Rattle.command_words.specs.declared.end.WordsEnd.{WordsEnd}
-use Rattle.command_words.specs.declared.end.WordsEnd.TheVariants.{Help, Memory, Usage}
+use Rattle.command_words.specs.declared.end.WordsEnd.TheVariants.{Help, Memory, Usage, Version}
 use Rattle.command_words.proofs.HelpLemmas.{IsClear, clear_faults, has_no_help}
 use Rattle.command_words.proofs.KeyLemmas.{All-from_recursion, find-All}
 use Rattle.command_words.proofs.ValueLemmas.{level_values}
@@ -88,14 +88,17 @@ help_alone words = clear_faults countygroups words no_help
 -- an error of one of the faults ends as it should
 pub ends_by : (words : List Text) (k : ErrorKind) (end : WordsEnd) → (k ≡ OutOfMemory) ⊎ IsAmong k (faults_of words) → EndsAs k end → EndsBy (faults_of words) end
 ends_by words k (Help text) (inl e) h = let bad : OutOfMemory ≡ DisplayHelp = sym e ∙ h in cc
-ends_by words k (Help text) (inr among) h = (help_alone words).alone (subst (λ (x : ErrorKind). IsAmong x (faults_of words)) h among)
-ends_by words k (Usage text) (inl e) h = absurd (h.1 e)
+ends_by words k (Help text) (inr among) h = (help_alone words).alone DisplayHelp (inl refl) (subst (λ (x : ErrorKind). IsAmong x (faults_of words)) h among)
+ends_by words k (Version text) (inl e) h = let bad : OutOfMemory ≡ DisplayVersion = sym e ∙ h in cc
+ends_by words k (Version text) (inr among) h = (help_alone words).alone DisplayVersion (inr refl) (subst (λ (x : ErrorKind). IsAmong x (faults_of words)) h among)
+ends_by words k (Usage text) (inl e) h = absurd (h.2 e)
 ends_by words k (Usage text) (inr among) h = (
   λ none. absurd (subst (IsAmong k) none among),
-  λ help. other (subst (IsAmong k) help among),
+  λ help. other DisplayHelp h.0 (subst (IsAmong k) help among),
+  λ version. other DisplayVersion h.1 (subst (IsAmong k) version among),
 )
   where
-    other : (k ≡ DisplayHelp) ⊎ ⊥ → ⊥
-    other (inl e) = h.0 e
-    other (inr e) = e
+    other : (x : ErrorKind) → (k ≢ x) → (k ≡ x) ⊎ ⊥ → ⊥
+    other x not (inl e) = not e
+    other x not (inr e) = e
 ends_by words k Memory fits h = tt

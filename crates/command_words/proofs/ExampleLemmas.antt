@@ -34,6 +34,11 @@ no_seats : faults_of (files ++ codes "--chamber" ∷ codes "0" ∷ []) ≡ kind.
 unfolding clap_on_literals countygroups faults_of
 no_seats = refl
 
+-- only the program itself has a version
+version_of_size : faults_of (codes "size" ∷ codes "--version" ∷ []) ≡ kind.UnknownArgument ∷ []
+unfolding clap_on_literals countygroups faults_of
+version_of_size = refl
+
 -- `judge` with and without the optional files
 abbrev judged : List Text
 judged = codes "judge" ∷ codes "--geo=a" ∷ codes "--segment=b" ∷ codes "--chamber=50" ∷ codes "--adjacency=c" ∷ codes "--grouping=d" ∷ []
@@ -53,6 +58,10 @@ no_words = refl
 help : faults_of (codes "--help" ∷ []) ≡ kind.DisplayHelp ∷ []
 unfolding clap_on_literals countygroups faults_of
 help = refl
+
+version : faults_of (codes "--version" ∷ []) ≡ kind.DisplayVersion ∷ []
+unfolding clap_on_literals countygroups faults_of
+version = refl
 
 help_of_size : faults_of (codes "size" ∷ codes "-h" ∷ []) ≡ kind.DisplayHelp ∷ []
 unfolding clap_on_literals countygroups faults_of

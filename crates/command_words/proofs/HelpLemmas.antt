@@ -1,4 +1,4 @@
--- Where no subcommand `help` stands, help is a fault alone.
+-- Where no subcommand `help` stands, a call for help or for the version is a fault alone.
 use Rattle.std.proofs.Common.{◌≡◌, ◌⊎◌, ◌&&◌, ◌||◌, ◌==◌, not, ℕ, Bool, cond, true, false, zero, suc, refl, sym, ap, inl, inr, List, [], ◌∷◌, length, drop, min, ◌+◌, Option, Some, None, codes, is_some, nat_lt}
 use Rattle.std.specs.Prelude.{encode_utf8, slice_get}
 use Rattle.std.specs.List.{find, list_all, list_any}
@@ -22,19 +22,23 @@ use Rattle.clap.specs.declared.error.kind.ErrorKind.TheVariants as kind
 use Rattle.clap.proofs.WalkLemmas.{both}
 use Rattle.command_words.proofs.KeyLemmas.{found_too}
 
--- help is no fault beside another
+-- a call for help or for the version
+abbrev pub IsRequest : ErrorKind → Type 0
+IsRequest k = (k ≡ kind.DisplayHelp) ⊎ (k ≡ kind.DisplayVersion)
+
+-- such a call is no fault beside another
 pub record IsClear (kinds : Kinds) : Type 0 where
-  pub alone : IsAmong kind.DisplayHelp kinds → kinds ≡ kind.DisplayHelp ∷ []
+  pub alone : (k : ErrorKind) → IsRequest k → IsAmong k kinds → kinds ≡ k ∷ []
 
 clear_none : IsClear []
-clear_none = record { alone = λ h. absurd h }
+clear_none = record { alone = λ k asks h. absurd h }
 
 clear_one : (k : ErrorKind) → IsClear (k ∷ [])
-clear_one k = record { alone = λ h. go h }
+clear_one k = record { alone = λ x asks h. go x h }
   where
-    go : (kind.DisplayHelp ≡ k) ⊎ ⊥ → k ∷ [] ≡ kind.DisplayHelp ∷ []
-    go (inl e) = ap (λ (x : ErrorKind). x ∷ []) (sym e)
-    go (inr h) = absurd h
+    go : (x : ErrorKind) → (x ≡ k) ⊎ ⊥ → k ∷ [] ≡ x ∷ []
+    go x (inl e) = ap (λ (y : ErrorKind). y ∷ []) (sym e)
+    go x (inr h) = absurd h
 
 clear_then : (a b : Kinds) → IsClear a → IsClear b → IsClear (or_else a b)
 clear_then [] b f g = g
@@ -143,12 +147,14 @@ module _ (s : Shape) (no_help : s.disable_help_subcommand ≡ true) (names : Nam
       go false = clear_none
 
   clear_stray : IsClear (stray_fault s)
-  clear_stray = clear_if s.is_leaf _ _ (clear_one kind.UnknownArgument) (record { alone = λ h. go h })
+  clear_stray = clear_if s.is_leaf _ _ (clear_one kind.UnknownArgument) (record { alone = λ k asks h. absurd (no_request k asks h) })
     where
-      go : (kind.DisplayHelp ≡ kind.UnknownArgument) ⊎ ((kind.DisplayHelp ≡ kind.InvalidSubcommand) ⊎ ⊥) → kind.UnknownArgument ∷ kind.InvalidSubcommand ∷ [] ≡ kind.DisplayHelp ∷ []
-      go (inl e) = cc
-      go (inr (inl e)) = cc
-      go (inr (inr e)) = absurd e
+      no_request : (k : ErrorKind) → IsRequest k → (k ≡ kind.UnknownArgument) ⊎ ((k ≡ kind.InvalidSubcommand) ⊎ ⊥) → ⊥
+      no_request k (inl is) (inl e) = cc
+      no_request k (inl is) (inr (inl e)) = cc
+      no_request k (inr is) (inl e) = cc
+      no_request k (inr is) (inr (inl e)) = cc
+      no_request k asks (inr (inr e)) = e
 
   clear_after : (position : ℕ) (h : Held) (step : Step) → IsClear (step_fault s position h step)
   clear_after position h (next waiting) = clear_none

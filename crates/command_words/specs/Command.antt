@@ -66,12 +66,13 @@ subcommands = subcommand (codes "size") common_options ∷ subcommand (codes "ju
     ∷ subcommand (codes "solve") solve_options ∷ subcommand (codes "check") check_options
     ∷ subcommand (codes "audit") audit_options ∷ []
 
--- the program without its subcommands: it has no option of its own and requires a subcommand
+-- the program without its subcommands: it has no option of its own but help and the version, and requires a subcommand
 abbrev pub countygroups_alone : App
 countygroups_alone = record {
   top = record (new_shape (codes "countygroups")) {
     no_binary_name = true;
     disable_help_subcommand = true;
+    has_version = true;
     subcommand_required = true;
   };
   subs = [];

@@ -5,7 +5,7 @@ use Rattle.std.specs.Option.{IsSomeAnd}
 use Rattle.clap.specs.Words.{Kinds, Row, Text, fault_of, first_of, subcommand_of, takes}
 use Rattle.clap.specs.Takes.{is_given}
 use Rattle.clap.specs.declared.error.kind.ErrorKind.{ErrorKind}
-use Rattle.clap.specs.declared.error.kind.ErrorKind.TheVariants.{DisplayHelp, OutOfMemory}
+use Rattle.clap.specs.declared.error.kind.ErrorKind.TheVariants.{DisplayHelp, DisplayVersion, OutOfMemory}
 use Rattle.command_words.specs.Command.{countygroups}
 use Rattle.command_words.specs.Options.{Spells}
 use Rattle.command_words.specs.declared.words.CommandWords.{CommandWords}
@@ -17,17 +17,17 @@ use Rattle.command_words.specs.declared.words.JudgeWords.{JudgeWords}
 use Rattle.command_words.specs.declared.words.ProblemWords.{ProblemWords}
 use Rattle.command_words.specs.declared.words.SolveWords.{SolveWords}
 use Rattle.command_words.specs.declared.end.WordsEnd.{WordsEnd}
-use Rattle.command_words.specs.declared.end.WordsEnd.TheVariants.{Help, Usage, Memory}
+use Rattle.command_words.specs.declared.end.WordsEnd.TheVariants.{Help, Version, Usage, Memory}
 
 -- the subcommand that the words name, and the values of its options
 unfoldable pub subcommand_in : List Text → Option (Text × List Row)
 subcommand_in words = subcommand_of countygroups words
 
--- clap takes the words: they have no fault and ask for no help
+-- clap takes the words: they have no fault and ask neither for help nor for the version
 unfoldable pub takes_words : List Text → Bool
 takes_words words = takes countygroups words
 
--- what stops clap first in the words: nothing, a call for help or a mistake
+-- what stops clap first in the words: nothing, a call for help or for the version, or a mistake
 unfoldable pub faults_of : List Text → Kinds
 faults_of words = fault_of countygroups words
 
@@ -97,28 +97,32 @@ SaysCommand p (Audit words) = (p.0 ≡ codes "audit") × SaysAudit p.1 words
 abbrev pub Means : List Text → CommandWords → Type 0
 Means words command = IsSomeAnd (subcommand_in words) (λ p. SaysCommand p command)
 
--- an error of help ends in help, one of memory in memory and any other in usage; since its text
--- takes memory, any may end in memory
+-- an error of help ends in help, one of the version in the version, one of memory in memory and any other in usage; since its
+-- text takes memory, any may end in memory
 abbrev pub EndsAs : ErrorKind → WordsEnd → Type 0
 EndsAs kind (Help text) = kind ≡ DisplayHelp
-EndsAs kind (Usage text) = (kind ≢ DisplayHelp) × (kind ≢ OutOfMemory)
+EndsAs kind (Version text) = kind ≡ DisplayVersion
+EndsAs kind (Usage text) = (kind ≢ DisplayHelp) × (kind ≢ DisplayVersion) × (kind ≢ OutOfMemory)
 EndsAs kind Memory = ⊤
 
--- words with these faults end in help where help is asked for before anything is wrong, and else
+-- words with these faults end in help where help is asked for before anything is wrong, in the version where that is, and else
 -- in usage; any words may end in memory
 abbrev pub EndsBy : Kinds → WordsEnd → Type 0
 EndsBy faults (Help text) = faults ≡ DisplayHelp ∷ []
-EndsBy faults (Usage text) = (faults ≢ []) × (faults ≢ DisplayHelp ∷ [])
+EndsBy faults (Version text) = faults ≡ DisplayVersion ∷ []
+EndsBy faults (Usage text) = (faults ≢ []) × (faults ≢ DisplayHelp ∷ []) × (faults ≢ DisplayVersion ∷ [])
 EndsBy faults Memory = ⊤
 
--- help was asked for
-abbrev pub IsHelp : WordsEnd → Type 0
-IsHelp (Help text) = ⊤
-IsHelp (Usage text) = ⊥
-IsHelp Memory = ⊥
+-- help or the version was asked for
+abbrev pub IsAsked : WordsEnd → Type 0
+IsAsked (Help text) = ⊤
+IsAsked (Version text) = ⊤
+IsAsked (Usage text) = ⊥
+IsAsked Memory = ⊥
 
 -- the exit status of the program
 abbrev pub status_of : WordsEnd → ℕ
 status_of (Help text) = 0
+status_of (Version text) = 0
 status_of (Usage text) = 2
 status_of Memory = 5

@@ -6,6 +6,28 @@ ghost use Rattle.command_words.specs.Command.{HasMore, HasShape, countygroups, c
 use clap::{Arg, ArgAction, Command, value_parser};
 use std::alloc::{AllocError, Global};
 
+/// What `--help` begins with.
+const ABOUT: &str = "Groups North Carolina's counties for legislative districts (Stephenson v. Bartlett): sizes, the best grouping \
+    with its certificate, and verdicts on groupings, certificates and block assignment files";
+
+/// What `--version` says after the program's name.
+const VERSION: &str = "0.1.0, for the Rattle kit 13b (logic dac8208d650f15bf), whose `rt run` makes this program only where it is proved";
+
+/// What `--help` ends with.
+const AFTER_HELP: &str = "Without any word a case is read from standard input: the words on its first line, then each file \
+    after a line `file NAME`.\n\
+    \n\
+    Exit status:\n\
+    \x20 0  an answer, help or the version\n\
+    \x20 1  a fault of the grouping, a finding, no lawful grouping, or a text that is no certificate\n\
+    \x20 2  the words are no command\n\
+    \x20 3  the steps of `solve` or the budget of `check` ran out\n\
+    \x20 4  a file or the problem was refused\n\
+    \x20 5  a file could not be read or stored, memory was refused, or the answer could not be written\n\
+    \n\
+    A name of a file is a path; `/dev/stdin` is standard input, and `-` a file of that name. The layouts of the files\n\
+    are told in docs/formats.md, and how to read the answers in docs/guide.md.";
+
 /// An option `--name VALUE`.
 fn text_option<'a>(alloc: Global, name: &'a str, value_name: &'a str, help: &'a str) -> Arg<'a>
     ensures rule { rule_of result ≡ text_option name.entry.now }
@@ -149,7 +171,9 @@ fn program_alone<'a>(alloc: Global) -> Result<Command<'a>, AllocError>
     ensures { IfOk result (λ c. app_of c ≡ countygroups_alone) }
 {
     Command::new(alloc, "countygroups")
-        .about("Groups North Carolina's counties for legislative districts")
+        .about(ABOUT)
+        .version(VERSION)
+        .after_help(AFTER_HELP)
         .no_binary_name(true)
         .disable_help_subcommand(true)
         .subcommand_required(true)

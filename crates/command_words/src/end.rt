@@ -1,7 +1,7 @@
 //! How a parse of the words ends where it gives no command.
 ghost use Rattle.std.specs.Prelude.{◌≡◌, ◌↔◌};
 ghost use Rattle.clap.specs.Words.{kind_of};
-ghost use Rattle.command_words.specs.Words.{EndsAs, IsHelp, status_of};
+ghost use Rattle.command_words.specs.Words.{EndsAs, IsAsked, status_of};
 
 use clap::error::ErrorKind;
 use std::alloc::Global;
@@ -13,6 +13,9 @@ pub enum WordsEnd {
     /// Help was asked for, and this is its text; the program exits with 0.
     #[error("{0}")]
     Help(String),
+    /// The version was asked for, and this is its text; the program exits with 0.
+    #[error("{0}")]
+    Version(String),
     /// The words are no command of the program, and this text says why; it exits with 2.
     #[error("{0}")]
     Usage(String),
@@ -22,13 +25,14 @@ pub enum WordsEnd {
 }
 
 impl WordsEnd {
-    /// The exit status of the program: 0 for help, 2 for usage and 5 for memory.
+    /// The exit status of the program: 0 for help and the version, 2 for usage and 5 for memory.
     pub fn status(&self) -> u8
         ensures value { result ≡ status_of self.now }
-        ensures success { (result ≡ 0) ↔ IsHelp self.now }
+        ensures success { (result ≡ 0) ↔ IsAsked self.now }
     {
         match self {
             WordsEnd::Help(_) => 0,
+            WordsEnd::Version(_) => 0,
             WordsEnd::Usage(_) => 2,
             WordsEnd::Memory => 5,
         }
@@ -44,6 +48,7 @@ impl WordsEnd {
         match error.kind() {
             ErrorKind::OutOfMemory => WordsEnd::Memory,
             ErrorKind::DisplayHelp => WordsEnd::Help(text),
+            ErrorKind::DisplayVersion => WordsEnd::Version(text),
             _ => WordsEnd::Usage(text),
         }
     }
