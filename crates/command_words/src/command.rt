@@ -1,20 +1,23 @@
 //! The command `countygroups`, as `clap` parses it.
 ghost use Rattle.std.specs.Prelude.{◌≡◌, IfOk, codes, false};
-ghost use Rattle.clap.specs.Words.{app_of, rule_of};
+ghost use Rattle.clap.specs.Words.{Shape, app_of, rule_of, with_subcommand};
 ghost use Rattle.command_words.specs.Command.{HasMore, HasShape, countygroups, countygroups_alone, subcommand, of_number, common_options, problem_options, judge_options, solve_options, check_options, audit_options, of_steps, required, text_option, with_default};
 
 use clap::{Arg, ArgAction, Command, value_parser};
 use std::alloc::{AllocError, Global};
 
 /// What `--help` begins with.
-const ABOUT: &str = "Groups North Carolina's counties for legislative districts (Stephenson v. Bartlett): sizes, the best grouping \
+const ABOUT: &str =
+    "Groups North Carolina's counties for legislative districts (Stephenson v. Bartlett): sizes, the best grouping \
     with its certificate, and verdicts on groupings, certificates and block assignment files";
 
 /// What `--version` says after the program's name.
-const VERSION: &str = "0.1.0, for the Rattle kit 13b (logic dac8208d650f15bf), whose `rt run` makes this program only where it is proved";
+const VERSION: &str =
+    "0.1.0, for the Rattle kit 13b (logic dac8208d650f15bf), whose `rt run` makes this program only where it is proved";
 
 /// What `--help` ends with.
-const AFTER_HELP: &str = "Without any word a case is read from standard input: the words on its first line, then each file \
+const AFTER_HELP: &str =
+    "Without any word a case is read from standard input: the words on its first line, then each file \
     after a line `file NAME`.\n\
     \n\
     Exit status:\n\
@@ -180,18 +183,27 @@ fn program_alone<'a>(alloc: Global) -> Result<Command<'a>, AllocError>
         .bin_name("countygroups")
 }
 
+/// The program with one more subcommand, where that one could be made.
+fn with_command<'a>(
+    program: Command<'a>,
+    command: Result<Command<'a>, AllocError>,
+) -> Result<Command<'a>, AllocError>
+    ensures { IfOk
+        result
+        (λ new. (s : Shape) → IfOk command.entry (λ c. HasShape c s) → app_of new ≡ with_subcommand (app_of program.entry) s) }
+{
+    let command = command?;
+    program.subcommand(command)
+}
+
 /// The command of the whole program.
 pub(crate) fn program<'a>(alloc: Global) -> Result<Command<'a>, AllocError>
     ensures { IfOk result (λ c. app_of c ≡ countygroups) }
 {
-    let size = size_command(alloc)?;
-    let program = program_alone(alloc)?.subcommand(size)?;
-    let judge = judge_command(alloc)?;
-    let program = program.subcommand(judge)?;
-    let solve = solve_command(alloc)?;
-    let program = program.subcommand(solve)?;
-    let check = check_command(alloc)?;
-    let program = program.subcommand(check)?;
-    let audit = audit_command(alloc)?;
-    program.subcommand(audit)
+    let program = program_alone(alloc)?;
+    let program = with_command(program, size_command(alloc))?;
+    let program = with_command(program, judge_command(alloc))?;
+    let program = with_command(program, solve_command(alloc))?;
+    let program = with_command(program, check_command(alloc))?;
+    with_command(program, audit_command(alloc))
 }

@@ -1,13 +1,21 @@
+use Rattle.std.proofs.Common.{◌≡◌, ◌∙◌, ap, codes}
 use Rattle.std.proofs.lemmas.Result.{IfOk-weaker}
-use Rattle.command_words.specs.Command.{countygroups}
-use Rattle.command_words.proofs.CommandLemmas.{has_one_subcommand_more}
+use Rattle.clap.specs.Words.{App, Shape, app_of, with_subcommand}
+use Rattle.clap.specs.declared.builder.command.Command.{Command}
+use Rattle.command_words.specs.Command.{audit_options, check_options, common_options, countygroups, judge_options, solve_options, subcommand}
 use Rattle.command_words.proofs.command.program.Goals as goal
+
+-- one more subcommand
+then_one_more : (a : App) (old new : Command) (s : Shape) → app_of old ≡ a → app_of new ≡ with_subcommand (app_of old) s → app_of new ≡ with_subcommand a s
+then_one_more a old new s before more = more ∙ ap (λ (x : App). with_subcommand x s) before
 
 pub returns : goal.returns
 unfolding countygroups
 returns c =
-    let size = has_one_subcommand_more c.in_ok-program_alone.field-0 c.in_ok-size.size c.in_ok-program.program _ _ c.in_ok-program_alone.ensures c.in_ok-size.ensures c.in_ok-program.ensures in
-    let judge = has_one_subcommand_more c.in_ok-program.program c.in_ok-judge.judge c.in_ok-program-2.program _ _ size c.in_ok-judge.ensures c.in_ok-program-2.ensures in
-    let solve = has_one_subcommand_more c.in_ok-program-2.program c.in_ok-solve.solve c.in_ok-program-3.program _ _ judge c.in_ok-solve.ensures c.in_ok-program-3.ensures in
-    let check = has_one_subcommand_more c.in_ok-program-3.program c.in_ok-check.check c.in_ok-program-4.program _ _ solve c.in_ok-check.ensures c.in_ok-program-4.ensures in
-    IfOk-weaker c.subcommand-5.result _ _ (λ new added. has_one_subcommand_more c.in_ok-program-4.program c.in_ok-audit.audit new _ _ check c.in_ok-audit.ensures added) c.subcommand-5.ensures
+    let size = then_one_more _ c.in_ok-program.program c.in_ok-program-2.program _ c.in_ok-program.ensures
+    (c.in_ok-program-2.ensures (subcommand (codes "size") common_options) c.size_command.ensures) in
+    let judge = then_one_more _ c.in_ok-program-2.program c.in_ok-program-3.program _ size (c.in_ok-program-3.ensures (subcommand (codes "judge") judge_options) c.judge_command.ensures) in
+    let solve = then_one_more _ c.in_ok-program-3.program c.in_ok-program-4.program _ judge (c.in_ok-program-4.ensures (subcommand (codes "solve") solve_options) c.solve_command.ensures) in
+    let check = then_one_more _ c.in_ok-program-4.program c.in_ok-program-5.program _ solve (c.in_ok-program-5.ensures (subcommand (codes "check") check_options) c.check_command.ensures) in
+    IfOk-weaker c.with_command-5.result _ _
+    (λ new more. then_one_more _ c.in_ok-program-5.program new _ check (more (subcommand (codes "audit") audit_options) c.audit_command.ensures)) c.with_command-5.ensures
