@@ -7,16 +7,17 @@ use crate::shelf::{MAX_FILE, Shelf, ShelfFault};
 use crate::whole::{WholeFault, read_whole};
 use field_lines::Reading;
 use std::alloc::Global;
-use std::fs;
 use std::fs::OpenFile;
-use std::io::{Error, ErrorKind};
+use std::io::{Error, ErrorKind, Read};
 use std::rt::Files;
+use std::{fs, io};
 
 /// The machine's files.
 #[derive(Drop)]
 pub struct FileShelf<R> {
     rt: R,
     failures: u64,
+    reason: Option<ErrorKind>,
 }
 
 impl<R: Files + AllocGlobal> FileShelf<R> {
@@ -24,7 +25,39 @@ impl<R: Files + AllocGlobal> FileShelf<R> {
     pub fn new(rt: R) -> Self
         ensures { ⟦<FileShelf<R> as Shelf>⟧.failure_count result ≡ 0 }
     {
-        FileShelf { rt, failures: 0 }
+        FileShelf {
+            rt,
+            failures: 0,
+            reason: None,
+        }
+    }
+
+    /// What sort of error the system gave at the last load or store that failed. `None` where no call has failed, or
+    /// where the system gave no error: the file was too large, or memory was refused.
+    pub fn reason(&self) -> Option<ErrorKind> {
+        self.reason
+    }
+}
+
+/// A reader that keeps what sort of error its last read gave.
+#[derive(Drop)]
+struct Noting<'a, R> {
+    reader: R,
+    reason: &'a mut Option<ErrorKind>,
+}
+
+impl<R: Read> Read for Noting<'_, R> {
+    fn read(&mut self, buf: &mut [u8]) -> io::Result<usize> {
+        match self.reader.read(buf) {
+            Ok(count) => {
+                *self.reason = None;
+                Ok(count)
+            }
+            Err(error) => {
+                *self.reason = Some(error.kind());
+                Err(error)
+            }
+        }
     }
 }
 
@@ -74,6 +107,17 @@ fn load_fault(error: &Error, failures: &mut u64) -> ShelfFault
     }
 }
 
+/// The fault that one of a file's read is.
+fn read_fault(fault: WholeFault, failures: &mut u64) -> ShelfFault
+    ensures { CountsFault failures.old failures.new result }
+{
+    match fault {
+        WholeFault::TooLarge => ShelfFault::TooLarge,
+        WholeFault::Failed => device_fault(failures),
+        WholeFault::Memory => ShelfFault::Memory,
+    }
+}
+
 impl<R: Files + AllocGlobal> Shelf for FileShelf<R> {
     ghost contents = { λ _. None };
 
@@ -85,16 +129,28 @@ impl<R: Files + AllocGlobal> Shelf for FileShelf<R> {
     fn load(&mut self, alloc: Global, name: &str) -> Result<Vec<u8>, ShelfFault> {
         let file = match fs::open(&self.rt, name) {
             Ok(file) => file,
-            Err(error) => return Err(load_fault(&error, &mut self.failures)),
+            Err(error) => {
+                self.reason = Some(error.kind());
+                return Err(load_fault(&error, &mut self.failures));
+            }
         };
         if is_too_large(&file) {
+            self.reason = None;
             return Err(ShelfFault::TooLarge);
         }
-        match read_whole(alloc, &mut Reading::new(file), MAX_FILE) {
+        let mut reason = None;
+        let mut source = Reading::new(Noting {
+            reader: file,
+            reason: &mut reason,
+        });
+        let whole = read_whole(alloc, &mut source, MAX_FILE);
+        drop(source);
+        match whole {
             Ok(bytes) => Ok(bytes),
-            Err(WholeFault::TooLarge) => Err(ShelfFault::TooLarge),
-            Err(WholeFault::Failed) => Err(device_fault(&mut self.failures)),
-            Err(WholeFault::Memory) => Err(ShelfFault::Memory),
+            Err(fault) => {
+                self.reason = reason;
+                Err(read_fault(fault, &mut self.failures))
+            }
         }
     }
 
@@ -106,7 +162,10 @@ impl<R: Files + AllocGlobal> Shelf for FileShelf<R> {
     fn store(&mut self, alloc: Global, name: &str, bytes: &[u8]) -> Result<(), ShelfFault> {
         match replace_file(&self.rt, alloc, name, bytes) {
             Ok(()) => Ok(()),
-            Err(error) => Err(store_fault(&error, &mut self.failures)),
+            Err(error) => {
+                self.reason = Some(error.kind());
+                Err(store_fault(&error, &mut self.failures))
+            }
         }
     }
 
