@@ -1,3 +1,4 @@
 pub mod Files
-pub mod Memory
 pub mod Shelf
+pub mod History
+pub mod Memory

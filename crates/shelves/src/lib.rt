@@ -3,6 +3,7 @@
 #![tactic(auto)]
 
 mod device;
+mod log;
 mod memory;
 mod replace;
 mod shelf;
@@ -10,6 +11,7 @@ mod sink;
 mod whole;
 
 pub use device::FileShelf;
+pub use log::LoadLog;
 pub use memory::{MemoryFile, MemoryShelf};
 pub use shelf::{MAX_FILE, Shelf, ShelfFault};
 pub use sink::{Sink, SinkFault, Writing};
