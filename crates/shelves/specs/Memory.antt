@@ -4,11 +4,13 @@ use Rattle.std.specs.Option.{option_map}
 use Rattle.std.specs.Borrow.{Bor}
 use Rattle.shelves.specs.declared.memory.MemoryFile.{MemoryFile}
 use Rattle.shelves.specs.Files.{File, with_file}
+use Rattle.shelves.specs.History.{Load}
 
--- the files that the shelf began with, and those that were stored
+-- the files that the shelf began with, those that were stored, and what each load answered
 pub record MemoryValue : Type 0 where
   pub files : List File
   pub stored : List File
+  pub loads : List Load
 
 -- files with their names and bytes
 abbrev pub files_of : List MemoryFile → List File

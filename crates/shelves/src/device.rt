@@ -1,7 +1,9 @@
-ghost use Rattle.std.specs.Prelude.{◌≡◌, ◌≢◌, ◌-◌, ◌^◌, ◌<◌, ◌≤◌, None};
-ghost use Rattle.shelves.specs.Shelf.{CountsFault};
+ghost use Rattle.std.specs.Prelude.{◌≡◌, ◌≢◌, ◌-◌, ◌^◌, ◌<◌, ◌≤◌, None, IfOk, vec_len};
+ghost use Rattle.shelves.specs.Shelf.{CountsFault, IsCounted};
+ghost use Rattle.shelves.specs.History.{no_history};
 ghost use Rattle.shelves.specs.declared.shelf.ShelfFault.TheVariants.{Missing, TooLarge};
 
+use crate::log::LoadLog;
 use crate::replace::replace_file;
 use crate::shelf::{MAX_FILE, Shelf, ShelfFault};
 use crate::whole::{WholeFault, read_whole};
@@ -18,17 +20,19 @@ pub struct FileShelf<R> {
     rt: R,
     failures: u64,
     reason: Option<ErrorKind>,
+    log: LoadLog,
 }
 
 impl<R: Files + AllocGlobal> FileShelf<R> {
-    /// The files that the runtime reaches, with no failure so far.
+    /// The files that the runtime reaches, with no failure and no load so far.
     pub fn new(rt: R) -> Self
-        ensures { ⟦<FileShelf<R> as Shelf>⟧.failure_count result ≡ 0 }
+        ensures { ⟦<FileShelf<R> as Shelf>⟧.history result ≡ no_history }
     {
         FileShelf {
             rt,
             failures: 0,
             reason: None,
+            log: LoadLog::new(),
         }
     }
 
@@ -118,15 +122,13 @@ fn read_fault(fault: WholeFault, failures: &mut u64) -> ShelfFault
     }
 }
 
-impl<R: Files + AllocGlobal> Shelf for FileShelf<R> {
-    ghost contents = { λ _. None };
-
-    ghost stored = { λ _. None };
-
-    ghost failure_count = { λ s. s.failures };
-
+impl<R: Files + AllocGlobal> FileShelf<R> {
     /// A file is read up to its limit and no further, and one that the system says is larger not at all.
-    fn load(&mut self, alloc: Global, name: &str) -> Result<Vec<u8>, ShelfFault> {
+    fn read_file(&mut self, alloc: Global, name: &str) -> Result<Vec<u8>, ShelfFault>
+        ensures small { IfOk result (λ v. vec_len v ≤ 1073741824) }
+        ensures counted { IsCounted self.old.failures self.new.failures result }
+        ensures same { self.new.log.loads ≡ self.old.log.loads }
+    {
         let file = match fs::open(&self.rt, name) {
             Ok(file) => file,
             Err(error) => {
@@ -152,6 +154,20 @@ impl<R: Files + AllocGlobal> Shelf for FileShelf<R> {
                 Err(read_fault(fault, &mut self.failures))
             }
         }
+    }
+}
+
+impl<R: Files + AllocGlobal> Shelf for FileShelf<R> {
+    ghost contents = { λ _. None };
+
+    ghost stored = { λ _. None };
+
+    ghost history = { λ s. record { failures = s.failures; loads = s.log.loads } };
+
+    fn load(&mut self, alloc: Global, name: &str) -> Result<Vec<u8>, ShelfFault> {
+        let answer = self.read_file(alloc, name);
+        self.log.note(name.as_bytes(), &answer);
+        answer
     }
 
     /// A file is put under its name whole or not at all. The bytes go to a new file beside it, in the same folder,

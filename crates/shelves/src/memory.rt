@@ -1,8 +1,10 @@
-ghost use Rattle.std.specs.Prelude.{◌≡◌, ℕ, List, [], Option, Some, None, IfOk, OnOk, OnErr, option_map, string_bytes, map};
+ghost use Rattle.std.specs.Prelude.{◌≡◌, ℕ, List, [], Option, Some, None, IfOk, OnOk, OnErr, option_map, string_bytes, map, ◌≤◌, vec_len};
 ghost use Rattle.std.specs.Option.{option_or};
 ghost use Rattle.shelves.specs.Files.{held, with_file};
+ghost use Rattle.shelves.specs.Shelf.{Loads, IsCounted};
 ghost use Rattle.shelves.specs.Memory.{bytes_in, files_of, HasPlace};
 
+use crate::log::LoadLog;
 use crate::shelf::{MAX_FILE, Shelf, ShelfFault};
 use std::alloc::{AllocError, Global};
 use std::marker::Model;
@@ -21,15 +23,16 @@ pub struct MemoryFile {
 pub struct MemoryShelf {
     files: Vec<MemoryFile>,
     stored: Vec<MemoryFile>,
+    log: LoadLog,
 }
 
 impl Model for MemoryShelf {
     ghost use Rattle.shelves.specs.Memory.{MemoryValue, files_of};
 
-    /// The files that it began with, and those that were stored.
+    /// The files that it began with, those that were stored, and what each load answered.
     ghost Value = { MemoryValue };
 
-    ghost view = { λ s. record { files = files_of s.files.items; stored = files_of s.stored.items } };
+    ghost view = { λ s. record { files = files_of s.files.items; stored = files_of s.stored.items; loads = s.log.loads } };
 }
 
 /// The first file of the name.
@@ -83,10 +86,12 @@ impl MemoryShelf {
     pub fn new(alloc: Global, files: Vec<MemoryFile>) -> Self
         ensures files { result.files ≡ files_of files.items }
         ensures stored { result.stored ≡ [] }
+        ensures loads { result.loads ≡ [] }
     {
         MemoryShelf {
             files,
             stored: Vec::new(alloc),
+            log: LoadLog::new(),
         }
     }
 
@@ -99,6 +104,19 @@ impl MemoryShelf {
             return stored;
         }
         file_named(self.files.as_slice(), name)
+    }
+
+    /// A copy of the bytes of the file of the name.
+    fn bytes(&self, alloc: Global, name: &str) -> Result<Vec<u8>, ShelfFault>
+        ensures small { IfOk result (λ v. vec_len v ≤ 1073741824) }
+        ensures loaded { Loads (λ v. v.items) (λ n. option_or (held self.now.stored n) (held self.now.files n)) 0 name.now result }
+        ensures counted { IsCounted 0 0 result }
+    {
+        match self.file(name) {
+            None => Err(ShelfFault::Missing),
+            Some(file) if file.bytes.len() > MAX_FILE => Err(ShelfFault::TooLarge),
+            Some(file) => Ok(Vec::from_slice(alloc, file.bytes.as_slice())?),
+        }
     }
 
     /// The files that were stored, in order of storing, each name once.
@@ -114,14 +132,12 @@ impl Shelf for MemoryShelf {
 
     ghost stored = { λ s. Some s.stored };
 
-    ghost failure_count = { λ _. 0 };
+    ghost history = { λ s. record { failures = 0; loads = s.loads } };
 
     fn load(&mut self, alloc: Global, name: &str) -> Result<Vec<u8>, ShelfFault> {
-        match self.file(name) {
-            None => Err(ShelfFault::Missing),
-            Some(file) if file.bytes.len() > MAX_FILE => Err(ShelfFault::TooLarge),
-            Some(file) => Ok(Vec::from_slice(alloc, file.bytes.as_slice())?),
-        }
+        let answer = self.bytes(alloc, name);
+        self.log.note(name.as_bytes(), &answer);
+        answer
     }
 
     fn store(&mut self, alloc: Global, name: &str, bytes: &[u8]) -> Result<(), ShelfFault> {

@@ -1,6 +1,7 @@
 ghost use Rattle.std.specs.Prelude.{◌≡◌, ℕ, ◌<◌, ◌≤◌, List, Option, IfOk, OnOk, OnErr, option_map, vec_len};
 ghost use Rattle.shelves.specs.Files.{File, Files, with_file, with_bytes};
-ghost use Rattle.shelves.specs.Shelf.{IsLoad, IsStore, IsCounted};
+ghost use Rattle.shelves.specs.Shelf.{IsLoad, IsStore};
+ghost use Rattle.shelves.specs.History.{History, HasLoaded, HasCounted};
 ghost use Rattle.shelves.specs.declared.shelf.ShelfFault.TheVariants.{Memory};
 
 use std::alloc::{AllocError, Global};
@@ -42,10 +43,10 @@ pub trait Shelf {
     /// The files that were stored, in order of storing, each name once, where the shelf tells them.
     ghost stored: { Self → Option (List File) };
 
-    /// How often the device has failed.
-    ghost failure_count: { Self → ℕ };
+    /// How often the device has failed, and what each load answered so far.
+    ghost history: { Self → History };
 
-    /// The bytes of the file of a name.
+    /// The bytes of the file of a name. The history has what this load answered last of all loads.
     ///
     /// # Errors
     ///
@@ -55,10 +56,10 @@ pub trait Shelf {
     /// growth was refused.
     fn load(&mut self, alloc: Global, name: &str) -> Result<Vec<u8>, ShelfFault>
         ensures small { IfOk result (λ v. vec_len v ≤ 1073741824) }
-        ensures loaded { IsLoad (λ v. v.items) (contents self.old) (failure_count self.old) name.now result }
+        ensures loaded { IsLoad (λ v. v.items) (contents self.old) (history self.old).failures name.now result }
         ensures same { contents self.new ≡ contents self.old }
         ensures kept { stored self.new ≡ stored self.old }
-        ensures counted { IsCounted (failure_count self.old) (failure_count self.new) result };
+        ensures logged { HasLoaded (λ v. v.items) (history self.old) (history self.new) name.now result };
 
     /// Puts a file under a name, in the place of the one that was there.
     ///
@@ -72,10 +73,10 @@ pub trait Shelf {
         ensures listed { OnOk result (stored self.new ≡ option_map (λ files. with_file files name.now bytes.now) (stored self.old)) }
         ensures same { OnErr result (contents self.new ≡ contents self.old) }
         ensures kept { OnErr result (stored self.new ≡ stored self.old) }
-        ensures answer { IsStore (failure_count self.old) bytes.now result }
-        ensures counted { IsCounted (failure_count self.old) (failure_count self.new) result };
+        ensures answer { IsStore (history self.old).failures bytes.now result }
+        ensures counted { HasCounted (history self.old) (history self.new) result };
 
     /// How often the device has failed.
     fn failures(&self) -> u64
-        ensures { result ≡ failure_count self.now };
+        ensures { result ≡ (history self.now).failures };
 }
