@@ -3,6 +3,7 @@ use Rattle.std.proofs.Common.{◌≡◌, ℕ, true, List, [], Option, inl, inr, 
 use Rattle.std.specs.Prelude.{Result, Ok, Err, IfOk}
 use Rattle.std.specs.declared.alloc.AllocError.{AllocError}
 use Rattle.shelves.specs.Files.{Files}
+use Rattle.shelves.specs.History.{History}
 use Rattle.command_words.specs.Words.{EndsBy, faults_of, takes_words}
 use Rattle.command_words.specs.declared.words.CommandWords.{CommandWords}
 use Rattle.command_words.specs.declared.end.WordsEnd.{WordsEnd}
@@ -17,7 +18,7 @@ use Rattle.command_runs.specs.Run.{CommandEnds, CommandRun, IsEndAnswer, IsRunAn
 use Rattle.cli.specs.Ends.{said_of}
 
 -- a command that stores no file
-pub quiet_run : (files : Option Files) (command : CommandWords) (steps : Course Answered) (before after : ℕ) (end : Result Answer Refusal)
+pub quiet_run : (files : Option Files) (command : CommandWords) (steps : Course Answered) (before after : History) (end : Result Answer Refusal)
     → ((a : Answered) → EndsIn steps before after a → CommandEnds files command before after [] a)
     → Comes answer_of end (steps before after) → CommandRun files command before after [] (said_by end)
 quiet_run files command steps before after (Ok a) k h = inr (k (answer_of a) (inl h))
@@ -25,8 +26,8 @@ quiet_run files command steps before after (Err (Shown a)) k h = inr (k (answer_
 quiet_run files command steps before after (Err Memory) k h = inl (refl, refl)
 
 -- words that give no command
-pub ended_words : (files : Option Files) (list : List (List ℕ)) (n : ℕ) (end : WordsEnd) (answer : Result Answer AllocError)
+pub ended_words : (files : Option Files) (list : List (List ℕ)) (n : History) (end : WordsEnd) (answer : Result Answer AllocError)
     → EndsBy (faults_of list) end → (takes_words list ≡ true → end ≡ words.Memory) → IfOk answer (λ a. IsEndAnswer end (answer_of a))
     → IsRunAnswer files list n n [] (said_of answer)
-ended_words files list n end (Ok a) by taken h = inr (inl (record { end = end; by = by; taken = taken; answer = h; none_stored = refl }))
+ended_words files list n end (Ok a) by taken h = inr (inl (record { end = end; by = by; taken = taken; answer = h; none_stored = refl; none_loaded = refl }))
 ended_words files list n end (Err e) by taken h = inl (refl, refl)

@@ -1,7 +1,8 @@
 //! The subcommand `audit`.
 
-ghost use Rattle.std.specs.Prelude.{◌≡◌, ◌≤◌, ◌<◌, ℕ, All, length, map};
+ghost use Rattle.std.specs.Prelude.{◌≡◌, ◌≤◌, ◌<◌, All, length, map};
 ghost use Rattle.std.specs.List.Sorted.{IsStrictlyIncreasing};
+ghost use Rattle.shelves.specs.History.{History};
 ghost use Rattle.program_answers.specs.Answers.{answer_of, Comes};
 ghost use Rattle.command_runs.specs.JudgeCourse.{audit_step, audit_course};
 
@@ -29,7 +30,7 @@ fn all_findings(
     requires fits { All (λ block. block.code < 1000000000000000) blocks.now }
     requires ascending { IsStrictlyIncreasing (map (λ block. block.code) blocks.now) }
     requires few { length lines.now ≤ 4000000 }
-    ensures { (n : ℕ) → Comes answer_of result (audit_step problem.now grouping.now.groups.items blocks.now lines.now n n) }
+    ensures { (history : History) → Comes answer_of result (audit_step problem.now grouping.now.groups.items blocks.now lines.now history history) }
 {
     let findings = audit_plan(alloc, problem, grouping, blocks, lines)?;
     let text = findings_text(alloc, &findings)?;
@@ -45,7 +46,7 @@ pub(crate) fn audit<H: Shelf>(
     shelf: &mut H,
 ) -> Result<Answer, Refusal>
     requires { words.problem.common.state ≤ 99 }
-    ensures course { Comes answer_of result (audit_course (H.contents shelf.old) words.entry (H.failure_count shelf.old) (H.failure_count shelf.new)) }
+    ensures course { Comes answer_of result (audit_course (H.contents shelf.old) words.entry (H.history shelf.old) (H.history shelf.new)) }
     ensures same { H.contents shelf.new ≡ H.contents shelf.old }
     ensures kept { H.stored shelf.new ≡ H.stored shelf.old }
 {

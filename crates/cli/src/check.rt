@@ -20,7 +20,7 @@ pub(crate) fn check<H: Shelf>(
     shelf: &mut H,
 ) -> Result<Answer, Refusal>
     requires { words.problem.common.state ≤ 99 }
-    ensures course { Comes answer_of result (check_course (H.contents shelf.old) words.entry (H.failure_count shelf.old) (H.failure_count shelf.new)) }
+    ensures course { Comes answer_of result (check_course (H.contents shelf.old) words.entry (H.history shelf.old) (H.history shelf.new)) }
     ensures same { H.contents shelf.new ≡ H.contents shelf.old }
     ensures kept { H.stored shelf.new ≡ H.stored shelf.old }
 {

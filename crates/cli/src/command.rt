@@ -26,7 +26,7 @@ fn command_end<H: Shelf>(
     requires { HasState command }
     ensures { (stored : List File)
         × HasStored (H.contents shelf.old) (H.contents shelf.new) (H.stored shelf.old) (H.stored shelf.new) stored
-        × CommandRun (H.contents shelf.old) command.entry (H.failure_count shelf.old) (H.failure_count shelf.new) stored (said_by result) }
+        × CommandRun (H.contents shelf.old) command.entry (H.history shelf.old) (H.history shelf.new) stored (said_by result) }
 {
     match command {
         CommandWords::Size(words) => size(alloc, words, shelf),
@@ -46,7 +46,7 @@ fn command_answer<H: Shelf>(
     requires { HasState command }
     ensures { (stored : List File)
         × HasStored (H.contents shelf.old) (H.contents shelf.new) (H.stored shelf.old) (H.stored shelf.new) stored
-        × CommandRun (H.contents shelf.old) command.entry (H.failure_count shelf.old) (H.failure_count shelf.new) stored (said_of result) }
+        × CommandRun (H.contents shelf.old) command.entry (H.history shelf.old) (H.history shelf.new) stored (said_of result) }
 {
     match command_end(alloc, command, shelf) {
         Ok(answer) => Ok(answer),
@@ -74,7 +74,7 @@ pub(crate) fn words_answer<H: Shelf>(
 ) -> Result<Answer, AllocError>
     ensures { (stored : List File)
         × HasStored (H.contents shelf.old) (H.contents shelf.new) (H.stored shelf.old) (H.stored shelf.new) stored
-        × IsRunAnswer (H.contents shelf.old) (texts words.now) (H.failure_count shelf.old) (H.failure_count shelf.new) stored (said_of result) }
+        × IsRunAnswer (H.contents shelf.old) (texts words.now) (H.history shelf.old) (H.history shelf.new) stored (said_of result) }
 {
     match parse(alloc, words) {
         Ok(command) => command_answer(alloc, command, shelf),
@@ -104,7 +104,7 @@ pub(crate) fn deliver<W: Sink>(out: &mut W, text: &[u8], status: u8) -> u8
 pub fn run<H: Shelf, W: Sink>(alloc: Global, words: &[&str], shelf: &mut H, out: &mut W) -> u8
     ensures { (a : Answered) × (stored : List File)
         × HasStored (H.contents shelf.old) (H.contents shelf.new) (H.stored shelf.old) (H.stored shelf.new) stored
-        × IsRunAnswer (H.contents shelf.old) (texts words.now) (H.failure_count shelf.old) (H.failure_count shelf.new) stored a
+        × IsRunAnswer (H.contents shelf.old) (texts words.now) (H.history shelf.old) (H.history shelf.new) stored a
         × Delivers (W.is_failed out.new) (W.contents out.old) (W.contents out.new) a result }
 {
     match words_answer(alloc, words, shelf) {

@@ -1,7 +1,8 @@
 //! What a command's files give: each is loaded and read, and the first fault met is refused.
 
-ghost use Rattle.std.specs.Prelude.{◌≡◌, ◌≤◌, ℕ};
+ghost use Rattle.std.specs.Prelude.{◌≡◌, ◌≤◌};
 ghost use Rattle.grouping_problem.specs.ProblemValue.{codes_of};
+ghost use Rattle.shelves.specs.History.{History};
 ghost use Rattle.program_answers.specs.Answers.{Comes};
 ghost use Rattle.command_runs.specs.Course.{load_step};
 ghost use Rattle.command_runs.specs.ProblemCourse.{counties_of, pairs_of, pairs_in, links_in, withdrawn_in, grouping_in, links_of, withdrawn_of, adjacency_of, grouping_of};
@@ -17,7 +18,7 @@ use std::alloc::Global;
 
 /// The bytes of a file.
 pub(crate) fn load<H: Shelf>(alloc: Global, name: &str, shelf: &mut H) -> Result<Vec<u8>, Refusal>
-    ensures course { Comes (λ v. v.items) result (load_step (H.contents shelf.old) name.now (H.failure_count shelf.old) (H.failure_count shelf.new)) }
+    ensures course { Comes (λ v. v.items) result (load_step (H.contents shelf.old) name.now (H.history shelf.old) (H.history shelf.new)) }
     ensures same { H.contents shelf.new ≡ H.contents shelf.old }
     ensures kept { H.stored shelf.new ≡ H.stored shelf.old }
 {
@@ -34,7 +35,7 @@ pub(crate) fn load_counties<H: Shelf>(
     shelf: &mut H,
 ) -> Result<Vec<County>, Refusal>
     requires { words.state ≤ 99 }
-    ensures course { Comes (λ v. v.items) result (counties_of (H.contents shelf.old) words.entry (H.failure_count shelf.old) (H.failure_count shelf.new)) }
+    ensures course { Comes (λ v. v.items) result (counties_of (H.contents shelf.old) words.entry (H.history shelf.old) (H.history shelf.new)) }
     ensures same { H.contents shelf.new ≡ H.contents shelf.old }
     ensures kept { H.stored shelf.new ≡ H.stored shelf.old }
 {
@@ -52,7 +53,7 @@ fn pairs_from(
     listed: &[CountyCode],
     text: &[u8],
 ) -> Result<Vec<(CountyCode, CountyCode)>, Refusal>
-    ensures { (n : ℕ) → Comes (λ v. v.items) result (pairs_in listed.now text.now n n) }
+    ensures { (history : History) → Comes (λ v. v.items) result (pairs_in listed.now text.now history history) }
 {
     match read_pairs(alloc, text, listed) {
         Ok(pairs) => Ok(pairs),
@@ -62,7 +63,7 @@ fn pairs_from(
 
 /// The links that a file gives.
 fn links_from(alloc: Global, text: &[u8]) -> Result<Vec<Link>, Refusal>
-    ensures { (n : ℕ) → Comes (λ v. v.items) result (links_in text.now n n) }
+    ensures { (history : History) → Comes (λ v. v.items) result (links_in text.now history history) }
 {
     match read_links(alloc, text) {
         Ok(links) => Ok(links),
@@ -72,7 +73,7 @@ fn links_from(alloc: Global, text: &[u8]) -> Result<Vec<Link>, Refusal>
 
 /// The withdrawn sets that a file gives.
 fn withdrawn_from(alloc: Global, text: &[u8]) -> Result<Vec<Withdrawn>, Refusal>
-    ensures { (n : ℕ) → Comes (λ v. v.items) result (withdrawn_in text.now n n) }
+    ensures { (history : History) → Comes (λ v. v.items) result (withdrawn_in text.now history history) }
 {
     match read_withdrawn(alloc, text) {
         Ok(sets) => Ok(sets),
@@ -82,7 +83,7 @@ fn withdrawn_from(alloc: Global, text: &[u8]) -> Result<Vec<Withdrawn>, Refusal>
 
 /// The grouping that a file gives.
 fn grouping_from(alloc: Global, text: &[u8]) -> Result<Grouping, Refusal>
-    ensures { (n : ℕ) → Comes (λ g. g.groups.items) result (grouping_in text.now n n) }
+    ensures { (history : History) → Comes (λ g. g.groups.items) result (grouping_in text.now history history) }
 {
     match read_grouping(alloc, text) {
         Ok(grouping) => Ok(grouping),
@@ -97,7 +98,7 @@ fn load_pairs<H: Shelf>(
     name: &str,
     shelf: &mut H,
 ) -> Result<Vec<(CountyCode, CountyCode)>, Refusal>
-    ensures course { Comes (λ v. v.items) result (pairs_of (H.contents shelf.old) listed.now name.now (H.failure_count shelf.old) (H.failure_count shelf.new)) }
+    ensures course { Comes (λ v. v.items) result (pairs_of (H.contents shelf.old) listed.now name.now (H.history shelf.old) (H.history shelf.new)) }
     ensures same { H.contents shelf.new ≡ H.contents shelf.old }
     ensures kept { H.stored shelf.new ≡ H.stored shelf.old }
 {
@@ -111,7 +112,7 @@ fn load_links<H: Shelf>(
     name: Option<&str>,
     shelf: &mut H,
 ) -> Result<Vec<Link>, Refusal>
-    ensures course { Comes (λ v. v.items) result (links_of (H.contents shelf.old) name.entry (H.failure_count shelf.old) (H.failure_count shelf.new)) }
+    ensures course { Comes (λ v. v.items) result (links_of (H.contents shelf.old) name.entry (H.history shelf.old) (H.history shelf.new)) }
     ensures same { H.contents shelf.new ≡ H.contents shelf.old }
     ensures kept { H.stored shelf.new ≡ H.stored shelf.old }
 {
@@ -130,7 +131,7 @@ pub(crate) fn load_withdrawn<H: Shelf>(
     name: Option<&str>,
     shelf: &mut H,
 ) -> Result<Vec<Withdrawn>, Refusal>
-    ensures course { Comes (λ v. v.items) result (withdrawn_of (H.contents shelf.old) name.entry (H.failure_count shelf.old) (H.failure_count shelf.new)) }
+    ensures course { Comes (λ v. v.items) result (withdrawn_of (H.contents shelf.old) name.entry (H.history shelf.old) (H.history shelf.new)) }
     ensures same { H.contents shelf.new ≡ H.contents shelf.old }
     ensures kept { H.stored shelf.new ≡ H.stored shelf.old }
 {
@@ -150,7 +151,7 @@ pub(crate) fn load_adjacency<H: Shelf>(
     words: ProblemWords<'_>,
     shelf: &mut H,
 ) -> Result<Vec<(CountyCode, CountyCode)>, Refusal>
-    ensures course { Comes (λ v. v.items) result (adjacency_of (H.contents shelf.old) (codes_of counties.now) words.entry (H.failure_count shelf.old) (H.failure_count shelf.new)) }
+    ensures course { Comes (λ v. v.items) result (adjacency_of (H.contents shelf.old) (codes_of counties.now) words.entry (H.history shelf.old) (H.history shelf.new)) }
     ensures same { H.contents shelf.new ≡ H.contents shelf.old }
     ensures kept { H.stored shelf.new ≡ H.stored shelf.old }
 {
@@ -167,7 +168,7 @@ pub(crate) fn load_grouping<H: Shelf>(
     name: &str,
     shelf: &mut H,
 ) -> Result<Grouping, Refusal>
-    ensures course { Comes (λ g. g.groups.items) result (grouping_of (H.contents shelf.old) name.now (H.failure_count shelf.old) (H.failure_count shelf.new)) }
+    ensures course { Comes (λ g. g.groups.items) result (grouping_of (H.contents shelf.old) name.now (H.history shelf.old) (H.history shelf.new)) }
     ensures same { H.contents shelf.new ≡ H.contents shelf.old }
     ensures kept { H.stored shelf.new ≡ H.stored shelf.old }
 {

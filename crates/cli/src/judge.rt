@@ -1,6 +1,7 @@
 //! The subcommand `judge`.
 
-ghost use Rattle.std.specs.Prelude.{◌≡◌, ◌≤◌, ℕ};
+ghost use Rattle.std.specs.Prelude.{◌≡◌, ◌≤◌};
+ghost use Rattle.shelves.specs.History.{History};
 ghost use Rattle.program_answers.specs.Answers.{answer_of, Comes};
 ghost use Rattle.command_runs.specs.JudgeCourse.{judge_step, judge_course};
 
@@ -17,7 +18,7 @@ use std::alloc::Global;
 
 /// The report of a lawful grouping, or the fault of one that isn't.
 fn verdict(alloc: Global, problem: &Problem, grouping: Grouping) -> Result<Answer, Refusal>
-    ensures { (n : ℕ) → Comes answer_of result (judge_step problem.now grouping.groups.items n n) }
+    ensures { (history : History) → Comes answer_of result (judge_step problem.now grouping.groups.items history history) }
 {
     match judge_grouping(alloc, problem, &grouping) {
         Ok(_) => Ok(Answer {
@@ -36,7 +37,7 @@ pub(crate) fn judge<H: Shelf>(
     shelf: &mut H,
 ) -> Result<Answer, Refusal>
     requires { words.problem.common.state ≤ 99 }
-    ensures course { Comes answer_of result (judge_course (H.contents shelf.old) words.entry (H.failure_count shelf.old) (H.failure_count shelf.new)) }
+    ensures course { Comes answer_of result (judge_course (H.contents shelf.old) words.entry (H.history shelf.old) (H.history shelf.new)) }
     ensures same { H.contents shelf.new ≡ H.contents shelf.old }
     ensures kept { H.stored shelf.new ≡ H.stored shelf.old }
 {

@@ -1,7 +1,8 @@
 //! What the files of a plan give: census blocks and assignments.
 
-ghost use Rattle.std.specs.Prelude.{◌≡◌, ◌≤◌, ◌<◌, ℕ, All, IfOk, map, vec_len};
+ghost use Rattle.std.specs.Prelude.{◌≡◌, ◌≤◌, ◌<◌, All, IfOk, map, vec_len};
 ghost use Rattle.std.specs.List.Sorted.{IsStrictlyIncreasing};
+ghost use Rattle.shelves.specs.History.{History};
 ghost use Rattle.program_answers.specs.Answers.{Comes};
 ghost use Rattle.command_runs.specs.PlanCourse.{blocks_in, blocks_of, assignments_in, assignments_of};
 
@@ -16,7 +17,7 @@ use std::alloc::Global;
 /// The census blocks that two files give.
 fn blocks_from(alloc: Global, geo: &[u8], segment: &[u8], state: u8) -> Result<Vec<Block>, Refusal>
     requires { state ≤ 99 }
-    ensures course { (n : ℕ) → Comes (λ v. v.items) result (blocks_in state geo.now segment.now n n) }
+    ensures course { (history : History) → Comes (λ v. v.items) result (blocks_in state geo.now segment.now history history) }
     ensures ascending { IfOk result (λ v. IsStrictlyIncreasing (map (λ b. b.code) v.items)) }
     ensures small { IfOk result (λ v. All (λ b. b.code < 1000000000000000) v.items) }
 {
@@ -33,7 +34,7 @@ pub(crate) fn load_blocks<H: Shelf>(
     shelf: &mut H,
 ) -> Result<Vec<Block>, Refusal>
     requires { words.state ≤ 99 }
-    ensures course { Comes (λ v. v.items) result (blocks_of (H.contents shelf.old) words.entry (H.failure_count shelf.old) (H.failure_count shelf.new)) }
+    ensures course { Comes (λ v. v.items) result (blocks_of (H.contents shelf.old) words.entry (H.history shelf.old) (H.history shelf.new)) }
     ensures ascending { IfOk result (λ v. IsStrictlyIncreasing (map (λ b. b.code) v.items)) }
     ensures small { IfOk result (λ v. All (λ b. b.code < 1000000000000000) v.items) }
     ensures same { H.contents shelf.new ≡ H.contents shelf.old }
@@ -46,7 +47,7 @@ pub(crate) fn load_blocks<H: Shelf>(
 
 /// The assignments that a file gives.
 fn assignments_from(alloc: Global, text: &[u8]) -> Result<Vec<Assignment>, Refusal>
-    ensures course { (n : ℕ) → Comes (λ v. v.items) result (assignments_in text.now n n) }
+    ensures course { (history : History) → Comes (λ v. v.items) result (assignments_in text.now history history) }
     ensures few { IfOk result (λ v. vec_len v ≤ 4000000) }
 {
     match read_assignments(alloc, text) {
@@ -61,7 +62,7 @@ pub(crate) fn load_assignments<H: Shelf>(
     name: &str,
     shelf: &mut H,
 ) -> Result<Vec<Assignment>, Refusal>
-    ensures course { Comes (λ v. v.items) result (assignments_of (H.contents shelf.old) name.now (H.failure_count shelf.old) (H.failure_count shelf.new)) }
+    ensures course { Comes (λ v. v.items) result (assignments_of (H.contents shelf.old) name.now (H.history shelf.old) (H.history shelf.new)) }
     ensures few { IfOk result (λ v. vec_len v ≤ 4000000) }
     ensures same { H.contents shelf.new ≡ H.contents shelf.old }
     ensures kept { H.stored shelf.new ≡ H.stored shelf.old }

@@ -1,6 +1,7 @@
 //! The problem that a command works on.
 
-ghost use Rattle.std.specs.Prelude.{◌≡◌, ◌≤◌, ℕ};
+ghost use Rattle.std.specs.Prelude.{◌≡◌, ◌≤◌};
+ghost use Rattle.shelves.specs.History.{History};
 ghost use Rattle.program_answers.specs.Answers.{Comes};
 ghost use Rattle.command_runs.specs.ProblemCourse.{build_step, problem_in};
 
@@ -20,7 +21,7 @@ pub(crate) fn build(
     withdrawn: &[Withdrawn],
     chamber: u16,
 ) -> Result<Problem, Refusal>
-    ensures { (n : ℕ) → Comes (λ p. p) result (build_step chamber counties.now pairs.now withdrawn.now n n) }
+    ensures { (history : History) → Comes (λ p. p) result (build_step chamber counties.now pairs.now withdrawn.now history history) }
 {
     match Problem::build(alloc, counties, pairs, withdrawn, chamber) {
         Ok(problem) => Ok(problem),
@@ -35,7 +36,7 @@ pub(crate) fn load_problem<H: Shelf>(
     shelf: &mut H,
 ) -> Result<Problem, Refusal>
     requires { words.common.state ≤ 99 }
-    ensures course { Comes (λ p. p) result (problem_in (H.contents shelf.old) words.entry (H.failure_count shelf.old) (H.failure_count shelf.new)) }
+    ensures course { Comes (λ p. p) result (problem_in (H.contents shelf.old) words.entry (H.history shelf.old) (H.history shelf.new)) }
     ensures same { H.contents shelf.new ≡ H.contents shelf.old }
     ensures kept { H.stored shelf.new ≡ H.stored shelf.old }
 {

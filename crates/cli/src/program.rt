@@ -27,7 +27,7 @@ pub fn run_program<H: Shelf, R: Source, W: Sink>(
     // With words, their command was run over the shelf's files.
     ensures words { words.now ≢ [] → (a : Answered) × (stored : List File)
         × HasStored (H.contents shelf.old) (H.contents shelf.new) (H.stored shelf.old) (H.stored shelf.new) stored
-        × IsRunAnswer (H.contents shelf.old) (texts words.now) (H.failure_count shelf.old) (H.failure_count shelf.new) stored a
+        × IsRunAnswer (H.contents shelf.old) (texts words.now) (H.history shelf.old) (H.history shelf.new) stored a
         × Delivers (W.is_failed out.new) (W.contents out.old) (W.contents out.new) a result }
 
     // Without any, the case was run that the input holds.
@@ -38,6 +38,7 @@ pub fn run_program<H: Shelf, R: Source, W: Sink>(
         × DeliversCase out.old out.new W.is_failed W.contents a result }
     ensures same { words.now ≡ [] → H.contents shelf.new ≡ H.contents shelf.old }
     ensures kept { words.now ≡ [] → H.stored shelf.new ≡ H.stored shelf.old }
+    ensures still { words.now ≡ [] → H.history shelf.new ≡ H.history shelf.old }
 {
     if words.is_empty() {
         run_case(alloc, input, out)

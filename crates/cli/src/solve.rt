@@ -24,7 +24,7 @@ fn solve_files<H: Shelf>(
     shelf: &mut H,
 ) -> Result<Solved, Refusal>
     requires { words.problem.common.state ≤ 99 }
-    ensures course { Comes solved_of result (solve_course (H.contents shelf.old) words.entry (H.failure_count shelf.old) (H.failure_count shelf.new)) }
+    ensures course { Comes solved_of result (solve_course (H.contents shelf.old) words.entry (H.history shelf.old) (H.history shelf.new)) }
     ensures same { H.contents shelf.new ≡ H.contents shelf.old }
     ensures kept { H.stored shelf.new ≡ H.stored shelf.old }
 {
@@ -42,7 +42,7 @@ fn store_solved<H: Shelf>(
 ) -> Result<(), Refusal>
     ensures { (stored : List File)
         × HasStored (H.contents shelf.old) (H.contents shelf.new) (H.stored shelf.old) (H.stored shelf.new) stored
-        × store_steps (files_to_store words.entry (solved_of solved.now)) (H.failure_count shelf.old) (H.failure_count shelf.new) stored (refusal_by result) }
+        × store_steps (files_to_store words.entry (solved_of solved.now)) (H.history shelf.old) (H.history shelf.new) stored (refusal_by result) }
 {
     store_named(alloc, words.certificate, solved.certificate.as_ref(), shelf)?;
     store_named(alloc, words.out, solved.grouping.as_ref(), shelf)
@@ -58,7 +58,7 @@ pub(crate) fn solve<H: Shelf>(
     requires { words.problem.common.state ≤ 99 }
     ensures { (stored : List File)
         × HasStored (H.contents shelf.old) (H.contents shelf.new) (H.stored shelf.old) (H.stored shelf.new) stored
-        × CommandRun (H.contents shelf.old) (CommandWords.Solve words.entry) (H.failure_count shelf.old) (H.failure_count shelf.new) stored (said_by result) }
+        × CommandRun (H.contents shelf.old) (CommandWords.Solve words.entry) (H.history shelf.old) (H.history shelf.new) stored (said_by result) }
 {
     let solved = solve_files(alloc, words, shelf)?;
     store_solved(alloc, words, &solved, shelf)?;

@@ -14,7 +14,7 @@ use std::alloc::Global;
 fn store<H: Shelf>(alloc: Global, name: &str, bytes: &[u8], shelf: &mut H) -> Result<(), Refusal>
     ensures { (stored : List File)
         × HasStored (H.contents shelf.old) (H.contents shelf.new) (H.stored shelf.old) (H.stored shelf.new) stored
-        × store_steps (record { name = name.now; bytes = bytes.now } ∷ []) (H.failure_count shelf.old) (H.failure_count shelf.new) stored (refusal_by result) }
+        × store_steps (record { name = name.now; bytes = bytes.now } ∷ []) (H.history shelf.old) (H.history shelf.new) stored (refusal_by result) }
 {
     match shelf.store(alloc, name, bytes) {
         Ok(()) => Ok(()),
@@ -31,7 +31,7 @@ pub(crate) fn store_named<H: Shelf>(
 ) -> Result<(), Refusal>
     ensures { (stored : List File)
         × HasStored (H.contents shelf.old) (H.contents shelf.new) (H.stored shelf.old) (H.stored shelf.new) stored
-        × store_steps (named_file name.entry (option_map (λ t. t.now.items) text.entry)) (H.failure_count shelf.old) (H.failure_count shelf.new) stored (refusal_by result) }
+        × store_steps (named_file name.entry (option_map (λ t. t.now.items) text.entry)) (H.history shelf.old) (H.history shelf.new) stored (refusal_by result) }
 {
     match (name, text) {
         (Some(name), Some(text)) => store(alloc, name, text, shelf),

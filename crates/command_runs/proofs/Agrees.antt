@@ -11,6 +11,7 @@ use Rattle.desk_texts.proofs.Agrees as texts
 use Rattle.command_words.specs.declared.words.SolveWords.{SolveWords}
 use Rattle.command_words.specs.declared.words.CommandWords.TheVariants.{Solve}
 use Rattle.shelves.specs.Files.{File, Files}
+use Rattle.shelves.specs.History.{History}
 use Rattle.program_answers.specs.Answer.{Answered, memory_answer}
 use Rattle.command_runs.specs.ProblemCourse.{problem_in}
 use Rattle.command_runs.specs.SolveCourse.{Solved, Says, IsSolved, solve_course, named_file, files_to_store}
@@ -24,9 +25,9 @@ use Rattle.command_runs.proofs.SameProblem.{problem_repeats}
 use Rattle.command_runs.proofs.Checking.{IsAgreed, best_answer, impossible_answer, checked_best, checked_impossible, check_agrees}
 
 -- what a run said, after it stored all its files
-record HasSaid (files : Files) (words : SolveWords) (before : ℕ) (stored : List File) (a : Answered) : Type 0 where
+record HasSaid (files : Files) (words : SolveWords) (before : History) (stored : List File) (a : Answered) : Type 0 where
   pub v : ProblemValue
-  pub between : ℕ
+  pub between : History
   pub problem : problem_in (Some files) words.problem before between (Ok v)
   pub s : Solved
   pub solved : IsSolved v words.steps s
@@ -36,7 +37,7 @@ record HasSaid (files : Files) (words : SolveWords) (before : ℕ) (stored : Lis
 same_status : (a b : Answered) → a ≡ b → a.status ≡ b.status
 same_status a b e = ap (λ (x : Answered). x.status) e
 
-module _ (files : Files) (words : SolveWords) (before after : ℕ) (stored : List File) (a : Answered) where
+module _ (files : Files) (words : SolveWords) (before after : History) (stored : List File) (a : Answered) where
   -- no refusal has status 0 or 1
   not_refused : a.status ≤ 1 → IsRefusal a → ⊥
   not_refused low (inl s) = omega arith
@@ -45,7 +46,7 @@ module _ (files : Files) (words : SolveWords) (before after : ℕ) (stored : Lis
   solve_refuses : Refuses (solve_course (Some files) words)
   solve_refuses = bind_refuses _ _ (problem_refuses (Some files) words.problem) (λ v. value_refuses (IsSolved v words.steps))
 
-  said_of : (s : Solved) (between : ℕ) (refusal : Option Answered) → a.status ≤ 1 → solve_course (Some files) words before between (Ok s)
+  said_of : (s : Solved) (between : History) (refusal : Option Answered) → a.status ≤ 1 → solve_course (Some files) words before between (Ok s)
       → store_steps (files_to_store words s) between after stored refusal → a ≡ said_after refusal s.answer → HasSaid files words before stored a
   said_of s between refusal low (inl stop) steps said = absurd stop
   said_of s between None low (inr g) steps said = record {
@@ -72,7 +73,7 @@ stored_first words s name text named spelled =
     ap₂ (λ (n : Option (Bor (List ℕ))) (t : Option (List ℕ)). named_file n t ++ named_file words.out s.grouping) named spelled
 
 -- what every check of a text says, every check of the stored certificate says
-module _ (files : Files) (words : SolveWords) (before : ℕ) (stored : List File) (a : Answered) (h : HasSaid files words before stored a) (text : List ℕ)
+module _ (files : Files) (words : SolveWords) (before : History) (stored : List File) (a : Answered) (h : HasSaid files words before stored a) (text : List ℕ)
     (checked : (budget : ℕ) (b : Answered) → IsChecked h.v budget text b → IsAgreed a b) where
   checks_as : ChecksAs files words text a
   checks_as others check start end none b same certificate (inl memory) = inr (inr (same_status b memory_answer memory.0))
@@ -84,7 +85,7 @@ module _ (files : Files) (words : SolveWords) (before : ℕ) (stored : List File
   stored_proof : h.s.certificate ≡ Some text → IsStoredProof files words stored a
   stored_proof spelled name named = (text, named_file words.out h.s.grouping, h.all ∙ stored_first words h.s name text named spelled, checks_as)
 
-module _ (files : Files) (words : SolveWords) (before : ℕ) (stored : List File) (a : Answered) (h : HasSaid files words before stored a) where
+module _ (files : Files) (words : SolveWords) (before : History) (stored : List File) (a : Answered) (h : HasSaid files words before stored a) where
   answer_is : (s : Solved) → h.s ≡ s → a ≡ s.answer
   answer_is s e = h.said ∙ ap (λ (x : Solved). x.answer) e
 

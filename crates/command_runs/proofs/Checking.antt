@@ -13,6 +13,7 @@ use Rattle.certificate_checker.specs.declared.verdict.Verdict.TheVariants.{Best,
 use Rattle.desk_texts.specs.Says.{SaysBest, SaysImpossible}
 use Rattle.command_words.specs.declared.words.CheckWords.{CheckWords}
 use Rattle.shelves.specs.Files.{Files}
+use Rattle.shelves.specs.History.{History}
 use Rattle.program_answers.specs.Answer.{Answered, success}
 use Rattle.command_runs.specs.Course.{Course, ◌>>=◌, EndsIn, load_step, value_step}
 use Rattle.command_runs.specs.ProblemCourse.{problem_in}
@@ -55,7 +56,7 @@ module _ (v : ProblemValue) (text : List ℕ) (budget : ℕ) (b : Answered) (h :
 
 -- a check of this text, where the problem is had again
 module _ (others : Files) (check : CheckWords) (v : ProblemValue) (text : List ℕ) (a : Answered)
-    (again : (start end : ℕ) (r : Result ProblemValue Answered) → problem_in (Some others) check.problem start end r → IsSame v r)
+    (again : (start end : History) (r : Result ProblemValue Answered) → problem_in (Some others) check.problem start end r → IsSame v r)
     (certificate : others check.certificate.now ≡ Some text)
     (checked : (b : Answered) → IsChecked v check.budget text b → IsAgreed a b) where
   same_text : (bytes : List ℕ) → others check.certificate.now ≡ Some bytes → bytes ≡ text
@@ -65,14 +66,14 @@ module _ (others : Files) (check : CheckWords) (v : ProblemValue) (text : List �
   abbrev checking : ProblemValue → Course Answered
   checking w = load_step (Some others) check.certificate.now >>= λ bytes. value_step (IsChecked w check.budget bytes)
 
-  checking_agrees : (w : ProblemValue) → w ≡ v → (before after : ℕ) (b : Answered) → EndsIn (checking w) before after b → IsAgreed a b
+  checking_agrees : (w : ProblemValue) → w ≡ v → (before after : History) (b : Answered) → EndsIn (checking w) before after b → IsAgreed a b
   checking_agrees w same before after b (inl (inl stop)) = absurd stop
   checking_agrees w same before after b (inl (inr g)) =
       checked b (subst₂ (λ (u : ProblemValue) (bytes : List ℕ). IsChecked u check.budget bytes b) same (same_text g.value g.given.0) g.goes_on.1)
   checking_agrees w same before after b (inr (inl stop)) = inr (inr (ap (λ (x : Answered). x.status) stop.3 ∙ shelf_status check.certificate.now stop.0))
   checking_agrees w same before after b (inr (inr g)) = absurd g.goes_on
 
-  pub check_agrees : (before after : ℕ) (b : Answered) → EndsIn (check_course (Some others) check) before after b → IsAgreed a b
+  pub check_agrees : (before after : History) (b : Answered) → EndsIn (check_course (Some others) check) before after b → IsAgreed a b
   check_agrees before after b (inl (inl stop)) = absurd stop
   check_agrees before after b (inl (inr g)) = checking_agrees g.value (again before g.between (Ok g.value) g.given) g.between after b (inl g.goes_on)
   check_agrees before after b (inr (inl stop)) = inr (inr (again before after (Err b) stop))

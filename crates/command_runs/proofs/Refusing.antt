@@ -5,6 +5,7 @@ use Rattle.std.specs.Borrow.{Bor}
 use Rattle.shelves.specs.declared.shelf.ShelfFault.{ShelfFault}
 use Rattle.shelves.specs.declared.shelf.ShelfFault.TheVariants as shelf
 use Rattle.shelves.specs.Files.{Files}
+use Rattle.shelves.specs.History.{History}
 use Rattle.pl94_counties.specs.declared.fault.Pl94Kind.{Pl94Kind}
 use Rattle.pl94_counties.specs.declared.fault.Pl94Kind.TheVariants as kinds
 use Rattle.seat_lines.specs.declared.fault.CodeLineKind.{CodeLineKind}
@@ -78,7 +79,7 @@ as_refused a b e (inr s) = inr (ap (λ (x : Answered). x.status) e ∙ s)
 
 -- the steps end in no other answers
 abbrev pub Refuses : {X : Type 0} → Course X → Type 0
-Refuses steps = (before after : ℕ) (a : Answered) → steps before after (Err a) → IsRefusal a
+Refuses steps = (before after : History) (a : Answered) → steps before after (Err a) → IsRefusal a
 
 pub bind_refuses : {X Y : Type 0} (first : Course X) (next : X → Course Y) → Refuses first → ((x : X) → Refuses (next x)) → Refuses (first >>= next)
 bind_refuses first next f n before after a (inl stop) = f before after a stop

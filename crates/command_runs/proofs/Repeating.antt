@@ -3,6 +3,7 @@ use Rattle.std.proofs.Common.{◌≡◌, ℕ, List, Option, Some, None, inl, inr
 use Rattle.std.specs.Prelude.{Result, Ok, Err}
 use Rattle.std.specs.Borrow.{Bor}
 use Rattle.shelves.specs.Files.{Files}
+use Rattle.shelves.specs.History.{History}
 use Rattle.program_answers.specs.Answer.{Answered}
 use Rattle.command_runs.specs.Course.{Course, ◌>>=◌, load_step, call_step, value_step, optional_step}
 use Rattle.command_runs.specs.Headline.{HoldsSameIfNamed}
@@ -16,7 +17,7 @@ IsSame value (Err a) = a.status ≡ 5
 -- where the first steps gave a value, the others give it too, unless they are refused
 abbrev pub Repeats : {X : Type 0} → Course X → Course X → Type 0
 Repeats {X} first other =
-    (value : X) (before after start end : ℕ) (r : Result X Answered) → first before after (Ok value) → other start end r → IsSame value r
+    (value : X) (before after start end : History) (r : Result X Answered) → first before after (Ok value) → other start end r → IsSame value r
 
 pub bind_repeats : {X Y : Type 0} (first other : Course X) (next more : X → Course Y)
     → Repeats first other → ((x : X) → Repeats (next x) (more x)) → Repeats (first >>= next) (other >>= more)

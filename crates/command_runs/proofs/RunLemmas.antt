@@ -5,6 +5,7 @@ use Rattle.shelves.specs.declared.shelf.ShelfFault.{ShelfFault}
 use Rattle.shelves.specs.declared.shelf.ShelfFault.TheVariants.{Missing, TooLarge, Device}
 use Rattle.shelves.specs.declared.shelf.ShelfFault.TheVariants as shelf
 use Rattle.shelves.specs.Files.{Files}
+use Rattle.shelves.specs.History.{History}
 use Rattle.shelves.specs.Shelf.{IsLoad}
 use Rattle.grouping_problem.specs.declared.fault.ProblemFault.{ProblemFault}
 use Rattle.grouping_problem.specs.declared.fault.ProblemFault.TheVariants as problem
@@ -36,36 +37,36 @@ load_fault view (Some files) failures name Device h = h
 load_fault view (Some files) failures name shelf.Memory h = h
 
 -- the first steps end the course, where they meet a fault that is handed on
-pub handed_on : {X S Y : Type 0} (show : S → Y) (refusal : Refusal) (end : Result S Refusal) (first : Course X) (next : X → Course Y) (before after : ℕ)
+pub handed_on : {X S Y : Type 0} (show : S → Y) (refusal : Refusal) (end : Result S Refusal) (first : Course X) (next : X → Course Y) (before after : History)
     → IsErrAnd end (λ e. e ≡ refusal) → Meets refusal (λ a. first before after (Err a)) → Comes show end ((first >>= next) before after)
 handed_on show refusal (Ok s) first next before after i h = absurd i
 handed_on show (Shown a) (Err e) first next before after i h = subst (λ (r : Refusal). Meets r (λ b. (first >>= next) before after (Err b))) (sym i) (inl h)
 handed_on show Memory (Err e) first next before after i h = subst (λ (r : Refusal). Meets r (λ b. (first >>= next) before after (Err b))) (sym i) tt
 
 -- the next steps end it, where the first give a value
-pub went_on : {X S Y : Type 0} (show : S → Y) (end : Result S Refusal) (first : Course X) (next : X → Course Y) (value : X) (before between after : ℕ)
+pub went_on : {X S Y : Type 0} (show : S → Y) (end : Result S Refusal) (first : Course X) (next : X → Course Y) (value : X) (before between after : History)
     → first before between (Ok value) → Comes show end (next value between after) → Comes show end ((first >>= next) before after)
 went_on show (Ok s) first next value before between after h k = inr (record { value = value; between = between; given = h; goes_on = k })
 went_on show (Err (Shown a)) first next value before between after h k = inr (record { value = value; between = between; given = h; goes_on = k })
 went_on show (Err Memory) first next value before between after h k = tt
 
-pub came : {X Y : Type 0} (first : Course X) (next : X → Course Y) (value : X) (before between after : ℕ) (end : Result Y Answered)
+pub came : {X Y : Type 0} (first : Course X) (next : X → Course Y) (value : X) (before between after : History) (end : Result Y Answered)
     → first before between (Ok value) → next value between after end → (first >>= next) before after end
 came first next value before between after end h k = inr (record { value = value; between = between; given = h; goes_on = k })
 
-pub met_later : {X Y : Type 0} (refusal : Refusal) (first : Course X) (next : X → Course Y) (value : X) (before between after : ℕ)
+pub met_later : {X Y : Type 0} (refusal : Refusal) (first : Course X) (next : X → Course Y) (value : X) (before between after : History)
     → first before between (Ok value) → Meets refusal (λ a. next value between after (Err a)) → Meets refusal (λ a. (first >>= next) before after (Err a))
 met_later (Shown a) first next value before between after h k = inr (record { value = value; between = between; given = h; goes_on = k })
 met_later Memory first next value before between after h k = tt
 
 -- a file is loaded, and its bytes are read
-pub read_file : {S Y : Type 0} (show : S → Y) (end : Result S Refusal) (files : Option Files) (name bytes seen : List ℕ) (steps : List ℕ → Course Y) (before after : ℕ)
+pub read_file : {S Y : Type 0} (show : S → Y) (end : Result S Refusal) (files : Option Files) (name bytes seen : List ℕ) (steps : List ℕ → Course Y) (before after : History)
     → load_step files name before after (Ok bytes) → seen ≡ bytes → Comes show end (steps seen after after) → Comes show end ((load_step files name >>= steps) before after)
 read_file show end files name bytes seen steps before after h e k =
     went_on show end (load_step files name) steps bytes before after after h (subst (λ (b : List ℕ). Comes show end (steps b after after)) e k)
 
 -- a step without a file meets a fault, which is refused
-pub refused : {X F : Type 0} (refusal : Refusal) (refuse : F → Answered) (fault : F) (R : Result X F → Type 0) (n : ℕ)
+pub refused : {X F : Type 0} (refusal : Refusal) (refuse : F → Answered) (fault : F) (R : Result X F → Type 0) (n : History)
     → Refuses (refuse fault) refusal → (IsShown refusal → R (Err fault)) → Meets refusal (λ a. call_step refuse R n n (Err a))
 refused (Shown a) refuse fault R n h k = (refl, (fault, k tt, h))
 refused Memory refuse fault R n h k = tt

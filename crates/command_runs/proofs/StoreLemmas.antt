@@ -1,7 +1,8 @@
 -- What storing files in turn comes to together.
-use Rattle.std.proofs.Common.{◌≡◌, ℕ, List, [], ◌∷◌, ◌++◌, Option, Some, None, inl, inr, refl, sym, ap, subst, ◌∙◌}
+use Rattle.std.proofs.Common.{◌≡◌, List, [], ◌∷◌, ◌++◌, Option, Some, None, inl, inr, refl, sym, ap, subst, ◌∙◌}
 use Rattle.std.specs.Prelude.{option_map}
 use Rattle.shelves.specs.Files.{File, Files, with_file, with_files, with_bytes, with_all}
+use Rattle.shelves.specs.History.{History}
 use Rattle.program_answers.specs.Answer.{Answered, memory_answer}
 use Rattle.program_answers.specs.Refusals.{shelf_answer}
 use Rattle.command_runs.specs.Storing.{HasStored, IsAnsweredBy, store_steps}
@@ -49,17 +50,17 @@ not_answered a (inl e) = cc
 not_answered a (inr e) = cc
 
 -- steps after steps
-pub stores_on : (xs ys : List File) (before between after : ℕ) (stored more : List File) (end : Option Answered)
+pub stores_on : (xs ys : List File) (before between after : History) (stored more : List File) (end : Option Answered)
     → store_steps xs before between stored None → store_steps ys between after more end → store_steps (xs ++ ys) before after (stored ++ more) end
 stores_on [] ys before between after stored more end h k =
     subst (λ (s : List File). store_steps ys before after (s ++ more) end) (sym h.1)
-    (subst (λ (n : ℕ). store_steps ys n after more end) h.0 k)
+    (subst (λ (n : History). store_steps ys n after more end) h.0 k)
 stores_on (x ∷ xs) ys before between after stored more end (inl h) k = absurd (not_answered _ h.answer)
 stores_on (x ∷ xs) ys before between after stored more end (inr h) k =
     inr (h.0, h.1 ++ more, h.2, ap (λ (s : List File). s ++ more) h.3, stores_on xs ys h.0 between after h.1 more end h.4 k)
 
 -- steps that a refusal ends
-pub stops_in : (xs ys : List File) (before after : ℕ) (stored : List File) (a : Answered)
+pub stops_in : (xs ys : List File) (before after : History) (stored : List File) (a : Answered)
     → store_steps xs before after stored (Some a) → store_steps (xs ++ ys) before after stored (Some a)
 stops_in [] ys before after stored a h = absurd (some_none h.2)
   where
@@ -73,7 +74,7 @@ answered_status : (refusal a : Answered) → IsAnsweredBy (Some refusal) a → a
 answered_status refusal a (inl e) s = let same : refusal ≡ a = cc in ap (λ (x : Answered). x.status) same ∙ s
 answered_status refusal a (inr e) s = let same : refusal ≡ memory_answer = cc in ap (λ (x : Answered). x.status) same
 
-pub refusal_status : (files : List File) (before after : ℕ) (stored : List File) (refusal : Answered) → store_steps files before after stored (Some refusal) → refusal.status ≡ 5
+pub refusal_status : (files : List File) (before after : History) (stored : List File) (refusal : Answered) → store_steps files before after stored (Some refusal) → refusal.status ≡ 5
 refusal_status [] before after stored refusal h = absurd (some_none h.2)
   where
     some_none : Some refusal ≡ None → ⊥
@@ -82,7 +83,7 @@ refusal_status (f ∷ fs) before after stored refusal (inl h) = answered_status 
 refusal_status (f ∷ fs) before after stored refusal (inr h) = refusal_status fs h.0 after h.1 refusal h.4
 
 -- all files are stored where none is refused
-pub all_stored : (files : List File) (before after : ℕ) (stored : List File) → store_steps files before after stored None → stored ≡ files
+pub all_stored : (files : List File) (before after : History) (stored : List File) → store_steps files before after stored None → stored ≡ files
 all_stored [] before after stored h = h.1
 all_stored (f ∷ fs) before after stored (inl h) = absurd (not_answered _ h.answer)
 all_stored (f ∷ fs) before after stored (inr h) = h.3 ∙ ap (λ (more : List File). f ∷ more) (all_stored fs h.0 after h.1 h.4)

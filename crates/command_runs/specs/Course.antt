@@ -3,14 +3,15 @@ use Rattle.std.specs.Prelude.{◌≡◌, ◌≤◌, ◌⊎◌, ℕ, List, length
 use Rattle.std.specs.Borrow.{Bor}
 use Rattle.shelves.specs.declared.shelf.ShelfFault.{ShelfFault}
 use Rattle.shelves.specs.Files.{Files}
-use Rattle.shelves.specs.Shelf.{IsLoad, IsCounted}
+use Rattle.shelves.specs.Shelf.{IsLoad}
+use Rattle.shelves.specs.History.{History, HasLoaded}
 use Rattle.program_answers.specs.Answer.{Answered}
 use Rattle.program_answers.specs.Refusals.{shelf_answer}
 
--- what steps come to: a value, or the answer to the first fault met, where the shelf's device had failed so often before them
--- and so often after them
+-- what steps come to: a value, or the answer to the first fault met, where the shelf had this history before them and this one after
+-- them
 abbrev pub Course : Type 0 → Type 1
-Course X = ℕ → ℕ → Result X Answered → Type 0
+Course X = History → History → Result X Answered → Type 0
 
 -- the first steps meet a fault, and its answer is the end
 abbrev pub Stops : {X Y : Type 0} → Course X → Course Y
@@ -18,9 +19,9 @@ Stops first before after (Ok value) = ⊥
 Stops first before after (Err a) = first before after (Err a)
 
 -- the first steps give a value, and the next go on with it
-pub record GoesOn {X Y : Type 0} (first : Course X) (next : X → Course Y) (before after : ℕ) (end : Result Y Answered) : Type 0 where
+pub record GoesOn {X Y : Type 0} (first : Course X) (next : X → Course Y) (before after : History) (end : Result Y Answered) : Type 0 where
   pub value : X
-  pub between : ℕ
+  pub between : History
   pub given : first before between (Ok value)
   pub goes_on : next value between after end
 
@@ -29,12 +30,14 @@ infixl 10 ◌>>=◌
 abbrev pub ◌>>=◌ : {X Y : Type 0} → Course X → (X → Course Y) → Course Y
 ◌>>=◌ first next before after end = Stops first before after end ⊎ GoesOn first next before after end
 
--- a file is loaded: its bytes, which are no more than a shelf may give, or the answer to what the shelf says of its name
+-- A file is loaded, and its name and what the load answered are the last of the history: its bytes, which are no more than a shelf may
+-- give, or the answer to what the shelf says of its name.
 abbrev pub load_step : Option Files → List ℕ → Course (List ℕ)
 load_step files name before after (Ok bytes) =
-    IsLoad {X = List ℕ} (λ b. b) files before name (Ok bytes) × IsCounted {X = List ℕ} before after (Ok bytes) × (length bytes ≤ 1073741824)
+    IsLoad {X = List ℕ} (λ b. b) files before.failures name (Ok bytes) × HasLoaded {X = List ℕ} (λ b. b) before after name (Ok bytes) × (length bytes ≤ 1073741824)
 load_step files name before after (Err a) =
-    (fault : ShelfFault) × IsLoad {X = List ℕ} (λ b. b) files before name (Err fault) × IsCounted {X = List ℕ} before after (Err fault) × (a ≡ shelf_answer name fault)
+    (fault : ShelfFault) × IsLoad {X = List ℕ} (λ b. b) files before.failures name (Err fault)
+    × HasLoaded {X = List ℕ} (λ b. b) before after name (Err fault) × (a ≡ shelf_answer name fault)
 
 -- a step without a file: its results are those that R takes, and a fault among them is refused
 abbrev pub call_step : {X F : Type 0} → (F → Answered) → (Result X F → Type 0) → Course X
@@ -52,5 +55,5 @@ optional_step value steps None = value_step (λ x. x ≡ value)
 optional_step value steps (Some name) = steps name.now
 
 -- the answer in which the steps end
-abbrev pub EndsIn : Course Answered → ℕ → ℕ → Answered → Type 0
+abbrev pub EndsIn : Course Answered → History → History → Answered → Type 0
 EndsIn steps before after a = steps before after (Ok a) ⊎ steps before after (Err a)

@@ -11,6 +11,7 @@ use Rattle.command_words.specs.declared.words.SolveWords.{SolveWords}
 use Rattle.command_words.specs.declared.words.CheckWords.{CheckWords}
 use Rattle.command_words.specs.declared.words.CommandWords.TheVariants.{Solve, Check}
 use Rattle.shelves.specs.Files.{File, Files}
+use Rattle.shelves.specs.History.{History}
 use Rattle.program_answers.specs.Answer.{Answered, success, budget_answer}
 use Rattle.command_runs.specs.ProblemCourse.{problem_in}
 use Rattle.command_runs.specs.Run.{CommandRun}
@@ -44,7 +45,7 @@ IsCutOff a = (a ≡ budget_answer) ⊎ (a.status ≡ 5)
 -- Every check of this text with the same problem gives this answer, unless it was cut off.
 abbrev pub ChecksAs : Files → SolveWords → List ℕ → Answered → Type 0
 ChecksAs files words text a =
-    (others : Files) (check : CheckWords) (before after : ℕ) (stored : List File) (b : Answered)
+    (others : Files) (check : CheckWords) (before after : History) (stored : List File) (b : Answered)
     → HasSameProblem files others words.problem check.problem → others check.certificate.now ≡ Some text
     → CommandRun (Some others) (Check check) before after stored b → (b ≡ a) ⊎ IsCutOff b
 
@@ -56,9 +57,9 @@ IsStoredProof files words stored a =
 
 -- What a run of `solve` that ends with status 0 shows: its report is that of a grouping which is best for the problem of the files, and
 -- its certificate says so to whoever checks it.
-pub record ShowsBest (files : Files) (words : SolveWords) (before : ℕ) (stored : List File) (a : Answered) : Type 0 where
+pub record ShowsBest (files : Files) (words : SolveWords) (before : History) (stored : List File) (a : Answered) : Type 0 where
   pub v : ProblemValue
-  pub between : ℕ
+  pub between : History
   pub problem : problem_in (Some files) words.problem before between (Ok v)
   pub grouping : Grouping
   pub best : IsBest (problem_of v) grouping.groups.items
@@ -66,9 +67,9 @@ pub record ShowsBest (files : Files) (words : SolveWords) (before : ℕ) (stored
   pub proof : IsStoredProof files words stored a
 
 -- and one that ends with status 1: no grouping is lawful
-pub record ShowsImpossible (files : Files) (words : SolveWords) (before : ℕ) (stored : List File) (a : Answered) : Type 0 where
+pub record ShowsImpossible (files : Files) (words : SolveWords) (before : History) (stored : List File) (a : Answered) : Type 0 where
   pub v : ProblemValue
-  pub between : ℕ
+  pub between : History
   pub problem : problem_in (Some files) words.problem before between (Ok v)
   pub impossible : IsImpossible (problem_of v)
   pub report : a ≡ record { text = outcome_text v outcome.Impossible; status = 1 }
@@ -76,7 +77,7 @@ pub record ShowsImpossible (files : Files) (words : SolveWords) (before : ℕ) (
 
 -- What runs of `solve` and of `check` over told files promise together.
 pub record RunsAgree : Type 0 where
-  pub best : (files : Files) (words : SolveWords) (before after : ℕ) (stored : List File) (a : Answered)
+  pub best : (files : Files) (words : SolveWords) (before after : History) (stored : List File) (a : Answered)
       → CommandRun (Some files) (Solve words) before after stored a → a.status ≡ 0 → ShowsBest files words before stored a
-  pub impossible : (files : Files) (words : SolveWords) (before after : ℕ) (stored : List File) (a : Answered)
+  pub impossible : (files : Files) (words : SolveWords) (before after : History) (stored : List File) (a : Answered)
       → CommandRun (Some files) (Solve words) before after stored a → a.status ≡ 1 → ShowsImpossible files words before stored a

@@ -6,15 +6,15 @@ use Rattle.command_words.specs.declared.words.CommandWords.TheVariants.{Size, Ju
 use Rattle.command_words.specs.declared.end.WordsEnd.{WordsEnd}
 use Rattle.command_words.specs.declared.end.WordsEnd.TheVariants.{Help, Version, Usage, Memory}
 use Rattle.shelves.specs.Files.{File, Files}
+use Rattle.shelves.specs.History.{History}
 use Rattle.program_answers.specs.Answer.{Answered, memory_answer}
 use Rattle.command_runs.specs.Course.{EndsIn}
 use Rattle.command_runs.specs.JudgeCourse.{size_course, judge_course, audit_course}
 use Rattle.command_runs.specs.SolveCourse.{SolveEnds}
 use Rattle.command_runs.specs.CheckCourse.{check_course}
 
--- A command ends with its answer, over a shelf whose device failed so often before and after it, with these files stored: only `solve`
--- stores any.
-abbrev pub CommandEnds : Option Files → CommandWords → ℕ → ℕ → List File → Answered → Type 0
+-- A command ends with its answer, over a shelf of these histories before and after it, with these files stored: only `solve` stores any.
+abbrev pub CommandEnds : Option Files → CommandWords → History → History → List File → Answered → Type 0
 CommandEnds files (Size words) before after stored a = EndsIn (size_course files words) before after a × (stored ≡ [])
 CommandEnds files (Judge words) before after stored a = EndsIn (judge_course files words) before after a × (stored ≡ [])
 CommandEnds files (Solve words) before after stored a = SolveEnds files words before after stored a
@@ -26,7 +26,7 @@ abbrev pub IsOutOfMemory : List File → Answered → Type 0
 IsOutOfMemory stored a = (a ≡ memory_answer) × (stored ≡ [])
 
 -- a run of a command; a growth may be refused in any
-abbrev pub CommandRun : Option Files → CommandWords → ℕ → ℕ → List File → Answered → Type 0
+abbrev pub CommandRun : Option Files → CommandWords → History → History → List File → Answered → Type 0
 CommandRun files command before after stored a = IsOutOfMemory stored a ⊎ CommandEnds files command before after stored a
 
 -- the words give no command: help and the version end with 0 and usage with 2, with clap's text
@@ -36,16 +36,17 @@ IsEndAnswer (Version text) a = a ≡ record { text = string_bytes text; status =
 IsEndAnswer (Usage text) a = a ≡ record { text = string_bytes text; status = 2 }
 IsEndAnswer Memory a = a ≡ memory_answer
 
--- the words end before any command, and nothing is stored
-pub record EndsAtWords (words : List (List ℕ)) (stored : List File) (a : Answered) : Type 0 where
+-- the words end before any command, and nothing is loaded or stored
+pub record EndsAtWords (words : List (List ℕ)) (before after : History) (stored : List File) (a : Answered) : Type 0 where
   pub end : WordsEnd
   pub by : EndsBy (faults_of words) end
   pub taken : takes_words words ≡ true → end ≡ Memory
   pub answer : IsEndAnswer end a
   pub none_stored : stored ≡ []
+  pub none_loaded : after ≡ before
 
 -- the words mean a command, which is run
-pub record RunsCommand (files : Option Files) (words : List (List ℕ)) (before after : ℕ) (stored : List File) (a : Answered) : Type 0 where
+pub record RunsCommand (files : Option Files) (words : List (List ℕ)) (before after : History) (stored : List File) (a : Answered) : Type 0 where
   pub command : CommandWords
   pub meant : Means words command
   pub taken : faults_of words ≡ []
@@ -53,9 +54,9 @@ pub record RunsCommand (files : Option Files) (words : List (List ℕ)) (before 
 
 -- The answer to words, and the files that were stored: that of the command that they mean, or the end that they come to. Words that clap
 -- takes mean a command, so they end neither in help, nor in the version, nor in usage. A growth may be refused before anything is stored.
-abbrev pub IsRunAnswer : Option Files → List (List ℕ) → ℕ → ℕ → List File → Answered → Type 0
+abbrev pub IsRunAnswer : Option Files → List (List ℕ) → History → History → List File → Answered → Type 0
 IsRunAnswer files words before after stored a =
-    IsOutOfMemory stored a ⊎ (EndsAtWords words stored a ⊎ RunsCommand files words before after stored a)
+    IsOutOfMemory stored a ⊎ (EndsAtWords words before after stored a ⊎ RunsCommand files words before after stored a)
 
 -- the command's state has two digits
 abbrev pub HasState : CommandWords → Type 0

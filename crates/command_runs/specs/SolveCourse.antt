@@ -12,6 +12,7 @@ use Rattle.branch_bound.specs.declared.answer.Answer.TheVariants.{Best, Impossib
 use Rattle.branch_bound.specs.Answered.{IsAnswer, NamesBest, SaysWhether}
 use Rattle.command_words.specs.declared.words.SolveWords.{SolveWords}
 use Rattle.shelves.specs.Files.{File, Files}
+use Rattle.shelves.specs.History.{History}
 use Rattle.program_answers.specs.Answer.{Answered, success}
 use Rattle.command_runs.specs.Course.{Course, ◌>>=◌, value_step}
 use Rattle.command_runs.specs.ProblemCourse.{problem_in}
@@ -57,8 +58,8 @@ abbrev pub files_to_store : SolveWords → Solved → List File
 files_to_store words s = named_file words.certificate s.certificate ++ named_file words.out s.grouping
 
 -- `solve` ends: at a fault that it met before anything was stored, or with its files stored and its answer, unless a file was refused
-abbrev pub SolveEnds : Option Files → SolveWords → ℕ → ℕ → List File → Answered → Type 0
+abbrev pub SolveEnds : Option Files → SolveWords → History → History → List File → Answered → Type 0
 SolveEnds files words before after stored a =
     (solve_course files words before after (Err a) × (stored ≡ []))
-    ⊎ ((s : Solved) × (between : ℕ) × (refusal : Option Answered) × solve_course files words before between (Ok s)
+    ⊎ ((s : Solved) × (between : History) × (refusal : Option Answered) × solve_course files words before between (Ok s)
     × store_steps (files_to_store words s) between after stored refusal × (a ≡ said_after refusal s.answer))

@@ -1,8 +1,9 @@
 -- Files that a command stores, in turn, before it says its answer.
-use Rattle.std.specs.Prelude.{◌≡◌, ◌≤◌, ◌⊎◌, ℕ, List, [], ◌∷◌, Option, Some, None, Err, option_map}
+use Rattle.std.specs.Prelude.{◌≡◌, ◌⊎◌, List, [], ◌∷◌, Option, Some, None, Ok, Err, option_map}
 use Rattle.shelves.specs.declared.shelf.ShelfFault.{ShelfFault}
 use Rattle.shelves.specs.Files.{File, Files, with_files, with_all}
-use Rattle.shelves.specs.Shelf.{IsStore, IsCounted}
+use Rattle.shelves.specs.Shelf.{IsStore}
+use Rattle.shelves.specs.History.{History, HasCounted}
 use Rattle.program_answers.specs.Answer.{Answered, memory_answer}
 use Rattle.program_answers.specs.Refusals.{shelf_answer}
 
@@ -11,20 +12,20 @@ abbrev pub IsAnsweredBy : Option Answered → Answered → Type 0
 IsAnsweredBy refusal a = (refusal ≡ Some a) ⊎ (refusal ≡ Some memory_answer)
 
 -- The first file is refused for a fault of the shelf: nothing is stored, and this is the answer to it.
-pub record IsFirstRefused (f : File) (before after : ℕ) (stored : List File) (refusal : Option Answered) : Type 0 where
+pub record IsFirstRefused (f : File) (before after : History) (stored : List File) (refusal : Option Answered) : Type 0 where
   pub fault : ShelfFault
-  pub is : IsStore {X = Unit {0}} before f.bytes (Err fault)
-  pub counted : IsCounted {X = Unit {0}} before after (Err fault)
+  pub is : IsStore {X = Unit {0}} before.failures f.bytes (Err fault)
+  pub counted : HasCounted {X = Unit {0}} before after (Err fault)
   pub none_stored : stored ≡ []
   pub answer : IsAnsweredBy refusal (shelf_answer f.name fault)
 
--- What storing files in turn comes to, where the shelf's device had failed so often before it and so often after it: the files that were
--- stored, and the answer to the one that was refused, if one was. Those behind it are not stored.
-abbrev pub store_steps : List File → ℕ → ℕ → List File → Option Answered → Type 0
+-- What storing files in turn comes to, where the shelf had this history before it and this one after it: the files that were stored, and
+-- the answer to the one that was refused, if one was. Those behind it are not stored, and nothing is loaded.
+abbrev pub store_steps : List File → History → History → List File → Option Answered → Type 0
 store_steps [] before after stored refusal = (after ≡ before) × (stored ≡ []) × (refusal ≡ None)
 store_steps (f ∷ fs) before after stored refusal =
     IsFirstRefused f before after stored refusal
-    ⊎ ((between : ℕ) × (more : List File) × (before ≤ between) × (stored ≡ f ∷ more) × store_steps fs between after more refusal)
+    ⊎ ((between : History) × (more : List File) × HasCounted {X = Unit {0}} before between (Ok tt) × (stored ≡ f ∷ more) × store_steps fs between after more refusal)
 
 -- the answer, unless a file was refused
 abbrev pub said_after : Option Answered → Answered → Answered

@@ -19,9 +19,9 @@ pub returns-in_err-text-clause-course : goal.returns-in_err-text-clause-course
 unfolding with_problem
 returns-in_err-text-clause-course g c =
     let files = g.H.Shelf.contents c.args.shelf.now in
-    let before = g.H.Shelf.failure_count c.args.shelf.now in
-    let between = g.H.Shelf.failure_count c.load_problem.new.shelf in
-    let after = g.H.Shelf.failure_count c.load.new.shelf in
+    let before = g.H.Shelf.history c.args.shelf.now in
+    let between = g.H.Shelf.history c.load_problem.new.shelf in
+    let after = g.H.Shelf.history c.load.new.shelf in
     let words = c.args.words in
     let v = c.in_ok-problem.problem in
     let met = subst (λ (f : Option Files). Meets c.in_err-text.field-0.0 (λ a. load_step f words.certificate.now between after (Err a))) c.load_problem.ensures.same c.in_err-text.ensures.course in

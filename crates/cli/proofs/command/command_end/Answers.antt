@@ -17,8 +17,8 @@ returns-in-Size g c =
     let later = g.H.Shelf.contents c.size.new.shelf in
     let listed = g.H.Shelf.stored c.args.shelf.now in
     let last = g.H.Shelf.stored c.size.new.shelf in
-    let before = g.H.Shelf.failure_count c.args.shelf.now in
-    let after = g.H.Shelf.failure_count c.size.new.shelf in
+    let before = g.H.Shelf.history c.args.shelf.now in
+    let after = g.H.Shelf.history c.size.new.shelf in
     subst (λ (command : CommandWords). (x : List File) × HasStored files later listed last x × CommandRun files command before after x (said_by c.size.result)) (sym c.in-Size.is) (
       [],
       none_stored files later listed last c.size.ensures.same c.size.ensures.kept,
@@ -31,8 +31,8 @@ returns-in-Judge g c =
     let later = g.H.Shelf.contents c.judge.new.shelf in
     let listed = g.H.Shelf.stored c.args.shelf.now in
     let last = g.H.Shelf.stored c.judge.new.shelf in
-    let before = g.H.Shelf.failure_count c.args.shelf.now in
-    let after = g.H.Shelf.failure_count c.judge.new.shelf in
+    let before = g.H.Shelf.history c.args.shelf.now in
+    let after = g.H.Shelf.history c.judge.new.shelf in
     subst (λ (command : CommandWords). (x : List File) × HasStored files later listed last x × CommandRun files command before after x (said_by c.judge.result)) (sym c.in-Judge.is) (
       [],
       none_stored files later listed last c.judge.ensures.same c.judge.ensures.kept,
@@ -45,8 +45,8 @@ returns-in-Solve g c =
     let later = g.H.Shelf.contents c.solve.new.shelf in
     let listed = g.H.Shelf.stored c.args.shelf.now in
     let last = g.H.Shelf.stored c.solve.new.shelf in
-    let before = g.H.Shelf.failure_count c.args.shelf.now in
-    let after = g.H.Shelf.failure_count c.solve.new.shelf in
+    let before = g.H.Shelf.history c.args.shelf.now in
+    let after = g.H.Shelf.history c.solve.new.shelf in
     subst (λ (command : CommandWords). (x : List File) × HasStored files later listed last x × CommandRun files command before after x (said_by c.solve.result)) (sym c.in-Solve.is)
     c.solve.ensures
 
@@ -56,8 +56,8 @@ returns-in-Check g c =
     let later = g.H.Shelf.contents c.check.new.shelf in
     let listed = g.H.Shelf.stored c.args.shelf.now in
     let last = g.H.Shelf.stored c.check.new.shelf in
-    let before = g.H.Shelf.failure_count c.args.shelf.now in
-    let after = g.H.Shelf.failure_count c.check.new.shelf in
+    let before = g.H.Shelf.history c.args.shelf.now in
+    let after = g.H.Shelf.history c.check.new.shelf in
     subst (λ (command : CommandWords). (x : List File) × HasStored files later listed last x × CommandRun files command before after x (said_by c.check.result)) (sym c.in-Check.is) (
       [],
       none_stored files later listed last c.check.ensures.same c.check.ensures.kept,
@@ -70,8 +70,8 @@ returns-in-Audit g c =
     let later = g.H.Shelf.contents c.audit.new.shelf in
     let listed = g.H.Shelf.stored c.args.shelf.now in
     let last = g.H.Shelf.stored c.audit.new.shelf in
-    let before = g.H.Shelf.failure_count c.args.shelf.now in
-    let after = g.H.Shelf.failure_count c.audit.new.shelf in
+    let before = g.H.Shelf.history c.args.shelf.now in
+    let after = g.H.Shelf.history c.audit.new.shelf in
     subst (λ (command : CommandWords). (x : List File) × HasStored files later listed last x × CommandRun files command before after x (said_by c.audit.result)) (sym c.in-Audit.is) (
       [],
       none_stored files later listed last c.audit.ensures.same c.audit.ensures.kept,

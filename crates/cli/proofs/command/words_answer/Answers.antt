@@ -10,5 +10,5 @@ returns-in-Err g c =
     let listed = g.H.Shelf.stored c.args.shelf.now in (
       [],
       none_stored files files listed listed refl refl,
-      ended_words files (texts c.args.words.now) (g.H.Shelf.failure_count c.args.shelf.now) c.in-Err.end c.end_answer.result c.in-Err.ensures.ends c.in-Err.ensures.taken c.end_answer.ensures,
+      ended_words files (texts c.args.words.now) (g.H.Shelf.history c.args.shelf.now) c.in-Err.end c.end_answer.result c.in-Err.ensures.ends c.in-Err.ensures.taken c.end_answer.ensures,
     )

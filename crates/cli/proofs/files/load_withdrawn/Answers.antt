@@ -7,7 +7,7 @@ use Rattle.cli.proofs.files.load_withdrawn.Goals as goal
 pub returns-in_ok-text-in-Some-clause-course : goal.returns-in_ok-text-in-Some-clause-course
 returns-in_ok-text-in-Some-clause-course g c =
     let files = g.H.Shelf.contents c.args.shelf.now in
-    let before = g.H.Shelf.failure_count c.args.shelf.now in
-    let after = g.H.Shelf.failure_count c.load.new.shelf in
+    let before = g.H.Shelf.history c.args.shelf.now in
+    let after = g.H.Shelf.history c.load.new.shelf in
     subst (λ (name : Option (Bor (List ℕ))). Comes (λ v. v.items) c.withdrawn_from.result (withdrawn_of files name before after)) (sym c.in-Some.is)
     (read_file (λ v. v.items) c.withdrawn_from.result files c.in-Some.name.now c.in_ok-text-in-Some.text.items c.deref.result.now withdrawn_in before after c.in_ok-text-in-Some.ensures.course c.deref.ensures.value (c.withdrawn_from.ensures after))

@@ -24,9 +24,9 @@ pub returns-in_err-pairs-clause-course : goal.returns-in_err-pairs-clause-course
 unfolding with_pairs with_counties
 returns-in_err-pairs-clause-course g c =
     let files = g.H.Shelf.contents c.args.shelf.now in
-    let before = g.H.Shelf.failure_count c.args.shelf.now in
-    let between = g.H.Shelf.failure_count c.load_counties.new.shelf in
-    let after = g.H.Shelf.failure_count c.load_adjacency.new.shelf in
+    let before = g.H.Shelf.history c.args.shelf.now in
+    let between = g.H.Shelf.history c.load_counties.new.shelf in
+    let after = g.H.Shelf.history c.load_adjacency.new.shelf in
     let counties = c.in_ok-counties.counties.items in
     let known = subst (λ (f : Option Files). Meets c.in_err-pairs.field-0.0 (λ a. adjacency_of f (codes_of c.deref.result.now) c.args.words between after (Err a))) c.load_counties.ensures.same c.in_err-pairs.ensures.course in
     let met = subst (λ (listed : List County). Meets c.in_err-pairs.field-0.0 (λ a. adjacency_of files (codes_of listed) c.args.words between after (Err a))) c.deref.ensures.value known in
@@ -37,10 +37,10 @@ pub returns-in_err-withdrawn-clause-course : goal.returns-in_err-withdrawn-claus
 unfolding with_pairs with_counties
 returns-in_err-withdrawn-clause-course g c =
     let files = g.H.Shelf.contents c.args.shelf.now in
-    let before = g.H.Shelf.failure_count c.args.shelf.now in
-    let between = g.H.Shelf.failure_count c.load_counties.new.shelf in
-    let then = g.H.Shelf.failure_count c.load_adjacency.new.shelf in
-    let after = g.H.Shelf.failure_count c.load_withdrawn.new.shelf in
+    let before = g.H.Shelf.history c.args.shelf.now in
+    let between = g.H.Shelf.history c.load_counties.new.shelf in
+    let then = g.H.Shelf.history c.load_adjacency.new.shelf in
+    let after = g.H.Shelf.history c.load_withdrawn.new.shelf in
     let counties = c.in_ok-counties.counties.items in
     let pairs = c.in_ok-pairs.pairs.items in
     let told = subst (λ (f : Option Files). adjacency_of f (codes_of c.deref.result.now) c.args.words between then (Ok pairs)) c.load_counties.ensures.same c.in_ok-pairs.ensures.course in
@@ -55,10 +55,10 @@ pub returns-clause-course : goal.returns-clause-course
 unfolding with_pairs with_counties
 returns-clause-course g c =
     let files = g.H.Shelf.contents c.args.shelf.now in
-    let before = g.H.Shelf.failure_count c.args.shelf.now in
-    let between = g.H.Shelf.failure_count c.load_counties.new.shelf in
-    let then = g.H.Shelf.failure_count c.load_adjacency.new.shelf in
-    let after = g.H.Shelf.failure_count c.load_withdrawn.new.shelf in
+    let before = g.H.Shelf.history c.args.shelf.now in
+    let between = g.H.Shelf.history c.load_counties.new.shelf in
+    let then = g.H.Shelf.history c.load_adjacency.new.shelf in
+    let after = g.H.Shelf.history c.load_withdrawn.new.shelf in
     let chamber = c.args.words.common.chamber in
     let counties = c.in_ok-counties.counties.items in
     let pairs = c.in_ok-pairs.pairs.items in

@@ -10,7 +10,7 @@ pub returns-in_err-solved : goal.returns-in_err-solved
 returns-in_err-solved g c = (
   [],
   none_stored (g.H.Shelf.contents c.args.shelf.now) (g.H.Shelf.contents c.solve_files.new.shelf) (g.H.Shelf.stored c.args.shelf.now) (g.H.Shelf.stored c.solve_files.new.shelf) c.solve_files.ensures.same c.solve_files.ensures.kept,
-  refused_run (g.H.Shelf.contents c.args.shelf.now) c.args.words (g.H.Shelf.failure_count c.args.shelf.now) (g.H.Shelf.failure_count c.solve_files.new.shelf) c.in_err-solved.field-0.0 c.from_residual.result c.from_residual.ensures.1 c.in_err-solved.ensures.course,
+  refused_run (g.H.Shelf.contents c.args.shelf.now) c.args.words (g.H.Shelf.history c.args.shelf.now) (g.H.Shelf.history c.solve_files.new.shelf) c.in_err-solved.field-0.0 c.from_residual.result c.from_residual.ensures.1 c.in_err-solved.ensures.course,
 )
 
 -- the shelf was as it was until the files were stored
@@ -22,9 +22,9 @@ from_start files files_then after listed listed_then last stored same kept h =
 pub returns-in_err-store_solved : goal.returns-in_err-store_solved
 returns-in_err-store_solved g c =
     let files = g.H.Shelf.contents c.args.shelf.now in
-    let before = g.H.Shelf.failure_count c.args.shelf.now in
-    let between = g.H.Shelf.failure_count c.solve_files.new.shelf in
-    let after = g.H.Shelf.failure_count c.store_solved.new.shelf in
+    let before = g.H.Shelf.history c.args.shelf.now in
+    let between = g.H.Shelf.history c.solve_files.new.shelf in
+    let after = g.H.Shelf.history c.store_solved.new.shelf in
     let end = c.in_err-store_solved.ensures in (
       end.0,
       from_start files (g.H.Shelf.contents c.solve_files.new.shelf) (g.H.Shelf.contents c.store_solved.new.shelf) (g.H.Shelf.stored c.args.shelf.now) (g.H.Shelf.stored c.solve_files.new.shelf) (g.H.Shelf.stored c.store_solved.new.shelf) end.0 c.solve_files.ensures.same c.solve_files.ensures.kept end.1,
@@ -34,9 +34,9 @@ returns-in_err-store_solved g c =
 pub returns : goal.returns
 returns g c =
     let files = g.H.Shelf.contents c.args.shelf.now in
-    let before = g.H.Shelf.failure_count c.args.shelf.now in
-    let between = g.H.Shelf.failure_count c.solve_files.new.shelf in
-    let after = g.H.Shelf.failure_count c.store_solved.new.shelf in
+    let before = g.H.Shelf.history c.args.shelf.now in
+    let between = g.H.Shelf.history c.solve_files.new.shelf in
+    let after = g.H.Shelf.history c.store_solved.new.shelf in
     let end = c.in_ok-store_solved.ensures in (
       end.0,
       from_start files (g.H.Shelf.contents c.solve_files.new.shelf) (g.H.Shelf.contents c.store_solved.new.shelf) (g.H.Shelf.stored c.args.shelf.now) (g.H.Shelf.stored c.solve_files.new.shelf) (g.H.Shelf.stored c.store_solved.new.shelf) end.0 c.solve_files.ensures.same c.solve_files.ensures.kept end.1,

@@ -9,9 +9,9 @@ use Rattle.cli.proofs.solve.store_solved.Goals as goal
 
 pub returns : goal.returns
 returns g c =
-    let before = g.H.Shelf.failure_count c.args.shelf.now in
-    let between = g.H.Shelf.failure_count c.store_named.new.shelf in
-    let after = g.H.Shelf.failure_count c.store_named-2.new.shelf in
+    let before = g.H.Shelf.history c.args.shelf.now in
+    let between = g.H.Shelf.history c.store_named.new.shelf in
+    let after = g.H.Shelf.history c.store_named-2.new.shelf in
     let words = c.args.words in
     let first = c.in_ok-store_named.ensures in
     let then = c.store_named-2.ensures in
@@ -26,8 +26,8 @@ returns g c =
 
 pub returns-in_err-store_named : goal.returns-in_err-store_named
 returns-in_err-store_named g c =
-    let before = g.H.Shelf.failure_count c.args.shelf.now in
-    let after = g.H.Shelf.failure_count c.store_named.new.shelf in
+    let before = g.H.Shelf.history c.args.shelf.now in
+    let after = g.H.Shelf.history c.store_named.new.shelf in
     let words = c.args.words in
     let first = c.in_err-store_named.ensures in
     let certificate = sym (seen_lent (λ t. t.items) c.as_ref.result) ∙ ap (option_map (λ t. t.items)) c.as_ref.ensures.value in

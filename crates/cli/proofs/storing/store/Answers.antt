@@ -14,7 +14,7 @@ pub returns-in-Ok : goal.returns-in-Ok
 returns-in-Ok g c = (
   record { name = c.args.name.now; bytes = c.args.bytes.now } ∷ [],
   record { contents = c.in-Ok.ensures.put; list = c.in-Ok.ensures.listed },
-  inr (g.H.Shelf.failure_count c.store.new.self, [], c.in-Ok.ensures.counted, refl, (refl, refl, refl)),
+  inr (g.H.Shelf.history c.store.new.self, [], c.in-Ok.ensures.counted, refl, (refl, refl, refl)),
 )
 
 -- what is refused with this answer has it, or memory was refused
