@@ -1,11 +1,12 @@
 //! Commands whose input, output or files fail.
-ghost use Rattle.std.specs.Prelude.{◌≡◌, ◌≢◌, ◌-◌, ◌^◌, None};
-ghost use Rattle.shelves.specs.Shelf.{CountsFault};
+ghost use Rattle.std.specs.Prelude.{◌≡◌, ◌≢◌, ◌-◌, ◌^◌, ◌≤◌, None, IfOk, vec_len};
+ghost use Rattle.shelves.specs.Shelf.{CountsFault, IsCounted};
 ghost use Rattle.shelves.specs.declared.shelf.ShelfFault.TheVariants.{Missing, TooLarge};
 
 use anyhow::Result;
 use cli::{MemoryFile, MemoryShelf, Shelf, ShelfFault, Sink, Writing, run, run_case};
 use field_lines::{Reading, Source};
+use shelves::LoadLog;
 use std::alloc::{AllocError, Global};
 use std::io;
 use std::io::{Read, Write};
@@ -48,6 +49,7 @@ struct Failing {
     calls: u32,
     fails_at: u32,
     failures: u64,
+    log: LoadLog,
 }
 
 /// Counts a call, and answers whether it is to fail.
@@ -71,14 +73,13 @@ fn device_fault(failures: &mut u64) -> ShelfFault
     }
 }
 
-impl Shelf for Failing {
-    ghost contents = { λ _. None };
-
-    ghost stored = { λ _. None };
-
-    ghost failure_count = { λ s. s.failures };
-
-    fn load(&mut self, alloc: Global, name: &str) -> Result<Vec<u8>, ShelfFault> {
+impl Failing {
+    /// The bytes of a file, where the call doesn't fail.
+    fn bytes(&mut self, alloc: Global, name: &str) -> Result<Vec<u8>, ShelfFault>
+        ensures small { IfOk result (λ v. vec_len v ≤ 1073741824) }
+        ensures counted { IsCounted self.old.failures self.new.failures result }
+        ensures same { self.new.log.loads ≡ self.old.log.loads }
+    {
         if fails(&mut self.calls, self.fails_at) {
             return Err(device_fault(&mut self.failures));
         }
@@ -87,6 +88,20 @@ impl Shelf for Failing {
             Err(ShelfFault::Device) => Err(ShelfFault::Missing),
             Err(fault) => Err(fault),
         }
+    }
+}
+
+impl Shelf for Failing {
+    ghost contents = { λ _. None };
+
+    ghost stored = { λ _. None };
+
+    ghost history = { λ s. record { failures = s.failures; loads = s.log.loads } };
+
+    fn load(&mut self, alloc: Global, name: &str) -> Result<Vec<u8>, ShelfFault> {
+        let answer = self.bytes(alloc, name);
+        self.log.note(name.as_bytes(), &answer);
+        answer
     }
 
     fn store(&mut self, alloc: Global, name: &str, bytes: &[u8]) -> Result<(), ShelfFault> {
@@ -133,6 +148,7 @@ fn failing_at(alloc: Global, fails_at: u32, failures: u64) -> Result<Failing, Al
         calls: 0,
         fails_at,
         failures,
+        log: LoadLog::new(),
     })
 }
 
