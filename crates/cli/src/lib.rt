@@ -18,6 +18,6 @@ pub use case::{MAX_CASE, run_case};
 pub use command::run;
 pub use program::run_program;
 pub use shelves::{
-    FileShelf, MAX_FILE, MemoryFile, MemoryShelf, Shelf, ShelfFault, Sink, SinkFault, WholeFault,
-    Writing,
+    FileShelf, LoadLog, MAX_FILE, MemoryFile, MemoryShelf, Shelf, ShelfFault, Sink, SinkFault,
+    WholeFault, Writing,
 };

@@ -4,9 +4,8 @@ ghost use Rattle.shelves.specs.Shelf.{CountsFault, IsCounted};
 ghost use Rattle.shelves.specs.declared.shelf.ShelfFault.TheVariants.{Missing, TooLarge};
 
 use anyhow::Result;
-use cli::{MemoryFile, MemoryShelf, Shelf, ShelfFault, Sink, Writing, run, run_case};
+use cli::{LoadLog, MemoryFile, MemoryShelf, Shelf, ShelfFault, Sink, Writing, run, run_case};
 use field_lines::{Reading, Source};
-use shelves::LoadLog;
 use std::alloc::{AllocError, Global};
 use std::io;
 use std::io::{Read, Write};
