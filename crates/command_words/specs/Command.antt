@@ -1,8 +1,9 @@
 -- The command `countygroups`, as clap reads it.
-use Rattle.std.specs.Prelude.{◌≡◌, ◌++◌, ℕ, true, false, fold, List, [], ◌∷◌, Some, codes, pos}
-use Rattle.clap.specs.Words.{App, Rule, Shape, Text, app_of, new_rule, shape_of, with_rule, with_subcommand}
+use Rattle.std.specs.Prelude.{◌≡◌, ◌++◌, ℕ, true, false, fold, List, [], ◌∷◌, Some, Result, IfOk, codes, pos}
+use Rattle.clap.specs.Words.{App, Rule, Shape, Text, app_of, new_rule, rule_of, shape_of, with_rule, with_subcommand}
 use Rattle.clap.specs.Simple.{new_shape}
 use Rattle.clap.specs.declared.builder.action.ArgAction.TheVariants.{Set}
+use Rattle.clap.specs.declared.builder.arg.Arg.{Arg}
 use Rattle.clap.specs.declared.builder.command.Command.{Command}
 use Rattle.clap.specs.declared.builder.command.Command.TheViews.{out-Command}
 use Rattle.clap.specs.declared.builder.value_parser.ValueParser.TheVariants.{Signed, Unsigned}
@@ -91,3 +92,13 @@ pub record HasMore (old : Command) (options : List Rule) (new : Command) : Type 
 pub record HasShape (command : Command) (like : Shape) : Type 0 where
   pub shape : shape_of command ≡ like
   pub local : (out-Command command).has_globals ≡ false
+
+-- what a command that was made has more than an old one, the new one has too, and this option, which is not global
+abbrev pub AddsOption : {E : Type 0} → Result Command E → Arg → Result Command E → Type 0
+AddsOption made option new =
+    (old : Command) (options : List Rule) (r : Rule) → IfOk made (HasMore old options) → rule_of option ≡ r → option.global ≡ false → IfOk new (HasMore old (options ++ r ∷ []))
+
+-- a program that was made, with one more subcommand that was made
+abbrev pub AddsCommand : {E : Type 0} → Result Command E → Result Command E → Result Command E → Type 0
+AddsCommand program command new =
+    (a : App) (s : Shape) → IfOk program (λ p. app_of p ≡ a) → IfOk command (λ c. HasShape c s) → IfOk new (λ p. app_of p ≡ with_subcommand a s)

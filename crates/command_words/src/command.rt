@@ -1,7 +1,7 @@
 //! The command `countygroups`, as `clap` parses it.
 ghost use Rattle.std.specs.Prelude.{◌≡◌, IfOk, codes, false};
-ghost use Rattle.clap.specs.Words.{Shape, app_of, rule_of, with_subcommand};
-ghost use Rattle.command_words.specs.Command.{HasMore, HasShape, countygroups, countygroups_alone, subcommand, of_number, common_options, problem_options, judge_options, solve_options, check_options, audit_options, of_steps, required, text_option, with_default};
+ghost use Rattle.clap.specs.Words.{app_of, rule_of};
+ghost use Rattle.command_words.specs.Command.{AddsCommand, AddsOption, HasMore, HasShape, countygroups, countygroups_alone, subcommand, of_number, common_options, problem_options, judge_options, solve_options, check_options, audit_options, of_steps, required, text_option, with_default};
 
 use clap::{Arg, ArgAction, Command, value_parser};
 use std::alloc::{AllocError, Global};
@@ -81,29 +81,40 @@ fn steps_option<'a>(alloc: Global, name: &'a str, help: &'a str) -> Arg<'a>
         .default_value("10000000")
 }
 
+/// A command that was made, with one more option.
+fn with_option<'a>(
+    made: Result<Command<'a>, AllocError>,
+    option: Arg<'a>,
+) -> Result<Command<'a>, AllocError>
+    ensures { AddsOption made.entry option.entry result }
+{
+    let command = made?;
+    command.arg(option)
+}
+
 /// The command with the options that each subcommand has.
 fn with_common_options<'a>(alloc: Global, command: Command<'a>) -> Result<Command<'a>, AllocError>
     ensures { IfOk result (HasMore command.entry common_options) }
 {
     let geo = file_option(alloc, "geo", "The PL 94-171 geographic header");
-    let command = command.arg(geo)?;
+    let made = with_option(Ok(command), geo);
     let segment = file_option(alloc, "segment", "The PL 94-171 data segment 1");
-    let command = command.arg(segment)?;
-    let command = command.arg(chamber_option(alloc))?;
-    command.arg(state_option(alloc))
+    let made = with_option(made, segment);
+    let made = with_option(made, chamber_option(alloc));
+    with_option(made, state_option(alloc))
 }
 
 /// The command with the options that give a problem.
 fn with_problem_options<'a>(alloc: Global, command: Command<'a>) -> Result<Command<'a>, AllocError>
     ensures { IfOk result (HasMore command.entry problem_options) }
 {
-    let command = with_common_options(alloc, command)?;
+    let made = with_common_options(alloc, command);
     let adjacency = file_option(alloc, "adjacency", "The county adjacency file");
-    let command = command.arg(adjacency)?;
+    let made = with_option(made, adjacency);
     let links = text_option(alloc, "links", "FILE", "Pairs to add and to cut");
-    let command = command.arg(links)?;
+    let made = with_option(made, links);
     let withdrawn = text_option(alloc, "withdrawn", "FILE", "The withdrawn sets");
-    command.arg(withdrawn)
+    with_option(made, withdrawn)
 }
 
 /// The subcommand `size`.
@@ -119,9 +130,9 @@ fn judge_command<'a>(alloc: Global) -> Result<Command<'a>, AllocError>
     ensures { IfOk result (λ c. HasShape c (subcommand (codes "judge") judge_options)) }
 {
     let judge = Command::new(alloc, "judge").about("Judges whether a grouping is lawful");
-    let judge = with_problem_options(alloc, judge)?;
+    let made = with_problem_options(alloc, judge);
     let grouping = file_option(alloc, "grouping", "The groups, each with its seats");
-    judge.arg(grouping)
+    with_option(made, grouping)
 }
 
 /// The subcommand `solve`.
@@ -129,18 +140,18 @@ fn solve_command<'a>(alloc: Global) -> Result<Command<'a>, AllocError>
     ensures { IfOk result (λ c. HasShape c (subcommand (codes "solve") solve_options)) }
 {
     let solve = Command::new(alloc, "solve").about("Finds the best grouping and its certificate");
-    let solve = with_problem_options(alloc, solve)?;
+    let made = with_problem_options(alloc, solve);
     let steps = steps_option(alloc, "steps", "The most steps of the search");
-    let solve = solve.arg(steps)?;
+    let made = with_option(made, steps);
     let certificate = text_option(
         alloc,
         "certificate",
         "FILE",
         "The file to write the certificate to",
     );
-    let solve = solve.arg(certificate)?;
+    let made = with_option(made, certificate);
     let out = text_option(alloc, "out", "FILE", "The file to write the grouping to");
-    solve.arg(out)
+    with_option(made, out)
 }
 
 /// The subcommand `check`.
@@ -148,11 +159,11 @@ fn check_command<'a>(alloc: Global) -> Result<Command<'a>, AllocError>
     ensures { IfOk result (λ c. HasShape c (subcommand (codes "check") check_options)) }
 {
     let check = Command::new(alloc, "check").about("Checks a certificate");
-    let check = with_problem_options(alloc, check)?;
+    let made = with_problem_options(alloc, check);
     let certificate = file_option(alloc, "certificate", "The certificate");
-    let check = check.arg(certificate)?;
+    let made = with_option(made, certificate);
     let budget = steps_option(alloc, "budget", "The most steps of the checker");
-    check.arg(budget)
+    with_option(made, budget)
 }
 
 /// The subcommand `audit`.
@@ -162,11 +173,11 @@ fn audit_command<'a>(alloc: Global) -> Result<Command<'a>, AllocError>
     let audit = Command::new(alloc, "audit").about(
         "Finds all that is wrong with a plan's districts",
     );
-    let audit = with_problem_options(alloc, audit)?;
+    let made = with_problem_options(alloc, audit);
     let grouping = file_option(alloc, "grouping", "The groups, each with its seats");
-    let audit = audit.arg(grouping)?;
+    let made = with_option(made, grouping);
     let assignments = file_option(alloc, "assignments", "The district of each census block");
-    audit.arg(assignments)
+    with_option(made, assignments)
 }
 
 /// The command of the program without its subcommands.
@@ -183,27 +194,24 @@ fn program_alone<'a>(alloc: Global) -> Result<Command<'a>, AllocError>
         .bin_name("countygroups")
 }
 
-/// The program with one more subcommand, where that one could be made.
+/// A program that was made, with one more subcommand that was made.
 fn with_command<'a>(
-    program: Command<'a>,
+    program: Result<Command<'a>, AllocError>,
     command: Result<Command<'a>, AllocError>,
 ) -> Result<Command<'a>, AllocError>
-    ensures { IfOk
-        result
-        (λ new. (s : Shape) → IfOk command.entry (λ c. HasShape c s) → app_of new ≡ with_subcommand (app_of program.entry) s) }
+    ensures { AddsCommand program.entry command.entry result }
 {
     let command = command?;
-    program.subcommand(command)
+    program?.subcommand(command)
 }
 
 /// The command of the whole program.
 pub(crate) fn program<'a>(alloc: Global) -> Result<Command<'a>, AllocError>
     ensures { IfOk result (λ c. app_of c ≡ countygroups) }
 {
-    let program = program_alone(alloc)?;
-    let program = with_command(program, size_command(alloc))?;
-    let program = with_command(program, judge_command(alloc))?;
-    let program = with_command(program, solve_command(alloc))?;
-    let program = with_command(program, check_command(alloc))?;
+    let program = with_command(program_alone(alloc), size_command(alloc));
+    let program = with_command(program, judge_command(alloc));
+    let program = with_command(program, solve_command(alloc));
+    let program = with_command(program, check_command(alloc));
     with_command(program, audit_command(alloc))
 }
