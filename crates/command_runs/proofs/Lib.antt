@@ -6,3 +6,5 @@ pub mod Repeating
 pub mod SameProblem
 pub mod Checking
 pub mod Agrees
+pub mod Lifting
+pub mod OfTheirLoads

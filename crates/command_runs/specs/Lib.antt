@@ -6,5 +6,6 @@ pub mod SolveCourse
 pub mod CheckCourse
 pub mod Storing
 pub mod Run
+pub mod Loads
 pub mod Headline
 pub mod Texts

@@ -1,6 +1,7 @@
-//! Laws of runs: the function does nothing, and its contract is the law.
+//! Laws of runs: each function does nothing, and its contract is the law.
 
 ghost use Rattle.command_runs.specs.Headline.{RunsAgree};
+ghost use Rattle.command_runs.specs.Loads.{RunsAreOfTheirLoads};
 
 /// Where `solve` ends with status 0 over files that are told, its report is that of a grouping which is best for the problem of those
 /// files; where it ends with status 1, no grouping is lawful. The certificate that it stored says so to whoever checks it: with the
@@ -8,4 +9,11 @@ ghost use Rattle.command_runs.specs.Headline.{RunsAgree};
 /// refused.
 pub fn runs_agree()
     ensures { RunsAgree }
+{}
+
+/// What is promised of runs over files that are told holds of runs over the machine's files too, wherever its loads answered as some
+/// files have it: such a run, of a command or of the program's words, is a run over those files. A load that a fault of the device or
+/// want of memory stopped says nothing of the files.
+pub fn runs_are_of_their_loads()
+    ensures { RunsAreOfTheirLoads }
 {}

@@ -11,4 +11,4 @@ mod laws;
 
 pub use checker_report::check_and_say;
 pub use desk_report::{Solved, solve_and_say};
-pub use laws::runs_agree;
+pub use laws::{runs_agree, runs_are_of_their_loads};

@@ -1,0 +1,127 @@
+-- Steps over files that aren't told are steps over the files that their loads answered by.
+use Rattle.std.proofs.Common.{◌≡◌, ℕ, List, [], ◌∷◌, ◌++◌, Option, Some, None, inl, inr, sym, ap, ◌∙◌, append_assoc}
+use Rattle.std.specs.Prelude.{Result, Ok, Err}
+use Rattle.std.specs.List.{All}
+use Rattle.std.specs.Borrow.{Bor}
+use Rattle.std.proofs.lemmas.List.{append-nil, append_cancel_left}
+use Rattle.std.proofs.lemmas.List.Elements.{All-nil, All-cons, All-head, All-tail, All-same}
+use Rattle.shelves.specs.declared.shelf.ShelfFault.{ShelfFault}
+use Rattle.shelves.specs.declared.shelf.ShelfFault.TheVariants.{Missing, TooLarge, Device, Memory}
+use Rattle.shelves.specs.Files.{Files}
+use Rattle.shelves.specs.Shelf.{IsLoad}
+use Rattle.shelves.specs.History.{Load, History}
+use Rattle.program_answers.specs.Answer.{Answered}
+use Rattle.command_runs.specs.Course.{Course, ◌>>=◌, EndsIn, load_step, call_step, value_step, optional_step}
+use Rattle.command_runs.specs.Loads.{HasAnswer, Answers, AnsweredBy}
+
+-- the loads of one history are those of another and then more
+abbrev Extends : History → History → Type 0
+Extends before after = (more : List Load) × (after.loads ≡ before.loads ++ more)
+
+extends_same : (before after : History) → after ≡ before → Extends before after
+extends_same before after same = ([], ap (λ (h : History). h.loads) same ∙ sym (append-nil before.loads))
+
+extends_twice : (before between after : History) (first : Extends before between) (next : Extends between after) → after.loads ≡ before.loads ++ (first.0 ++ next.0)
+extends_twice before between after first next = next.1 ∙ ap (λ (loads : List Load). loads ++ next.0) first.1 ∙ append_assoc before.loads first.0 next.0
+
+-- all of a list's members are all of its front's and all of the rest's
+All_split : {X : Type 0} (P : X → Type 0) (xs ys : List X) → All P (xs ++ ys) → All P xs × All P ys
+All_split P [] ys h = (All-nil P, h)
+All_split P (x ∷ xs) ys h =
+    let rest = All_split P xs ys (All-tail P x (xs ++ ys) h) in
+    (All-cons P x xs (All-head P x (xs ++ ys) h) rest.0, rest.1)
+
+module _ (files : Files) where
+  -- what holds of the loads of steps and of others behind them holds of both
+  answered_split : (before between after : History) → Extends before between → Extends between after → AnsweredBy files before after
+      → AnsweredBy files before between × AnsweredBy files between after
+  answered_split before between after first next by =
+      let same : first.0 ++ next.0 ≡ by.0 = append_cancel_left before.loads (first.0 ++ next.0) by.0 (sym (extends_twice before between after first next) ∙ by.1) in
+      let parts = All_split (Answers files) first.0 next.0 (All-same (Answers files) (first.0 ++ next.0) by.0 same by.2) in
+      ((first.0, first.1, parts.0), (next.0, next.1, parts.1))
+
+  -- the one load of a step
+  one_answer : (before after : History) (load : Load) → after.loads ≡ before.loads ++ load ∷ [] → AnsweredBy files before after → Answers files load
+  one_answer before after load loads by =
+      let same : load ∷ [] ≡ by.0 = append_cancel_left before.loads (load ∷ []) by.0 (sym loads ∙ by.1) in
+      All-head (Answers files) load [] (All-same (Answers files) (load ∷ []) by.0 same by.2)
+
+  fault_of_files : (failures : ℕ) (name : List ℕ) (fault : ShelfFault) → HasAnswer files name (Err fault) → IsLoad {X = List ℕ} (λ b. b) (Some files) failures name (Err fault)
+  fault_of_files failures name Missing h = inl h
+  fault_of_files failures name TooLarge h = h
+  fault_of_files failures name Device h = tt
+  fault_of_files failures name Memory h = tt
+
+  -- steps over files that aren't told only add loads, and where these answered by the files they are the steps over those files
+  pub record Lifts {X : Type 0} (untold told : Course X) : Type 0 where
+    pub extends : (before after : History) (end : Result X Answered) → untold before after end → Extends before after
+    pub lifts : (before after : History) (end : Result X Answered) → untold before after end → AnsweredBy files before after → told before after end
+
+  load_extends : (name : List ℕ) (before after : History) (end : Result (List ℕ) Answered) → load_step None name before after end → Extends before after
+  load_extends name before after (Ok bytes) h = (_, h.1.1)
+  load_extends name before after (Err a) h = (_, h.2.1)
+
+  load_lifted : (name : List ℕ) (before after : History) (end : Result (List ℕ) Answered) → load_step None name before after end → AnsweredBy files before after
+      → load_step (Some files) name before after end
+  load_lifted name before after (Ok bytes) h by = (one_answer before after _ h.1.1 by, h.1, h.2)
+  load_lifted name before after (Err a) h by = (h.0, fault_of_files before.failures name h.0 (one_answer before after _ h.2.1 by), h.2, h.3)
+
+  pub lifts_load : (name : List ℕ) → Lifts (load_step None name) (load_step (Some files) name)
+  lifts_load name = record { extends = load_extends name; lifts = load_lifted name }
+
+  -- steps that load nothing
+  lifts_same : {X : Type 0} (steps : Course X) → ((before after : History) (end : Result X Answered) → steps before after end → after ≡ before) → Lifts steps steps
+  lifts_same steps same = record {
+    extends = λ before after end h. extends_same before after (same before after end h);
+    lifts = λ before after end h by. h;
+  }
+
+  call_same : {X F : Type 0} (refuse : F → Answered) (R : Result X F → Type 0) (before after : History) (end : Result X Answered) → call_step refuse R before after end → after ≡ before
+  call_same refuse R before after (Ok value) h = h.0
+  call_same refuse R before after (Err a) h = h.0
+
+  pub lifts_call : {X F : Type 0} (refuse : F → Answered) (R : Result X F → Type 0) → Lifts (call_step refuse R) (call_step refuse R)
+  lifts_call refuse R = lifts_same (call_step refuse R) (call_same refuse R)
+
+  value_same : {X : Type 0} (P : X → Type 0) (before after : History) (end : Result X Answered) → value_step P before after end → after ≡ before
+  value_same P before after (Ok value) h = h.0
+  value_same P before after (Err a) h = absurd h
+
+  pub lifts_value : {X : Type 0} (P : X → Type 0) → Lifts (value_step P) (value_step P)
+  lifts_value P = lifts_same (value_step P) (value_same P)
+
+  -- steps, and then others
+  module _ {X Y : Type 0} (first told_first : Course X) (next told_next : X → Course Y) (f : Lifts first told_first) (n : (x : X) → Lifts (next x) (told_next x)) where
+    bind_extends : (before after : History) (end : Result Y Answered) → (first >>= next) before after end → Extends before after
+    bind_extends before after (Ok value) (inl stop) = absurd stop
+    bind_extends before after (Err a) (inl stop) = f.extends before after (Err a) stop
+    bind_extends before after end (inr g) =
+        let begun = f.extends before g.between (Ok g.value) g.given in
+        let ended = (n g.value).extends g.between after end g.goes_on in
+        (begun.0 ++ ended.0, extends_twice before g.between after begun ended)
+
+    bind_lifted : (before after : History) (end : Result Y Answered) → (first >>= next) before after end → AnsweredBy files before after → (told_first >>= told_next) before after end
+    bind_lifted before after (Ok value) (inl stop) by = absurd stop
+    bind_lifted before after (Err a) (inl stop) by = inl (f.lifts before after (Err a) stop by)
+    bind_lifted before after end (inr g) by =
+        let parts = answered_split before g.between after (f.extends before g.between (Ok g.value) g.given) ((n g.value).extends g.between after end g.goes_on) by in
+        inr (record {
+          value = g.value;
+          between = g.between;
+          given = f.lifts before g.between (Ok g.value) g.given parts.0;
+          goes_on = (n g.value).lifts g.between after end g.goes_on parts.1;
+        })
+
+  pub lifts_bind : {X Y : Type 0} {first told_first : Course X} {next told_next : X → Course Y} → Lifts first told_first → ((x : X) → Lifts (next x) (told_next x))
+      → Lifts (first >>= next) (told_first >>= told_next)
+  lifts_bind f n = record { extends = bind_extends _ _ _ _ f n; lifts = bind_lifted _ _ _ _ f n }
+
+  pub lifts_optional : {X : Type 0} (value : X) {untold told : List ℕ → Course X} (name : Option (Bor (List ℕ))) → ((file : List ℕ) → Lifts (untold file) (told file))
+      → Lifts (optional_step value untold name) (optional_step value told name)
+  lifts_optional value None steps = lifts_value (λ x. x ≡ value)
+  lifts_optional value (Some name) steps = steps name.now
+
+  -- the answer in which steps end
+  pub ends_lift : {untold told : Course Answered} → Lifts untold told → (before after : History) (a : Answered) → EndsIn untold before after a → AnsweredBy files before after → EndsIn told before after a
+  ends_lift l before after a (inl h) by = inl (l.lifts before after (Ok a) h by)
+  ends_lift l before after a (inr h) by = inr (l.lifts before after (Err a) h by)

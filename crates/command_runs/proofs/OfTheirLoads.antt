@@ -1,0 +1,120 @@
+-- Runs over files that aren't told are runs over the files that their loads answered by.
+use Rattle.std.proofs.Common.{◌≡◌, ℕ, List, [], ◌∷◌, Option, Some, None, inl, inr, sym, ap, ◌∙◌}
+use Rattle.std.specs.Borrow.{Bor}
+use Rattle.std.specs.Prelude.{Ok, Err}
+use Rattle.pl94_counties.specs.Counties.{county_list, block_list}
+use Rattle.assignment_file.specs.Assignments.{assignment_list}
+use Rattle.grouping_problem.specs.ProblemValue.{codes_of}
+use Rattle.adjacency_reader.specs.Pairs.{IsPairsAnswer}
+use Rattle.adjacency_reader.specs.Links.{link_list}
+use Rattle.adjacency_reader.specs.Withdrawn.{withdrawn_list}
+use Rattle.adjacency_reader.specs.Adjacent.{AreLinked}
+use Rattle.seat_lines.specs.GroupingLines.{grouping_list}
+use Rattle.grouping_report.specs.SizeTable.{size_text}
+use Rattle.command_words.specs.declared.words.CommonWords.{CommonWords}
+use Rattle.command_words.specs.declared.words.ProblemWords.{ProblemWords}
+use Rattle.command_words.specs.declared.words.JudgeWords.{JudgeWords}
+use Rattle.command_words.specs.declared.words.AuditWords.{AuditWords}
+use Rattle.command_words.specs.declared.words.SolveWords.{SolveWords}
+use Rattle.command_words.specs.declared.words.CheckWords.{CheckWords}
+use Rattle.command_words.specs.declared.words.CommandWords.{CommandWords}
+use Rattle.command_words.specs.declared.words.CommandWords.TheVariants.{Size, Judge, Solve, Check, Audit}
+use Rattle.shelves.specs.Files.{File, Files}
+use Rattle.shelves.specs.History.{History}
+use Rattle.program_answers.specs.declared.refusal.InputFile.TheVariants as input
+use Rattle.program_answers.specs.Answer.{Answered, success}
+use Rattle.program_answers.specs.Refusals.{pl94_answer, code_file_answer, problem_answer, assignment_answer, verdict_answer}
+use Rattle.command_runs.specs.ProblemCourse.{counties_of, pairs_of, links_of, withdrawn_of, adjacency_of, IsBuilt, problem_in, grouping_of}
+use Rattle.command_runs.specs.PlanCourse.{blocks_of, assignments_of}
+use Rattle.command_runs.specs.JudgeCourse.{size_course, IsJudged, judge_course, IsAudited, audit_course}
+use Rattle.command_runs.specs.SolveCourse.{IsSolved, solve_course, SolveEnds}
+use Rattle.command_runs.specs.CheckCourse.{IsChecked, check_course}
+use Rattle.command_runs.specs.Storing.{store_steps}
+use Rattle.command_runs.specs.Run.{CommandEnds, CommandRun, IsRunAnswer}
+use Rattle.command_runs.specs.Loads.{AnsweredBy, RunsAreOfTheirLoads}
+use Rattle.command_runs.proofs.Lifting.{Lifts, lifts_load, lifts_call, lifts_value, lifts_bind, lifts_optional, ends_lift}
+
+-- what is stored loads nothing
+stores_keep : (list : List File) (before after : History) (stored : List File) (refusal : Option Answered) → store_steps list before after stored refusal → after.loads ≡ before.loads
+stores_keep [] before after stored refusal h = ap (λ (x : History). x.loads) h.0
+stores_keep (f ∷ fs) before after stored refusal (inl h) = h.counted.1
+stores_keep (f ∷ fs) before after stored refusal (inr h) = stores_keep fs h.0 after h.1 refusal h.4 ∙ h.2.1
+
+module _ (files : Files) where
+  counties_lift : (words : CommonWords) → Lifts files (counties_of None words) (counties_of (Some files) words)
+  counties_lift words = lifts_bind files (lifts_load files words.geo.now) (λ geo. lifts_bind files (lifts_load files words.segment.now) (λ segment.
+      lifts_call files pl94_answer (λ counties. county_list geo segment words.state ≡ counties)))
+
+  pairs_lift : (listed name : List ℕ) → Lifts files (pairs_of None listed name) (pairs_of (Some files) listed name)
+  pairs_lift listed name = lifts_bind files (lifts_load files name) (λ text. lifts_call files (code_file_answer input.Adjacency) (IsPairsAnswer text listed))
+
+  links_lift : (name : Option (Bor (List ℕ))) → Lifts files (links_of None name) (links_of (Some files) name)
+  links_lift name = lifts_optional files [] name (λ file. lifts_bind files (lifts_load files file) (λ text. lifts_call files (code_file_answer input.Links) (λ links. link_list text ≡ links)))
+
+  withdrawn_lift : (name : Option (Bor (List ℕ))) → Lifts files (withdrawn_of None name) (withdrawn_of (Some files) name)
+  withdrawn_lift name = lifts_optional files [] name (λ file. lifts_bind files (lifts_load files file) (λ text. lifts_call files (code_file_answer input.Withdrawn) (λ sets. withdrawn_list text ≡ sets)))
+
+  adjacency_lift : (listed : List ℕ) (words : ProblemWords) → Lifts files (adjacency_of None listed words) (adjacency_of (Some files) listed words)
+  adjacency_lift listed words = lifts_bind files (pairs_lift listed words.adjacency.now) (λ pairs. lifts_bind files (links_lift words.links) (λ links. lifts_value files (AreLinked pairs links)))
+
+  problem_lifts : (words : ProblemWords) → Lifts files (problem_in None words) (problem_in (Some files) words)
+  problem_lifts words =
+      lifts_bind files (counties_lift words.common) (λ counties. lifts_bind files (adjacency_lift (codes_of counties) words) (λ pairs. lifts_bind files (withdrawn_lift words.withdrawn) (λ withdrawn.
+      lifts_call files problem_answer (IsBuilt counties pairs withdrawn words.common.chamber))))
+
+  grouping_lifts : (name : List ℕ) → Lifts files (grouping_of None name) (grouping_of (Some files) name)
+  grouping_lifts name = lifts_bind files (lifts_load files name) (λ text. lifts_call files (code_file_answer input.Grouping) (λ grouping. grouping_list text ≡ grouping))
+
+  blocks_lift : (words : CommonWords) → Lifts files (blocks_of None words) (blocks_of (Some files) words)
+  blocks_lift words = lifts_bind files (lifts_load files words.geo.now) (λ geo. lifts_bind files (lifts_load files words.segment.now) (λ segment.
+      lifts_call files pl94_answer (λ blocks. block_list geo segment words.state ≡ blocks)))
+
+  assignments_lift : (name : List ℕ) → Lifts files (assignments_of None name) (assignments_of (Some files) name)
+  assignments_lift name = lifts_bind files (lifts_load files name) (λ text. lifts_call files assignment_answer (λ lines. assignment_list text ≡ lines))
+
+  size_lifts : (words : CommonWords) → Lifts files (size_course None words) (size_course (Some files) words)
+  size_lifts words = lifts_bind files (counties_lift words) (λ counties. lifts_bind files (lifts_call files problem_answer (IsBuilt counties [] [] words.chamber)) (λ v. lifts_value files (λ a. a ≡ success (size_text v))))
+
+  judge_lifts : (words : JudgeWords) → Lifts files (judge_course None words) (judge_course (Some files) words)
+  judge_lifts words = lifts_bind files (problem_lifts words.problem) (λ v. lifts_bind files (grouping_lifts words.grouping.now) (λ g. lifts_call files verdict_answer (IsJudged v g)))
+
+  audit_lifts : (words : AuditWords) → Lifts files (audit_course None words) (audit_course (Some files) words)
+  audit_lifts words =
+      lifts_bind files (problem_lifts words.problem) (λ v. lifts_bind files (blocks_lift words.problem.common) (λ blocks. lifts_bind files (grouping_lifts words.grouping.now) (λ g.
+      lifts_bind files (assignments_lift words.assignments.now) (λ lines. lifts_value files (IsAudited v g blocks lines)))))
+
+  check_lifts : (words : CheckWords) → Lifts files (check_course None words) (check_course (Some files) words)
+  check_lifts words = lifts_bind files (problem_lifts words.problem) (λ v. lifts_bind files (lifts_load files words.certificate.now) (λ text. lifts_value files (IsChecked v words.budget text)))
+
+  solve_lifts : (words : SolveWords) → Lifts files (solve_course None words) (solve_course (Some files) words)
+  solve_lifts words = lifts_bind files (problem_lifts words.problem) (λ v. lifts_value files (IsSolved v words.steps))
+
+  solve_ends : (words : SolveWords) (before after : History) (stored : List File) (a : Answered) → SolveEnds None words before after stored a → AnsweredBy files before after
+      → SolveEnds (Some files) words before after stored a
+  solve_ends words before after stored a (inl h) by = inl ((solve_lifts words).lifts before after (Err a) h.0 by, h.1)
+  solve_ends words before after stored a (inr h) by =
+      let solved = (solve_lifts words).lifts before h.1 (Ok h.0) h.3 (by.0, sym (stores_keep _ h.1 after stored h.2 h.4) ∙ by.1, by.2) in
+      inr (h.0, h.1, h.2, solved, h.4, h.5)
+
+  command_ends : (command : CommandWords) (before after : History) (stored : List File) (a : Answered) → CommandEnds None command before after stored a → AnsweredBy files before after
+      → CommandEnds (Some files) command before after stored a
+  command_ends (Size words) before after stored a h by = (ends_lift files (size_lifts words) before after a h.0 by, h.1)
+  command_ends (Judge words) before after stored a h by = (ends_lift files (judge_lifts words) before after a h.0 by, h.1)
+  command_ends (Solve words) before after stored a h by = solve_ends words before after stored a h by
+  command_ends (Check words) before after stored a h by = (ends_lift files (check_lifts words) before after a h.0 by, h.1)
+  command_ends (Audit words) before after stored a h by = (ends_lift files (audit_lifts words) before after a h.0 by, h.1)
+
+  command_run : (command : CommandWords) (before after : History) (stored : List File) (a : Answered) → CommandRun None command before after stored a → AnsweredBy files before after
+      → CommandRun (Some files) command before after stored a
+  command_run command before after stored a (inl none) by = inl none
+  command_run command before after stored a (inr ends) by = inr (command_ends command before after stored a ends by)
+
+  run_answer : (words : List (List ℕ)) (before after : History) (stored : List File) (a : Answered) → IsRunAnswer None words before after stored a → AnsweredBy files before after
+      → IsRunAnswer (Some files) words before after stored a
+  run_answer words before after stored a (inl none) by = inl none
+  run_answer words before after stored a (inr (inl at_words)) by = inr (inl at_words)
+  run_answer words before after stored a (inr (inr r)) by =
+      inr (inr (record { command = r.command; meant = r.meant; taken = r.taken; run = command_run r.command before after stored a r.run by }))
+
+pub of_their_loads : RunsAreOfTheirLoads
+of_their_loads = record { answer = run_answer; run = command_run }
