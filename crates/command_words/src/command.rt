@@ -8,28 +8,27 @@ use std::alloc::{AllocError, Global};
 
 /// What `--help` begins with.
 const ABOUT: &str =
-    "Groups North Carolina's counties for legislative districts (Stephenson v. Bartlett): sizes, the best grouping \
-    with its certificate, and verdicts on groupings, certificates and block assignment files";
+    "Finds, checks and judges groups of North Carolina's counties for legislative districts";
 
 /// What `--version` says after the program's name.
 const VERSION: &str =
-    "0.1.0, for the Rattle kit 13b (logic dac8208d650f15bf), whose `rt run` makes this program only where it is proved";
+    "0.1.0 (Rattle kit 13b, logic dac8208d650f15bf; rt keeps the program only where all of it is proved)";
 
 /// What `--help` ends with.
-const AFTER_HELP: &str =
-    "Without any word a case is read from standard input: the words on its first line, then each file \
-    after a line `file NAME`.\n\
-    \n\
-    Exit status:\n\
-    \x20 0  an answer, help or the version\n\
-    \x20 1  a fault of the grouping, a finding, no lawful grouping, or a text that is no certificate\n\
-    \x20 2  the words are no command\n\
-    \x20 3  the steps of `solve` or the budget of `check` ran out\n\
-    \x20 4  a file or the problem was refused\n\
-    \x20 5  a file could not be read or stored, memory was refused, or the answer could not be written\n\
-    \n\
-    A name of a file is a path; `/dev/stdin` is standard input, and `-` a file of that name. The layouts of the files\n\
-    are told in docs/formats.md, and how to read the answers in docs/guide.md.";
+const AFTER_HELP: &str = "\
+Without any word a case is read from standard input: the words on its first line, then each
+file after a line `file NAME`.
+
+Exit status:
+  0  an answer, help or the version
+  1  a fault of the grouping, a finding, no lawful grouping, or a text that is no certificate
+  2  the words are no command
+  3  the steps of `solve` or the budget of `check` ran out
+  4  a file or the problem was refused
+  5  a file could not be read or stored, memory was refused, or the answer could not be written
+
+A file's name is its path: `/dev/stdin` is standard input, and `-` a file of that name. The
+layouts are told in docs/formats.md, and how to read the answers in docs/guide.md.";
 
 /// An option `--name VALUE`.
 fn text_option<'a>(alloc: Global, name: &'a str, value_name: &'a str, help: &'a str) -> Arg<'a>
