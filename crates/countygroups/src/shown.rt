@@ -1,0 +1,76 @@
+//! Bytes of files and names as a terminal may show them.
+
+use std::fmt;
+
+/// How many characters of a line or a field are shown.
+const MOST: usize = 120;
+
+/// Bytes as text: control characters and bytes that aren't UTF-8 are escaped, as `\n` and `\x1b`.
+#[derive(Clone, Copy)]
+pub(crate) struct Shown<'a> {
+    bytes: &'a [u8],
+    most: usize,
+}
+
+/// The start of a line or a field, up to 120 characters; dots stand for the rest.
+pub(crate) fn start_of(bytes: &[u8]) -> Shown<'_> {
+    Shown { bytes, most: MOST }
+}
+
+/// A whole name.
+pub(crate) fn name_of(name: &str) -> Shown<'_> {
+    Shown {
+        bytes: name.as_bytes(),
+        most: usize::MAX,
+    }
+}
+
+/// Writes a character, or its escape where it is a control character.
+fn write_character<W: fmt::Write>(f: &mut fmt::Formatter<W>, character: char) -> fmt::Result {
+    match character {
+        '\n' => f.write_str("\\n"),
+        '\r' => f.write_str("\\r"),
+        '\t' => f.write_str("\\t"),
+        _ if character.is_control() => write!(f, "\\x{:02x}", u32::from(character)),
+        _ => f.write_char(character),
+    }
+}
+
+/// Writes the characters of a text, up to the most that are shown, and answers how many more may follow.
+fn write_text<W: fmt::Write>(
+    f: &mut fmt::Formatter<W>,
+    text: &str,
+    most: usize,
+) -> Result<usize, fmt::Error> {
+    let mut left = most;
+    for character in text.chars() {
+        if left == 0 {
+            return Ok(0);
+        }
+        left -= 1;
+        write_character(f, character)?;
+    }
+    Ok(left)
+}
+
+/// Writes the escapes of bytes that aren't UTF-8.
+fn write_bytes<W: fmt::Write>(f: &mut fmt::Formatter<W>, bytes: &[u8]) -> fmt::Result {
+    for byte in bytes {
+        write!(f, "\\x{byte:02x}")?;
+    }
+    Ok(())
+}
+
+impl fmt::Display for Shown<'_> {
+    fn fmt<W: fmt::Write>(&self, f: &mut fmt::Formatter<W>) -> fmt::Result {
+        let mut left = self.most;
+        for chunk in self.bytes.utf8_chunks() {
+            left = write_text(f, chunk.valid(), left)?;
+            if left == 0 {
+                return f.write_str("..");
+            }
+            write_bytes(f, chunk.invalid())?;
+        }
+        Ok(())
+    }
+}
