@@ -18,6 +18,11 @@ fn load_again(rt: &(impl Files + AllocGlobal), path: &str) -> Option<Vec<u8>> {
     FileShelf::new(rt).load(rt.alloc(), path).ok()
 }
 
+/// The bytes of the file of an option, as `load_again` gives them; none at all where it gives none.
+pub(crate) fn text_of(rt: &(impl Files + AllocGlobal), file: NamedFile<'_>) -> Vec<u8> {
+    load_file(rt, file).unwrap_or(Vec::new(rt.alloc()))
+}
+
 /// The bytes of the file of an option, as `load_again` gives them.
 pub(crate) fn load_file(rt: &(impl Files + AllocGlobal), file: NamedFile<'_>) -> Option<Vec<u8>> {
     load_again(rt, file.path?)

@@ -3,7 +3,7 @@
 use crate::options::FileOption;
 
 /// What is wrong with a line of a file, or with the whole file.
-#[derive(Clone, Copy, PartialEq, Eq)]
+#[derive(Clone, Copy)]
 pub(crate) enum LineKind {
     /// Too few fields.
     TooFewFields,
@@ -65,7 +65,7 @@ pub(crate) enum AnswerLine<'a> {
 }
 
 /// What a line says of a file that could not be had or stored.
-#[derive(Clone, Copy, PartialEq, Eq)]
+#[derive(Clone, Copy)]
 pub(crate) enum DeviceWord {
     /// There is no file of the name.
     Missing,

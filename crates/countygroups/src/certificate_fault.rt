@@ -1,6 +1,6 @@
 //! Why a text is no certificate.
 
-use crate::again::load_file;
+use crate::again::text_of;
 use crate::line_of::line_of;
 use crate::options::{FileOption, Options};
 use crate::shown::start_of;
@@ -60,7 +60,7 @@ pub(crate) fn explain_certificate(
         None => words_of_fault(fault),
     };
     writeln!(out, "countygroups: {file}, line {number}: {words}")?;
-    let text = load_file(rt, file).unwrap_or(Vec::new(rt.alloc()));
+    let text = text_of(rt, file);
     if let Some(line) = line_of(&text, number) {
         let line = start_of(line);
         writeln!(out, "countygroups: line {number} is: {line}")?;

@@ -14,6 +14,14 @@ use std::fmt::Write;
 use std::io::ErrorKind;
 use std::rt::Files;
 
+const LARGE_CASE: &str =
+    "countygroups: the case has more than 16777216 bytes: give a command's words and its files by path\n";
+
+const NO_MEMORY: &str = "countygroups: memory was refused: more of it has to be free\n";
+
+const SMALL_BUDGET: &str =
+    "countygroups: the steps of --budget ran out before the certificate was checked: give a greater number\n";
+
 /// How a run ended.
 #[derive(Clone, Copy)]
 pub(crate) struct Ended<'a> {
@@ -27,67 +35,89 @@ pub(crate) struct Ended<'a> {
     pub(crate) is_unwritten: bool,
 }
 
-/// Explains a file that could not be had or stored.
-fn explain_device(
-    rt: &(impl Files + AllocGlobal),
-    out: &mut String,
-    options: &Options<'_>,
-    path: &str,
-    word: DeviceWord,
-) -> Result<(), AllocError> {
-    let name = name_of(path);
-    let Some(option) = options.option_of(path) else {
-        return match word {
-            DeviceWord::Device => writeln!(
-                out,
-                "countygroups: the case could not be read from standard input"
-            ),
-            _ => writeln!(
-                out,
-                "countygroups: the case has no file {name}: each file stands behind a line `file NAME`"
-            ),
-        };
-    };
-    let is_stored = option == FileOption::CertificateOut || option == FileOption::Out;
-    let done = if is_stored { "stored" } else { "read" };
-    let reason = match word {
+/// Why a file could not be had or stored.
+fn reason_of(rt: &impl Files, path: &str, word: DeviceWord, is_stored: bool) -> &'static str {
+    match word {
         DeviceWord::TooLarge => "it has more than 1073741824 bytes",
         DeviceWord::Missing => words_of_reason(ErrorKind::NotFound),
         DeviceWord::Device => match device_reason(rt, path, is_stored) {
             Some(kind) => words_of_reason(kind),
             None => "the device failed",
         },
-    };
-    writeln!(
-        out,
-        "countygroups: {option} {name} could not be {done}: {reason}"
-    )
+    }
+}
+
+/// Explains a file that a case hasn't, and a case that could not be read.
+fn explain_case(out: &mut String, path: &str, word: DeviceWord) -> Result<(), AllocError> {
+    let name = name_of(path);
+    match word {
+        DeviceWord::Device => out.push_str(
+            "countygroups: the case could not be read from standard input\n",
+        ),
+        _ => writeln!(
+            out,
+            "countygroups: the case has no file {name}: each file stands behind a line `file NAME`"
+        ),
+    }
+}
+
+/// Explains a file that could not be had or stored.
+fn explain_device(
+    rt: &impl Files,
+    out: &mut String,
+    option: FileOption,
+    path: &str,
+    word: DeviceWord,
+) -> Result<(), AllocError> {
+    let name = name_of(path);
+    let is_stored = option == FileOption::CertificateOut || option == FileOption::Out;
+    let reason = reason_of(rt, path, word, is_stored);
+    if is_stored {
+        writeln!(
+            out,
+            "countygroups: {option} {name} could not be stored: {reason}"
+        )?;
+        writeln!(
+            out,
+            "countygroups: give {option} a path where a file can be stored; what was stored before it stays"
+        )
+    } else {
+        writeln!(
+            out,
+            "countygroups: {option} {name} could not be read: {reason}"
+        )?;
+        writeln!(
+            out,
+            "countygroups: give {option} a file that can be read, by its path from the folder where the program runs"
+        )
+    }
 }
 
 /// Explains a report: nothing where a grouping is lawful or best.
-fn explain_report(out: &mut String, steps: u64, status: u8) -> Result<(), AllocError> {
+fn explain_report(out: &mut String, status: u8) -> Result<(), AllocError> {
     match status {
-        1 => writeln!(out, "countygroups: no grouping of these files is lawful"),
-        3 => {
-            writeln!(
-                out,
-                "countygroups: the search ended open after the {steps} steps of --steps: a grouping of the report need not be the best"
-            )?;
-            writeln!(out, "countygroups: give a greater --steps to go on")
-        }
+        1 => out.push_str(
+            "countygroups: no grouping of these files is lawful; `countygroups solve --certificate FILE` stores a proof of it\n",
+        ),
+        3 => out.push_str(
+            "countygroups: the steps of --steps ran out, so that a grouping of the report need not be the best: give a greater number\n",
+        ),
         _ => Ok(()),
     }
 }
 
-/// Explains words that are no command, and a case that isn't text.
+/// Explains words that are no command, a case that isn't text, and an end that has no words of its own here.
 fn explain_words(out: &mut String, ended: Ended<'_>) -> Result<(), AllocError> {
-    if ended.status != 2 {
-        return Ok(());
-    }
-    if ended.is_case && ended.start.is_empty() {
+    let status = ended.status;
+    if status != 2 {
         return writeln!(
             out,
-            "countygroups: line 1 of the case or the name of a file in it isn't UTF-8"
+            "countygroups: the run ended with status {status}; standard output says why"
+        );
+    }
+    if ended.is_case && ended.start.is_empty() {
+        return out.push_str(
+            "countygroups: line 1 of the case or the name of a file in it isn't UTF-8\n",
         );
     }
     let words = if ended.is_case {
@@ -108,41 +138,30 @@ fn explain_answer(
     options: &Options<'_>,
     ended: Ended<'_>,
 ) -> Result<(), AllocError> {
-    let steps = options.steps;
     match read_answer(ended.start) {
         AnswerLine::RefusedFile(option, kind, number) => {
             let file = options.file(option);
             explain_refused(rt, out, options, RefusedLine { file, kind, number })
         }
         AnswerLine::RefusedProblem(words) => explain_problem(out, options, words),
-        AnswerLine::RefusedCase => {
-            writeln!(
-                out,
-                "countygroups: the case has more than 16777216 bytes: give a command's words and its files by path"
-            )
-        }
+        AnswerLine::RefusedCase => out.push_str(LARGE_CASE),
         AnswerLine::Fault(words) => explain_fault(rt, out, options, words),
         AnswerLine::NoCertificate(fault, line) => explain_certificate(
             rt, out, options, fault, line,
         ),
-        AnswerLine::Device(path, word) => explain_device(rt, out, options, path, word),
-        AnswerLine::Memory => writeln!(
-            out,
-            "countygroups: memory was refused: more of it has to be free"
-        ),
-        AnswerLine::Budget => {
-            writeln!(
-                out,
-                "countygroups: the check takes more than the {steps} steps of --budget: give a greater one"
-            )
-        }
+        AnswerLine::Device(path, word) => match options.option_of(path) {
+            Some(option) => explain_device(rt, out, option, path, word),
+            None => explain_case(out, path, word),
+        },
+        AnswerLine::Memory => out.push_str(NO_MEMORY),
+        AnswerLine::Budget => out.push_str(SMALL_BUDGET),
         AnswerLine::Findings(count) => {
             writeln!(
                 out,
-                "countygroups: the audit has {count} findings, each on its line of standard output"
+                "countygroups: the audit has {count} findings, each on a line of standard output; docs/formats.md names the kinds"
             )
         }
-        AnswerLine::Report(_) => explain_report(out, options.steps, ended.status),
+        AnswerLine::Report(_) => explain_report(out, ended.status),
         AnswerLine::Other => explain_words(out, ended),
     }
 }
@@ -162,7 +181,7 @@ fn warn_of_adjacency(
     }
     writeln!(
         out,
-        "countygroups: warning: {file} has not one pair of listed counties, so none are adjacent but by --links"
+        "countygroups: warning: {file} has not one pair of listed counties, so that no two are adjacent but by --links"
     )
 }
 

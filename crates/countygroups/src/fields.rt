@@ -2,13 +2,17 @@
 
 use crate::answer_line::LineKind;
 use crate::options::FileOption;
-use field_lines::{Fields, field_at, number_in};
+use field_lines::{Fields, field_at, fifteen_digits, five_digits, number_in, three_digits};
 
 /// Which texts a field may be.
 #[derive(Clone, Copy)]
 enum Test {
-    /// So many digits.
-    Digits(usize),
+    /// Three digits.
+    ThreeDigits,
+    /// Five digits.
+    FiveDigits,
+    /// Fifteen digits.
+    FifteenDigits,
     /// A number from the first to the second.
     Number(u32, u32),
     /// A sign.
@@ -44,19 +48,19 @@ const PEOPLE: FieldRule = FieldRule {
 const COUNTY: FieldRule = FieldRule {
     name: "COUNTY",
     asked: "three digits",
-    test: Test::Digits(3),
+    test: Test::ThreeDigits,
 };
 
 const BLOCK: FieldRule = FieldRule {
     name: "GEOCODE",
     asked: "fifteen digits",
-    test: Test::Digits(15),
+    test: Test::FifteenDigits,
 };
 
 const CODE: FieldRule = FieldRule {
     name: "a county's code",
     asked: "five digits",
-    test: Test::Digits(5),
+    test: Test::FiveDigits,
 };
 
 const SIGN: FieldRule = FieldRule {
@@ -80,7 +84,7 @@ const GROUP_SEATS: FieldRule = FieldRule {
 const ASSIGNED: FieldRule = FieldRule {
     name: "the block",
     asked: "fifteen digits",
-    test: Test::Digits(15),
+    test: Test::FifteenDigits,
 };
 
 const LABEL: FieldRule = FieldRule {
@@ -156,7 +160,9 @@ fn rule_of(file: FileOption, kind: LineKind, place: usize) -> Option<FieldRule> 
 /// Whether a field is what is asked of it, as far as it tells alone.
 fn is_met(test: Test, field: &[u8]) -> bool {
     match test {
-        Test::Digits(count) => field.len() == count && field.iter().all(|b| b.is_ascii_digit()),
+        Test::ThreeDigits => three_digits(field).is_some(),
+        Test::FiveDigits => five_digits(field).is_some(),
+        Test::FifteenDigits => fifteen_digits(field).is_some(),
         Test::Number(least, greatest) => number_in(field, least, greatest).is_some(),
         Test::Sign => matches!(field, [b'+' | b'-']),
         Test::Label => field.len() <= 32 && field.iter().all(|b| matches!(b, b' '..=b'~')),
@@ -204,19 +210,19 @@ pub(crate) fn count_fields(line: &[u8], delimiter: u8) -> usize {
     Fields::new(line, delimiter).count()
 }
 
-/// Whether a line looks like one of a geographic header: its GEOID has `US` in it.
+/// Whether a line looks like one of a geographic header: its GEOID has `US` behind seven characters.
 pub(crate) fn is_geo_line(line: &[u8]) -> bool {
-    match field_at(line, b'|', 8) {
-        Some(geoid) => geoid.windows(2).any(|pair| pair == b"US".as_slice()),
-        None => false,
-    }
+    matches!(
+        field_at(line, b'|', 8),
+        Some([_, _, _, _, _, _, _, b'U', b'S', ..])
+    )
 }
 
 /// Whether a line looks like one of segment 1: CIFSN is `01`, and LOGRECNO has seven digits.
 pub(crate) fn is_segment_line(line: &[u8]) -> bool {
     match (field_at(line, b'|', 3), field_at(line, b'|', 4)) {
-        (Some(number), Some(record)) => {
-            number == b"01".as_slice() && is_met(Test::Digits(7), record)
+        (Some([b'0', b'1']), Some(record)) => {
+            record.len() == 7 && number_in(record, 0, 9_999_999).is_some()
         }
         _ => false,
     }

@@ -33,10 +33,11 @@ fn pairs_again(
 
 /// Whether the adjacency file has not one pair of listed counties; false where it can't be read again.
 pub(crate) fn lacks_pairs(rt: &(impl Files + AllocGlobal), options: &Options<'_>) -> bool {
-    match counties_again(rt, options) {
-        Some(counties) => {
-            pairs_again(rt, options, &counties).is_some_and(|pairs| pairs.is_empty())
-        }
+    let Some(counties) = counties_again(rt, options) else {
+        return false;
+    };
+    match pairs_again(rt, options, &counties) {
+        Some(pairs) => pairs.is_empty(),
         None => false,
     }
 }

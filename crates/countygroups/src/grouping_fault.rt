@@ -37,30 +37,19 @@ fn push_parts(out: &mut String, problem: &Problem, codes: &[CountyCode]) -> Resu
 fn explain_window(out: &mut String, problem: &Problem, group: &Group) -> Result<(), AllocError> {
     let seats = group.seats;
     let people = people_among(problem, group.codes.as_slice());
+    write!(
+        out,
+        " has {people} people, and its seats ({seats}) ask for "
+    )?;
     match people_of(problem, seats) {
-        Some((least, most)) => writeln!(
-            out,
-            "countygroups: it has {people} people, and its {seats} seats ask for {least} to {most}"
-        )?,
-        None => writeln!(
-            out,
-            "countygroups: it has {people} people and {seats} seats"
-        )?,
+        Some((least, most)) => writeln!(out, "{least} to {most}")?,
+        None => writeln!(out, "none: a group has at least one seat")?,
     }
+    out.push_str("countygroups: seats that its people suit: ")?;
     match seats_of(problem, people) {
-        Some((least, greatest)) if least == greatest => {
-            writeln!(out, "countygroups: its people suit {least} seats")
-        }
-        Some((least, greatest)) => {
-            writeln!(
-                out,
-                "countygroups: its people suit {least} to {greatest} seats"
-            )
-        }
-        None => writeln!(
-            out,
-            "countygroups: its people suit no number of seats: it needs other counties"
-        ),
+        Some((least, greatest)) if least == greatest => writeln!(out, "{least}"),
+        Some((least, greatest)) => writeln!(out, "{least} to {greatest}"),
+        None => out.push_str("none, so that it needs other counties\n"),
     }
 }
 
@@ -92,28 +81,34 @@ fn explain_group(
         return out.push_str("\n");
     };
     if is_connected {
-        out.push_str(" has the counties")?;
+        out.push_str(" (counties")?;
         push_codes(out, group.codes.as_slice())?;
-        out.push_str("\n")?;
+        out.push_str(")")?;
         explain_window(out, &problem, group)
     } else {
         out.push_str(" isn't connected; its parts are")?;
-        push_parts(out, &problem, group.codes.as_slice())
+        push_parts(out, &problem, group.codes.as_slice())?;
+        out.push_str(
+            "countygroups: regroup its counties, or add by --links a pair that joins them\n",
+        )
     }
 }
 
 /// Explains seats that don't add up: `s left l`.
 fn explain_total(out: &mut String, options: &Options<'_>, words: &str) -> Result<(), AllocError> {
     let file = options.file(FileOption::Grouping);
-    let chamber = options.chamber;
     let (seats, left) = words.split_once(" left ").unwrap_or((words, "others"));
+    let taken = match left.parse::<u16>() {
+        Ok(left) => options.chamber.saturating_sub(left),
+        Err(_) => 0,
+    };
     writeln!(
         out,
-        "countygroups: the groups of {file} have {seats} seats in all, and {left} are asked for"
+        "countygroups: the groups of {file} have {seats} seats in all, and {left} are left for them"
     )?;
     writeln!(
         out,
-        "countygroups: --chamber has {chamber}, and the withdrawn sets take the rest"
+        "countygroups: those are the seats of --chamber less the {taken} of the withdrawn sets: change the seats of a group, or --chamber"
     )
 }
 

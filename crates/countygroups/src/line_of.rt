@@ -2,7 +2,7 @@
 
 use crate::fields::{is_geo_line, is_segment_line};
 use crate::options::FileOption;
-use field_lines::field_at;
+use field_lines::{Lines, field_at};
 
 /// A piece without a CR at its end.
 fn trimmed(piece: &[u8]) -> &[u8] {
@@ -26,10 +26,10 @@ pub(crate) fn line_of(text: &[u8], number: u32) -> Option<&[u8]> {
 
 /// The first line that isn't blank.
 fn first_line(text: &[u8]) -> Option<&[u8]> {
-    unmarked(text)
-        .split(|b| *b == b'\n')
-        .map(trimmed)
-        .find(|line| !line.is_empty())
+    match Lines::new(text).next_line() {
+        Ok(Some((_, line))) => Some(line),
+        _ => None,
+    }
 }
 
 /// The byte between the fields of a file.
@@ -42,18 +42,26 @@ pub(crate) fn delimiter_of(file: FileOption, text: &[u8]) -> u8 {
 
 /// Whether a file begins like a segment 1.
 pub(crate) fn begins_as_segment(text: &[u8]) -> bool {
-    first_line(text).is_some_and(is_segment_line)
+    match first_line(text) {
+        Some(line) => is_segment_line(line),
+        None => false,
+    }
 }
 
 /// Whether a file begins like a geographic header.
 pub(crate) fn begins_as_geo(text: &[u8]) -> bool {
-    first_line(text).is_some_and(is_geo_line)
+    match first_line(text) {
+        Some(line) => is_geo_line(line),
+        None => false,
+    }
 }
 
 /// The STATE of the first county line of a geographic header.
 pub(crate) fn county_state(text: &[u8]) -> Option<&[u8]> {
-    let line = unmarked(text)
-        .split(|b| *b == b'\n')
-        .find(|line| field_at(line, b'|', 2) == Some(b"050"))?;
-    field_at(line, b'|', 12)
+    for line in text.split(|b| *b == b'\n') {
+        if let Some(b"050") = field_at(line, b'|', 2) {
+            return field_at(line, b'|', 12);
+        }
+    }
+    None
 }

@@ -66,7 +66,9 @@ fn run_and_tell(rt: &HostRuntime, words: &[&str]) -> u8 {
     announce(rt, words);
     let mut out = Kept::new(rt.alloc(), Writing::new(io::writer(rt)));
     let status = run(rt, words, &mut out);
-    let _ = tell(rt, words, &out, status);
+    if tell(rt, words, &out, status).is_err() {
+        let _ = eprintln!(rt; "countygroups: memory was refused, so that no more is told");
+    }
     status
 }
 

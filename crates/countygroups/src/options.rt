@@ -75,8 +75,6 @@ pub(crate) struct Options<'a> {
     pub(crate) chamber: u16,
     /// The state's FIPS code, from 0 to 99.
     pub(crate) state: u8,
-    /// The most steps of a search or a check; 0 where the command has none.
-    pub(crate) steps: u64,
 }
 
 impl<'a> Options<'a> {
@@ -86,7 +84,6 @@ impl<'a> Options<'a> {
             files: Vec::new(alloc),
             chamber: 0,
             state: 0,
-            steps: 0,
         }
     }
 
@@ -147,13 +144,11 @@ impl<'a> Options<'a> {
                 self.push(FileOption::Grouping, words.grouping)
             }
             CommandWords::Solve(words) => {
-                self.steps = words.steps;
                 self.push_problem(words.problem)?;
                 self.push_if(FileOption::CertificateOut, words.certificate)?;
                 self.push_if(FileOption::Out, words.out)
             }
             CommandWords::Check(words) => {
-                self.steps = words.budget;
                 self.push_problem(words.problem)?;
                 self.push(FileOption::Certificate, words.certificate)
             }

@@ -1,6 +1,6 @@
 //! Why a line of an input file is refused.
 
-use crate::again::load_file;
+use crate::again::text_of;
 use crate::answer_line::LineKind;
 use crate::fields::{count_fields, field_at_fault, least_fields};
 use crate::line_of::{begins_as_geo, begins_as_segment, county_state, delimiter_of, line_of};
@@ -79,22 +79,20 @@ fn explain_line(
 ) -> Result<(), AllocError> {
     let RefusedLine { file, kind, number } = refused;
     let delimiter = delimiter_of(file.option, text);
-    if kind == LineKind::TooFewFields {
+    write!(out, "countygroups: {file}, line {number}: ")?;
+    if let LineKind::TooFewFields = kind {
         let count = count_fields(line, delimiter);
         let least = least_fields(file.option);
-        writeln!(
-            out,
-            "countygroups: {file}, line {number}: it has {count} of the {least} fields that a line has at least"
-        )?;
+        writeln!(out, "fields: {count}; asked for: at least {least}")?;
     } else if let Some((place, rule, field)) = field_at_fault(file.option, kind, line, delimiter) {
         let (name, asked, field) = (rule.name, rule.asked, start_of(field));
         writeln!(
             out,
-            "countygroups: {file}, line {number}: field {place} ({name}) is \"{field}\" where {asked} is asked for"
+            "field {place} ({name}) is \"{field}\"; asked for: {asked}"
         )?;
     } else {
         let words = words_of_kind(kind);
-        writeln!(out, "countygroups: {file}, line {number}: {words}")?;
+        writeln!(out, "{words}")?;
     }
     let line = start_of(line);
     writeln!(out, "countygroups: line {number} is: {line}")
@@ -137,8 +135,8 @@ fn explain_swapped(
 ) -> Result<bool, AllocError> {
     let geo = options.file(FileOption::Geo);
     let segment = options.file(FileOption::Segment);
-    let is_geo_segment = load_file(rt, geo).is_some_and(|text| begins_as_segment(text.as_slice()));
-    let is_segment_geo = load_file(rt, segment).is_some_and(|text| begins_as_geo(text.as_slice()));
+    let is_geo_segment = begins_as_segment(&text_of(rt, geo));
+    let is_segment_geo = begins_as_geo(&text_of(rt, segment));
     match (is_geo_segment, is_segment_geo) {
         (true, true) => writeln!(
             out,
@@ -184,14 +182,15 @@ pub(crate) fn explain_refused(
     refused: RefusedLine<'_>,
 ) -> Result<(), AllocError> {
     let RefusedLine { file, kind, number } = refused;
-    let text = load_file(rt, file).unwrap_or(Vec::new(rt.alloc()));
-    let is_empty_state = kind == LineKind::NoCounties || kind == LineKind::NoBlocks;
-    if is_empty_state {
+    let text = text_of(rt, file);
+    let words = words_of_kind(kind);
+    if number == 0 && file.path.is_some() && !matches!(kind, LineKind::TooManyLines) {
         explain_no_areas(out, refused, options, &text)?;
+    } else if number == 0 {
+        writeln!(out, "countygroups: {file}: {words}")?;
     } else if let Some(line) = line_of(&text, number) {
         explain_line(out, refused, &text, line)?;
     } else {
-        let words = words_of_kind(kind);
         writeln!(out, "countygroups: {file}, line {number}: {words}")?;
     }
     explain_remedy(rt, out, options, file.option)

@@ -4,6 +4,24 @@ use crate::options::{FileOption, Options};
 use std::alloc::AllocError;
 use std::fmt::Write;
 
+/// Explains a fault of the withdrawn sets.
+fn explain_sets(
+    out: &mut String,
+    options: &Options<'_>,
+    kind: &str,
+    place: &str,
+) -> Result<(), AllocError> {
+    let file = options.file(FileOption::Withdrawn);
+    write!(out, "countygroups: {file}: ")?;
+    match kind {
+        "EmptyWithdrawn" => writeln!(out, "set {place} has no county or no seat"),
+        "UnknownWithdrawn" => writeln!(out, "county {place} is no county of --geo"),
+        "WithdrawnTwice" => writeln!(out, "county {place} stands twice in the sets"),
+        "WithdrawnSeats" => writeln!(out, "the sets have more seats than --chamber"),
+        _ => writeln!(out, "{kind} {place}"),
+    }
+}
+
 /// Explains why the problem is refused: these words name the fault, its codes or its set.
 ///
 /// # Errors
@@ -15,7 +33,6 @@ pub(crate) fn explain_problem(
     words: &str,
 ) -> Result<(), AllocError> {
     let geo = options.file(FileOption::Geo);
-    let withdrawn = options.file(FileOption::Withdrawn);
     let links = options.file(FileOption::Links);
     let (kind, place) = words.split_once(' ').unwrap_or((words, ""));
     match kind {
@@ -24,36 +41,14 @@ pub(crate) fn explain_problem(
             "countygroups: {geo} lists more than 128 counties of the state"
         ),
         "DoubleCounty" => writeln!(out, "countygroups: {geo} lists county {place} twice"),
-        "NoPeople" => {
-            let segment = options.file(FileOption::Segment);
-            writeln!(
-                out,
-                "countygroups: the counties of {geo} have no people in {segment}"
-            )
-        }
-        "EmptyWithdrawn" => writeln!(
+        "NoPeople" => writeln!(
             out,
-            "countygroups: set {place} of {withdrawn} has no county or no seat"
+            "countygroups: the counties of {geo} have no people in --segment"
         ),
-        "UnknownWithdrawn" => writeln!(
-            out,
-            "countygroups: county {place} of {withdrawn} is no county of {geo}"
-        ),
-        "WithdrawnTwice" => writeln!(
-            out,
-            "countygroups: county {place} stands twice in {withdrawn}"
-        ),
-        "WithdrawnSeats" => {
-            let chamber = options.chamber;
-            writeln!(
-                out,
-                "countygroups: the sets of {withdrawn} have more seats than the {chamber} of --chamber"
-            )
-        }
         "UnknownPair" => writeln!(
             out,
             "countygroups: {links} adds the pair {place}, and one of the two is no county of {geo}"
         ),
-        _ => writeln!(out, "countygroups: the files make no problem: {words}"),
+        _ => explain_sets(out, options, kind, place),
     }
 }
