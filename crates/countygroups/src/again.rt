@@ -28,25 +28,6 @@ pub(crate) fn load_file(rt: &(impl Files + AllocGlobal), file: NamedFile<'_>) ->
     load_again(rt, file.path?)
 }
 
-/// Why the system can't open a file, where it says so when it is asked again.
-fn open_reason(rt: &impl Files, path: &str) -> Option<ErrorKind> {
-    match fs::open(rt, path) {
-        Ok(_) => None,
-        Err(error) => Some(error.kind()),
-    }
-}
-
-/// Why the system did not give or take a file.
-pub(crate) fn device_reason(rt: &impl Files, path: &str, is_stored: bool) -> Option<ErrorKind> {
-    match fs::metadata(rt, path) {
-        Err(error) => Some(error.kind()),
-        Ok(metadata) if metadata.is_dir() => Some(ErrorKind::IsADirectory),
-        Ok(metadata) if is_stored && !metadata.is_file() => Some(ErrorKind::PermissionDenied),
-        Ok(metadata) if metadata.is_file() && !is_stored => open_reason(rt, path),
-        Ok(_) => None,
-    }
-}
-
 /// An error of the system in plain words.
 pub(crate) fn words_of_reason(reason: ErrorKind) -> &'static str {
     match reason {

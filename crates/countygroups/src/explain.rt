@@ -1,6 +1,6 @@
 //! What a person is told on standard error once a run has ended.
 
-use crate::again::{device_reason, words_of_reason};
+use crate::again::words_of_reason;
 use crate::answer_line::{AnswerLine, DeviceWord, read_answer};
 use crate::certificate_fault::explain_certificate;
 use crate::figures::lacks_pairs;
@@ -29,6 +29,8 @@ pub(crate) struct Ended<'a> {
     pub(crate) start: &'a [u8],
     /// Its exit status.
     pub(crate) status: u8,
+    /// What sort of error the system gave at the last file that failed.
+    pub(crate) reason: Option<ErrorKind>,
     /// Whether it was a case, without any words.
     pub(crate) is_case: bool,
     /// Whether the answer could not be written.
@@ -36,11 +38,11 @@ pub(crate) struct Ended<'a> {
 }
 
 /// Why a file could not be had or stored.
-fn reason_of(rt: &impl Files, path: &str, word: DeviceWord, is_stored: bool) -> &'static str {
+fn reason_of(word: DeviceWord, reason: Option<ErrorKind>) -> &'static str {
     match word {
         DeviceWord::TooLarge => "it has more than 1073741824 bytes",
         DeviceWord::Missing => words_of_reason(ErrorKind::NotFound),
-        DeviceWord::Device => match device_reason(rt, path, is_stored) {
+        DeviceWord::Device => match reason {
             Some(kind) => words_of_reason(kind),
             None => "the device failed",
         },
@@ -63,15 +65,13 @@ fn explain_case(out: &mut String, path: &str, word: DeviceWord) -> Result<(), Al
 
 /// Explains a file that could not be had or stored.
 fn explain_device(
-    rt: &impl Files,
     out: &mut String,
     option: FileOption,
     path: &str,
-    word: DeviceWord,
+    reason: &str,
 ) -> Result<(), AllocError> {
     let name = name_of(path);
     let is_stored = option == FileOption::CertificateOut || option == FileOption::Out;
-    let reason = reason_of(rt, path, word, is_stored);
     if is_stored {
         writeln!(
             out,
@@ -150,7 +150,7 @@ fn explain_answer(
             rt, out, options, fault, line,
         ),
         AnswerLine::Device(path, word) => match options.option_of(path) {
-            Some(option) => explain_device(rt, out, option, path, word),
+            Some(option) => explain_device(out, option, path, reason_of(word, ended.reason)),
             None => explain_case(out, path, word),
         },
         AnswerLine::Memory => out.push_str(NO_MEMORY),

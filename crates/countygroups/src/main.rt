@@ -40,12 +40,13 @@ fn tell(
     rt: &HostRuntime,
     words: &[&str],
     out: &Kept<impl Sink>,
-    status: u8,
+    (status, reason): (u8, Option<ErrorKind>),
 ) -> Result<(), AllocError> {
     let options = options_of(rt.alloc(), &*words)?;
     let ended = Ended {
         start: out.start(),
         status,
+        reason,
         is_case: words.is_empty(),
         is_unwritten: out.failed(),
     };
@@ -54,22 +55,24 @@ fn tell(
     Ok(())
 }
 
-/// Runs the words over the machine's files, or a case from standard input where there is none.
-fn run(rt: &HostRuntime, words: &[&str], out: &mut impl Sink) -> u8 {
+/// Runs the words over the machine's files, or a case from standard input where there is none. It answers the exit status, and
+/// what sort of error the system gave at the last file that failed.
+fn run(rt: &HostRuntime, words: &[&str], out: &mut impl Sink) -> (u8, Option<ErrorKind>) {
     let mut shelf = FileShelf::new(rt);
     let mut input = Reading::new(rt.reader());
-    run_program(rt.alloc(), words, &mut shelf, &mut input, out)
+    let status = run_program(rt.alloc(), words, &mut shelf, &mut input, out);
+    (status, shelf.reason())
 }
 
 /// Runs the words, with the answer on standard output, and tells on standard error how that ended.
 fn run_and_tell(rt: &HostRuntime, words: &[&str]) -> u8 {
     announce(rt, words);
     let mut out = Kept::new(rt.alloc(), Writing::new(io::writer(rt)));
-    let status = run(rt, words, &mut out);
-    if tell(rt, words, &out, status).is_err() {
+    let ended = run(rt, words, &mut out);
+    if tell(rt, words, &out, ended).is_err() {
         let _ = eprintln!(rt; "countygroups: memory was refused, so that no more is told");
     }
-    status
+    ended.0
 }
 
 /// Runs the words after the program's name, or a case where there is none.

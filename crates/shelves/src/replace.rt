@@ -7,11 +7,14 @@ use std::{fs, io};
 /// What stands behind the wanted name in that of the new file: the first that no file has.
 const SUFFIXES: &[&str] = &[".part", ".part2", ".part3", ".part4"];
 
-/// Whether a file may be put under the name: nothing has it, or a plain file that isn't read-only.
-fn may_replace<R: Files>(rt: &R, name: &str) -> bool {
+/// Why no file may be put under the name: it is that of a folder, a device or a read-only file.
+fn refusal<R: Files>(rt: &R, name: &str) -> Option<ErrorKind> {
     match fs::metadata(rt, name) {
-        Ok(metadata) => metadata.is_file() && !metadata.permissions().readonly(),
-        Err(_) => true,
+        Ok(metadata) if metadata.is_dir() => Some(ErrorKind::IsADirectory),
+        Ok(metadata) if !metadata.is_file() || metadata.permissions().readonly() => {
+            Some(ErrorKind::PermissionDenied)
+        }
+        _ => None,
     }
 }
 
@@ -39,8 +42,8 @@ fn fill<F: Write + OpenFile + Drop>(mut file: F, bytes: &[u8]) -> io::Result<()>
 ///
 /// # Errors
 ///
-/// `OutOfMemory` where a growth was refused, `PermissionDenied` where the name is that of a folder, a device or a
-/// read-only file, `AlreadyExists` where all names of new files are taken, else what the system says. What stood
+/// `OutOfMemory` where a growth was refused, `IsADirectory` where the name is that of a folder, `PermissionDenied` where it is
+/// that of a device or a read-only file, `AlreadyExists` where all names of new files are taken, else what the system says. What stood
 /// under the name is then as it was, and the new file is removed if that can be done.
 pub(crate) fn replace_file<R: Files>(
     rt: &R,
@@ -48,8 +51,8 @@ pub(crate) fn replace_file<R: Files>(
     name: &str,
     bytes: &[u8],
 ) -> io::Result<()> {
-    if !may_replace(rt, name) {
-        return Err(Error::from(ErrorKind::PermissionDenied));
+    if let Some(kind) = refusal(rt, name) {
+        return Err(Error::from(kind));
     }
     let (file, part) = new_file_beside(rt, alloc, name)?;
     let put = fill(file, bytes).and_then(|()| fs::rename(rt, part.as_str(), name));
