@@ -26,7 +26,7 @@ Answers files load = HasAnswer files load.name load.answer
 abbrev pub AnsweredBy : Files → History → History → Type 0
 AnsweredBy files before after = (more : List Load) × (after.loads ≡ before.loads ++ more) × All (Answers files) more
 
--- A run over files that aren't told is a run over all files that its loads answered by, and so is the run of a command.
+-- A run over files that aren't told is also a run over any files that its loads answered by; likewise the run of a command.
 pub record RunsAreOfTheirLoads : Type 0 where
   pub answer : (files : Files) (words : List (List ℕ)) (before after : History) (stored : List File) (a : Answered)
       → IsRunAnswer None words before after stored a → AnsweredBy files before after → IsRunAnswer (Some files) words before after stored a

@@ -1,8 +1,8 @@
 //! What a run of the program comes to: the steps of each command from its files to its answer and to the files that it stores.
 //!
 //! The definitions stand in `specs/`: `Course` (steps up to the first fault), `ProblemCourse` and `PlanCourse` (from files to values),
-//! `JudgeCourse`, `SolveCourse` and `CheckCourse` (the commands), `Storing` (files that are stored), `Run`, and `Headline` (what runs of
-//! `solve` and `check` promise together).
+//! `JudgeCourse`, `SolveCourse` and `CheckCourse` (the commands), `Storing` (files that are stored), `Run`, `Loads` (runs over files that
+//! aren't told) and `Headline` (what runs of `solve` and `check` promise together).
 #![tactic(auto)]
 
 mod checker_report;
