@@ -115,15 +115,15 @@ fn explain_no_areas(
         out,
         "countygroups: {file}: no line is a {area} line of state {state:02} (SUMLEV {level}, GEOCOMP 00, STATE {state:02})"
     )?;
-    match county_state(text) {
-        Some(other) => {
+    match (kind, county_state(text)) {
+        (LineKind::NoCounties, Some(other)) => {
             let other = start_of(other);
             writeln!(
                 out,
                 "countygroups: its first county line has STATE {other}; --state CODE names the state, 37 where it is left out"
             )
         }
-        None => Ok(()),
+        _ => Ok(()),
     }
 }
 
