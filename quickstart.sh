@@ -8,7 +8,7 @@ usage() {
 usage: ./quickstart.sh [--unproved]
 
 Without a word: proves the program and all that it stands on, builds it, and solves and checks Senate and House by the files in
-data/nc2020; certificates and groupings are stored in crates/countygroups/out/nc2020. The first time that takes some 50 minutes on
+data/nc2020; certificates and groupings are stored in crates/countygroups/out/nc2020. The first time that takes an hour or more on
 four cores, later a few seconds.
 --unproved: builds the program and solves both, and proves and stores nothing (some six minutes).
 TEXT
@@ -88,6 +88,11 @@ follow() { # PROCESS LOG
     done
 }
 
+# Whether rt has made the program, which it does only of what is proved, since the last change of a source.
+is_built() {
+    [ -x "$program" ] && [ -z "$(find "$top/crates.txt" "$top/crates" -name out -prune -o -type f -newer "$program" -print -quit)" ]
+}
+
 if [ "$unproved" = yes ]; then
     cases=$(mktemp -d)
     trap 'rm -rf "$cases"' EXIT
@@ -101,14 +106,17 @@ if [ "$unproved" = yes ]; then
 else
     log=$top/crates/countygroups/out/quickstart.log
     stored=$top/crates/countygroups/out/nc2020
-    mkdir -p "$stored"
-    heading "proving and building the program (some 50 minutes on four cores the first time; the log is $log)"
-    rt run -- --version >"$log" 2>&1 &
-    process=$!
-    follow "$process" "$log"
-    wait "$process" || true
     program=$top/crates/countygroups/out/countygroups
-    [ -x "$program" ] || refuse "the program was not proved or not built: see $log"
+    mkdir -p "$stored"
+    if is_built; then
+        heading "the program is built, and no source is newer than it"
+    else
+        heading "proving and building the program (an hour or more on four cores the first time; the log is $log)"
+        rt run -- --version >"$log" 2>&1 &
+        process=$!
+        follow "$process" "$log"
+        wait "$process" || refuse "the program was not proved or not built: see $log"
+    fi
     cd "$stored"
     for run in "${runs[@]}"; do
         heading "${title[$run]}"
