@@ -1,6 +1,6 @@
 //! What the gate runs and compares with texts that were made elsewhere: worked cases of the command, from standard
 //! input; calls that no case reaches; and the real files of North Carolina 2020, whose texts other programs made
-//! (`bench/judge_report.py`, `bench/size_table.py`, `bench/adjacency_pairs.sh`).
+//! (`bench/judge_report.py`, `bench/size_table.py`, `bench/adjacency_pairs.sh`), with the best groupings' counts.
 //!
 //! With the words LIMIT and FORM (`lists`, `masks` or `wide`) it only counts the real counties' groups of at most LIMIT
 //! counties, in sets of that form.
@@ -8,6 +8,7 @@
 
 mod cases;
 mod certificates;
+mod chambers;
 mod counts;
 mod devices;
 mod lines;
@@ -42,6 +43,7 @@ fn show_all(rt: &HostRuntime) -> Result<()> {
     cases::show(rt)?;
     show_calls(rt)?;
     tables::show(rt)?;
+    chambers::show(rt)?;
     counts::show(rt, &State::load(rt)?)
 }
 

@@ -1,5 +1,5 @@
 use Rattle.std.proofs.Common.{◌+◌, ◌*◌, ◌≤◌}
-use Rattle.certificate_texts.proofs.generated.Dice.+made.Given as goal
+use Rattle.worked_certificates.proofs.generated.Dice.+made.Given as goal
 
 abbrev pub decreases-branch : goal.decreases-branch
 decreases-branch l = 2 * l.levels + 1

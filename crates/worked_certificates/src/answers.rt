@@ -1,5 +1,6 @@
 //! What a desk answers, in words, and what the checker says of its certificate.
 
+use crate::checks::add_group;
 use anyhow::Result;
 use branch_bound::Answer;
 use certificate_checker::{Verdict, check};
@@ -7,9 +8,7 @@ use certificate_text::{Certificate, write};
 use county_codes::Grouping;
 use grouping_judge::{Counts, judge};
 use grouping_problem::Problem;
-use grouping_report::grouping_text;
 use std::alloc::Global;
-use std::str;
 
 /// An answer in words, and the text of its certificate, if it has one.
 #[derive(Drop)]
@@ -34,15 +33,14 @@ fn counts_said(alloc: Global, counts: &Counts) -> Result<String> {
     Ok(said)
 }
 
-/// The groups, each as its line in a grouping text.
+/// The groups, each with its seats and codes.
 fn groups_said(alloc: Global, grouping: &Grouping) -> Result<String> {
     if grouping.groups.is_empty() {
         return Ok(String::from_str(alloc, "groups none")?);
     }
-    let text = grouping_text(alloc, grouping)?;
     let mut said = String::from_str(alloc, "groups")?;
-    for line in str::from_utf8(&text)?.split_terminator('\n') {
-        said.push_str(&format!(in alloc; " {line}")?)?;
+    for group in &grouping.groups {
+        add_group(alloc, &mut said, group)?;
     }
     Ok(said)
 }
@@ -68,13 +66,6 @@ fn open_said(alloc: Global, found: bool, steps: u64) -> Result<String> {
     Ok(format!(in alloc; "open after {steps} steps {grouping} a grouping")?)
 }
 
-/// Whether two groupings have one text.
-fn is_same(alloc: Global, one: &Grouping, other: &Grouping) -> Result<bool> {
-    let one = grouping_text(alloc, one)?;
-    let other = grouping_text(alloc, other)?;
-    Ok(one == other)
-}
-
 /// What the checker says of a text, beside the best grouping that was answered, if one was.
 fn checked(
     alloc: Global,
@@ -85,7 +76,7 @@ fn checked(
 ) -> Result<String> {
     let said = match (check(alloc, problem, text, budget)?, best) {
         (Verdict::Best(named), Some(best)) => {
-            if is_same(alloc, &named, best)? {
+            if named == *best {
                 "best of the same grouping"
             } else {
                 "best of ANOTHER grouping"

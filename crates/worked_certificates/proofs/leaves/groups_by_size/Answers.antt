@@ -3,8 +3,8 @@ use Rattle.std.specs.Vec.{vec_items}
 use Rattle.grouping_problem.specs.ProblemValue.{problem_of}
 use Rattle.proof_trees.specs.RoundValue.{round_of}
 use Rattle.line_verdicts.specs.Placed.{state_at}
-use Rattle.solved_problems.proofs.GroupLists.{pushed_list}
-use Rattle.solved_problems.proofs.leaves.groups_by_size.Goals as goal
+use Rattle.worked_certificates.proofs.GroupLists.{pushed_list}
+use Rattle.worked_certificates.proofs.leaves.groups_by_size.Goals as goal
 
 pub loop-below-preserved : goal.loop-below-preserved
 loop-below-preserved g c =

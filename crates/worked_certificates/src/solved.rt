@@ -1,4 +1,4 @@
-//! What is said of the worked problems of a file, and of states of them.
+//! What the desk answers of the worked problems of a file, and which leaves it finds.
 
 use crate::answers::{InWords, told};
 use crate::cases::{Case, cases_of};
@@ -54,7 +54,7 @@ fn case_said(alloc: Global, problem: &Problem, case: &Case) -> Result<String> {
 }
 
 /// Prints what is said of each case of the file `problems`, over the problem that stands in front of it.
-pub fn show(rt: &HostRuntime) -> Result<()> {
+pub fn show_solved(rt: &HostRuntime) -> Result<()> {
     let alloc = rt.alloc();
     let text = fs::read(rt, "problems")?;
     let mut problem = None;

@@ -4,7 +4,7 @@ use Rattle.grouping_problem.specs.ProblemValue.{problem_of}
 use Rattle.proof_trees.specs.RoundValue.{round_of}
 use Rattle.line_verdicts.specs.Placed.{state_at}
 use Rattle.bound_proofs.specs.CountLeaves.{AreListsFrom}
-use Rattle.solved_problems.proofs.leaves.groups_by_size.Given as goal
+use Rattle.worked_certificates.proofs.leaves.groups_by_size.Given as goal
 
 abbrev pub invariant-loop-below : goal.invariant-loop-below
 invariant-loop-below g l = record {

@@ -17,7 +17,7 @@ const ENOUGH: u64 = 100_000;
 const MARKS: u32 = 100_000;
 
 /// Adds a blank, and the seats and codes of a group.
-fn add_group(alloc: Global, said: &mut String, group: &Group) -> Result<()> {
+pub fn add_group(alloc: Global, said: &mut String, group: &Group) -> Result<()> {
     let seats = group.seats;
     said.push_str(&format!(in alloc; " {seats}")?)?;
     for code in group.codes.as_slice() {

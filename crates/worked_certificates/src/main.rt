@@ -1,23 +1,29 @@
 //! Certificates and trees in a file of cases, read and written back, with a line on each; then a wide text
 //! with a million marks, values without a spelling, and ten thousand trees that are made, written and read. Behind
 //! them stands what the checker says of the texts in a second file, and of texts over a hundred and twenty-eight
-//! counties.
+//! counties; and at last what the desk answers of the problems in a third file, by masks and by lists of counties, and
+//! what the checker says of its certificates.
 //!
 //! A case begins with a line `== KIND: NAME`, and its bytes are the lines up to the next such line. Of a kind
-//! that ends in `cut`, the last LF is left out. In the second file a case of the kind `problem` tells the problem of
-//! those behind it.
+//! that ends in `cut`, the last LF is left out. In the second and third files a case of the kind `problem` tells the
+//! problem of those behind it. In the third, `groups` asks for the best grouping, and `counts` for its counts alone, where
+//! several groupings are best; `limit STEPS` asks what is answered within so many steps, and `leaf LIMIT` which leaf
+//! is found at the state where nothing is closed, with the grouping of the case as the target.
 //!
 //! With the words BUDGET and FORM (`lists`, `masks` or `wide`) it only prints what the checker says of the file `text`
 //! over the problem that the file `problem` tells, with sets of that form (`bench/check_speed.py`).
 #![tactic(auto)]
 
 mod alone;
+mod answers;
 mod cases;
 mod checks;
 mod files;
 mod generated;
+mod leaves;
 mod problems;
 mod readings;
+mod solved;
 mod unspelled;
 
 use crate::alone::counties_alone;
@@ -27,6 +33,7 @@ use crate::files::show_file;
 use crate::generated::{million_marks, million_plain_marks, round_trips};
 use crate::problems::problem_in;
 use crate::readings::reading;
+use crate::solved::show_solved;
 use crate::unspelled::without_spelling;
 use anyhow::{Context, Result};
 use std::{env, fs};
@@ -98,7 +105,8 @@ fn show_all(rt: &HostRuntime) -> Result<()> {
     let back = round_trips(rt.alloc(), TREES)?;
     println!(rt; "{back} of {TREES} trees read back as they were written")?;
     show_checks(rt)?;
-    show_alone(rt)
+    show_alone(rt)?;
+    show_solved(rt)
 }
 
 fn main(rt: HostRuntime) -> Result<()> {

@@ -15,12 +15,12 @@ use certificate_text::Leaf;
 use county_codes::{Codes, Grouping, listed_codes};
 use county_regions::neighbour_rows;
 use grouping_problem::Problem;
-use grouping_report::read_grouping;
 use known_groups::groups_of_size;
 use line_verdicts::first_state;
 use ordered_counties::{Ordered, Steps};
 use place_sets::{CountySet, MaskSet};
 use proof_trees::{Language, Round, State};
+use seat_lines::read_grouping;
 use std::alloc::Global;
 
 /// More steps than the groups of a worked problem take.
