@@ -14,6 +14,12 @@ const LAST: u32 = 37_128;
 /// Above the cost of each of these texts.
 const ENOUGH: u64 = 100_000;
 
+/// The head of each language, and what its branch lines end in.
+const HEADS: [(&str, &str); 2] = [
+    ("county-groups certificate 1", ""),
+    ("county-groups wide certificate 1", " 1"),
+];
+
 /// Adds each code, between what stands before it and what stands behind it.
 fn add_codes(alloc: Global, text: &mut String, before: &str, behind: &str) -> Result<()> {
     for code in FIRST..=LAST {
@@ -73,20 +79,29 @@ fn counted(alloc: Global, problem: &Problem, text: &str) -> Result<String> {
     }
 }
 
-/// What the checker says of each text.
-pub fn counties_alone(alloc: Global) -> Result<Vec<String>> {
-    let problem = problem(alloc)?;
-    let mut lines = Vec::new(alloc);
-    for (head, limit) in [
-        ("county-groups certificate 1", ""),
-        ("county-groups wide certificate 1", " 1"),
-    ] {
-        let said = counted(alloc, &problem, &nested(alloc, head, limit)?)?;
-        lines.push(format!(in alloc; "{head}, 128 takes nested: {said}")?)?;
-        for quota in [1_000_000, 256_000_000] {
-            let said = counted(alloc, &problem, &weighed(alloc, head, quota)?)?;
-            lines.push(format!(in alloc; "{head}, quota {quota}: {said}")?)?;
-        }
+/// Prints what the checker says of the text whose takes nest. Its branch lines end in `limit`.
+fn show_nested(rt: &HostRuntime, problem: &Problem, head: &str, limit: &str) -> Result<()> {
+    let text = nested(rt.alloc(), head, limit)?;
+    let said = counted(rt.alloc(), problem, &text)?;
+    println!(rt; "{head}, 128 takes nested: {said}")?;
+    Ok(())
+}
+
+/// Prints what the checker says of the text with weights of a quota.
+fn show_weighed(rt: &HostRuntime, problem: &Problem, head: &str, quota: u32) -> Result<()> {
+    let text = weighed(rt.alloc(), head, quota)?;
+    let said = counted(rt.alloc(), problem, &text)?;
+    println!(rt; "{head}, quota {quota}: {said}")?;
+    Ok(())
+}
+
+/// Prints what the checker says over as many counties as there may be.
+pub fn show_alone(rt: &HostRuntime) -> Result<()> {
+    let problem = problem(rt.alloc())?;
+    for (head, limit) in HEADS {
+        show_nested(rt, &problem, head, limit)?;
+        show_weighed(rt, &problem, head, 1_000_000)?;
+        show_weighed(rt, &problem, head, 256_000_000)?;
     }
-    Ok(lines)
+    Ok(())
 }

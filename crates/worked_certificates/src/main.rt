@@ -26,7 +26,7 @@ mod readings;
 mod solved;
 mod unspelled;
 
-use crate::alone::counties_alone;
+use crate::alone::show_alone;
 use crate::cases::{Case, cases_of};
 use crate::checks::judged;
 use crate::files::show_file;
@@ -36,19 +36,24 @@ use crate::readings::reading;
 use crate::solved::show_solved;
 use crate::unspelled::without_spelling;
 use anyhow::{Context, Result};
+use grouping_problem::Problem;
 use std::{env, fs};
 
 /// How many trees are made.
 const TREES: u32 = 10_000;
 
+/// Prints what is said of a case.
+fn show_case(rt: &HostRuntime, case: &Case) -> Result<()> {
+    let said = reading(rt.alloc(), case.kind, &case.bytes)?;
+    println!(rt; "{}: {said}", case.name)?;
+    Ok(())
+}
+
 /// Prints what is said of each case of the file.
 fn show_cases(rt: &HostRuntime) -> Result<()> {
-    let alloc = rt.alloc();
     let text = fs::read(rt, "cases")?;
-    for case in &cases_of(alloc, &text)? {
-        let Case { kind, name, bytes } = case;
-        let said = reading(alloc, kind, bytes)?;
-        println!(rt; "{name}: {said}")?;
+    for case in &cases_of(rt.alloc(), &text)? {
+        show_case(rt, case)?;
     }
     Ok(())
 }
@@ -71,28 +76,24 @@ fn show_unspelled(rt: &HostRuntime) -> Result<()> {
     Ok(())
 }
 
-/// Prints what the checker says of each text of the file, over the problem that stands in front of it.
-fn show_checks(rt: &HostRuntime) -> Result<()> {
-    let alloc = rt.alloc();
-    let text = fs::read(rt, "checks")?;
-    let mut problem = None;
-    for case in &cases_of(alloc, &text)? {
-        let Case { kind, name, bytes } = case;
-        if *kind == "problem" {
-            problem = Some(problem_in(alloc, bytes)?);
-        } else {
-            let problem = problem.as_ref().context("a problem")?;
-            let said = judged(alloc, problem, kind, bytes)?;
-            println!(rt; "{name}: {said}")?;
-        }
+/// Prints what the checker says of the text of a case, over the problem in front of it, or keeps the problem that it tells.
+fn show_check(rt: &HostRuntime, problem: &mut Option<Problem>, case: &Case) -> Result<()> {
+    if case.kind == "problem" {
+        *problem = Some(problem_in(rt.alloc(), &case.bytes)?);
+        return Ok(());
     }
+    let problem = problem.as_ref().context("a problem")?;
+    let said = judged(rt.alloc(), problem, case.kind, &case.bytes)?;
+    println!(rt; "{}: {said}", case.name)?;
     Ok(())
 }
 
-/// Prints what the checker says over as many counties as there may be.
-fn show_alone(rt: &HostRuntime) -> Result<()> {
-    for said in &counties_alone(rt.alloc())? {
-        println!(rt; "{said}")?;
+/// Prints what the checker says of each text of the file.
+fn show_checks(rt: &HostRuntime) -> Result<()> {
+    let text = fs::read(rt, "checks")?;
+    let mut problem = None;
+    for case in &cases_of(rt.alloc(), &text)? {
+        show_check(rt, &mut problem, case)?;
     }
     Ok(())
 }

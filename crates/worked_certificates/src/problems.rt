@@ -16,27 +16,34 @@ struct Sketch {
     withdrawn: Vec<Withdrawn>,
 }
 
-/// The number that a word spells.
-fn number(word: Option<&str>) -> Result<u32> {
-    let word = word.context("a word is missing")?;
-    Ok(word.parse::<u32>()?)
+/// The two numbers that a text spells.
+fn two_numbers(text: &str) -> Result<(u32, u32)> {
+    let (first, second) = text.split_once(' ').context("a number is missing")?;
+    Ok((first.parse::<u32>()?, second.parse::<u32>()?))
 }
 
-/// The seats that a word spells.
-fn seats(word: Option<&str>) -> Result<u16> {
-    let word = word.context("a word is missing")?;
-    Ok(word.parse::<u16>()?)
+/// The county that a text spells: its code and its people.
+fn county(text: &str) -> Result<County> {
+    let (code, people) = two_numbers(text)?;
+    let code = CountyCode::new(code).context("no code")?;
+    Ok(County { code, people })
 }
 
-/// The code that a word spells.
-fn code(word: Option<&str>) -> Result<CountyCode> {
-    CountyCode::new(number(word)?).context("no code")
+/// The pair that a text spells.
+fn pair(text: &str) -> Result<(CountyCode, CountyCode)> {
+    let (first, second) = two_numbers(text)?;
+    let first = CountyCode::new(first).context("no code")?;
+    let second = CountyCode::new(second).context("no code")?;
+    Ok((first, second))
 }
 
-/// A withdrawn set of one county.
-fn withdrawn(alloc: Global, seats: u16, county: CountyCode) -> Result<Withdrawn> {
+/// The withdrawn set of one county that a text spells: its seats and its county.
+fn withdrawn(alloc: Global, text: &str) -> Result<Withdrawn> {
+    let (seats, code) = text.split_once(' ').context("a number is missing")?;
+    let code = CountyCode::new(code.parse::<u32>()?).context("no code")?;
+    let seats = seats.parse::<u16>()?;
     let mut codes = Vec::new(alloc);
-    codes.push(county)?;
+    codes.push(code)?;
     Ok(Withdrawn {
         seats,
         codes: Codes::new(codes),
@@ -46,24 +53,11 @@ fn withdrawn(alloc: Global, seats: u16, county: CountyCode) -> Result<Withdrawn>
 impl Sketch {
     /// Adds what a line tells.
     fn add(&mut self, alloc: Global, line: &str) -> Result<()> {
-        let mut words = line.split(' ');
-        match words.next().unwrap_or("") {
-            "chamber" => self.chamber = seats(words.next())?,
-            "county" => {
-                let code = code(words.next())?;
-                let people = number(words.next())?;
-                self.counties.push(County { code, people })?;
-            }
-            "pair" => {
-                let first = code(words.next())?;
-                let second = code(words.next())?;
-                self.pairs.push((first, second))?;
-            }
-            "withdrawn" => {
-                let seats = seats(words.next())?;
-                let county = code(words.next())?;
-                self.withdrawn.push(withdrawn(alloc, seats, county)?)?;
-            }
+        match line.split_once(' ') {
+            Some(("chamber", text)) => self.chamber = text.parse::<u16>()?,
+            Some(("county", text)) => self.counties.push(county(text)?)?,
+            Some(("pair", text)) => self.pairs.push(pair(text)?)?,
+            Some(("withdrawn", text)) => self.withdrawn.push(withdrawn(alloc, text)?)?,
             _ => {}
         }
         Ok(())

@@ -1,5 +1,7 @@
 //! What the desk answers of the worked problems of a file, and which leaves it finds.
 
+ghost use Rattle.std.specs.Prelude.{◌≤◌};
+
 use crate::answers::{InWords, told};
 use crate::cases::{Case, cases_of};
 use crate::leaves::leaf_said;
@@ -7,20 +9,31 @@ use crate::problems::problem_in;
 use anyhow::{Context, Result};
 use branch_bound::solve_over;
 use grouping_problem::Problem;
-use place_sets::{ListSet, MaskSet};
+use place_sets::{CountySet, ListSet, MaskSet};
 use std::alloc::Global;
 use std::fs;
 
 /// More steps than a worked problem takes, and a greater budget than its certificate costs.
 const ENOUGH: u64 = 100_000;
 
+/// What sets of a form answer within so many steps.
+fn answered_over<C: CountySet>(
+    alloc: Global,
+    problem: &Problem,
+    steps: u64,
+    groups: bool,
+) -> Result<InWords>
+    requires { 128 ≤ C.PLACES }
+{
+    let _counties = problem.counties();
+    let answer = solve_over::<C>(alloc, problem, steps)?;
+    told(alloc, problem, &answer, ENOUGH, groups)
+}
+
 /// What both forms of sets answer within so many steps, or that they answer differently.
 fn answered(alloc: Global, problem: &Problem, steps: u64, groups: bool) -> Result<String> {
-    let _counties = problem.counties();
-    let masks = solve_over::<MaskSet>(alloc, problem, steps)?;
-    let lists = solve_over::<ListSet>(alloc, problem, steps)?;
-    let masks = told(alloc, problem, &masks, ENOUGH, groups)?;
-    let lists = told(alloc, problem, &lists, ENOUGH, groups)?;
+    let masks = answered_over::<MaskSet>(alloc, problem, steps, groups)?;
+    let lists = answered_over::<ListSet>(alloc, problem, steps, groups)?;
     alike(alloc, masks, &lists)
 }
 
@@ -53,19 +66,24 @@ fn case_said(alloc: Global, problem: &Problem, case: &Case) -> Result<String> {
     }
 }
 
-/// Prints what is said of each case of the file `problems`, over the problem that stands in front of it.
+/// Prints what is said of a case, over the problem in front of it, or keeps the problem that it tells.
+fn show_case(rt: &HostRuntime, problem: &mut Option<Problem>, case: &Case) -> Result<()> {
+    if case.kind == "problem" {
+        *problem = Some(problem_in(rt.alloc(), &case.bytes)?);
+        return Ok(());
+    }
+    let problem = problem.as_ref().context("a problem")?;
+    let said = case_said(rt.alloc(), problem, case)?;
+    println!(rt; "{}: {said}", case.name)?;
+    Ok(())
+}
+
+/// Prints what is said of each case of the file `problems`.
 pub fn show_solved(rt: &HostRuntime) -> Result<()> {
-    let alloc = rt.alloc();
     let text = fs::read(rt, "problems")?;
     let mut problem = None;
-    for case in &cases_of(alloc, &text)? {
-        if case.kind == "problem" {
-            problem = Some(problem_in(alloc, &case.bytes)?);
-        } else {
-            let problem = problem.as_ref().context("a problem")?;
-            let said = case_said(alloc, problem, case)?;
-            println!(rt; "{}: {said}", case.name)?;
-        }
+    for case in &cases_of(rt.alloc(), &text)? {
+        show_case(rt, &mut problem, case)?;
     }
     Ok(())
 }
