@@ -2,9 +2,9 @@
 use Rattle.std.proofs.Common.{◌≡◌, ℕ, true, List, [], Option, inl, inr, refl}
 use Rattle.std.specs.Prelude.{Result, Ok, Err, IfOk}
 use Rattle.std.specs.declared.alloc.AllocError.{AllocError}
-use Rattle.shelves.specs.Files.{Files}
+use Rattle.shelves.specs.Files.{File, Files}
 use Rattle.shelves.specs.History.{History}
-use Rattle.command_words.specs.Words.{EndsBy, faults_of, takes_words}
+use Rattle.command_words.specs.Words.{EndsBy, Means, faults_of, takes_words}
 use Rattle.command_words.specs.declared.words.CommandWords.{CommandWords}
 use Rattle.command_words.specs.declared.end.WordsEnd.{WordsEnd}
 use Rattle.command_words.specs.declared.end.WordsEnd.TheVariants as words
@@ -31,3 +31,9 @@ pub ended_words : (files : Option Files) (list : List (List ℕ)) (n : History) 
     → IsRunAnswer files list n n [] (said_of answer)
 ended_words files list n end (Ok a) by taken h = inr (inl (record { end = end; by = by; taken = taken; answer = h; none_stored = refl; none_loaded = refl }))
 ended_words files list n end (Err e) by taken h = inl (refl, refl)
+
+-- words that mean a command, and the run of it
+pub meant_run : (files : Option Files) (list : List (List ℕ)) (before after : History) (stored : List File) (a : Answered) (command : CommandWords)
+    → Means list command → faults_of list ≡ [] → CommandRun files command before after stored a → IsRunAnswer files list before after stored a
+meant_run files list before after stored a command meant taken (inl refused) = inl refused
+meant_run files list before after stored a command meant taken (inr run) = inr (inr (record { command = command; meant = meant; taken = taken; run = inr run }))

@@ -10,14 +10,18 @@ use field_lines::Reading;
 use std::alloc::Global;
 use std::io;
 
+/// The text with as many letters `x` for each `~` as the digits say.
+fn with_letters(alloc: Global, text: &str, digits: &str) -> Result<String> {
+    let count = digits.parse::<usize>()?;
+    let letters = "x".repeat(alloc, count)?;
+    Ok(text.replace(alloc, "~", &letters)?)
+}
+
 /// The name of a case, and its text.
 fn named_case<'a>(alloc: Global, section: &'a str) -> Result<(&'a str, String)> {
     let (header, text) = section.split_once('\n').context("the line of a name")?;
     match header.split_once(" ~ ") {
-        Some((name, count)) => {
-            let letters = "x".repeat(alloc, count.parse::<usize>()?)?;
-            Ok((name, text.replace(alloc, "~", &letters)?))
-        }
+        Some((name, digits)) => Ok((name, with_letters(alloc, text, digits)?)),
         None => Ok((header, String::from_str(alloc, text)?)),
     }
 }

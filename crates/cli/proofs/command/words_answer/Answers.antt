@@ -1,7 +1,8 @@
 use Rattle.std.proofs.Common.{[], refl}
 use Rattle.command_runs.proofs.StoreLemmas.{none_stored}
 use Rattle.cli.specs.Delivery.{texts}
-use Rattle.cli.proofs.CommandLemmas.{ended_words}
+use Rattle.cli.specs.Ends.{said_of}
+use Rattle.cli.proofs.CommandLemmas.{ended_words, meant_run}
 use Rattle.cli.proofs.command.words_answer.Goals as goal
 
 pub returns-in-Err : goal.returns-in-Err
@@ -11,4 +12,13 @@ returns-in-Err g c =
       [],
       none_stored files files listed listed refl refl,
       ended_words files (texts c.args.words.now) (g.H.Shelf.history c.args.shelf.now) c.in-Err.end c.end_answer.result c.in-Err.ensures.ends c.in-Err.ensures.taken c.end_answer.ensures,
+    )
+
+pub returns-in-Ok : goal.returns-in-Ok
+returns-in-Ok g c =
+    let run = c.command_answer.ensures in (
+      run.0,
+      run.1,
+      meant_run (g.H.Shelf.contents c.args.shelf.now) (texts c.args.words.now) (g.H.Shelf.history c.args.shelf.now) (g.H.Shelf.history c.command_answer.new.shelf) run.0 (said_of c.command_answer.result) c.in-Ok.command
+          c.in-Ok.ensures.said c.in-Ok.ensures.ends run.2,
     )
