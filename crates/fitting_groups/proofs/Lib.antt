@@ -1,3 +1,4 @@
+pub mod Failing
 pub mod Keeping
 pub mod Deciding
 pub mod Starting

@@ -1,11 +1,11 @@
-ghost use Rattle.std.specs.Prelude.{◌≡◌, ℕ, ◌+◌, ◌-◌, ◌*◌, ◌^◌, Bool, List, true, false, ◌<◌, ◌≤◌, ◌⊎◌, nat_lt, MatchOption, MatchResult, OnOk, IfOk, IsTrue, ◌↔◌, IsErrOf, length};
+ghost use Rattle.std.specs.Prelude.{◌≡◌, ℕ, ◌+◌, ◌-◌, ◌*◌, ◌^◌, Bool, List, [], true, ◌<◌, ◌≤◌, ◌&&◌, not, ◌==◌, nat_lt, MatchOption, MatchResult, OnOk, IfOk, IsTrue, ◌↔◌, IsErrOf, length};
 ghost use Rattle.grouping_laws.specs.Problem.{Connected, people_of};
 ghost use Rattle.place_sets.specs.CountySet.{places_of};
 ghost use Rattle.grouping_laws.specs.Places.{places_below};
 ghost use Rattle.grouping_laws.specs.SeatWindow.{people_bounds};
 ghost use Rattle.ordered_counties.specs.OrderedValue.{problem_at};
 ghost use Rattle.county_regions.specs.Rows.{AreRows};
-ghost use Rattle.growing_sets.specs.Growing.{IsGrowth, IsFront};
+ghost use Rattle.growing_sets.specs.Growing.{IsGrowth, IsFront, IsCandidate, IsMove, IsWhole, AreKept};
 ghost use Rattle.growing_sets.specs.Listing.{HasMost, IsListed, HasStepped};
 ghost use Rattle.proof_trees.specs.StateValue.{state_of};
 ghost use Rattle.proof_trees.specs.Fitting.{Fits};
@@ -34,18 +34,29 @@ pub(crate) struct Ground<'a, 'b, C> {
     pub(crate) most: u32,
 }
 
+/// Where a search stands: a set and its people, the free places that are adjacent to the set, and all free places.
+#[derive(Drop)]
+pub(crate) struct Growth<C> {
+    pub(crate) set: C,
+    pub(crate) people: u64,
+    pub(crate) front: C,
+    pub(crate) free: C,
+}
+
 /// The first place of the front, if the set may have one more.
-fn next_place<C: CountySet>(ground: &Ground<C>, set: &C, front: &C) -> Option<u16>
-    requires below { (x : ℕ) → C.test set.now x ≡ true → x < length ground.now.ordered.now.order }
+fn next_place<C: CountySet>(ground: &Ground<C>, growth: &Growth<C>) -> Option<u16>
+    requires growth { IsGrowth (problem_at ground.now.ordered.now) (length ground.now.ordered.now.order) ground.now.limit (C.test growth.now.set) (C.test growth.now.free) }
+    requires front { IsFront (problem_at ground.now.ordered.now) (C.test growth.now.set) (C.test growth.now.free) (C.test growth.now.front) }
     ensures { MatchOption
         result
-        (((x : ℕ) → C.test front.now x ≡ false) ⊎ (ground.now.limit ≤ length (places_of (length ground.now.ordered.now.order) (C.test set.now))))
-        (λ c. (C.test front.now c ≡ true) × (length (places_of (length ground.now.ordered.now.order) (C.test set.now)) < ground.now.limit)) }
+        (IsWhole (problem_at ground.now.ordered.now) (length ground.now.ordered.now.order) ground.now.limit (C.test growth.now.set) (C.test growth.now.free))
+        (λ c. IsCandidate (problem_at ground.now.ordered.now) (C.test growth.now.set) (C.test growth.now.free) c
+        × (length (places_of (length ground.now.ordered.now.order) (C.test growth.now.set)) < ground.now.limit)) }
 {
-    if set.size() >= u32::from(ground.limit) {
+    if growth.set.size() >= u32::from(ground.limit) {
         return None;
     }
-    front.next(0)
+    growth.front.next(0)
 }
 
 /// Whether the set has too few people for a seat, whatever free places join it.
@@ -126,17 +137,81 @@ fn is_kept<C: CountySet>(
     Ok(fit)
 }
 
-/// Puts the connected sets that have all of a set, else only free places, and that are kept, behind the
-/// groups. The front has the free places that are adjacent to the set. A step is taken for each connected set that
-/// is met; sets that stay below the fewest people that suit a seat, and sets that leave a part behind that can't be
-/// filled, are passed over.
-pub(crate) fn grow<C: CountySet>(
+/// Whether nothing can come of a growth: the set stays below the fewest people that suit a seat, or it leaves a part
+/// behind that can't be filled.
+fn is_passed_over<C: CountySet>(
+    alloc: Global,
+    ground: &Ground<C>,
+    growth: &Growth<C>,
+) -> Result<bool, AllocError>
+    requires fits { length ground.now.ordered.now.order ≤ C.PLACES }
+    requires rows { AreRows C C.test (problem_at ground.now.ordered.now) (length ground.now.ordered.now.order) ground.now.near.now }
+    requires places { length ground.now.state.now.least.items ≡ length ground.now.ordered.now.order }
+    requires rest { (x : ℕ) → C.test ground.now.state.now.rest x ≡ true → x < length ground.now.ordered.now.order }
+    requires growth { IsGrowth (problem_at ground.now.ordered.now) (length ground.now.ordered.now.order) ground.now.limit (C.test growth.now.set) (C.test growth.now.free) }
+    requires people { growth.now.people ≡ people_of (problem_at ground.now.ordered.now) (places_of (length ground.now.ordered.now.order) (C.test growth.now.set)) }
+    requires total { people_of (problem_at ground.now.ordered.now) (places_below (length ground.now.ordered.now.order)) ≤ ground.now.ordered.now.problem.total_people }
+    requires bound { ground.now.ordered.now.problem.total_people ≤ 2 ^ 40 }
+    requires least { ground.now.least ≡ (people_bounds (problem_at ground.now.ordered.now) 1).0 }
+    requires most { HasMost (problem_at ground.now.ordered.now) (C.test growth.now.free) ground.now.most }
+    ensures { IfOk
+        result
+        (λ passed. IsTrue passed
+        → (keep : List ℕ → Bool)
+        → Decides ground.now.language (problem_at ground.now.ordered.now) (length ground.now.ordered.now.order) ground.now.limit ground.now.exact (state_of C.test ground.now.state.now) keep
+        → AreKept (problem_at ground.now.ordered.now) (length ground.now.ordered.now.order) ground.now.limit keep (C.test growth.now.set) (C.test growth.now.free) []) }
+{
+    if stays_small(ground, &growth.set, growth.people) {
+        return Ok(true);
+    }
+    strands(
+        alloc,
+        ground.ordered,
+        ground.near,
+        ground.language,
+        ground.state,
+        &growth.set,
+        &growth.free,
+    )
+}
+
+/// Puts a connected set, which has so many people, behind the groups if it is kept.
+fn put_if_kept<C: CountySet>(
     alloc: Global,
     ground: &Ground<C>,
     set: C,
     people: u64,
-    front: C,
-    free: C,
+    groups: &mut Vec<C>,
+) -> Result<(), AllocError>
+    requires fits { length ground.now.ordered.now.order ≤ C.PLACES }
+    requires rows { AreRows C C.test (problem_at ground.now.ordered.now) (length ground.now.ordered.now.order) ground.now.near.now }
+    requires places { length ground.now.state.now.least.items ≡ length ground.now.ordered.now.order }
+    requires rest { (x : ℕ) → C.test ground.now.state.now.rest x ≡ true → x < length ground.now.ordered.now.order }
+    requires below { (x : ℕ) → C.test set x ≡ true → x < length ground.now.ordered.now.order }
+    requires connected { Connected (problem_at ground.now.ordered.now) (places_of (length ground.now.ordered.now.order) (C.test set)) }
+    requires small { length (places_of (length ground.now.ordered.now.order) (C.test set)) ≤ ground.now.limit }
+    requires people { people ≡ people_of (problem_at ground.now.ordered.now) (places_of (length ground.now.ordered.now.order) (C.test set)) }
+    ensures listed { OnOk
+        result
+        ((keep : List ℕ → Bool)
+        → Decides ground.now.language (problem_at ground.now.ordered.now) (length ground.now.ordered.now.order) ground.now.limit ground.now.exact (state_of C.test ground.now.state.now) keep
+        → (free : ℕ → Bool)
+        → IsGrowth (problem_at ground.now.ordered.now) (length ground.now.ordered.now.order) ground.now.limit (C.test set) free
+        → IsWhole (problem_at ground.now.ordered.now) (length ground.now.ordered.now.order) ground.now.limit (C.test set) free
+        → IsListed C C.test (problem_at ground.now.ordered.now) (length ground.now.ordered.now.order) ground.now.limit keep (C.test set) free groups.old.items groups.new.items) }
+    ensures counted { OnOk result (length groups.new.items ≤ length groups.old.items + 1) }
+{
+    if is_kept(alloc, ground, &set, people)? {
+        groups.push(set)?;
+    }
+    Ok(())
+}
+
+/// Ends a growth whose set grows no further: takes a step, and puts the set behind the groups if it is kept.
+fn end_growth<C: CountySet>(
+    alloc: Global,
+    ground: &Ground<C>,
+    growth: Growth<C>,
     steps: &mut Steps,
     groups: &mut Vec<C>,
 ) -> Result<(), Stop>
@@ -144,13 +219,9 @@ pub(crate) fn grow<C: CountySet>(
     requires rows { AreRows C C.test (problem_at ground.now.ordered.now) (length ground.now.ordered.now.order) ground.now.near.now }
     requires places { length ground.now.state.now.least.items ≡ length ground.now.ordered.now.order }
     requires rest { (x : ℕ) → C.test ground.now.state.now.rest x ≡ true → x < length ground.now.ordered.now.order }
-    requires growth { IsGrowth (problem_at ground.now.ordered.now) (length ground.now.ordered.now.order) ground.now.limit (C.test set) (C.test free) }
-    requires front { IsFront (problem_at ground.now.ordered.now) (C.test set) (C.test free) (C.test front) }
-    requires people { people ≡ people_of (problem_at ground.now.ordered.now) (places_of (length ground.now.ordered.now.order) (C.test set)) }
-    requires total { people_of (problem_at ground.now.ordered.now) (places_below (length ground.now.ordered.now.order)) ≤ ground.now.ordered.now.problem.total_people }
-    requires bound { ground.now.ordered.now.problem.total_people ≤ 2 ^ 40 }
-    requires least { ground.now.least ≡ (people_bounds (problem_at ground.now.ordered.now) 1).0 }
-    requires most { HasMost (problem_at ground.now.ordered.now) (C.test free) ground.now.most }
+    requires growth { IsGrowth (problem_at ground.now.ordered.now) (length ground.now.ordered.now.order) ground.now.limit (C.test growth.set) (C.test growth.free) }
+    requires people { growth.people ≡ people_of (problem_at ground.now.ordered.now) (places_of (length ground.now.ordered.now.order) (C.test growth.set)) }
+    requires whole { IsWhole (problem_at ground.now.ordered.now) (length ground.now.ordered.now.order) ground.now.limit (C.test growth.set) (C.test growth.free) }
     ensures listed { OnOk
         result
         ((keep : List ℕ → Bool)
@@ -162,60 +233,122 @@ pub(crate) fn grow<C: CountySet>(
         (length ground.now.ordered.now.order)
         ground.now.limit
         keep
-        (C.test set)
-        (C.test free)
+        (C.test growth.set)
+        (C.test growth.free)
         groups.old.items
         groups.new.items) }
-    ensures steps { HasStepped (problem_at ground.now.ordered.now) (length ground.now.ordered.now.order) ground.now.limit (C.test set) (C.test free) steps.old.used steps.new.used }
+    ensures steps { HasStepped (problem_at ground.now.ordered.now) (length ground.now.ordered.now.order) ground.now.limit (C.test growth.set) (C.test growth.free) steps.old.used steps.new.used }
     ensures counted { OnOk result (steps.old.used + length groups.new.items ≤ steps.new.used + length groups.old.items) }
     ensures limit { steps.new.limit ≡ steps.old.limit }
     ensures stopped { IsErrOf result Stop.StepLimit → steps.new.used ≡ steps.new.limit }
 {
-    if stays_small(ground, &set, people) {
+    take_step(steps)?;
+    put_if_kept(alloc, ground, growth.set, growth.people, groups)?;
+    Ok(())
+}
+
+/// The growth in which a place of the front joins the set.
+fn with_place<C: CountySet>(
+    alloc: Global,
+    ground: &Ground<C>,
+    growth: &Growth<C>,
+    place: u16,
+) -> Result<Growth<C>, AllocError>
+    requires fits { length ground.now.ordered.now.order ≤ C.PLACES }
+    requires rows { AreRows C C.test (problem_at ground.now.ordered.now) (length ground.now.ordered.now.order) ground.now.near.now }
+    requires growth { IsGrowth (problem_at ground.now.ordered.now) (length ground.now.ordered.now.order) ground.now.limit (C.test growth.now.set) (C.test growth.now.free) }
+    requires front { IsFront (problem_at ground.now.ordered.now) (C.test growth.now.set) (C.test growth.now.free) (C.test growth.now.front) }
+    requires people { growth.now.people ≡ people_of (problem_at ground.now.ordered.now) (places_of (length ground.now.ordered.now.order) (C.test growth.now.set)) }
+    requires total { people_of (problem_at ground.now.ordered.now) (places_below (length ground.now.ordered.now.order)) ≤ ground.now.ordered.now.problem.total_people }
+    requires bound { ground.now.ordered.now.problem.total_people ≤ 2 ^ 40 }
+    requires there { IsCandidate (problem_at ground.now.ordered.now) (C.test growth.now.set) (C.test growth.now.free) place }
+    requires room { length (places_of (length ground.now.ordered.now.order) (C.test growth.now.set)) < ground.now.limit }
+    ensures moved { IfOk result (λ more. IsMove (C.test growth.now.set) (C.test growth.now.free) (C.test more.set) (C.test more.free) place) }
+    ensures growth { IfOk result (λ more. IsGrowth (problem_at ground.now.ordered.now) (length ground.now.ordered.now.order) ground.now.limit (C.test more.set) (C.test more.free)) }
+    ensures front { IfOk result (λ more. IsFront (problem_at ground.now.ordered.now) (C.test more.set) (C.test more.free) (C.test more.front)) }
+    ensures people { IfOk result (λ more. more.people ≡ people_of (problem_at ground.now.ordered.now) (places_of (length ground.now.ordered.now.order) (C.test more.set))) }
+{
+    let people = growth.people + u64::from(ground.ordered.people(place));
+    let set = growth.set.with(alloc, place)?;
+    let free = growth.free.copy(alloc)?.without(place);
+    let both = growth.front.union(alloc, &ground.near[usize::from(place)])?;
+    let front = both.intersection(&free);
+    Ok(Growth {
+        set,
+        people,
+        front,
+        free,
+    })
+}
+
+/// The growth in which a place is no longer free.
+fn without_place<C: CountySet>(growth: Growth<C>, place: u16) -> Growth<C>
+    requires { place < C.PLACES }
+    ensures set { result.set ≡ growth.set }
+    ensures people { result.people ≡ growth.people }
+    ensures front { (x : ℕ) → C.test result.front x ≡ (C.test growth.front x && not (x == place)) }
+    ensures free { (x : ℕ) → C.test result.free x ≡ (C.test growth.free x && not (x == place)) }
+{
+    Growth {
+        set: growth.set,
+        people: growth.people,
+        front: growth.front.without(place),
+        free: growth.free.without(place),
+    }
+}
+
+/// Puts the connected sets that have all of a set, else only free places, and that are kept, behind the
+/// groups. The front has the free places that are adjacent to the set. A step is taken for each connected set that
+/// is met; sets that stay below the fewest people that suit a seat, and sets that leave a part behind that can't be
+/// filled, are passed over.
+pub(crate) fn grow<C: CountySet>(
+    alloc: Global,
+    ground: &Ground<C>,
+    growth: Growth<C>,
+    steps: &mut Steps,
+    groups: &mut Vec<C>,
+) -> Result<(), Stop>
+    requires fits { length ground.now.ordered.now.order ≤ C.PLACES }
+    requires rows { AreRows C C.test (problem_at ground.now.ordered.now) (length ground.now.ordered.now.order) ground.now.near.now }
+    requires places { length ground.now.state.now.least.items ≡ length ground.now.ordered.now.order }
+    requires rest { (x : ℕ) → C.test ground.now.state.now.rest x ≡ true → x < length ground.now.ordered.now.order }
+    requires growth { IsGrowth (problem_at ground.now.ordered.now) (length ground.now.ordered.now.order) ground.now.limit (C.test growth.set) (C.test growth.free) }
+    requires front { IsFront (problem_at ground.now.ordered.now) (C.test growth.set) (C.test growth.free) (C.test growth.front) }
+    requires people { growth.people ≡ people_of (problem_at ground.now.ordered.now) (places_of (length ground.now.ordered.now.order) (C.test growth.set)) }
+    requires total { people_of (problem_at ground.now.ordered.now) (places_below (length ground.now.ordered.now.order)) ≤ ground.now.ordered.now.problem.total_people }
+    requires bound { ground.now.ordered.now.problem.total_people ≤ 2 ^ 40 }
+    requires least { ground.now.least ≡ (people_bounds (problem_at ground.now.ordered.now) 1).0 }
+    requires most { HasMost (problem_at ground.now.ordered.now) (C.test growth.free) ground.now.most }
+    ensures listed { OnOk
+        result
+        ((keep : List ℕ → Bool)
+        → Decides ground.now.language (problem_at ground.now.ordered.now) (length ground.now.ordered.now.order) ground.now.limit ground.now.exact (state_of C.test ground.now.state.now) keep
+        → IsListed
+        C
+        C.test
+        (problem_at ground.now.ordered.now)
+        (length ground.now.ordered.now.order)
+        ground.now.limit
+        keep
+        (C.test growth.set)
+        (C.test growth.free)
+        groups.old.items
+        groups.new.items) }
+    ensures steps { HasStepped (problem_at ground.now.ordered.now) (length ground.now.ordered.now.order) ground.now.limit (C.test growth.set) (C.test growth.free) steps.old.used steps.new.used }
+    ensures counted { OnOk result (steps.old.used + length groups.new.items ≤ steps.new.used + length groups.old.items) }
+    ensures limit { steps.new.limit ≡ steps.old.limit }
+    ensures stopped { IsErrOf result Stop.StepLimit → steps.new.used ≡ steps.new.limit }
+{
+    if is_passed_over(alloc, ground, &growth)? {
         return Ok(());
     }
-    let stranded = strands(
-        alloc,
-        ground.ordered,
-        ground.near,
-        ground.language,
-        ground.state,
-        &set,
-        &free,
-    )?;
-    if stranded {
-        return Ok(());
-    }
-    match next_place(ground, &set, &front) {
-        None => {
-            take_step(steps)?;
-            let kept = is_kept(alloc, ground, &set, people)?;
-            if kept {
-                if let Err(error) = groups.push(set) {
-                    return Err(AllocError::from(error).into());
-                }
-            }
-            Ok(())
-        }
+    match next_place(ground, &growth) {
+        None => end_growth(alloc, ground, growth, steps, groups),
         Some(place) => {
-            let more = set.with(alloc, place)?;
-            let more_people = people + u64::from(ground.ordered.people(place));
-            let rest = free.without(place);
-            let less = rest.copy(alloc)?;
-            let both = front.union(alloc, &ground.near[usize::from(place)])?;
-            let beside = both.intersection(&rest);
-            let others = front.without(place);
-            grow(
-                alloc,
-                ground,
-                more,
-                more_people,
-                beside,
-                less,
-                steps,
-                groups,
-            )?;
-            grow(alloc, ground, set, people, others, rest, steps, groups)
+            let joined = with_place(alloc, ground, &growth, place)?;
+            grow(alloc, ground, joined, steps, groups)?;
+            let others = without_place(growth, place);
+            grow(alloc, ground, others, steps, groups)
         }
     }
 }

@@ -2,7 +2,7 @@ ghost use Rattle.std.specs.Prelude.{◌≡◌, ℕ, ◌+◌, true, false, ◌<�
 ghost use Rattle.grouping_laws.specs.Places.{places_below};
 ghost use Rattle.ordered_counties.specs.OrderedValue.{problem_at};
 ghost use Rattle.county_regions.specs.Rows.{AreRows};
-ghost use Rattle.growing_sets.specs.Growing.{only};
+ghost use Rattle.growing_sets.specs.Growing.{only, IsFront};
 ghost use Rattle.growing_sets.specs.Listing.{lists_of, AreBelow, HasMost, IsListed, HasStepped, OneStepEach};
 ghost use Rattle.proof_trees.specs.Round.{Round};
 ghost use Rattle.proof_trees.specs.State.{open_to};
@@ -11,7 +11,7 @@ ghost use Rattle.proof_trees.specs.Groups.{IsSetAt, AreGroupsAt, IsSetWithin, Ar
 ghost use Rattle.fitting_groups.specs.Keeping.{Decides, others};
 ghost use Rattle.fitting_groups.specs.declared.stop.Stop.{Stop};
 
-use crate::grow::{Ground, grow};
+use crate::grow::{Ground, Growth, grow};
 use crate::sorting::sorted;
 use crate::stop::Stop;
 use ordered_counties::{Ordered, Steps};
@@ -40,6 +40,35 @@ fn most_in<C: CountySet>(ordered: &Ordered, set: &C) -> u32
         from = u32::from(place) + 1;
     }
     most
+}
+
+/// The growth that begins with the place alone, in the region.
+fn start<C: CountySet>(
+    alloc: Global,
+    ordered: &Ordered,
+    near: &[C],
+    region: C,
+    place: u16,
+) -> Result<Growth<C>, AllocError>
+    requires fits { length ordered.now.order ≤ C.PLACES }
+    requires rows { AreRows C C.test (problem_at ordered.now) (length ordered.now.order) near.now }
+    requires below { (x : ℕ) → C.test region x ≡ true → x < length ordered.now.order }
+    requires there { C.test region place ≡ true }
+    ensures set { IfOk result (λ s. (x : ℕ) → C.test s.set x ≡ only place x) }
+    ensures free { IfOk result (λ s. (x : ℕ) → C.test s.free x ≡ others (C.test region) place x) }
+    ensures front { IfOk result (λ s. IsFront (problem_at ordered.now) (C.test s.set) (C.test s.free) (C.test s.front)) }
+    ensures people { IfOk result (λ s. s.people ≡ (problem_at ordered.now).people place) }
+{
+    let people = u64::from(ordered.people(place));
+    let free = region.without(place);
+    let set = only_place(alloc, place)?;
+    let front = near[usize::from(place)].copy(alloc)?.intersection(&free);
+    Ok(Growth {
+        set,
+        people,
+        front,
+        free,
+    })
 }
 
 /// Puts the connected sets of the region that have the place and at most `limit` places, and are kept, behind the
@@ -77,8 +106,7 @@ fn search<C: CountySet>(
     let _places = ordered.places();
     let problem = ordered.problem();
     let _at_most = problem.total_people();
-    let set = only_place(alloc, place)?;
-    let free = region.without(place);
+    let growth = start(alloc, ordered, near, region, place)?;
     let ground = Ground {
         ordered,
         near,
@@ -87,12 +115,9 @@ fn search<C: CountySet>(
         limit,
         exact,
         least: problem.district_bounds(1).0,
-        most: most_in(ordered, &free),
+        most: most_in(ordered, &growth.free),
     };
-    let beside = near[usize::from(place)].copy(alloc)?;
-    let front = beside.intersection(&free);
-    let people = u64::from(ordered.people(place));
-    grow(alloc, &ground, set, people, front, free, steps, groups)
+    grow(alloc, &ground, growth, steps, groups)
 }
 
 /// The groups that fit the state, have the county at the place and have at most `limit` counties, each once, by

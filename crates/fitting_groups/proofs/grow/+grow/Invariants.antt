@@ -3,4 +3,4 @@ use Rattle.place_sets.specs.CountySet.{places_of}
 use Rattle.fitting_groups.proofs.grow.+grow.Given as goal
 
 abbrev pub decreases-grow : goal.decreases-grow
-decreases-grow g l = length (places_of (length l.ground.now.ordered.now.order) (g.C.CountySet.test l.free))
+decreases-grow g l = length (places_of (length l.ground.now.ordered.now.order) (g.C.CountySet.test l.growth.free))

@@ -1,15 +1,22 @@
-use Rattle.std.proofs.Common.{◌≡◌, ℕ, ◌≤◌, ◌<◌, ◌⊎◌, inl, Bool, true, false, Option, Some, None, MatchOption, length, tests, arith}
+use Rattle.std.proofs.Common.{ℕ, ◌≤◌, ◌<◌, inl, inr, Bool, Option, Some, None, MatchOption, length, tests, arith}
+use Rattle.grouping_laws.specs.Problem.{Problem}
 use Rattle.place_sets.specs.CountySet.{IsNext, places_of}
+use Rattle.ordered_counties.specs.OrderedValue.{problem_at}
+use Rattle.growing_sets.specs.Growing.{IsGrowth, IsFront, IsWhole, IsCandidate}
+use Rattle.growing_sets.proofs.Fronts.{whole_front}
 use Rattle.fitting_groups.proofs.grow.next_place.Goals as goal
 
-found : (t : ℕ → Bool) (full few : Type 0) (r : Option ℕ) → IsNext t 0 r → few → MatchOption r (((x : ℕ) → t x ≡ false) ⊎ full) (λ c. (t c ≡ true) × few)
-found t full few None h f = inl (λ x. h x (omega arith))
-found t full few (Some c) h f = (h.1, f)
+found : (p : Problem) (n limit : ℕ) (set free front : ℕ → Bool) (r : Option ℕ) → IsGrowth p n limit set free → IsFront p set free front → IsNext front 0 r → length (places_of n set) < limit
+    → MatchOption r (IsWhole p n limit set free) (λ c. IsCandidate p set free c × (length (places_of n set) < limit))
+found p n limit set free front None growth f h few = whole_front p n limit set free front growth f (inl (λ x. h x (omega arith)))
+found p n limit set free front (Some c) growth f h few = (f.each c h.1, few)
 
 pub returns : goal.returns
 returns g c =
-    let set = g.C.CountySet.test c.args.set.now in
+    let test = g.C.CountySet.test in
+    let p = problem_at c.args.ground.now.ordered.now in
     let n = length c.args.ground.now.ordered.now.order in
-    let size = c.size.ensures.count n c.requires.below in
-    let few : length (places_of n set) < c.args.ground.now.limit = grind (arith, tests, size) in
-    found (g.C.CountySet.test c.args.front.now) (c.args.ground.now.limit ≤ length (places_of n set)) (length (places_of n set) < c.args.ground.now.limit) c.next.result c.next.ensures.least few
+    let growth = c.args.growth.now in
+    let size = c.size.ensures.count n c.requires.growth.below in
+    let few : length (places_of n (test growth.set)) < c.args.ground.now.limit = grind (arith, tests, size) in
+    found p n c.args.ground.now.limit (test growth.set) (test growth.free) (test growth.front) c.next.result c.requires.growth c.requires.front c.next.ensures.least few
