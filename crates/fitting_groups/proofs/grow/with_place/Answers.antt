@@ -1,4 +1,5 @@
 use Rattle.std.proofs.Common.{◌≡◌, ℕ, ◌<◌, ◌||◌, ◌&&◌, not, ◌==◌, get_or, length, arith, ap, ◌∙◌}
+use Rattle.std.proofs.lemmas.Result.{IfOk-from_err}
 use Rattle.place_sets.proofs.PlaceSums.{total_all}
 use Rattle.ordered_counties.specs.OrderedValue.{problem_at}
 use Rattle.growing_sets.specs.Growing.{IsMove}
@@ -54,3 +55,39 @@ returns-clause-people g c = let test = g.C.CountySet.test in
     let m : IsMove (test old.set) (test old.free) set free c.args.place = record { with = c.in_ok-set.ensures.places; without = λ x. c.without-free.ensures.places x ∙ ap (λ z. z && not (x == c.args.place)) (c.in_ok-copy.ensures.places x) } in
     let sum = people_with p n c.args.ground.now.limit (test old.set) (test old.free) set free c.args.place c.requires.growth c.requires.there.is_free m in
     omega (arith, sum, c.requires.people, c.people.ensures, c.from.ensures)
+
+pub returns-in_err-set-clause-moved : goal.returns-in_err-set-clause-moved
+returns-in_err-set-clause-moved g c = IfOk-from_err c.from_residual.result _ c.from_residual.ensures.0
+
+pub returns-in_err-set-clause-growth : goal.returns-in_err-set-clause-growth
+returns-in_err-set-clause-growth g c = IfOk-from_err c.from_residual.result _ c.from_residual.ensures.0
+
+pub returns-in_err-set-clause-front : goal.returns-in_err-set-clause-front
+returns-in_err-set-clause-front g c = IfOk-from_err c.from_residual.result _ c.from_residual.ensures.0
+
+pub returns-in_err-set-clause-people : goal.returns-in_err-set-clause-people
+returns-in_err-set-clause-people g c = IfOk-from_err c.from_residual.result _ c.from_residual.ensures.0
+
+pub returns-in_err-copy-clause-moved : goal.returns-in_err-copy-clause-moved
+returns-in_err-copy-clause-moved g c = IfOk-from_err c.from_residual-in_err-copy.result _ c.from_residual-in_err-copy.ensures.0
+
+pub returns-in_err-copy-clause-growth : goal.returns-in_err-copy-clause-growth
+returns-in_err-copy-clause-growth g c = IfOk-from_err c.from_residual-in_err-copy.result _ c.from_residual-in_err-copy.ensures.0
+
+pub returns-in_err-copy-clause-front : goal.returns-in_err-copy-clause-front
+returns-in_err-copy-clause-front g c = IfOk-from_err c.from_residual-in_err-copy.result _ c.from_residual-in_err-copy.ensures.0
+
+pub returns-in_err-copy-clause-people : goal.returns-in_err-copy-clause-people
+returns-in_err-copy-clause-people g c = IfOk-from_err c.from_residual-in_err-copy.result _ c.from_residual-in_err-copy.ensures.0
+
+pub returns-in_err-both-clause-moved : goal.returns-in_err-both-clause-moved
+returns-in_err-both-clause-moved g c = IfOk-from_err c.from_residual-in_err-both.result _ c.from_residual-in_err-both.ensures.0
+
+pub returns-in_err-both-clause-growth : goal.returns-in_err-both-clause-growth
+returns-in_err-both-clause-growth g c = IfOk-from_err c.from_residual-in_err-both.result _ c.from_residual-in_err-both.ensures.0
+
+pub returns-in_err-both-clause-front : goal.returns-in_err-both-clause-front
+returns-in_err-both-clause-front g c = IfOk-from_err c.from_residual-in_err-both.result _ c.from_residual-in_err-both.ensures.0
+
+pub returns-in_err-both-clause-people : goal.returns-in_err-both-clause-people
+returns-in_err-both-clause-people g c = IfOk-from_err c.from_residual-in_err-both.result _ c.from_residual-in_err-both.ensures.0

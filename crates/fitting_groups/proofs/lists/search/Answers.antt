@@ -1,4 +1,4 @@
-use Rattle.std.proofs.Common.{◌≡◌, ℕ, Bool, ap, ◌∙◌, sym, subst, length}
+use Rattle.std.proofs.Common.{◌≡◌, ℕ, Bool, refl, ap, ◌∙◌, sym, subst, length}
 use mathlib.Core.Path.{fun_ext}
 use Rattle.std.proofs.lemmas.Result.{IfOk-from_err}
 use Rattle.grouping_laws.specs.Problem.{people_of}
@@ -63,3 +63,25 @@ returns-clause-limit g c = c.grow.ensures.limit
 
 pub returns-clause-stopped : goal.returns-clause-stopped
 returns-clause-stopped g c = c.grow.ensures.stopped
+
+pub returns-in_err-growth-clause-listed : goal.returns-in_err-growth-clause-listed
+returns-in_err-growth-clause-listed g c = IfOk-from_err c.from_residual.result _ c.from_residual.ensures.0
+
+pub returns-in_err-growth-clause-counted : goal.returns-in_err-growth-clause-counted
+returns-in_err-growth-clause-counted g c = IfOk-from_err c.from_residual.result _ c.from_residual.ensures.0
+
+pub returns-in_err-growth-clause-limit : goal.returns-in_err-growth-clause-limit
+returns-in_err-growth-clause-limit g c = refl
+
+pub returns-in_err-growth-clause-stopped : goal.returns-in_err-growth-clause-stopped
+returns-in_err-growth-clause-stopped g c = refused_not_stopped c.from_residual.result c.from_residual.ensures.1
+
+pub returns-in_err-growth-clause-steps : goal.returns-in_err-growth-clause-steps
+returns-in_err-growth-clause-steps g c =
+    stepped_none (problem_at c.args.ordered.now) (length c.args.ordered.now.order) c.args.limit (only c.args.place) (others (g.C.CountySet.test c.args.region) c.args.place) c.args.steps.now.used c.args.steps.now.used refl
+
+pub grow-requires-clause-front : goal.grow-requires-clause-front
+grow-requires-clause-front g c = c.in_ok-growth.ensures.front
+
+pub grow-requires-clause-most : goal.grow-requires-clause-most
+grow-requires-clause-most g c = c.most_in.ensures
