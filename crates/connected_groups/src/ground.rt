@@ -11,3 +11,13 @@ pub(crate) struct Ground<'a, 'b, C> {
     pub(crate) least: u64,
     pub(crate) most: u32,
 }
+
+/// Where a search stands: a set and its people, the free places that are adjacent to the set, and all free
+/// places.
+#[derive(Drop)]
+pub(crate) struct Growth<C> {
+    pub(crate) set: C,
+    pub(crate) people: u64,
+    pub(crate) front: C,
+    pub(crate) free: C,
+}
