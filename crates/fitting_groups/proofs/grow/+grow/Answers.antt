@@ -1,4 +1,4 @@
-use Rattle.std.proofs.Common.{◌≡◌, ℕ, ◌+◌, ◌<◌, ◌&&◌, refl, sym, ap, ◌∙◌, subst, length, Bool, Err, arith, rules}
+use Rattle.std.proofs.Common.{◌≡◌, ℕ, refl, sym, ap, ◌∙◌, subst, length, Bool, Err, arith, rules}
 use Rattle.std.proofs.lemmas.Result.{IfOk-from_err}
 use mathlib.Core.Path.{fun_ext}
 use Rattle.growing_sets.specs.Growing.{IsGrowth, IsMove, IsFront}

@@ -1,4 +1,4 @@
-use Rattle.std.proofs.Common.{ℕ, ◌≤◌, ◌<◌, inl, inr, Bool, Option, Some, None, MatchOption, length, tests, arith}
+use Rattle.std.proofs.Common.{ℕ, ◌<◌, inl, Bool, Option, Some, None, MatchOption, length, tests, arith}
 use Rattle.grouping_laws.specs.Problem.{Problem}
 use Rattle.place_sets.specs.CountySet.{IsNext, places_of}
 use Rattle.ordered_counties.specs.OrderedValue.{problem_at}
