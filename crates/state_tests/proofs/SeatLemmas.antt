@@ -1,9 +1,9 @@
 -- Seats of closed groups and parts, added up.
-use Rattle.std.proofs.Common.{◌≡◌, ℕ, ◌+◌, ◌<◌, Bool, true, false, nat_lt, ◌||◌, Some, None, List, [], ◌∷◌, ◌++◌, map, length, get_or, take, refl, sym, ap, ◌∙◌, subst, arith, inl, inr, Contains}
+use Rattle.std.proofs.Common.{◌≡◌, ℕ, ◌+◌, ◌<◌, Bool, true, false, nat_lt, ◌||◌, Option, Some, None, List, [], ◌∷◌, ◌++◌, map, length, get_or, take, refl, sym, ap, ◌∙◌, subst, arith, inl, inr, Contains}
 use Rattle.std.specs.Prelude.{IsTrue, ◌↔◌, ◌⊎◌}
 use Rattle.std.specs.List.{AllZip}
 use Rattle.std.proofs.lemmas.Bool.{false≢true, ltb-true, lt-ltb}
-use Rattle.std.proofs.lemmas.List.{take_more, map-append, length-append, length-map, get_or-map}
+use Rattle.std.proofs.lemmas.List.{take_more, map-append, length-append, length-map, length-take, get_or-map}
 use Rattle.place_sets.proofs.Sums.{total-append}
 use Rattle.grouping_laws.specs.Sets.{total}
 use Rattle.grouping_laws.specs.Problem.{Problem, Suits, people_of}
@@ -104,3 +104,11 @@ off_by p s parts a b c d off are h k e = (λ t. there (nat_lt p.seats_left (a + 
 -- an element of a list, as one of the list's images
 pub item_in : {X : Type 0} (f : X → List ℕ) (xs : List X) (i : ℕ) (x : X) → i < length xs → x ≡ get_or xs i x → Contains (map f xs) (f x)
 item_in f xs i x l e = (i, omega (arith, l, length-map xs f), get_or-map f xs i x (f x) l ∙ ap f (sym e))
+
+-- a run by its ends
+pub run_from : (P : ℕ → Type 0) (r : Option (ℕ × ℕ)) (low high a b : ℕ) → IsRun P r → r ≡ Some (low, high) → a ≡ low → b ≡ high → IsRun P (Some (a, b))
+run_from P r low high a b h e f k = subst (λ z. IsRun P (Some (z, b))) (sym f) (subst (λ z. IsRun P (Some (low, z))) (sym k) (subst (IsRun P) e h))
+
+-- how many are taken
+pub taken : {X : Type 0} (f : X → List ℕ) (xs : List X) (i : ℕ) → i < length xs → length (map f (take i xs)) ≡ i
+taken f xs i l = length-map (take i xs) f ∙ omega (arith, length-take i xs, l)

@@ -95,3 +95,8 @@ live_by p s n group left none stuck below is empty test = (there stuck refl, bac
 pub one_suits : (p : Problem) (people : ℕ) (r : Option (ℕ × ℕ)) → IsRun (Suits p people) r → is_some r ≡ true → (k : ℕ) × Suits p people k
 one_suits p people None run e = absurd (false≢true e)
 one_suits p people (Some r) run e = (r.0, (run.1 r.0).1 (omega arith, run.0))
+
+-- none suits where there is no run
+pub none_suits : (p : Problem) (people : ℕ) (r : Option (ℕ × ℕ)) → IsRun (Suits p people) r → is_some r ≡ false → (k : ℕ) → Suits p people k → ⊥
+none_suits p people None run e = run
+none_suits p people (Some r) run e = absurd (false≢true (sym e))

@@ -1,5 +1,6 @@
-use Rattle.std.proofs.Common.{refl, ap, ◌∙◌, subst, sym, length, arith}
+use Rattle.std.proofs.Common.{◌<◌, refl, ap, ◌∙◌, subst, sym, length, arith}
 use Rattle.std.specs.Prelude.{IsTrue, ◌↔◌}
+use Rattle.std.proofs.lemmas.Bool.{false≢true}
 use Rattle.place_sets.specs.CountySet.{places_of}
 use Rattle.place_sets.proofs.PlaceSums.{total_all}
 use Rattle.grouping_laws.specs.Problem.{Suits}
@@ -12,7 +13,7 @@ use Rattle.proof_trees.specs.StateValue.{state_of}
 use Rattle.proof_trees.specs.State.{open_to}
 use Rattle.proof_trees.specs.Fitting.{Fits, IsLive}
 use Rattle.grouping_laws.specs.Sets.{Inside}
-use Rattle.state_tests.proofs.StuckLemmas.{one_suits}
+use Rattle.state_tests.proofs.StuckLemmas.{one_suits, none_suits}
 use Rattle.state_tests.proofs.FitLemmas.{fits_by, if_ok}
 use Rattle.state_tests.proofs.fitting.fits.Goals as goal
 
@@ -55,3 +56,21 @@ returns-in-Wide g c =
       λ f. h.1 ((subst (λ l. Fits l p s (places_of n t)) c.in-Wide.is f).kept),
     ))
     c.is_live.ensures
+
+pub returns-then-is_none : goal.returns-then-is_none
+returns-then-is_none g c =
+    let p = problem_at c.args.ordered.now in
+    let people = c.args.people in
+    let problem = c.places-places.ensures.problem in
+    let law : IsRun (Suits p people) c.seats_range.result =
+    subst (IsRun (Suits p people)) (sym (c.seats_range.ensures.value ∙ ap (λ (v : ProblemValue). seat_run (problem_of v) people) c.problem.ensures.value)) (window_law p problem.tolerated problem.some_people people) in
+    (λ e. absurd (false≢true e), λ f. absurd (none_suits p people c.seats_range.result law c.if-is_none.ensures f.lawful.seats (subst (λ z. Suits p z f.lawful.seats) (sym c.requires.people) f.lawful.suits)))
+
+pub is_open-requires : goal.is_open-requires
+is_open-requires g c = record { below = λ x e. subst (λ m. x < m) (sym c.requires.places) (c.requires.group_below x e) }
+
+pub returns-then-not-is_open : goal.returns-then-not-is_open
+returns-then-not-is_open g c =
+    let s = state_of g.C.CountySet.test c.args.state.now in
+    let t = g.C.CountySet.test c.args.group.now in
+    (λ e. absurd (false≢true e), λ f. c.if-not-is_open.ensures.1 (subst (λ m. Inside (open_to s (length (places_of m t))) (places_of m t)) (sym c.requires.places) f.inside))

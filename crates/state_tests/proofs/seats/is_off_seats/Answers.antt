@@ -1,5 +1,7 @@
-use Rattle.std.proofs.Common.{◌≡◌, ◌+◌, ◌||◌, nat_lt, None, ap, ◌∙◌, subst, sym, map, length}
+use Rattle.std.proofs.Common.{◌≡◌, ℕ, ◌<◌, true, List, get_or, arith, ◌+◌, ◌||◌, nat_lt, None, ap, ◌∙◌, subst, sym, map, length}
 use Rattle.std.proofs.lemmas.Bool.{false≢true}
+use Rattle.std.proofs.lemmas.List.{length-map}
+use Rattle.std.proofs.lemmas.Result.{IfOk-from_err}
 use Rattle.place_sets.specs.CountySet.{places_of}
 use Rattle.grouping_problem.specs.ProblemValue.{ProblemValue}
 use Rattle.ordered_counties.specs.OrderedValue.{problem_at}
@@ -44,3 +46,35 @@ returns g c =
     let seats : c.from-seats.result ≡ p.seats_left = c.from-seats.ensures ∙ (c.seats_left.ensures.value ∙ ap (λ (v : ProblemValue). v.seats_left) c.problem.ensures.value) in
     off_by p s (map places c.in_ok-parts.parts.items) closed.0 closed.1 rest.0 rest.1 c.is_outside.result c.in_ok-parts.ensures.parts first second
     (c.is_outside.ensures ∙ ap (λ z. nat_lt z (closed.0 + rest.0) || nat_lt (closed.1 + rest.1) z) seats)
+
+pub parts_of-requires-clause-below : goal.parts_of-requires-clause-below
+parts_of-requires-clause-below g c = c.requires.below
+
+pub returns-in_err-parts : goal.returns-in_err-parts
+returns-in_err-parts g c = IfOk-from_err c.from_residual.result _ c.from_residual.ensures.0
+
+pub seat_sums-requires-clause-few : goal.seat_sums-requires-clause-few
+seat_sums-requires-clause-few g c = omega (arith, c.requires.few, ap length c.deref.ensures.value)
+
+pub seat_sums-requires-clause-below : goal.seat_sums-requires-clause-below
+seat_sums-requires-clause-below g c = subst (λ (z : List g.row.C.Denot). (k : ℕ) (d : g.row.C.Denot) → k < length z → (x : ℕ) → g.C.CountySet.test (get_or z k d) x ≡ true → x < length c.args.ordered.now.order) (sym c.deref.ensures.value) c.requires.closed
+
+pub seat_sums-requires-2-clause-few : goal.seat_sums-requires-2-clause-few
+seat_sums-requires-2-clause-few g c = omega (arith, ap length c.deref-2.ensures.value, c.in_ok-parts.ensures.few, c.places-places.ensures.few, c.places-places.ensures.value)
+
+pub seat_sums-requires-2-clause-below : goal.seat_sums-requires-2-clause-below
+seat_sums-requires-2-clause-below g c =
+    let test = g.C.CountySet.test in
+    let inside : (k : ℕ) (d : g.row.C.Denot) → k < length c.deref-2.result.now → (x : ℕ) → test (get_or c.deref-2.result.now k d) x ≡ true → test c.args.state.now.rest x ≡ true =
+    subst (λ (z : List g.row.C.Denot). (k : ℕ) (d : g.row.C.Denot) → k < length z → (x : ℕ) → test (get_or z k d) x ≡ true → test c.args.state.now.rest x ≡ true) (sym c.deref-2.ensures.value) c.in_ok-parts.ensures.inside in
+    λ k d l x e. c.requires.below x (inside k d l x e)
+
+pub overflow_add-closed : goal.overflow_add-closed
+overflow_add-closed g c =
+    let f = λ (z : g.row.C.Denot). places_of (length c.args.ordered.now.order) (g.C.CountySet.test z) in
+    omega (arith, c.in-Some.ensures.small.0, c.in-Some-seat_sums.ensures.small.0, length-map c.deref.result.now f, length-map c.deref-2.result.now f, ap length c.deref.ensures.value, ap length c.deref-2.ensures.value, c.requires.few, c.in_ok-parts.ensures.few, c.places-places.ensures.few, c.places-places.ensures.value)
+
+pub overflow_add-closed-2 : goal.overflow_add-closed-2
+overflow_add-closed-2 g c =
+    let f = λ (z : g.row.C.Denot). places_of (length c.args.ordered.now.order) (g.C.CountySet.test z) in
+    omega (arith, c.in-Some.ensures.small.1, c.in-Some-seat_sums.ensures.small.1, length-map c.deref.result.now f, length-map c.deref-2.result.now f, ap length c.deref.ensures.value, ap length c.deref-2.ensures.value, c.requires.few, c.in_ok-parts.ensures.few, c.places-places.ensures.few, c.places-places.ensures.value)
