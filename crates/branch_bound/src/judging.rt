@@ -226,6 +226,33 @@ fn present_room<C: CountySet>(
     )
 }
 
+/// A leaf that is valid at the position, found without a look at its groups.
+fn early_leaf<C: CountySet>(
+    ground: &Ground<C>,
+    position: &Position<C>,
+) -> Result<Option<Leaf>, AllocError>
+    requires ground { IsGround C.PLACES C.test ground.now }
+    requires at { IsAt C.test ground.now (state_in ground.now C.test position.now.state) position.now }
+    ensures { IfOk
+        result
+        (λ found. MatchOption
+        found
+        (((c : ℕ) → ¬ IsStuck (problem_in ground.now) (state_in ground.now C.test position.now.state) c)
+        × ¬ IsOffSeats (problem_in ground.now) (state_in ground.now C.test position.now.state))
+        (IsGiven (problem_in ground.now) (round_in ground.now) (state_in ground.now C.test position.now.state))) }
+{
+    let Ground {
+        alloc,
+        ordered,
+        near,
+        round,
+    } = ground;
+    match whole_leaf(*alloc, ordered, near, round, &position.state)? {
+        Some(leaf) => Ok(Some(leaf)),
+        None => present_room(ground, position),
+    }
+}
+
 /// How the state ends, or at which county the search branches there. A step is taken for the state.
 pub(crate) fn judge<C: CountySet>(
     ground: &Ground<C>,
@@ -241,23 +268,15 @@ pub(crate) fn judge<C: CountySet>(
     ensures limit { steps.new.limit ≡ steps.old.limit }
     ensures stopped { IsErrOf result Stop.StepLimit → steps.new.used ≡ steps.new.limit }
 {
-    let Ground {
-        alloc,
-        ordered,
-        near,
-        round,
-    } = ground;
     if !steps.tick() {
         return Err(Stop::StepLimit);
     }
-    if let Some(leaf) = whole_leaf(*alloc, ordered, near, round, &position.state)? {
-        return Ok(Verdict::Leaf(leaf));
-    }
-    if let Some(leaf) = present_room(ground, &position)? {
-        return Ok(Verdict::Leaf(leaf));
-    }
-    match without_dead(ground, position, steps) {
-        Ok(position) => judge_sizes(ground, position, steps),
-        Err(stop) => Err(stop),
+    match early_leaf(ground, &position) {
+        Ok(Some(leaf)) => Ok(Verdict::Leaf(leaf)),
+        Ok(None) => match without_dead(ground, position, steps) {
+            Ok(position) => judge_sizes(ground, position, steps),
+            Err(stop) => Err(stop),
+        },
+        Err(refused) => Err(refused.into()),
     }
 }

@@ -51,6 +51,15 @@ pub(crate) enum Takes {
     Better(Grouping),
 }
 
+/// Where a search goes on behind a branch.
+#[derive(Drop)]
+pub(crate) enum Raised<C> {
+    /// The position where the county of the branch is raised.
+    At(Position<C>),
+    /// A greater grouping was found among the takes of the branch.
+    Better(Grouping),
+}
+
 /// What a search begins with.
 #[derive(Drop)]
 pub(crate) enum First {

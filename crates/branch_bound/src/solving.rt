@@ -8,7 +8,9 @@ ghost use Rattle.grouping_problem.specs.ProblemValue.{problem_of};
 ghost use Rattle.ordered_counties.specs.OrderedValue.{problem_at};
 ghost use Rattle.proof_trees.specs.declared.language.Language.TheVariants.{Plain, Wide};
 ghost use Rattle.proof_trees.specs.RoundValue.{round_of};
+ghost use Rattle.proof_trees.specs.Leaves.{IsStuck, IsOffSeats};
 ghost use Rattle.proof_trees.specs.State.{empty_state};
+ghost use Rattle.line_verdicts.specs.Placed.{state_at, IsPlaced};
 ghost use Rattle.fitting_groups.specs.declared.stop.Stop.{Stop};
 ghost use Rattle.branch_bound.specs.Searching.{IsOutcome, IsProof};
 ghost use Rattle.branch_bound.specs.Solving.{IsTarget, IsFirst};
@@ -92,6 +94,34 @@ fn round_for(
     })
 }
 
+/// The search of a round, from the state at which nothing is closed.
+fn prove_first<C: CountySet>(
+    alloc: Global,
+    ordered: &Ordered,
+    near: &[C],
+    round: &Round,
+    steps: &mut Steps,
+) -> Result<Outcome, Stop>
+    requires fits { length ordered.now.order ≤ C.PLACES }
+    requires rows { AreRows C C.test (problem_at ordered.now) (length ordered.now.order) near.now }
+    requires order { ordered.now.order ≡ round.now.order }
+    requires small { round.now.limit ≤ 128 }
+    requires wide { round.now.language ≡ Wide }
+    ensures outcome { IfOk result (IsOutcome (problem_of ordered.now.problem) (round_of round.now) (empty_state (problem_of ordered.now.problem))) }
+    ensures counted { OnOk result (steps.old.used < steps.new.used) }
+    ensures limit { steps.new.limit ≡ steps.old.limit }
+    ensures stopped { IsErrOf result Stop.StepLimit → steps.new.used ≡ steps.new.limit }
+{
+    let ground = Ground {
+        alloc,
+        ordered,
+        near,
+        round,
+    };
+    let first = first_position(&ground)?;
+    prove(&ground, first, steps)
+}
+
 /// A round of the search: a proof tree of it, or a greater grouping.
 fn prove_round<C: CountySet>(
     alloc: Global,
@@ -115,16 +145,8 @@ fn prove_round<C: CountySet>(
     ensures limit { steps.new.limit ≡ steps.old.limit }
     ensures stopped { IsErrOf result Stop.StepLimit → steps.new.used ≡ steps.new.limit }
 {
-    let _places = ordered.places();
     let round = round_for(alloc, ordered, target, limit)?;
-    let ground = Ground {
-        alloc,
-        ordered,
-        near,
-        round: &round,
-    };
-    let first = first_position(&ground)?;
-    let outcome = prove(&ground, first, steps);
+    let outcome = prove_first(alloc, ordered, near, &round, steps);
     let _used = steps.used();
     outcome
 }
@@ -220,6 +242,49 @@ fn impossible(alloc: Global, ordered: &Ordered, round: Round, leaf: Leaf) -> Cer
     Certificate { round, tree }
 }
 
+/// The lawful grouping of the connected parts, at a state at which nothing is closed and where no leaf is valid.
+fn parts_found<C: CountySet>(
+    alloc: Global,
+    ordered: &Ordered,
+    near: &[C],
+    round: &Round,
+    state: &State<C>,
+) -> Result<First, AllocError>
+    requires fits { length ordered.now.order ≤ C.PLACES }
+    requires rows { AreRows C C.test (problem_at ordered.now) (length ordered.now.order) near.now }
+    requires placed { IsPlaced (length ordered.now.order) C.test state.now }
+    requires empty { state_at ordered.now.order C.test state.now ≡ empty_state (problem_of ordered.now.problem) }
+    requires value { round_of round.now ≡ record { order = ordered.now.order; limit = 0; target = None; language = Plain } }
+    requires no_stuck { (c : ℕ) → ¬ IsStuck (problem_of ordered.now.problem) (state_at ordered.now.order C.test state.now) c }
+    requires no_seats { ¬ IsOffSeats (problem_of ordered.now.problem) (state_at ordered.now.order C.test state.now) }
+    ensures { IfOk result (IsFirst (problem_of ordered.now.problem) ordered.now.order) }
+{
+    let _places = ordered.places();
+    let found = finished_grouping(alloc, ordered, near, round, state)?;
+    Ok(First::Found(found))
+}
+
+/// The first lawful grouping, or a certificate that none is lawful, by a state at which nothing is closed.
+fn first_at<C: CountySet>(
+    alloc: Global,
+    ordered: &Ordered,
+    near: &[C],
+    state: &State<C>,
+) -> Result<First, AllocError>
+    requires fits { length ordered.now.order ≤ C.PLACES }
+    requires rows { AreRows C C.test (problem_at ordered.now) (length ordered.now.order) near.now }
+    requires placed { IsPlaced (length ordered.now.order) C.test state.now }
+    requires empty { state_at ordered.now.order C.test state.now ≡ empty_state (problem_of ordered.now.problem) }
+    ensures { IfOk result (IsFirst (problem_of ordered.now.problem) ordered.now.order) }
+{
+    let round = first_round(alloc, ordered)?;
+    match whole_leaf(alloc, ordered, near, &round, state) {
+        Ok(Some(leaf)) => Ok(First::Impossible(impossible(alloc, ordered, round, leaf))),
+        Ok(None) => parts_found(alloc, ordered, near, &round, state),
+        Err(refused) => Err(refused),
+    }
+}
+
 /// The first lawful grouping, that of the connected parts, or a certificate that none is lawful.
 fn first_found<C: CountySet>(
     alloc: Global,
@@ -230,16 +295,8 @@ fn first_found<C: CountySet>(
     requires rows { AreRows C C.test (problem_at ordered.now) (length ordered.now.order) near.now }
     ensures { IfOk result (IsFirst (problem_of ordered.now.problem) ordered.now.order) }
 {
-    let _places = ordered.places();
-    let round = first_round(alloc, ordered)?;
     let state: State<C> = first_state(alloc, ordered)?;
-    match whole_leaf(alloc, ordered, near, &round, &state)? {
-        Some(leaf) => Ok(First::Impossible(impossible(alloc, ordered, round, leaf))),
-        None => {
-            let found = finished_grouping(alloc, ordered, near, &round, &state)?;
-            Ok(First::Found(found))
-        }
-    }
+    first_at(alloc, ordered, near, &state)
 }
 
 /// What a desk answers of counties in ascending order of their codes, where a step is left.

@@ -2,7 +2,9 @@ use Rattle.std.proofs.Common.{◌+◌, subst, refl, ◌∙◌, arith}
 use Rattle.proof_trees.specs.Leaves.{IsStuck}
 use Rattle.proof_trees.specs.Groups.{AreGroupsOf}
 use Rattle.line_verdicts.specs.Placed.{codes_of_sets}
-use Rattle.branch_bound.specs.Searching.{problem_in, round_in, state_in, IsNext}
+use Rattle.bound_leaves.specs.GivenLeaf.{IsGiven}
+use Rattle.branch_bound.specs.Searching.{problem_in, round_in, state_in, IsBetter, IsNext, IsVerdict}
+use Rattle.branch_bound.proofs.Searches.{own}
 use Rattle.branch_bound.proofs.Verdicts.{sized_at}
 use Rattle.branch_bound.proofs.judging.judge_sizes.Goals as goal
 
@@ -22,3 +24,31 @@ loop-position-preserved g c =
       more = omega (arith, inv.more, c.next_size.ensures.more);
       limit = c.next_size.ensures.limit ∙ inv.limit;
     }
+
+pub returns-in-Ok-Leaf-clause-verdict : goal.returns-in-Ok-Leaf-clause-verdict
+returns-in-Ok-Leaf-clause-verdict g c =
+    let test = g.C.CountySet.test in
+    let ground = c.args.ground.now in
+    let at = c.loop-position.position in
+    subst (λ z. IsGiven (problem_in ground) (round_in ground) (state_in ground test z) c.in-Ok-Leaf.leaf) c.loop-position.invariant.state
+    (subst (λ z. IsNext test ground (state_in ground test at.state) at.size z) c.in-Ok-Leaf.field-0-is c.in-Ok-Leaf.ensures.next)
+
+pub returns-in-Ok-Better-clause-verdict : goal.returns-in-Ok-Better-clause-verdict
+returns-in-Ok-Better-clause-verdict g c =
+    let test = g.C.CountySet.test in
+    let ground = c.args.ground.now in
+    let at = c.loop-position.position in
+    subst (λ z. IsBetter (problem_in ground) (round_in ground) (state_in ground test z) c.in-Ok-Better.found) c.loop-position.invariant.state
+    (subst (λ z. IsNext test ground (state_in ground test at.state) at.size z) c.in-Ok-Better.field-0-is c.in-Ok-Better.ensures.next)
+
+pub judge_groups-requires-clause-at : goal.judge_groups-requires-clause-at
+judge_groups-requires-clause-at g c =
+    own g.row.C.Denot g.C.CountySet.test c.args.ground.now (state_in c.args.ground.now g.C.CountySet.test c.args.position.state) c.loop-position.position c.loop-position.invariant.at
+
+pub next_size-requires-clause-at : goal.next_size-requires-clause-at
+next_size-requires-clause-at g c =
+    own g.row.C.Denot g.C.CountySet.test c.args.ground.now (state_in c.args.ground.now g.C.CountySet.test c.args.position.state) c.loop-position.position c.loop-position.invariant.at
+
+pub returns-in-Ok-clause-verdict : goal.returns-in-Ok-clause-verdict
+returns-in-Ok-clause-verdict g c =
+    subst (λ z. IsVerdict g.C.CountySet.test c.args.ground.now (state_in c.args.ground.now g.C.CountySet.test z) c.in-Ok.verdict) c.loop-position.invariant.state c.in-Ok.ensures
