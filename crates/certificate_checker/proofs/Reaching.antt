@@ -1,10 +1,10 @@
 -- Steps from one place of the text to a later one.
-use Rattle.std.proofs.Common.{◌≤◌, List, length, ◌∙◌, arith}
+use Rattle.std.proofs.Common.{◌≡◌, ◌<◌, ◌≤◌, suc, List, length, Result, Ok, Err, refl, sym, ◌∙◌, ap, arith}
 use Rattle.grouping_laws.specs.Problem.{Problem}
 use Rattle.proof_trees.specs.Round.{Round}
 use Rattle.certificate_lines.specs.declared.item.Item.{Item}
 use Rattle.verdicts.specs.Work.{Open}
-use Rattle.certificate_checker.specs.Feeding.{FeedValue, Fed, Reaches, Halts}
+use Rattle.certificate_checker.specs.Feeding.{FeedValue, Fed, IsFed, TookLine, Reaches, Halts}
 use Rattle.certificate_checker.specs.declared.feed.Stop.{Stop}
 use Rattle.certificate_checker.specs.declared.feed.Stop.TheVariants as stop
 
@@ -16,6 +16,46 @@ fed_twice a b c h k = record {
   later = omega (arith, h.later, k.later);
   counted = omega (arith, h.counted, k.counted);
 }
+
+-- nothing was read yet
+pub fed_here : (a : FeedValue) → Fed a a
+fed_here a = record {
+  fault = refl;
+  limit = refl;
+  lines = refl;
+  later = omega arith;
+  counted = omega arith;
+}
+
+pub reaches_here : (p : Problem) (round : Round) (a : FeedValue) (w : List Open) → Reaches p round a a w w
+reaches_here p round a w = record { ends = λ end e. e; looks = λ n l. (n, l, omega arith) }
+
+-- what was read from a later place on was read from the first
+pub fed_through : {X : Type 0} (a b c : FeedValue) (r : Result X Stop) → Fed a b → IsFed b r c → IsFed a r c
+fed_through a b c (Ok x) h k = fed_twice a b c h k
+fed_through a b c (Err (stop.Fault fault line)) h k = fed_twice a b c h k
+fed_through a b c (Err stop.Unspelled) h k = fed_twice a b c h k
+fed_through a b c (Err stop.Budget) h k = fed_twice a b c h k
+fed_through a b c (Err (stop.Text fault)) h k = sym h.fault ∙ k
+fed_through a b c (Err stop.Memory) h k = tt
+
+-- the same where the reading stopped, whatever it should have given
+pub fed_off : (X Y : Type 0) (a b c : FeedValue) (st : Stop) → Fed a b → IsFed {X = X} b (Err st) c → IsFed {X = Y} a (Err st) c
+fed_off X Y a b c (stop.Fault fault line) h k = fed_twice a b c h k
+fed_off X Y a b c stop.Unspelled h k = fed_twice a b c h k
+fed_off X Y a b c stop.Budget h k = fed_twice a b c h k
+fed_off X Y a b c (stop.Text fault) h k = sym h.fault ∙ k
+fed_off X Y a b c stop.Memory h k = tt
+
+-- there are as many steps as lines
+pub counted_on : (a b : FeedValue) → a.line ≤ a.used → Fed a b → b.line ≤ b.used
+counted_on a b h k = omega (arith, h, k.counted)
+
+-- a line was read on the way, so fewer are left
+pub fewer_left : (a b c d : FeedValue) (x : Item) → Fed a b → TookLine b (Ok x) c → Fed c d → length d.course.items < length a.course.items
+fewer_left a b c d x h took k =
+    let size : length b.course.items ≡ suc (length c.course.items) = ap (λ z. length z.items) took.0 in
+    omega (arith, h.lines, h.later, size, k.lines, k.later)
 
 pub reaches_twice : (p : Problem) (round : Round) (a b c : FeedValue) (u v w : List Open) → Reaches p round a b u v → Reaches p round b c v w → Reaches p round a c u w
 reaches_twice p round a b c u v w h k = record {

@@ -17,7 +17,7 @@ use Rattle.verdicts.specs.Work.{Open, a_tree, some_takes, WorkEnds}
 use Rattle.verdicts.proofs.Work.{lines_carry}
 use Rattle.line_verdicts.specs.Placed.{codes_of_sets}
 use Rattle.certificate_checker.specs.Readable.{IsReadable, AreReadable}
-use Rattle.certificate_checker.specs.Feeding.{FeedValue, Fed, TookLine, Reaches, Halts, items_to_mark}
+use Rattle.certificate_checker.specs.Feeding.{FeedValue, Fed, IsFed, TookLine, Reaches, Halts, items_to_mark}
 use Rattle.certificate_checker.specs.Judging.{IsJudged, TookForm, IsTakeStop}
 use Rattle.certificate_checker.specs.declared.fault.CheckFault.TheVariants.{MissingGroup}
 use Rattle.certificate_checker.specs.declared.feed.Stop.{Stop}
@@ -90,6 +90,14 @@ take_stops language p round s codes groups rest more old cur mid before (stop.Te
 take_stops language p round s codes groups rest more old cur mid before stop.Unspelled h took is = is
 take_stops language p round s codes groups rest more old cur mid before stop.Budget h took is = absurd is
 take_stops language p round s codes groups rest more old cur mid before stop.Memory h took is = tt
+
+-- the judging of a take stops where its line was read
+pub take_stop_fed : (X : Type 0) (groups : List (List ℕ)) (codes : List ℕ) (line : ℕ) (old mid : FeedValue) (st : Stop) → Fed old mid → IsTakeStop groups codes line st → IsFed {X = X} old (Err st) mid
+take_stop_fed X groups codes line old mid (stop.Fault f l) fed is = fed
+take_stop_fed X groups codes line old mid (stop.Text f) fed is = absurd is
+take_stop_fed X groups codes line old mid stop.Unspelled fed is = fed
+take_stop_fed X groups codes line old mid stop.Budget fed is = fed
+take_stop_fed X groups codes line old mid stop.Memory fed is = tt
 
 -- the tree of the take was judged
 pub take_on : {X : Type 0} (language : Language) (p : Problem) (round : Round) (s closed : State) (codes : List ℕ) (groups : List (List ℕ)) (rest : List Item) (more : List Open) (old cur mid new : FeedValue) (before : List Open) (done : X)

@@ -113,14 +113,14 @@ pub(crate) fn judge_placed<C: CountySet, S: ItemSource>(
     ordered: &Ordered,
     round: &Round,
     wanted: Option<&Counts>,
-    state: State<C>,
+    state: &mut State<C>,
     feed: &mut Feed<S>,
 ) -> Result<(), Stop>
     requires fits { length ordered.now.order ≤ C.PLACES }
     requires order { ordered.now.order ≡ round.now.order }
     requires small { round.now.limit ≤ 128 }
     requires wanted { AreWanted (target_of round.now.target) wanted }
-    requires placed { IsPlaced (length ordered.now.order) C.test state }
+    requires placed { IsPlaced (length ordered.now.order) C.test state.old }
     requires counted { feed.old.line ≤ feed.old.steps.used }
     ensures fed { IsFed (feed_of S.course feed.old) result (feed_of S.course feed.new) }
     ensures judged { (tree : Tree) (rest : List ItemValue)
@@ -129,7 +129,7 @@ pub(crate) fn judge_placed<C: CountySet, S: ItemSource>(
         → IsJudged
         (problem_of ordered.now.problem)
         (round_of round.now)
-        (a_tree tree (state_at ordered.now.order C.test state) ∷ [])
+        (a_tree tree (state_at ordered.now.order C.test state.old) ∷ [])
         []
         rest
         (feed_of S.course feed.old)
@@ -175,7 +175,7 @@ fn judge_first<C: CountySet, S: ItemSource>(
         (feed_of S.course feed.new) }
 {
     match first_state::<C>(alloc, ordered) {
-        Ok(state) => judge_placed::<C, S>(alloc, ordered, round, wanted, state, feed),
+        Ok(mut state) => judge_placed::<C, S>(alloc, ordered, round, wanted, &mut state, feed),
         Err(_) => Err(Stop::Memory),
     }
 }

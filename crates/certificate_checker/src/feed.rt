@@ -1,5 +1,6 @@
-ghost use Rattle.std.specs.Prelude.{◌≡◌, ◌≤◌, ◌+◌, ◌<◌, Some, None, IfOk, OnOk, MatchResult, ⊤};
-ghost use Rattle.certificate_lines.specs.Courses.{Course, first};
+ghost use Rattle.std.specs.Prelude.{◌≡◌, ◌≤◌, ◌+◌, true, false, length, Ok, IfOk, IfErr};
+ghost use Rattle.certificate_lines.specs.Courses.{nothing, only_fault};
+ghost use Rattle.certificate_lines.specs.Rest.{IsMemory};
 ghost use Rattle.certificate_checker.specs.Feeding.{feed_of, IsFed, TookLine, StopsAtText, IsRestRead};
 ghost use Rattle.certificate_checker.specs.declared.feed.Stop.TheVariants.{Memory};
 
@@ -78,6 +79,20 @@ pub(crate) fn next_line<S: ItemSource>(feed: &mut Feed<S>) -> Result<Item, Stop>
     }
 }
 
+/// Passes over the next item: whether there was one.
+fn pass_item<S: ItemSource>(source: &mut S) -> Result<bool, TextFault>
+    ensures passed { result ≡ Ok true → length (S.course source.old).items ≡ length (S.course source.new).items + 1 }
+    ensures fault { IfOk result (λ _. (S.course source.new).fault ≡ (S.course source.old).fault) }
+    ensures ended { result ≡ Ok false → S.course source.old ≡ nothing }
+    ensures stopped { IfErr result (λ fault. (IsMemory fault → ⊥) → S.course source.old ≡ only_fault fault) }
+{
+    match source.next_item() {
+        Ok(Some(_)) => Ok(true),
+        Ok(None) => Ok(false),
+        Err(fault) => Err(fault),
+    }
+}
+
 /// Reads the lines that are left, as many as there may be steps.
 pub(crate) fn read_rest<S: ItemSource>(feed: &mut Feed<S>) -> Result<(), Stop>
     ensures { IsRestRead (feed_of S.course feed.old) result }
@@ -87,9 +102,9 @@ pub(crate) fn read_rest<S: ItemSource>(feed: &mut Feed<S>) -> Result<(), Stop>
         if feed.line >= limit {
             return Err(Stop::Budget);
         }
-        match feed.source.next_item() {
-            Ok(Some(_)) => feed.line += 1,
-            Ok(None) => return Ok(()),
+        match pass_item(&mut feed.source) {
+            Ok(true) => feed.line += 1,
+            Ok(false) => return Ok(()),
             Err(fault) => return Err(of_source(fault)),
         }
     }
@@ -100,9 +115,9 @@ pub(crate) fn first_fault<S: ItemSource>(source: &mut S) -> Result<Option<TextFa
     ensures { IfOk result (λ fault. fault ≡ (S.course source.old).fault) }
 {
     loop {
-        match source.next_item() {
-            Ok(Some(_)) => {}
-            Ok(None) => return Ok(None),
+        match pass_item(source) {
+            Ok(true) => {}
+            Ok(false) => return Ok(None),
             Err(fault) => {
                 return match fault.kind {
                     TextKind::Memory => Err(AllocError),

@@ -51,7 +51,7 @@ fn judge_takes<C: CountySet, S: ItemSource>(
     'taking: loop {
         match next_take(feed) {
             Ok(Some(codes)) => match taken_state(ground, state, left, codes.as_slice(), feed.line) {
-                Ok(closed) => match judge_tree(ground, closed, feed) {
+                Ok(mut closed) => match judge_tree(ground, &mut closed, feed) {
                     Ok(()) => left = groups_behind(left),
                     Err(stop) => return Err(stop),
                 },
@@ -68,15 +68,16 @@ fn judge_takes<C: CountySet, S: ItemSource>(
     }
 }
 
-/// Judges the tree that begins on the next line, at a state. It goes as deep as takes nest.
+/// Judges the tree that begins on the next line, at a state, which is raised as its branches are passed. It goes as deep
+/// as takes nest.
 #[cycle(tree_judging)]
 pub(crate) fn judge_tree<C: CountySet, S: ItemSource>(
     ground: &Ground<C>,
-    state: State<C>,
+    state: &mut State<C>,
     feed: &mut Feed<S>,
 ) -> Result<(), Stop>
     requires ground { IsGround C.PLACES C.test ground.now }
-    requires placed { IsPlaced (length ground.now.ordered.now.order) C.test state }
+    requires placed { IsPlaced (length ground.now.ordered.now.order) C.test state.old }
     requires counted { feed.old.line ≤ feed.old.steps.used }
     ensures fed { IsFed (feed_of S.course feed.old) result (feed_of S.course feed.new) }
     ensures judged { (tree : Tree) (rest : List ItemValue) (more : List Open)
@@ -85,24 +86,23 @@ pub(crate) fn judge_tree<C: CountySet, S: ItemSource>(
         → IsJudged
         (problem_of ground.now.ordered.now.problem)
         (round_of ground.now.round.now)
-        (a_tree tree (state_at ground.now.ordered.now.order C.test state) ∷ more)
+        (a_tree tree (state_at ground.now.ordered.now.order C.test state.old) ∷ more)
         more
         rest
         (feed_of S.course feed.old)
         result
         (feed_of S.course feed.new) }
 {
-    let mut state = state;
     'branching: loop {
         match next_opening(feed) {
             Ok(opening) => match opening {
                 Opening::Branch { county, limit } => match listed_groups(
-                    ground, &state, county, limit, feed,
+                    ground, state, county, limit, feed,
                 ) {
-                    Ok(branching) => match judge_takes(ground, &state, &branching.groups, feed) {
+                    Ok(branching) => match judge_takes(ground, state, &branching.groups, feed) {
                         Ok(()) => raise_place(
                             ground.ordered,
-                            &mut state,
+                            state,
                             branching.place,
                             branching.limit,
                         ),
@@ -110,11 +110,9 @@ pub(crate) fn judge_tree<C: CountySet, S: ItemSource>(
                     },
                     Err(stop) => return Err(stop),
                 },
-                Opening::Stuck(county) => return judge_stuck_leaf(
-                    ground, &state, county, feed.line,
-                ),
-                Opening::Seats => return judge_seats_leaf(ground, &state, feed.line),
-                Opening::Bound(count) => return judge_bound_leaf(ground, &state, count, feed),
+                Opening::Stuck(county) => return judge_stuck_leaf(ground, state, county, feed.line),
+                Opening::Seats => return judge_seats_leaf(ground, state, feed.line),
+                Opening::Bound(count) => return judge_bound_leaf(ground, state, count, feed),
             },
             Err(stop) => return Err(stop),
         }

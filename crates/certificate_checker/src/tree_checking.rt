@@ -5,6 +5,8 @@ ghost use Rattle.grouping_laws.specs.GroupsFrom.{IsOrder};
 ghost use Rattle.grouping_problem.specs.ProblemValue.{problem_of};
 ghost use Rattle.proof_trees.specs.RoundValue.{round_of, target_of};
 ghost use Rattle.proof_trees.specs.Tree.{Tree as TreeValue};
+ghost use Rattle.certificate_lines.specs.Courses.{tree_course};
+ghost use Rattle.certificate_lines.specs.Lines.{most};
 ghost use Rattle.certificate_text.specs.Trees.{tree_of};
 ghost use Rattle.tree_lines.specs.Ranges.{AreTreeNumbers};
 ghost use Rattle.tree_lines.specs.TreeFault.{lines_of_tree};
@@ -17,14 +19,14 @@ use crate::certificate::{judge_order, judge_placed, judge_target};
 use crate::fault::CheckFault;
 use crate::feed::{Feed, Stop, first_fault};
 use crate::verdict::TreeVerdict;
-use certificate_lines::Items;
+use certificate_lines::{Items, TextFault};
 use certificate_text::Tree;
 use grouping_judge::Counts;
 use grouping_problem::Problem;
 use line_verdicts::copied_state;
 use ordered_counties::{Ordered, Steps};
 use place_sets::CountySet;
-use proof_trees::{Round, State};
+use proof_trees::{Language, Round, State};
 use std::alloc::{AllocError, Global};
 use tree_lines::tree_lines;
 
@@ -40,13 +42,27 @@ fn said_of(judged: Result<(), Stop>) -> Result<TreeVerdict, AllocError>
     }
 }
 
-/// Judges lines without a fault at a state.
+/// The fault that ends the lines of a tree, if there is one.
+fn fault_in(
+    alloc: Global,
+    lines: &[u8],
+    language: Language,
+    places: u16,
+) -> Result<Option<TextFault>, AllocError>
+    requires { places ≤ most }
+    ensures { IfOk result (λ fault. fault ≡ (tree_course language places lines.now).fault) }
+{
+    let mut items = Items::of_tree(alloc, lines, language, places)?;
+    first_fault(&mut items)
+}
+
+/// The verdict on lines at a state: their first fault, or else what their judging comes to.
 fn check_lines<C: CountySet>(
     alloc: Global,
     ordered: &Ordered,
     round: &Round,
     wanted: Option<&Counts>,
-    state: State<C>,
+    state: &mut State<C>,
     lines: &[u8],
     budget: u64,
 ) -> Result<TreeVerdict, AllocError>
@@ -54,15 +70,14 @@ fn check_lines<C: CountySet>(
     requires order { ordered.now.order ≡ round.now.order }
     requires small { round.now.limit ≤ 128 }
     requires wanted { AreWanted (target_of round.now.target) wanted }
-    requires placed { IsPlaced (length ordered.now.order) C.test state }
+    requires placed { IsPlaced (length ordered.now.order) C.test state.old }
     ensures { (tree : TreeValue)
         → lines.now ≡ lines_of_tree tree
         → AreTreeNumbers tree
-        → IfOk result (IsTreeAnswer (problem_of ordered.now.problem) (round_of round.now) (state_at ordered.now.order C.test state) tree budget) }
+        → IfOk result (IsTreeAnswer (problem_of ordered.now.problem) (round_of round.now) (state_at ordered.now.order C.test state.old) tree budget) }
 {
     let places = ordered.places();
-    let mut first = Items::of_tree(alloc, lines, round.language, places)?;
-    if let Some(fault) = first_fault(&mut first)? {
+    if let Some(fault) = fault_in(alloc, lines, round.language, places)? {
         return Ok(TreeVerdict::Fault(CheckFault::Text(fault)));
     }
     let mut feed = Feed {
@@ -110,13 +125,13 @@ pub fn check_tree<C: CountySet>(
     let Ok(wanted) = judge_target(alloc, problem, &round.target) else {
         return Err(AllocError);
     };
-    let state = copied_state(alloc, &ordered, state)?;
+    let mut state = copied_state(alloc, &ordered, state)?;
     check_lines::<C>(
         alloc,
         &ordered,
         round,
         wanted.as_ref(),
-        state,
+        &mut state,
         &lines,
         budget,
     )

@@ -1,4 +1,4 @@
-use Rattle.std.proofs.Common.{◌∷◌, length, Ok, refl, sym, ◌∙◌, ap, subst}
+use Rattle.std.proofs.Common.{◌∷◌, All, length, Some, Ok, Err, refl, sym, ◌∙◌, ap, subst, arith}
 use Rattle.grouping_problem.specs.ProblemValue.{problem_of}
 use Rattle.proof_trees.specs.RoundValue.{round_of}
 use Rattle.certificate_lines.specs.Items.{taken}
@@ -10,10 +10,11 @@ use Rattle.verdicts.specs.Work.{some_takes}
 use Rattle.proof_trees.specs.Tree.{stuck, seats}
 use Rattle.std.proofs.lemmas.Bool.{eqb-true, eq-eqb, false≢true}
 use Rattle.certificate_lines.specs.declared.item.Item.TheVariants as item
+use Rattle.certificate_lines.specs.declared.item.Opening.TheVariants as opening
 use Rattle.certificate_checker.proofs.Trees.{branch_off, branch_stops, branch_on, stuck_left, seats_left, bound_left, tree_unread, leaf_fed}
 use Rattle.certificate_checker.specs.Feeding.{feed_of, TookLine}
-use Rattle.certificate_checker.proofs.Reaching.{fed_twice}
-use Rattle.certificate_checker.proofs.Takes.{TakesLeft, takes_unread, take_stops, take_on, take_off, mark_on, mark_stops, sets_behind, none_left, some_left}
+use Rattle.certificate_checker.proofs.Reaching.{fed_here, fed_twice, fed_through, counted_on, fewer_left, reaches_here}
+use Rattle.certificate_checker.proofs.Takes.{TakesLeft, takes_unread, take_stops, take_stop_fed, take_on, take_off, mark_on, mark_stops, sets_behind, none_left, some_left}
 use Rattle.certificate_checker.proofs.tree.+tree_judging.Goals as goal
 
 pub judge_takes-returns-in-Err-judge_tree-clause-judged : goal.judge_takes-returns-in-Err-judge_tree-clause-judged
@@ -85,3 +86,88 @@ judge_tree-returns-in-Bound-clause-judged g t c tree rest more readable items =
 pub judge_tree-returns-in-Err-clause-judged : goal.judge_tree-returns-in-Err-clause-judged
 judge_tree-returns-in-Err-clause-judged g t c tree rest more readable items =
     tree_unread c.args.ground.now.round.now.language (problem_of c.args.ground.now.ordered.now.problem) (round_of c.args.ground.now.round.now) (state_at c.args.ground.now.ordered.now.order g.C.CountySet.test c.branching.state) rest more (feed_of g.S.ItemSource.course c.args.feed.now) (feed_of g.S.ItemSource.course c.branching.feed) (feed_of g.S.ItemSource.course c.next_opening.new.feed) _ c.in-Err.stop (c.branching.invariant.left tree rest more readable items) c.branching.invariant.fed c.in-Err.ensures.took
+
+pub judge_takes-taking-init : goal.judge_takes-taking-init
+judge_takes-taking-init g t c = record {
+  fed = fed_here _;
+  groups = c.requires.groups;
+  left = λ takes rest more readable items. (takes, readable, items, reaches_here _ _ _ _);
+}
+
+pub judge_takes-next_take-requires : goal.judge_takes-next_take-requires
+judge_takes-next_take-requires g t c = counted_on (feed_of g.S.ItemSource.course c.args.feed.now) (feed_of g.S.ItemSource.course c.taking.feed) c.requires.counted c.taking.invariant.fed
+
+pub judge_takes-judge_tree-requires : goal.judge_takes-judge_tree-requires
+judge_takes-judge_tree-requires g t c κs within =
+    let old = feed_of g.S.ItemSource.course c.args.feed.now in
+    let cur = feed_of g.S.ItemSource.course c.taking.feed in
+    let mid = feed_of g.S.ItemSource.course c.next_take.new.feed in
+    let took = subst (λ o. TookLine cur (Ok (taken o)) mid) c.in-Ok-Some.field-0-is c.in-Ok-Some.ensures.took in
+    let fed = c.taking.invariant.fed in (
+      omega (arith, fewer_left old cur mid mid (taken (Some c.in-Ok-Some.codes)) fed took (fed_here mid)),
+      (within.0, (within.1, (c.requires.ground, (c.in-Ok.ensures.placed, counted_on cur mid (counted_on old cur c.requires.counted fed) c.in-Ok-Some.ensures.fed)))),
+    )
+
+pub judge_takes-taking-smaller : goal.judge_takes-taking-smaller
+judge_takes-taking-smaller g t c =
+    let cur = feed_of g.S.ItemSource.course c.taking.feed in
+    let mid = feed_of g.S.ItemSource.course c.next_take.new.feed in
+    fewer_left cur cur mid (feed_of g.S.ItemSource.course c.judge_tree.new.feed) (taken (Some c.in-Ok-Some.codes)) (fed_here cur) (subst (λ o. TookLine cur (Ok (taken o)) mid) c.in-Ok-Some.field-0-is c.in-Ok-Some.ensures.took) c.in-Ok-judge_tree.ensures.fed
+
+pub judge_takes-returns-in-Err-judge_tree-clause-fed : goal.judge_takes-returns-in-Err-judge_tree-clause-fed
+judge_takes-returns-in-Err-judge_tree-clause-fed g t c = fed_through {X = Unit {0}} _ _ _ (Err c.in-Err-judge_tree.stop) (fed_twice _ _ _ c.taking.invariant.fed c.in-Ok-Some.ensures.fed) c.in-Err-judge_tree.ensures.fed
+
+pub judge_takes-returns-in-Err-taken_state-clause-fed : goal.judge_takes-returns-in-Err-taken_state-clause-fed
+judge_takes-returns-in-Err-taken_state-clause-fed g t c = take_stop_fed (Unit {0}) _ _ _ _ _ c.in-Err-taken_state.stop (fed_twice _ _ _ c.taking.invariant.fed c.in-Ok-Some.ensures.fed) c.in-Err-taken_state.ensures.taken
+
+pub judge_takes-returns-then-is_empty-clause-fed : goal.judge_takes-returns-then-is_empty-clause-fed
+judge_takes-returns-then-is_empty-clause-fed g t c = fed_twice _ _ _ c.taking.invariant.fed c.in-Ok-None.ensures.fed
+
+pub judge_takes-returns-in-Ok-None-clause-fed : goal.judge_takes-returns-in-Ok-None-clause-fed
+judge_takes-returns-in-Ok-None-clause-fed g t c = fed_twice _ _ _ c.taking.invariant.fed c.in-Ok-None.ensures.fed
+
+pub judge_takes-returns-in-Err-clause-fed : goal.judge_takes-returns-in-Err-clause-fed
+judge_takes-returns-in-Err-clause-fed g t c = fed_through {X = Unit {0}} _ _ _ (Err c.in-Err.stop) c.taking.invariant.fed c.in-Err.ensures.fed
+
+pub judge_tree-branching-init : goal.judge_tree-branching-init
+judge_tree-branching-init g t c = record {
+  fed = fed_here _;
+  placed = c.requires.placed;
+  left = λ tree rest more readable items. (tree, readable, items, reaches_here _ _ _ _);
+}
+
+pub judge_tree-next_opening-requires : goal.judge_tree-next_opening-requires
+judge_tree-next_opening-requires g t c = counted_on (feed_of g.S.ItemSource.course c.args.feed.now) (feed_of g.S.ItemSource.course c.branching.feed) c.requires.counted c.branching.invariant.fed
+
+pub judge_tree-judge_takes-requires : goal.judge_tree-judge_takes-requires
+judge_tree-judge_takes-requires g t c κs within =
+    let old = feed_of g.S.ItemSource.course c.args.feed.now in
+    let cur = feed_of g.S.ItemSource.course c.branching.feed in
+    let mid = feed_of g.S.ItemSource.course c.next_opening.new.feed in
+    let listed = feed_of g.S.ItemSource.course c.listed_groups.new.feed in
+    let took = subst (λ o. TookLine cur (Ok (item.Opens o)) mid) c.in-Branch.is c.in-Ok.ensures.took in
+    let fed = c.branching.invariant.fed in
+    let behind = fed_twice cur mid listed c.in-Ok.ensures.fed c.in-Ok-listed_groups.ensures.fed in (
+      omega (arith, fewer_left old cur mid listed (item.Opens (opening.Branch c.in-Branch.county c.in-Branch.limit)) fed took c.in-Ok-listed_groups.ensures.fed),
+      (within.0, (within.1, (c.requires.ground, (c.branching.invariant.placed, (subst (All (IsClosable g.C.CountySet.test c.branching.state)) (sym c.deref.ensures.value) c.in-Ok-listed_groups.ensures.groups, counted_on cur listed (counted_on old cur c.requires.counted fed) behind))))),
+    )
+
+pub judge_tree-branching-smaller : goal.judge_tree-branching-smaller
+judge_tree-branching-smaller g t c =
+    let cur = feed_of g.S.ItemSource.course c.branching.feed in
+    let mid = feed_of g.S.ItemSource.course c.next_opening.new.feed in
+    fewer_left cur cur mid (feed_of g.S.ItemSource.course c.judge_takes.new.feed) (item.Opens (opening.Branch c.in-Branch.county c.in-Branch.limit)) (fed_here cur) (subst (λ o. TookLine cur (Ok (item.Opens o)) mid) c.in-Branch.is c.in-Ok.ensures.took)
+    (fed_twice mid (feed_of g.S.ItemSource.course c.listed_groups.new.feed) (feed_of g.S.ItemSource.course c.judge_takes.new.feed) c.in-Ok-listed_groups.ensures.fed c.in-Ok-judge_takes.ensures.fed)
+
+pub judge_tree-returns-in-Err-judge_takes-clause-fed : goal.judge_tree-returns-in-Err-judge_takes-clause-fed
+judge_tree-returns-in-Err-judge_takes-clause-fed g t c =
+    fed_through {X = Unit {0}} _ _ _ (Err c.in-Err-judge_takes.stop) (fed_twice _ _ _ (fed_twice _ _ _ c.branching.invariant.fed c.in-Ok.ensures.fed) c.in-Ok-listed_groups.ensures.fed) c.in-Err-judge_takes.ensures.fed
+
+pub judge_tree-returns-in-Err-listed_groups-clause-fed : goal.judge_tree-returns-in-Err-listed_groups-clause-fed
+judge_tree-returns-in-Err-listed_groups-clause-fed g t c = fed_through {X = Unit {0}} _ _ _ (Err c.in-Err-listed_groups.stop) (fed_twice _ _ _ c.branching.invariant.fed c.in-Ok.ensures.fed) c.in-Err-listed_groups.ensures.fed
+
+pub judge_tree-returns-in-Bound-clause-fed : goal.judge_tree-returns-in-Bound-clause-fed
+judge_tree-returns-in-Bound-clause-fed g t c = fed_through {X = Unit {0}} _ _ _ c.judge_bound_leaf.result (fed_twice _ _ _ c.branching.invariant.fed c.in-Ok.ensures.fed) c.judge_bound_leaf.ensures.fed
+
+pub judge_tree-returns-in-Err-clause-fed : goal.judge_tree-returns-in-Err-clause-fed
+judge_tree-returns-in-Err-clause-fed g t c = fed_through {X = Unit {0}} _ _ _ (Err c.in-Err.stop) c.branching.invariant.fed c.in-Err.ensures.fed
