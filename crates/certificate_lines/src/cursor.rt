@@ -140,8 +140,8 @@ impl<'a> Cursor<'a> {
     pub fn order(&mut self, alloc: Global) -> Result<Codes, TextFault>
         ensures { ReadsLine (λ r. r) (by_words line.order_on) self.old result self.new }
     {
-        let (words, line) = self.next_words()?;
-        match order_on(alloc, words) {
+        let (mut words, line) = self.next_words()?;
+        match order_on(alloc, &mut words) {
             Ok(order) => Ok(order),
             Err(kind) => Err(TextFault { kind, line }),
         }
@@ -151,8 +151,8 @@ impl<'a> Cursor<'a> {
     pub fn limit(&mut self) -> Result<u16, TextFault>
         ensures { ReadsLine (λ r. r) (by_words line.limit_on) self.old result self.new }
     {
-        let (words, line) = self.next_words()?;
-        match limit_on(words) {
+        let (mut words, line) = self.next_words()?;
+        match limit_on(&mut words) {
             Ok(limit) => Ok(limit),
             Err(kind) => Err(TextFault { kind, line }),
         }
@@ -162,8 +162,8 @@ impl<'a> Cursor<'a> {
     pub fn target(&mut self) -> Result<Option<u16>, TextFault>
         ensures { ReadsLine (λ r. r) (by_words line.target_on) self.old result self.new }
     {
-        let (words, line) = self.next_words()?;
-        match target_on(words) {
+        let (mut words, line) = self.next_words()?;
+        match target_on(&mut words) {
             Ok(groups) => Ok(groups),
             Err(kind) => Err(TextFault { kind, line }),
         }
@@ -173,8 +173,8 @@ impl<'a> Cursor<'a> {
     pub fn group(&mut self, alloc: Global) -> Result<Group, TextFault>
         ensures { ReadsLine (λ r. r) (by_words line.group_on) self.old result self.new }
     {
-        let (words, line) = self.next_words()?;
-        match group_on(alloc, words) {
+        let (mut words, line) = self.next_words()?;
+        match group_on(alloc, &mut words) {
             Ok(group) => Ok(group),
             Err(kind) => Err(TextFault { kind, line }),
         }
@@ -185,8 +185,8 @@ impl<'a> Cursor<'a> {
         ensures read { ReadsLine (λ r. r) (by_words (line.opening_on language levels)) self.old result self.new }
         ensures level { IfOk result (λ o. line.HasLevel levels o) }
     {
-        let (words, line) = self.next_words()?;
-        match opening_on(language, levels, words) {
+        let (mut words, line) = self.next_words()?;
+        match opening_on(language, levels, &mut words) {
             Ok(opening) => Ok(opening),
             Err(kind) => Err(TextFault { kind, line }),
         }
@@ -196,8 +196,8 @@ impl<'a> Cursor<'a> {
     pub fn take(&mut self, alloc: Global) -> Result<Option<Codes>, TextFault>
         ensures { ReadsLine (λ r. r) (by_words line.take_on) self.old result self.new }
     {
-        let (words, line) = self.next_words()?;
-        match take_on(alloc, words) {
+        let (mut words, line) = self.next_words()?;
+        match take_on(alloc, &mut words) {
             Ok(codes) => Ok(codes),
             Err(kind) => Err(TextFault { kind, line }),
         }
@@ -207,8 +207,8 @@ impl<'a> Cursor<'a> {
     pub fn allowance(&mut self, alloc: Global) -> Result<Allowance, TextFault>
         ensures { ReadsLine (λ r. r) (by_words line.allowance_on) self.old result self.new }
     {
-        let (words, line) = self.next_words()?;
-        match allowance_on(alloc, words) {
+        let (mut words, line) = self.next_words()?;
+        match allowance_on(alloc, &mut words) {
             Ok(allowance) => Ok(allowance),
             Err(kind) => Err(TextFault { kind, line }),
         }
@@ -218,8 +218,8 @@ impl<'a> Cursor<'a> {
     pub fn end(&mut self) -> Result<(), TextFault>
         ensures { ReadsLine (λ r. r) (by_words line.end_on) self.old result self.new }
     {
-        let (words, line) = self.next_words()?;
-        match end_on(words) {
+        let (mut words, line) = self.next_words()?;
+        match end_on(&mut words) {
             Ok(()) => Ok(()),
             Err(kind) => Err(TextFault { kind, line }),
         }

@@ -1,8 +1,9 @@
 //! The lines of a certificate or of a tree, one at a time.
 
-ghost use Rattle.std.specs.Prelude.{◌≡◌, ◌≤◌, List, [], ◌∷◌, None, IfOk};
+ghost use Rattle.std.specs.Prelude.{◌≡◌, ◌≤◌, ◌-◌, List, [], ◌∷◌, ◌++◌, None, IfOk, IfErr, OnOk};
 ghost use Rattle.field_lines.specs.Raw.{raw_lines};
 ghost use Rattle.certificate_lines.specs.Lines.{most};
+ghost use Rattle.certificate_lines.specs.Rest.{IsMemory};
 ghost use Rattle.certificate_lines.specs.Courses.{Course, certificate_course, tree_course, course_from, course_left, IsNextItem, IsNextLine, TakesItem};
 ghost use Rattle.certificate_lines.specs.declared.item.Wanted.TheVariants as want;
 
@@ -37,6 +38,22 @@ fn head_item(cursor: &mut Cursor, stack: &mut Vec<Wanted>) -> Result<Item, TextF
     Ok(Item::Head(language))
 }
 
+/// Puts what is wanted after the order on the stack, for an order of so many counties.
+fn want_after_order(
+    stack: &mut Vec<Wanted>,
+    language: Language,
+    counties: u16,
+    line: u64,
+) -> Result<(), TextFault>
+    ensures wanted { OnOk result (stack.new.items ≡ stack.old.items ++ (want.End ∷ want.Tree language counties ∷ want.Target ∷ want.Limit ∷ [])) }
+    ensures refused { IfErr result (λ f. IsMemory f) }
+{
+    push_on(stack, Wanted::End, line)?;
+    push_on(stack, Wanted::Tree(language, counties), line)?;
+    push_on(stack, Wanted::Target, line)?;
+    push_on(stack, Wanted::Limit, line)
+}
+
 /// The order, where it is wanted.
 fn order_item(
     alloc: Global,
@@ -48,11 +65,7 @@ fn order_item(
 {
     let order = cursor.order(alloc)?;
     let levels = order.as_slice().len() as u16;
-    let line = cursor.number();
-    push_on(stack, Wanted::End, line)?;
-    push_on(stack, Wanted::Tree(language, levels), line)?;
-    push_on(stack, Wanted::Target, line)?;
-    push_on(stack, Wanted::Limit, line)?;
+    want_after_order(stack, language, levels, cursor.number())?;
     Ok(Item::Order(order))
 }
 
@@ -109,6 +122,24 @@ fn opening_item(
     Ok(Item::Opens(opening))
 }
 
+/// Puts what is wanted after a group that is taken on the stack.
+fn want_after_take(
+    stack: &mut Vec<Wanted>,
+    language: Language,
+    levels: u16,
+    line: u64,
+) -> Result<(), TextFault>
+    ensures wanted { OnOk result (stack.new.items ≡ stack.old.items ++ (want.Takes language levels ∷ want.Tree language (levels - 1) ∷ [])) }
+    ensures refused { IfErr result (λ f. IsMemory f) }
+{
+    push_on(stack, Wanted::Takes(language, levels), line)?;
+    push_on(
+        stack,
+        Wanted::Tree(language, levels.saturating_sub(1)),
+        line,
+    )
+}
+
 /// A take or a mark, where they are wanted.
 fn take_item(
     alloc: Global,
@@ -121,13 +152,7 @@ fn take_item(
 {
     match cursor.take(alloc)? {
         Some(codes) => {
-            let line = cursor.number();
-            push_on(stack, Wanted::Takes(language, levels), line)?;
-            push_on(
-                stack,
-                Wanted::Tree(language, levels.saturating_sub(1)),
-                line,
-            )?;
+            want_after_take(stack, language, levels, cursor.number())?;
             Ok(Item::Takes(codes))
         }
         None => {

@@ -1,16 +1,18 @@
 //! What each form of line says, by its words.
 
-ghost use Rattle.std.specs.Prelude.{◌≡◌, ℕ, IfOk};
+ghost use Rattle.std.specs.Prelude.{◌≡◌, ℕ, nat_lt, None, Ok, Err, IfOk, if◌then◌else◌};
 ghost use Rattle.field_lines.specs.Values.{GivesUnless};
 ghost use Rattle.proof_trees.specs.Depth.{after_raise};
 ghost use Rattle.certificate_lines.specs.Lines.{head_on, order_on, limit_on, target_on, group_on, branch_on, stuck_on, bound_on, opening_on, take_on, weigh_on, allowance_on, end_on, ascend, HasLevel};
-ghost use Rattle.certificate_lines.specs.declared.fault.TextKind.TheVariants.{Memory};
+ghost use Rattle.certificate_lines.specs.declared.fault.TextKind.TheVariants.{Memory, TooDeep};
+ghost use Rattle.certificate_lines.specs.declared.item.Opening.TheVariants.{Branch};
+ghost use Rattle.proof_trees.specs.declared.language.Language.TheVariants.{Plain, Wide};
 
 use crate::fault::TextKind;
 use crate::item::{Allowance, Opening};
 use crate::weights::Weight;
 use crate::words::Words;
-use county_codes::{Codes, Group};
+use county_codes::{Codes, CountyCode, Group};
 use proof_trees::Language;
 use std::alloc::Global;
 
@@ -39,21 +41,19 @@ pub(crate) fn head_on(bytes: &[u8]) -> Result<Language, TextKind>
 
 /// The order.
 #[tactic(auto, unfolding(crate::specs::Lines::order_on))]
-pub(crate) fn order_on(alloc: Global, words: Words) -> Result<Codes, TextKind>
-    ensures { GivesUnless (λ k. k ≡ Memory) (λ c. c) result (order_on words.entry) }
+pub(crate) fn order_on(alloc: Global, words: &mut Words) -> Result<Codes, TextKind>
+    ensures { GivesUnless (λ k. k ≡ Memory) (λ c. c) result (order_on words.old) }
 {
-    let mut words = words;
     words.named(b"order")?;
     words.counted(0, MOST as usize)?;
-    words.codes(alloc)
+    words.codes_left(alloc)
 }
 
 /// The limit.
 #[tactic(auto, unfolding(crate::specs::Lines::limit_on))]
-pub(crate) fn limit_on(words: Words) -> Result<u16, TextKind>
-    ensures { result ≡ limit_on words.entry }
+pub(crate) fn limit_on(words: &mut Words) -> Result<u16, TextKind>
+    ensures { result ≡ limit_on words.old }
 {
-    let mut words = words;
     words.named(b"limit")?;
     words.counted(1, 1)?;
     Ok(words.number(0, MOST)? as u16)
@@ -61,10 +61,9 @@ pub(crate) fn limit_on(words: Words) -> Result<u16, TextKind>
 
 /// The number of groups of the target, if there is one.
 #[tactic(auto, unfolding(crate::specs::Lines::target_on))]
-pub(crate) fn target_on(words: Words) -> Result<Option<u16>, TextKind>
-    ensures { result ≡ target_on words.entry }
+pub(crate) fn target_on(words: &mut Words) -> Result<Option<u16>, TextKind>
+    ensures { result ≡ target_on words.old }
 {
-    let mut words = words;
     words.named(b"target")?;
     words.counted(1, 1)?;
     if words.begins(b"none") {
@@ -76,82 +75,91 @@ pub(crate) fn target_on(words: Words) -> Result<Option<u16>, TextKind>
 
 /// A group of the target.
 #[tactic(auto, unfolding(crate::specs::Lines::group_on))]
-pub(crate) fn group_on(alloc: Global, words: Words) -> Result<Group, TextKind>
-    ensures { GivesUnless (λ k. k ≡ Memory) (λ g. g) result (group_on words.entry) }
+pub(crate) fn group_on(alloc: Global, words: &mut Words) -> Result<Group, TextKind>
+    ensures { GivesUnless (λ k. k ≡ Memory) (λ g. g) result (group_on words.old) }
 {
-    let mut words = words;
     words.named(b"group")?;
     words.counted(2, 1 + MOST as usize)?;
     let seats = words.number(0, 65_535)? as u16;
-    let codes = words.codes(alloc)?;
+    let codes = words.codes_left(alloc)?;
     Ok(Group { seats, codes })
 }
 
-/// A branch, from the words after the first.
-#[tactic(auto, unfolding(crate::specs::Lines::branch_on))]
-fn branch_on(language: Language, levels: u16, words: Words) -> Result<Opening, TextKind>
-    ensures value { result ≡ branch_on language levels words.entry }
+/// A branch, where there is a level for it.
+fn branch_with(levels: u16, county: CountyCode, limit: Option<u16>) -> Result<Opening, TextKind>
+    ensures value { result ≡ (if nat_lt 0 levels then Ok (Branch county limit) else Err TooDeep) }
     ensures level { IfOk result (λ o. HasLevel levels o) }
 {
-    let mut words = words;
+    if levels > 0 {
+        Ok(Opening::Branch { county, limit })
+    } else {
+        Err(TextKind::TooDeep)
+    }
+}
+
+/// A branch of a plain certificate, from the words after the first.
+#[tactic(auto, unfolding(crate::specs::Lines::branch_on))]
+fn plain_branch_on(levels: u16, words: &mut Words) -> Result<Opening, TextKind>
+    ensures value { result ≡ branch_on Plain levels words.old }
+    ensures level { IfOk result (λ o. HasLevel levels o) }
+{
+    words.counted(1, 1)?;
+    branch_with(levels, words.code()?, None)
+}
+
+/// A branch of a wide certificate, from the words after the first.
+#[tactic(auto, unfolding(crate::specs::Lines::branch_on))]
+fn wide_branch_on(levels: u16, words: &mut Words) -> Result<Opening, TextKind>
+    ensures value { result ≡ branch_on Wide levels words.old }
+    ensures level { IfOk result (λ o. HasLevel levels o) }
+{
+    words.counted(2, 2)?;
+    let county = words.code()?;
+    let limit = words.number(1, MOST)? as u16;
+    branch_with(levels, county, Some(limit))
+}
+
+/// A branch, from the words after the first.
+fn branch_on(language: Language, levels: u16, words: &mut Words) -> Result<Opening, TextKind>
+    ensures value { result ≡ branch_on language levels words.old }
+    ensures level { IfOk result (λ o. HasLevel levels o) }
+{
     match language {
-        Language::Plain => {
-            words.counted(1, 1)?;
-            let county = words.code()?;
-            if levels > 0 {
-                Ok(Opening::Branch {
-                    county,
-                    limit: None,
-                })
-            } else {
-                Err(TextKind::TooDeep)
-            }
-        }
-        Language::Wide => {
-            words.counted(2, 2)?;
-            let county = words.code()?;
-            let limit = words.number(1, MOST)? as u16;
-            if levels > 0 {
-                Ok(Opening::Branch {
-                    county,
-                    limit: Some(limit),
-                })
-            } else {
-                Err(TextKind::TooDeep)
-            }
-        }
+        Language::Plain => plain_branch_on(levels, words),
+        Language::Wide => wide_branch_on(levels, words),
     }
 }
 
 /// A stuck leaf, from the words after the first.
 #[tactic(auto, unfolding(crate::specs::Lines::stuck_on))]
-fn stuck_on(words: Words) -> Result<Opening, TextKind>
-    ensures value { result ≡ stuck_on words.entry }
+fn stuck_on(words: &mut Words) -> Result<Opening, TextKind>
+    ensures value { result ≡ stuck_on words.old }
     ensures level { IfOk result (λ o. (levels : ℕ) → HasLevel levels o) }
 {
-    let mut words = words;
     words.counted(1, 1)?;
     Ok(Opening::Stuck(words.code()?))
 }
 
 /// A bound leaf, from the words after the first.
 #[tactic(auto, unfolding(crate::specs::Lines::bound_on))]
-fn bound_on(words: Words) -> Result<Opening, TextKind>
-    ensures value { result ≡ bound_on words.entry }
+fn bound_on(words: &mut Words) -> Result<Opening, TextKind>
+    ensures value { result ≡ bound_on words.old }
     ensures level { IfOk result (λ o. (levels : ℕ) → HasLevel levels o) }
 {
-    let mut words = words;
     words.counted(1, 1)?;
     Ok(Opening::Bound(words.number(0, MOST)? as u16))
 }
 
 /// A branch or a leaf, where a branch may still open so many levels.
 #[tactic(auto, unfolding(crate::specs::Lines::opening_on))]
-pub(crate) fn opening_on(language: Language, levels: u16, words: Words) -> Result<Opening, TextKind>
-    ensures value { result ≡ opening_on language levels words.entry }
+pub(crate) fn opening_on(
+    language: Language,
+    levels: u16,
+    words: &mut Words,
+) -> Result<Opening, TextKind>
+    ensures value { result ≡ opening_on language levels words.old }
     ensures level { IfOk result (λ o. HasLevel levels o) }
 {
-    let mut words = words;
     if words.skipped(b"branch") {
         branch_on(language, levels, words)
     } else if words.skipped(b"stuck") {
@@ -168,13 +176,12 @@ pub(crate) fn opening_on(language: Language, levels: u16, words: Words) -> Resul
 
 /// The codes of a take, or none at the mark.
 #[tactic(auto, unfolding(crate::specs::Lines::take_on))]
-pub(crate) fn take_on(alloc: Global, words: Words) -> Result<Option<Codes>, TextKind>
-    ensures { GivesUnless (λ k. k ≡ Memory) (λ c. c) result (take_on words.entry) }
+pub(crate) fn take_on(alloc: Global, words: &mut Words) -> Result<Option<Codes>, TextKind>
+    ensures { GivesUnless (λ k. k ≡ Memory) (λ c. c) result (take_on words.old) }
 {
-    let mut words = words;
     if words.skipped(b"take") {
         words.counted(1, MOST as usize)?;
-        Ok(Some(words.codes(alloc)?))
+        Ok(Some(words.codes_left(alloc)?))
     } else if words.skipped(b"mark") {
         words.counted(0, 0)?;
         Ok(None)
@@ -201,10 +208,9 @@ pub(crate) fn ascend(weights: &[Weight]) -> bool
 
 /// Weights of a bound leaf's line, from the words after the first.
 #[tactic(auto, unfolding(crate::specs::Lines::weigh_on))]
-fn weigh_on(alloc: Global, words: Words) -> Result<Allowance, TextKind>
-    ensures { GivesUnless (λ k. k ≡ Memory) (λ a. a) result (weigh_on words.entry) }
+fn weigh_on(alloc: Global, words: &mut Words) -> Result<Allowance, TextKind>
+    ensures { GivesUnless (λ k. k ≡ Memory) (λ a. a) result (weigh_on words.old) }
 {
-    let mut words = words;
     let quota = words.number(1, 256_000_000)?;
     let weights = words.weights(alloc)?;
     if ascend(weights.as_slice()) {
@@ -216,10 +222,9 @@ fn weigh_on(alloc: Global, words: Words) -> Result<Allowance, TextKind>
 
 /// A line of a bound leaf.
 #[tactic(auto, unfolding(crate::specs::Lines::allowance_on))]
-pub(crate) fn allowance_on(alloc: Global, words: Words) -> Result<Allowance, TextKind>
-    ensures { GivesUnless (λ k. k ≡ Memory) (λ a. a) result (allowance_on words.entry) }
+pub(crate) fn allowance_on(alloc: Global, words: &mut Words) -> Result<Allowance, TextKind>
+    ensures { GivesUnless (λ k. k ≡ Memory) (λ a. a) result (allowance_on words.old) }
 {
-    let mut words = words;
     if words.skipped(b"room") {
         words.counted(0, 0)?;
         Ok(Allowance::Room)
@@ -232,10 +237,9 @@ pub(crate) fn allowance_on(alloc: Global, words: Words) -> Result<Allowance, Tex
 
 /// The end.
 #[tactic(auto, unfolding(crate::specs::Lines::end_on))]
-pub(crate) fn end_on(words: Words) -> Result<(), TextKind>
-    ensures { result ≡ end_on words.entry }
+pub(crate) fn end_on(words: &mut Words) -> Result<(), TextKind>
+    ensures { result ≡ end_on words.old }
 {
-    let mut words = words;
     words.named(b"end")?;
     words.counted(0, 0)
 }

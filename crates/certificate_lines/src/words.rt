@@ -185,6 +185,13 @@ impl<'a> Words<'a> {
     pub fn codes(mut self, alloc: Global) -> Result<Codes, TextKind>
         ensures { GivesUnless (λ k. k ≡ Memory) (λ c. c) result (each code self.entry) }
     {
+        self.codes_left(alloc)
+    }
+
+    /// The codes that the words left spell, up to the first that spells none.
+    pub(crate) fn codes_left(&mut self, alloc: Global) -> Result<Codes, TextKind>
+        ensures { GivesUnless (λ k. k ≡ Memory) (λ c. c) result (each code self.old) }
+    {
         let mut codes = Vec::new(alloc);
         while let Some(word) = self.next_word() {
             let code = code_on(word)?;
@@ -194,8 +201,8 @@ impl<'a> Words<'a> {
     }
 
     /// The weights that the words left spell.
-    pub(crate) fn weights(mut self, alloc: Global) -> Result<Weights, TextKind>
-        ensures { GivesUnless (λ k. k ≡ Memory) (λ c. c) result (each pair self.entry) }
+    pub(crate) fn weights(&mut self, alloc: Global) -> Result<Weights, TextKind>
+        ensures { GivesUnless (λ k. k ≡ Memory) (λ c. c) result (each pair self.old) }
     {
         let mut weights = Vec::new(alloc);
         while let Some(word) = self.next_word() {

@@ -142,13 +142,16 @@ pub fn push_branch(
         return Err(WriteFault::NoSpelling);
     }
     match (language, limit) {
-        (Language::Plain, None) => push_code_line(out, b"branch ", county)?,
-        (Language::Wide, Some(limit)) if limit > 0 && are_few(usize::from(limit)) => {
-            push_code_and_number_line(out, b"branch ", county, u32::from(limit))?
+        (Language::Plain, None) => {
+            push_code_line(out, b"branch ", county)?;
+            Ok(())
         }
-        _ => return Err(WriteFault::NoSpelling),
+        (Language::Wide, Some(limit)) if limit > 0 && are_few(usize::from(limit)) => {
+            push_code_and_number_line(out, b"branch ", county, u32::from(limit))?;
+            Ok(())
+        }
+        _ => Err(WriteFault::NoSpelling),
     }
-    Ok(())
 }
 
 /// Whether each weight is in its range.
