@@ -1,3 +1,4 @@
 pub mod ReportLemmas
 pub mod FieldsBack
 pub mod TextBack
+pub mod Appends

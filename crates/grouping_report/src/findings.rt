@@ -111,6 +111,19 @@ fn push_finding(out: &mut Vec<u8>, finding: &Finding) -> Result<(), AllocError>
     }
 }
 
+/// Appends how many findings there are, and then a line for each.
+fn push_findings(out: &mut Vec<u8>, findings: &[Finding]) -> Result<(), AllocError>
+    ensures { OnOk result (out.new.items ≡ out.old.items ++ text_of findings.now) }
+{
+    push_words_number(out, b"findings ", findings.len() as u64)?;
+    out.extend_from_slice(b"\n")?;
+    for finding in findings {
+        push_finding(out, finding)?;
+        out.extend_from_slice(b"\n")?;
+    }
+    Ok(())
+}
+
 /// The text of findings: how many there are, and then a line for each, its kind with what it names. A block is written by
 /// the fifteen digits of its GEOCODE, a set as `group` or `withdrawn` with its number. It fails only where a growth was
 /// refused.
@@ -118,11 +131,6 @@ pub fn findings_text(alloc: Global, findings: &Findings) -> Result<Vec<u8>, Allo
     ensures { IfOk result (λ v. v.items ≡ text_of findings.now.list.items) }
 {
     let mut out = Vec::new(alloc);
-    push_words_number(&mut out, b"findings ", findings.list.len() as u64)?;
-    out.extend_from_slice(b"\n")?;
-    for finding in &findings.list {
-        push_finding(&mut out, finding)?;
-        out.extend_from_slice(b"\n")?;
-    }
+    push_findings(&mut out, findings.list.as_slice())?;
     Ok(out)
 }

@@ -7,6 +7,7 @@ ghost use Rattle.grouping_laws.specs.Grouping.{Lawful, sets_of, counts as counts
 ghost use Rattle.grouping_report.specs.Report.{head_lines, answer_line, longest_size, numbers_to, counts_line, group_line, group_lines, report_text, open_words};
 ghost use Rattle.grouping_report.specs.Outcomes.{NamesLawful, outcome_text};
 
+use crate::faults::push_words_number;
 use crate::outcome::Outcome;
 use crate::text::{push_codes, push_number};
 use county_codes::{Group, Grouping};
@@ -14,18 +15,13 @@ use grouping_problem::Problem;
 use std::alloc::{AllocError, Global};
 
 /// Appends the people, the chamber, the seats left and the number of counties.
-#[tactic(auto, unfolding(crate::specs::Report::head_lines))]
 fn push_head(out: &mut Vec<u8>, problem: &Problem) -> Result<(), AllocError>
     ensures { OnOk result (out.new.items ≡ out.old.items ++ head_lines problem.now) }
 {
-    out.extend_from_slice(b"people ")?;
-    push_number(out, problem.total_people())?;
-    out.extend_from_slice(b"\nchamber ")?;
-    push_number(out, u64::from(problem.chamber()))?;
-    out.extend_from_slice(b"\nseats left ")?;
-    push_number(out, u64::from(problem.seats_left()))?;
-    out.extend_from_slice(b"\ncounties ")?;
-    push_number(out, problem.counties().len() as u64)?;
+    push_words_number(out, b"people ", problem.total_people())?;
+    push_words_number(out, b"\nchamber ", u64::from(problem.chamber()))?;
+    push_words_number(out, b"\nseats left ", u64::from(problem.seats_left()))?;
+    push_words_number(out, b"\ncounties ", problem.counties().len() as u64)?;
     out.extend_from_slice(b"\n")
 }
 
@@ -84,16 +80,12 @@ fn push_counts(out: &mut Vec<u8>, groups: &[Group]) -> Result<(), AllocError>
 }
 
 /// Appends the line of a group.
-#[tactic(auto, unfolding(crate::specs::Report::group_line))]
 fn push_group(out: &mut Vec<u8>, number: u64, people: u64, group: &Group) -> Result<(), AllocError>
     ensures { OnOk result (out.new.items ≡ out.old.items ++ group_line number group.now.seats people group.now.codes) }
 {
-    out.extend_from_slice(b"group ")?;
-    push_number(out, number)?;
-    out.extend_from_slice(b" seats ")?;
-    push_number(out, u64::from(group.seats))?;
-    out.extend_from_slice(b" people ")?;
-    push_number(out, people)?;
+    push_words_number(out, b"group ", number)?;
+    push_words_number(out, b" seats ", u64::from(group.seats))?;
+    push_words_number(out, b" people ", people)?;
     out.extend_from_slice(b" counties")?;
     push_codes(out, b" ", group.codes.as_slice())?;
     out.extend_from_slice(b"\n")

@@ -1,6 +1,8 @@
-ghost use Rattle.std.specs.Prelude.{◌≡◌, ℕ, ◌++◌, OnOk, IfOk, decimal};
-ghost use Rattle.grouping_report.specs.SizeTable.{size_text, county_line, run_text, bounds_text, head_text};
+ghost use Rattle.std.specs.Prelude.{◌≡◌, ◌≤◌, ℕ, ◌++◌, OnOk, IfOk, decimal};
+ghost use Rattle.grouping_report.specs.SizeTable.{size_text, county_line, lines_text, run_text, bounds_text, head_text};
+ghost use Rattle.grouping_problem.specs.Building.{people_in};
 
+use crate::faults::push_words_number;
 use crate::text::{push_code, push_number};
 use county_codes::County;
 use grouping_problem::Problem;
@@ -47,7 +49,6 @@ fn push_county(out: &mut Vec<u8>, county: County, run: Option<(u16, u16)>) -> Re
 }
 
 /// Appends the first three lines.
-#[tactic(auto, unfolding(crate::specs::SizeTable::head_text))]
 fn push_head(
     out: &mut Vec<u8>,
     people: u64,
@@ -56,31 +57,49 @@ fn push_head(
 ) -> Result<(), AllocError>
     ensures { OnOk result (out.new.items ≡ out.old.items ++ head_text people chamber bounds) }
 {
-    out.extend_from_slice(b"people ")?;
-    push_number(out, people)?;
-    out.extend_from_slice(b"\nchamber ")?;
-    push_number(out, u64::from(chamber))?;
+    push_words_number(out, b"people ", people)?;
+    push_words_number(out, b"\nchamber ", u64::from(chamber))?;
     out.extend_from_slice(b"\ndistrict ")?;
     push_bounds(out, bounds)?;
     out.extend_from_slice(b"\n")
 }
 
-/// The size table of a problem: its people, its chamber, the bounds of a district, and for each county by
-/// code its people and the least and the greatest number of seats that they suit, or `none`.
-#[tactic(auto, unfolding(crate::specs::SizeTable::size_text))]
-pub fn size_table(alloc: Global, problem: &Problem) -> Result<Vec<u8>, AllocError>
-    ensures { IfOk result (λ v. v.items ≡ size_text problem.now) }
+/// Appends the lines of counties, each with the seats that its people suit.
+fn push_counties(
+    out: &mut Vec<u8>,
+    problem: &Problem,
+    counties: &[County],
+) -> Result<(), AllocError>
+    requires { people_in counties.now ≤ problem.now.total_people }
+    ensures { OnOk result (out.new.items ≡ out.old.items ++ lines_text problem.now counties.now) }
 {
-    let mut out = Vec::new(alloc);
+    for county in counties {
+        let run = problem.seats_range(u64::from(county.people));
+        push_county(out, *county, run)?;
+    }
+    Ok(())
+}
+
+/// Appends the size table of a problem.
+#[tactic(auto, unfolding(crate::specs::SizeTable::size_text))]
+fn push_table(out: &mut Vec<u8>, problem: &Problem) -> Result<(), AllocError>
+    ensures { OnOk result (out.new.items ≡ out.old.items ++ size_text problem.now) }
+{
     push_head(
-        &mut out,
+        out,
         problem.total_people(),
         problem.chamber(),
         problem.district_bounds(1),
     )?;
-    for county in problem.counties() {
-        let run = problem.seats_range(u64::from(county.people));
-        push_county(&mut out, *county, run)?;
-    }
+    push_counties(out, problem, problem.counties())
+}
+
+/// The size table of a problem: its people, its chamber, the bounds of a district, and for each county by
+/// code its people and the least and the greatest number of seats that they suit, or `none`.
+pub fn size_table(alloc: Global, problem: &Problem) -> Result<Vec<u8>, AllocError>
+    ensures { IfOk result (λ v. v.items ≡ size_text problem.now) }
+{
+    let mut out = Vec::new(alloc);
+    push_table(&mut out, problem)?;
     Ok(out)
 }

@@ -1,0 +1,35 @@
+-- What steps append one after the other, they append as one.
+use Rattle.std.proofs.Common.{◌≡◌, ◌∙◌, ◌++◌, ℕ, List, Result, Ok, Err, OnOk, ap, sym, append_assoc, decimal}
+use Rattle.std.specs.Result.{is_ok}
+use Rattle.std.specs.Bool.{if◌then◌else◌}
+use Rattle.grouping_report.specs.FaultWords.{with_number}
+
+-- the first steps made new of old, and appended the text
+pub record Appended (old text new : List ℕ) : Type 0 where
+  pub is : new ≡ old ++ text
+
+pub first : (old text : List ℕ) {new : List ℕ} → new ≡ old ++ text → Appended old text new
+first old text e = record { is = e }
+
+-- one more step
+pub after : {old front mid : List ℕ} (text : List ℕ) {new : List ℕ} → Appended old front mid → new ≡ mid ++ text → Appended old (front ++ text) new
+after {old} {front} text a e = record { is = e ∙ ap (λ (l : List ℕ). l ++ text) a.is ∙ append_assoc old front text }
+
+-- the last step, which may fail
+pub last : {X E : Type 0} {old front mid : List ℕ} (r : Result X E) (text new : List ℕ) → Appended old front mid → OnOk r (new ≡ mid ++ text) → OnOk r (new ≡ old ++ (front ++ text))
+last (Ok x) text new a e = (after text a e).is
+last (Err fault) text new a e = e
+
+-- steps that append words and a number
+pub first_number : (old words : List ℕ) (n : ℕ) {new : List ℕ} → new ≡ old ++ with_number words n → Appended old (words ++ decimal n) new
+unfolding with_number
+first_number old words n e = record { is = e }
+
+pub after_number : {old front mid : List ℕ} (words : List ℕ) (n : ℕ) {new : List ℕ} → Appended old front mid → new ≡ mid ++ with_number words n → Appended old (front ++ words ++ decimal n) new
+unfolding with_number
+after_number {old} {front} words n a e = record { is = (after (words ++ decimal n) a e).is ∙ ap (λ (l : List ℕ). old ++ l) (sym (append_assoc front words (decimal n))) }
+
+-- what bytes were appended, where none were refused
+pub extended : {X E : Type 0} (r : Result X E) (new whole old : List ℕ) → new ≡ (if is_ok r then whole else old) → OnOk r (new ≡ whole)
+extended (Ok x) new whole old e = e
+extended (Err fault) new whole old e = tt
