@@ -8,3 +8,4 @@ pub mod OrderLemmas
 pub mod CrossingLemmas
 pub mod NumberLemmas
 pub mod AuditLemmas
+pub mod LoopLemmas
