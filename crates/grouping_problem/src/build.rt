@@ -142,6 +142,55 @@ fn pairs_of(
     Ok(joined)
 }
 
+/// The pairs of two different ones of the counties.
+fn pairs_between(
+    alloc: Global,
+    counties: &[County],
+    pairs: &[(CountyCode, CountyCode)],
+) -> Result<Vec<(CountyCode, CountyCode)>, AllocError>
+    ensures { IfOk result (λ v. v.items ≡ filter (joins (codes_of counties.now)) pairs.now) }
+{
+    let codes = listed_codes(alloc, counties)?;
+    pairs_of(alloc, &codes, pairs)
+}
+
+/// The people of all counties and the seats that the withdrawn sets leave, or the first fault after those of
+/// the two limits.
+fn totals_of(
+    counties: &[County],
+    listed: &[CountyCode],
+    pairs: &[(CountyCode, CountyCode)],
+    withdrawn: &[Withdrawn],
+    taken: &[CountyCode],
+    chamber: u16,
+) -> Result<(u64, u16), ProblemFault>
+    requires some { 1 ≤ chamber }
+    requires most { chamber ≤ 1000 }
+    requires few { length counties.now ≤ 128 }
+    requires listed { listed.now ≡ codes_of counties.now }
+    requires taken { taken.now ≡ codes_in withdrawn.now }
+    ensures fault { MatchResult
+        result
+        (λ _. problem_fault counties.now pairs.now withdrawn.now chamber ≡ None)
+        (λ fault. problem_fault counties.now pairs.now withdrawn.now chamber ≡ Some fault) }
+    ensures once { IfOk result (λ _. first_repeated (codes_of counties.now) ≡ None) }
+    ensures people { IfOk result (λ r. (r.0 ≡ people_in counties.now) × ((1 ≤ r.0) × (r.0 ≤ 2 ^ 40))) }
+    ensures seats { IfOk result (λ r. (withdrawn_fault listed.now withdrawn.now chamber ≡ None) × (r.1 + seats_in withdrawn.now ≡ chamber)) }
+{
+    if let Some(code) = repeated_code(listed) {
+        return Err(ProblemFault::DoubleCounty(code));
+    }
+    let total = people_of(counties);
+    if total == 0 {
+        return Err(ProblemFault::NoPeople);
+    }
+    let left = seats_after(listed, taken, withdrawn, chamber)?;
+    if let Some((a, b)) = strange_pair(listed, pairs) {
+        return Err(ProblemFault::UnknownPair(a, b));
+    }
+    Ok((total, left))
+}
+
 impl Problem {
     /// The problem of the listed counties, the pairs of adjacent codes, the withdrawn sets and a chamber's
     /// seats, or the first fault. A pair of a county with itself is ignored, and so is a pair of listed
@@ -174,22 +223,11 @@ impl Problem {
             return Err(ProblemFault::TooManyCounties);
         }
         let listed = listed_codes(alloc, counties)?;
-        if let Some(code) = repeated_code(&listed) {
-            return Err(ProblemFault::DoubleCounty(code));
-        }
-        let total = people_of(counties);
-        if total == 0 {
-            return Err(ProblemFault::NoPeople);
-        }
         let taken = withdrawn_codes(alloc, withdrawn)?;
-        let left = seats_after(&listed, &taken, withdrawn, chamber)?;
-        if let Some((a, b)) = strange_pair(&listed, pairs) {
-            return Err(ProblemFault::UnknownPair(a, b));
-        }
+        let (total, left) = totals_of(counties, &listed, pairs, withdrawn, &taken, chamber)?;
         let counties = counties_left(alloc, counties, &taken)?;
-        let codes = listed_codes(alloc, &counties)?;
         Ok(Problem {
-            pairs: pairs_of(alloc, &codes, pairs)?,
+            pairs: pairs_between(alloc, &counties, pairs)?,
             withdrawn: copy_sets(alloc, withdrawn)?,
             counties,
             total,
