@@ -1,7 +1,7 @@
 -- Connected lists that grow inside a region.
 use Rattle.std.proofs.Common.{◌≡◌, ℕ, ◌+◌, ◌≤◌, ◌<◌, Bool, true, false, ◌||◌, ◌==◌, List, [], ◌∷◌, ◌++◌, length, zero, suc, get_or, take, take_all, append_assoc, append-nil, refl, sym, ap, ◌∙◌, subst, arith, ◌⊎◌, inl, inr, ⊎_elim}
 use Rattle.std.proofs.lemmas.Bool.{eqb-true, eq-eqb, false≢true, or_right}
-use Rattle.std.proofs.lemmas.List.{take_more}
+use Rattle.std.proofs.lemmas.List.{take_more, take-append-le}
 use Rattle.grouping_laws.specs.Parts.{IsPart}
 use Rattle.grouping_problem.specs.ProblemValue.{ProblemValue}
 use Rattle.grouping_problem.specs.ProblemValue.{problem_of}
@@ -105,3 +105,23 @@ part_from p region found n f enough closed = record {
 
     all : take n found ≡ found
     all = take_all n found short
+
+-- one place more: what is adjacent to its county in the region has been added
+pub closed_more : (p : Problem) (region : List ℕ) (i from : ℕ) (old new : List ℕ) → i < length old → from ≡ get_or old i from → IsGrown p region region from old new
+    → ((x y : ℕ) → member (take i old) x ≡ true → member region y ≡ true → p.adjacent x y ≡ true → member old y ≡ true)
+    → (x y : ℕ) → member (take (i + 1) new) x ≡ true → member region y ≡ true → p.adjacent x y ≡ true → member new y ≡ true
+closed_more p region i from old new inside is g closed x y seen r touch =
+    let few : i + 1 ≤ length old = omega arith in
+    let first : take (i + 1) new ≡ take i old ++ from ∷ [] =
+    ap (λ l. take (i + 1) l) g.more ∙ take-append-le (i + 1) old g.added few ∙ sym (seen_more old i from inside is) in
+    ⊎_elim (λ before. subst (λ l. member l y ≡ true) (sym g.more) (member_left y old g.added (closed x y before r touch)))
+    (λ same. g.reached y r (subst (λ z. p.adjacent z y ≡ true) (sym same) touch))
+    (member_append x (take i old) from (subst (λ l. member l x ≡ true) first seen))
+
+-- and the counties from before stay
+pub still_there : (p : Problem) (region : List ℕ) (from : ℕ) (old new : List ℕ) (c : ℕ) → IsGrown p region region from old new → member old c ≡ true → member new c ≡ true
+still_there p region from old new c g there = subst (λ l. member l c ≡ true) (sym g.more) (member_left c old g.added there)
+
+-- places past the end are none
+pub past_end : (i : ℕ) (found : List ℕ) → length found ≤ i → take (i + 1) found ≡ take i found
+past_end i found over = let more : length found ≤ i + 1 = omega arith in take_all (i + 1) found more ∙ sym (take_all i found over)

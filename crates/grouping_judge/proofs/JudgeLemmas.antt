@@ -1,5 +1,5 @@
 -- What the tests of a grouping say: where none fails it is lawful, and where one fails it is not.
-use Rattle.std.proofs.Common.{◌≡◌, ◌≢◌, ℕ, suc, ◌+◌, ◌≤◌, ◌<◌, ◌==◌, Bool, true, false, not, cond, ◌||◌, List, [], ◌∷◌, ◌++◌, length, take, drop, drop-cons, take_all, get_or, Option, Some, None, refl, sym, ap, ◌∙◌, subst, arith, ◌⊎◌, inl, inr, ⊎_elim, All}
+use Rattle.std.proofs.Common.{◌≡◌, ◌≢◌, ℕ, suc, ◌+◌, ◌≤◌, ◌<◌, ◌==◌, Bool, true, false, not, cond, ◌||◌, List, [], ◌∷◌, ◌++◌, length, take, drop, drop-cons, take_all, get_or, Option, Some, None, refl, sym, ap, ◌∙◌, subst, arith, ◌⊎◌, inl, inr, ⊎_elim, All, rules, nat_le, IsTrue, ◌↔◌}
 use Rattle.std.proofs.lemmas.Bool.{eqb-true, false≢true}
 use Rattle.std.proofs.lemmas.List.{take_more, take-append-drop, length-take}
 use Rattle.std.specs.List.{position_from, AllPairs, slice_index_or}
@@ -10,6 +10,7 @@ use Rattle.grouping_judge.specs.declared.grouping_fault.GroupingFault.{GroupingF
 use Rattle.grouping_judge.specs.declared.grouping_fault.GroupingFault.TheVariants.{EmptyGroup, UnknownCounty, Twice, Missing, NotConnected, OutOfWindow, SeatsTotal, Memory}
 use Rattle.grouping_laws.specs.Sets.{digit, total, often, stands, member}
 use Rattle.grouping_laws.specs.Problem.{Problem, Suits, people_of, Connected, IsProblem}
+use Rattle.grouping_laws.specs.SeatWindow.{IsRun}
 use Rattle.grouping_laws.specs.Grouping.{Grouping, Lawful, sets_of, seats_of, counts}
 use Rattle.grouping_problem.specs.Building.{first_unlisted}
 use Rattle.grouping_judge.specs.Judging.{in_group, first_unknown, codes_read, IsLeastMissing, IsFirstNot, NoneEmpty, NoneMissing, AllSuit, IsFault}
@@ -229,3 +230,13 @@ small_groups p g n whole few = all_from_has (λ s. length s.codes ≤ n) g (λ s
 -- a fact of the groups up to an index past the end
 pub all_done : (P : Group → Type 0) (g : Grouping) (i : ℕ) → length g ≤ i → All P (take i g) → All P g
 all_done P g i past h = subst (λ z. All P z) (take_all i g past) h
+
+-- what the tests of a number against a run of numbers say
+pub from_least : (P : ℕ → Type 0) (least greatest n : ℕ) → least ≤ n → IsRun P (Some (least, greatest)) → IsTrue (nat_le n greatest) ↔ P n
+from_least P least greatest n above run = (λ t. let below : n ≤ greatest = search rules in (run.1 n).1 (above, below), λ p. let below : n ≤ greatest = ((run.1 n).0 p).1 in search rules)
+
+pub below_least : (P : ℕ → Type 0) (least greatest n : ℕ) → n < least → IsRun P (Some (least, greatest)) → IsTrue (nat_le least n) ↔ P n
+below_least P least greatest n under run = (λ t. let above : least ≤ n = search rules in absurd (omega (arith, under, above)), λ p. let above : least ≤ n = ((run.1 n).0 p).0 in absurd (omega (arith, under, above)))
+
+pub no_run : (P : ℕ → Type 0) (n : ℕ) → IsRun P None → IsTrue false ↔ P n
+no_run P n run = (λ t. absurd (false≢true t), λ p. absurd (run n p))
