@@ -1,5 +1,6 @@
 -- What steps append one after the other, they append as one.
-use Rattle.std.proofs.Common.{◌≡◌, ◌∙◌, ◌++◌, ℕ, List, Result, Ok, Err, OnOk, ap, sym, append_assoc, decimal}
+use Rattle.std.proofs.Common.{◌≡◌, ◌∙◌, ◌+◌, ◌<◌, ◌++◌, ◌∷◌, [], ℕ, List, length, get_or, drop, Result, Ok, Err, OnOk, ap, sym, append_assoc, append-nil, decimal}
+use Rattle.std.proofs.lemmas.List.{at_drop_more}
 use Rattle.std.specs.Result.{is_ok}
 use Rattle.std.specs.Bool.{if◌then◌else◌}
 use Rattle.grouping_report.specs.FaultWords.{with_number}
@@ -33,3 +34,15 @@ after_number {old} {front} words n a e = record { is = (after (words ++ decimal 
 pub extended : {X E : Type 0} (r : Result X E) (new whole old : List ℕ) → new ≡ (if is_ok r then whole else old) → OnOk r (new ≡ whole)
 extended (Ok x) new whole old e = e
 extended (Err fault) new whole old e = tt
+
+-- A loop that appends the text of one element after the other, where the text of what is left gives the whole: one element more
+pub step_more : (now text rest : List ℕ) {left whole new : List ℕ} → new ≡ now ++ text → left ≡ text ++ rest → now ++ left ≡ whole → new ++ rest ≡ whole
+step_more now text rest e w inv = ap (λ (l : List ℕ). l ++ rest) e ∙ append_assoc now text rest ∙ ap (λ (l : List ℕ). now ++ l) (sym w) ∙ inv
+
+-- and no more
+pub step_done : (now : List ℕ) {left whole : List ℕ} → left ≡ [] → now ++ left ≡ whole → now ≡ whole
+step_done now e inv = sym (append-nil now) ∙ ap (λ (l : List ℕ). now ++ l) (sym e) ∙ inv
+
+-- what is told of a list from a place on, by the element that was read there
+pub from_read : {X Y : Type 0} (F : List X → Y) (xs : List X) (i : ℕ) (x : X) → i < length xs → x ≡ get_or xs i x → F (drop i xs) ≡ F (x ∷ drop (i + 1) xs)
+from_read {X} F xs i x inside is = at_drop_more F xs i x inside ∙ ap (λ (y : X). F (y ∷ drop (i + 1) xs)) (sym is)
