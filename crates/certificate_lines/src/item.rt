@@ -35,7 +35,7 @@ impl Allowance {
 }
 
 /// The line that opens a tree, or is one.
-#[derive(Clone, Copy)]
+#[derive(Clone, Copy, Debug, PartialEq, Eq)]
 pub enum Opening {
     /// A branch: its county, and in a wide certificate its limit.
     Branch {
@@ -53,7 +53,7 @@ pub enum Opening {
 }
 
 /// What a line says.
-#[derive(Drop)]
+#[derive(Debug, Drop)]
 pub enum Item {
     /// The head of a certificate.
     Head(Language),
@@ -78,7 +78,7 @@ pub enum Item {
 }
 
 /// What is wanted next. A level is one more branch that may stand inside those that are open.
-#[derive(Clone, Copy)]
+#[derive(Clone, Copy, Debug, PartialEq, Eq)]
 pub enum Wanted {
     /// The head.
     Head,
