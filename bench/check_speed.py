@@ -3,7 +3,7 @@ certificate and each form of sets the steps and the millions of steps a second o
 three runs, less the time at budget 0. The steps are the least budget that suffices.
 
 python3 bench/county_graph.py data/nc2020 > graph.txt
-python3 bench/check_speed.py crates/certificate_texts/out/certificate_texts graph.txt
+python3 bench/check_speed.py crates/worked_certificates/out/worked_certificates graph.txt
 """
 import os
 import resource
