@@ -42,6 +42,17 @@ fn words_of_fault(fault: &str) -> &'static str {
     }
 }
 
+/// Shows the line of the number, if the text has it.
+fn show_line(out: &mut String, text: &[u8], number: u32) -> Result<(), AllocError> {
+    match line_of(text, number) {
+        Some(line) => {
+            let line = start_of(line);
+            writeln!(out, "countygroups: line {number} is: {line}")
+        }
+        None => Ok(()),
+    }
+}
+
 /// Explains why a text is no certificate: what is wrong with its line, the line, and what to do.
 ///
 /// # Errors
@@ -60,11 +71,7 @@ pub(crate) fn explain_certificate(
         None => words_of_fault(fault),
     };
     writeln!(out, "countygroups: {file}, line {number}: {words}")?;
-    let text = text_of(rt, file);
-    if let Some(line) = line_of(&text, number) {
-        let line = start_of(line);
-        writeln!(out, "countygroups: line {number} is: {line}")?;
-    }
+    show_line(out, &text_of(rt, file), number)?;
     writeln!(
         out,
         "countygroups: see that the other options are those that it was made with, or make it again with `countygroups solve --certificate FILE`"

@@ -63,6 +63,20 @@ fn explain_case(out: &mut String, path: &str, word: DeviceWord) -> Result<(), Al
     }
 }
 
+/// Explains a path by which no file could be had or stored.
+fn explain_path(
+    out: &mut String,
+    options: &Options<'_>,
+    path: &str,
+    word: DeviceWord,
+    reason: Option<ErrorKind>,
+) -> Result<(), AllocError> {
+    match options.option_of(path) {
+        Some(option) => explain_device(out, option, path, reason_of(word, reason)),
+        None => explain_case(out, path, word),
+    }
+}
+
 /// Explains a file that could not be had or stored.
 fn explain_device(
     out: &mut String,
@@ -75,20 +89,12 @@ fn explain_device(
     if is_stored {
         writeln!(
             out,
-            "countygroups: {option} {name} could not be stored: {reason}"
-        )?;
-        writeln!(
-            out,
-            "countygroups: give {option} a path where a file can be stored; what was stored before it stays"
+            "countygroups: {option} {name} could not be stored: {reason}\ncountygroups: give {option} a path where a file can be stored; what was stored before it stays"
         )
     } else {
         writeln!(
             out,
-            "countygroups: {option} {name} could not be read: {reason}"
-        )?;
-        writeln!(
-            out,
-            "countygroups: give {option} a file that can be read, by its path from the folder where the program runs"
+            "countygroups: {option} {name} could not be read: {reason}\ncountygroups: give {option} a file that can be read, by its path from the folder where the program runs"
         )
     }
 }
@@ -131,6 +137,14 @@ fn explain_words(out: &mut String, ended: Ended<'_>) -> Result<(), AllocError> {
     )
 }
 
+/// Explains the findings of an audit.
+fn explain_findings(out: &mut String, count: &str) -> Result<(), AllocError> {
+    writeln!(
+        out,
+        "countygroups: the audit has {count} findings, each on a line of standard output; docs/formats.md names the kinds"
+    )
+}
+
 /// Explains what an answer says.
 fn explain_answer(
     rt: &(impl Files + AllocGlobal),
@@ -149,18 +163,10 @@ fn explain_answer(
         AnswerLine::NoCertificate(fault, line) => explain_certificate(
             rt, out, options, fault, line,
         ),
-        AnswerLine::Device(path, word) => match options.option_of(path) {
-            Some(option) => explain_device(out, option, path, reason_of(word, ended.reason)),
-            None => explain_case(out, path, word),
-        },
+        AnswerLine::Device(path, word) => explain_path(out, options, path, word, ended.reason),
         AnswerLine::Memory => out.push_str(NO_MEMORY),
         AnswerLine::Budget => out.push_str(SMALL_BUDGET),
-        AnswerLine::Findings(count) => {
-            writeln!(
-                out,
-                "countygroups: the audit has {count} findings, each on a line of standard output; docs/formats.md names the kinds"
-            )
-        }
+        AnswerLine::Findings(count) => explain_findings(out, count),
         AnswerLine::Report(_) => explain_report(out, ended.status),
         AnswerLine::Other => explain_words(out, ended),
     }

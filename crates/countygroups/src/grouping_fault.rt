@@ -33,6 +33,16 @@ fn push_parts(out: &mut String, problem: &Problem, codes: &[CountyCode]) -> Resu
     out.push_str("\n")
 }
 
+/// Says which seats so many people suit.
+fn explain_seats(out: &mut String, problem: &Problem, people: u64) -> Result<(), AllocError> {
+    out.push_str("countygroups: seats that its people suit: ")?;
+    match seats_of(problem, people) {
+        Some((least, greatest)) if least == greatest => writeln!(out, "{least}"),
+        Some((least, greatest)) => writeln!(out, "{least} to {greatest}"),
+        None => out.push_str("none, so that it needs other counties\n"),
+    }
+}
+
 /// Says what the people of a group and its seats are, and which seats would suit.
 fn explain_window(out: &mut String, problem: &Problem, group: &Group) -> Result<(), AllocError> {
     let seats = group.seats;
@@ -45,12 +55,22 @@ fn explain_window(out: &mut String, problem: &Problem, group: &Group) -> Result<
         Some((least, most)) => writeln!(out, "{least} to {most}")?,
         None => writeln!(out, "none: a group has at least one seat")?,
     }
-    out.push_str("countygroups: seats that its people suit: ")?;
-    match seats_of(problem, people) {
-        Some((least, greatest)) if least == greatest => writeln!(out, "{least}"),
-        Some((least, greatest)) => writeln!(out, "{least} to {greatest}"),
-        None => out.push_str("none, so that it needs other counties\n"),
-    }
+    explain_seats(out, problem, people)
+}
+
+/// Explains a group whose people don't suit its seats, by its counties.
+fn explain_people(out: &mut String, problem: &Problem, group: &Group) -> Result<(), AllocError> {
+    out.push_str(" (counties")?;
+    push_codes(out, group.codes.as_slice())?;
+    out.push_str(")")?;
+    explain_window(out, problem, group)
+}
+
+/// Explains a group that isn't connected, by its connected parts.
+fn explain_parts(out: &mut String, problem: &Problem, group: &Group) -> Result<(), AllocError> {
+    out.push_str(" isn't connected; its parts are")?;
+    push_parts(out, problem, group.codes.as_slice())?;
+    out.push_str("countygroups: regroup its counties, or add by --links a pair that joins them\n")
 }
 
 /// The group of a number in words, which counts from 1.
@@ -77,20 +97,10 @@ fn explain_group(
             ": its counties aren't connected\n"
         });
     };
-    let Some(group) = group_of(&grouping.groups, number) else {
-        return out.push_str("\n");
-    };
-    if is_connected {
-        out.push_str(" (counties")?;
-        push_codes(out, group.codes.as_slice())?;
-        out.push_str(")")?;
-        explain_window(out, &problem, group)
-    } else {
-        out.push_str(" isn't connected; its parts are")?;
-        push_parts(out, &problem, group.codes.as_slice())?;
-        out.push_str(
-            "countygroups: regroup its counties, or add by --links a pair that joins them\n",
-        )
+    match group_of(&grouping.groups, number) {
+        Some(group) if is_connected => explain_people(out, &problem, group),
+        Some(group) => explain_parts(out, &problem, group),
+        None => out.push_str("\n"),
     }
 }
 

@@ -70,6 +70,34 @@ pub(crate) struct RefusedLine<'a> {
     pub(crate) number: u32,
 }
 
+/// Says which field of the line is at fault and why.
+fn explain_field(
+    out: &mut String,
+    option: FileOption,
+    kind: LineKind,
+    delimiter: u8,
+    line: &[u8],
+) -> Result<(), AllocError> {
+    if let LineKind::TooFewFields = kind {
+        let count = count_fields(line, delimiter);
+        let least = least_fields(option);
+        return writeln!(out, "fields: {count}; asked for: at least {least}");
+    }
+    match field_at_fault(option, kind, line, delimiter) {
+        Some((place, rule, field)) => {
+            let (name, asked, field) = (rule.name, rule.asked, start_of(field));
+            writeln!(
+                out,
+                "field {place} ({name}) is \"{field}\"; asked for: {asked}"
+            )
+        }
+        None => {
+            let words = words_of_kind(kind);
+            writeln!(out, "{words}")
+        }
+    }
+}
+
 /// Says which field of the line is at fault and why, and shows the line.
 fn explain_line(
     out: &mut String,
@@ -80,25 +108,26 @@ fn explain_line(
     let RefusedLine { file, kind, number } = refused;
     let delimiter = delimiter_of(file.option, text);
     write!(out, "countygroups: {file}, line {number}: ")?;
-    if let LineKind::TooFewFields = kind {
-        let count = count_fields(line, delimiter);
-        let least = least_fields(file.option);
-        writeln!(out, "fields: {count}; asked for: at least {least}")?;
-    } else if let Some((place, rule, field)) = field_at_fault(file.option, kind, line, delimiter) {
-        let (name, asked, field) = (rule.name, rule.asked, start_of(field));
-        writeln!(
-            out,
-            "field {place} ({name}) is \"{field}\"; asked for: {asked}"
-        )?;
-    } else {
-        let words = words_of_kind(kind);
-        writeln!(out, "{words}")?;
-    }
+    explain_field(out, file.option, kind, delimiter, line)?;
     let line = start_of(line);
     writeln!(out, "countygroups: line {number} is: {line}")
 }
 
-/// Says that no line is a county or block line of the state, and which state the file has.
+/// Says which state the file has, if it has a county line.
+fn explain_state(out: &mut String, text: &[u8]) -> Result<(), AllocError> {
+    match county_state(text) {
+        Some(other) => {
+            let other = start_of(other);
+            writeln!(
+                out,
+                "countygroups: its first county line has STATE {other}; --state CODE names the state, 37 where it is left out"
+            )
+        }
+        None => Ok(()),
+    }
+}
+
+/// Says that no line is a county or block line of the state, and of counties which state the file has.
 fn explain_no_areas(
     out: &mut String,
     refused: RefusedLine<'_>,
@@ -115,14 +144,8 @@ fn explain_no_areas(
         out,
         "countygroups: {file}: no line is a {area} line of state {state:02} (SUMLEV {level}, GEOCOMP 00, STATE {state:02})"
     )?;
-    match (kind, county_state(text)) {
-        (LineKind::NoCounties, Some(other)) => {
-            let other = start_of(other);
-            writeln!(
-                out,
-                "countygroups: its first county line has STATE {other}; --state CODE names the state, 37 where it is left out"
-            )
-        }
+    match kind {
+        LineKind::NoCounties => explain_state(out, text),
         _ => Ok(()),
     }
 }
@@ -170,6 +193,28 @@ fn explain_remedy(
     writeln!(out, "countygroups: {words}")
 }
 
+/// Explains why a line is refused: its field and what is asked for, and the line itself.
+fn explain_place(
+    out: &mut String,
+    options: &Options<'_>,
+    refused: RefusedLine<'_>,
+    text: &[u8],
+) -> Result<(), AllocError> {
+    let RefusedLine { file, kind, number } = refused;
+    let words = words_of_kind(kind);
+    if number > 0 {
+        return match line_of(text, number) {
+            Some(line) => explain_line(out, refused, text, line),
+            None => writeln!(out, "countygroups: {file}, line {number}: {words}"),
+        };
+    }
+    if file.path.is_some() && !matches!(kind, LineKind::TooManyLines) {
+        explain_no_areas(out, refused, options, text)
+    } else {
+        writeln!(out, "countygroups: {file}: {words}")
+    }
+}
+
 /// Explains why a line is refused: its field and what is asked for, the line itself, and what to do.
 ///
 /// # Errors
@@ -181,17 +226,6 @@ pub(crate) fn explain_refused(
     options: &Options<'_>,
     refused: RefusedLine<'_>,
 ) -> Result<(), AllocError> {
-    let RefusedLine { file, kind, number } = refused;
-    let text = text_of(rt, file);
-    let words = words_of_kind(kind);
-    if number == 0 && file.path.is_some() && !matches!(kind, LineKind::TooManyLines) {
-        explain_no_areas(out, refused, options, &text)?;
-    } else if number == 0 {
-        writeln!(out, "countygroups: {file}: {words}")?;
-    } else if let Some(line) = line_of(&text, number) {
-        explain_line(out, refused, &text, line)?;
-    } else {
-        writeln!(out, "countygroups: {file}, line {number}: {words}")?;
-    }
-    explain_remedy(rt, out, options, file.option)
+    explain_place(out, options, refused, &text_of(rt, refused.file))?;
+    explain_remedy(rt, out, options, refused.file.option)
 }
