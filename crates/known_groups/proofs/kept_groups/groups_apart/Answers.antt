@@ -1,4 +1,5 @@
 use Rattle.std.proofs.Common.{ap}
+use Rattle.std.proofs.lemmas.Result.{IfOk-from_err}
 use Rattle.grouping_laws.proofs.PlaceProblem.{order_once}
 use Rattle.grouping_problem.specs.ProblemValue.{problem_of}
 use Rattle.line_verdicts.specs.Placed.{codes_of_set}
@@ -31,3 +32,18 @@ loop-group-preserved g c =
           let r = kept_out C test order Is groups i item olds news c.loop-group-test.true c.group-item.is (ap (λ z. z.items) w.apart-is) isnt inv.those inv.below in
           record { those = r.0; below = r.1 }
     ]
+
+pub returns-in_err-copy-clause-those : goal.returns-in_err-copy-clause-those
+returns-in_err-copy-clause-those g c = IfOk-from_err c.from_residual.result _ c.from_residual.ensures.0
+
+pub returns-in_err-copy-clause-below : goal.returns-in_err-copy-clause-below
+returns-in_err-copy-clause-below g c = IfOk-from_err c.from_residual.result _ c.from_residual.ensures.0
+
+pub returns-in_err-push-clause-those : goal.returns-in_err-push-clause-those
+returns-in_err-push-clause-those g c = IfOk-from_err c.from_residual-in_err-push.result _ c.from_residual-in_err-push.ensures.0
+
+pub returns-in_err-push-clause-below : goal.returns-in_err-push-clause-below
+returns-in_err-push-clause-below g c = IfOk-from_err c.from_residual-in_err-push.result _ c.from_residual-in_err-push.ensures.0
+
+pub returns-clause-below : goal.returns-clause-below
+returns-clause-below g c = c.loop-group.invariant.below

@@ -1,5 +1,6 @@
 use Rattle.std.proofs.Common.{sym, ap, ◌∙◌, ◌≡◌, ◌<◌, ℕ, true, length, arith}
 use Rattle.std.proofs.lemmas.Bool.{false≢true}
+use Rattle.std.proofs.lemmas.Result.{IfOk-from_err}
 use Rattle.grouping_problem.specs.ProblemValue.{problem_of}
 use Rattle.grouping_laws.specs.Sets.{member}
 use Rattle.place_sets.specs.CountySet.{places_of}
@@ -39,3 +40,57 @@ loop-group-preserved g c =
           let r = kept_out C test order Is groups i item olds news c.loop-group-test.true c.group-item.is (ap (λ z. z.items) w.live-is) isnt inv.those inv.below in
           record { those = r.0; below = r.1; steps = omega (arith, c.if-not-tick.ensures.used, inv.steps); more = omega (arith, c.if-not-tick.ensures.used, inv.more); limit = c.if-not-tick.ensures.limit ∙ inv.limit }
     ]
+
+pub returns-in_err-is_live-clause-those : goal.returns-in_err-is_live-clause-those
+returns-in_err-is_live-clause-those g c = IfOk-from_err c.from_residual.result _ c.from_residual.ensures.0
+
+pub returns-in_err-is_live-clause-below : goal.returns-in_err-is_live-clause-below
+returns-in_err-is_live-clause-below g c = IfOk-from_err c.from_residual.result _ c.from_residual.ensures.0
+
+pub returns-in_err-is_live-clause-steps : goal.returns-in_err-is_live-clause-steps
+returns-in_err-is_live-clause-steps g c = omega (arith, c.if-not-tick.ensures.used, c.loop-group.invariant.steps, c.loop-group-test.true)
+
+pub returns-in_err-is_live-clause-more : goal.returns-in_err-is_live-clause-more
+returns-in_err-is_live-clause-more g c = omega (arith, c.if-not-tick.ensures.used, c.loop-group.invariant.more)
+
+pub returns-in_err-is_live-clause-limit : goal.returns-in_err-is_live-clause-limit
+returns-in_err-is_live-clause-limit g c = c.if-not-tick.ensures.limit ∙ c.loop-group.invariant.limit
+
+pub returns-in_err-copy-clause-those : goal.returns-in_err-copy-clause-those
+returns-in_err-copy-clause-those g c = IfOk-from_err c.from_residual-in_err-copy.result _ c.from_residual-in_err-copy.ensures.0
+
+pub returns-in_err-copy-clause-below : goal.returns-in_err-copy-clause-below
+returns-in_err-copy-clause-below g c = IfOk-from_err c.from_residual-in_err-copy.result _ c.from_residual-in_err-copy.ensures.0
+
+pub returns-in_err-copy-clause-steps : goal.returns-in_err-copy-clause-steps
+returns-in_err-copy-clause-steps g c = omega (arith, c.if-not-tick.ensures.used, c.loop-group.invariant.steps, c.loop-group-test.true)
+
+pub returns-in_err-copy-clause-more : goal.returns-in_err-copy-clause-more
+returns-in_err-copy-clause-more g c = omega (arith, c.if-not-tick.ensures.used, c.loop-group.invariant.more)
+
+pub returns-in_err-copy-clause-limit : goal.returns-in_err-copy-clause-limit
+returns-in_err-copy-clause-limit g c = c.if-not-tick.ensures.limit ∙ c.loop-group.invariant.limit
+
+pub returns-in-Err-clause-steps : goal.returns-in-Err-clause-steps
+returns-in-Err-clause-steps g c = omega (arith, c.if-not-tick.ensures.used, c.loop-group.invariant.steps, c.loop-group-test.true)
+
+pub returns-in-Err-clause-more : goal.returns-in-Err-clause-more
+returns-in-Err-clause-more g c = omega (arith, c.if-not-tick.ensures.used, c.loop-group.invariant.more)
+
+pub returns-in-Err-clause-limit : goal.returns-in-Err-clause-limit
+returns-in-Err-clause-limit g c = c.if-not-tick.ensures.limit ∙ c.loop-group.invariant.limit
+
+pub returns-clause-below : goal.returns-clause-below
+returns-clause-below g c = c.loop-group.invariant.below
+
+pub returns-clause-steps : goal.returns-clause-steps
+returns-clause-steps g c = omega (arith, c.loop-group.invariant.steps, c.loop-group.auto.group-index-end)
+
+pub returns-clause-more : goal.returns-clause-more
+returns-clause-more g c = c.loop-group.invariant.more
+
+pub returns-clause-limit : goal.returns-clause-limit
+returns-clause-limit g c = c.loop-group.invariant.limit
+
+pub returns-clause-stopped : goal.returns-clause-stopped
+returns-clause-stopped g c = λ h. cc
