@@ -2,6 +2,7 @@ use Rattle.std.proofs.Common.{◌≡◌, ℕ, true, [], ◌∷◌, map, length, 
 use Rattle.std.proofs.lemmas.List.Elements.{All-append}
 use Rattle.grouping_laws.proofs.Elements.{all_from_has}
 use Rattle.std.proofs.lemmas.List.{map-append, length-append}
+use Rattle.std.proofs.lemmas.Result.{IfOk-from_err}
 use Rattle.place_sets.specs.CountySet.{places_of}
 use Rattle.county_regions.specs.Rows.{problem_at}
 use Rattle.county_regions.proofs.Filling.{few}
@@ -50,3 +51,33 @@ returns-clause-parts g c = parted_all (problem_at c.args.ordered.now) (g.C.Count
 
 pub returns-clause-few : goal.returns-clause-few
 returns-clause-few g c = omega (arith, c.loop-place.invariant.few)
+
+pub returns-in_err-rest-clause-parts : goal.returns-in_err-rest-clause-parts
+returns-in_err-rest-clause-parts g c = IfOk-from_err c.from_residual.result _ c.from_residual.ensures.0
+
+pub returns-in_err-rest-clause-few : goal.returns-in_err-rest-clause-few
+returns-in_err-rest-clause-few g c = IfOk-from_err c.from_residual.result _ c.from_residual.ensures.0
+
+pub returns-in_err-rest-clause-inside : goal.returns-in_err-rest-clause-inside
+returns-in_err-rest-clause-inside g c = IfOk-from_err c.from_residual.result _ c.from_residual.ensures.0
+
+pub returns-in_err-part-clause-parts : goal.returns-in_err-part-clause-parts
+returns-in_err-part-clause-parts g c = IfOk-from_err c.from_residual-in_err-part.result _ c.from_residual-in_err-part.ensures.0
+
+pub returns-in_err-part-clause-few : goal.returns-in_err-part-clause-few
+returns-in_err-part-clause-few g c = IfOk-from_err c.from_residual-in_err-part.result _ c.from_residual-in_err-part.ensures.0
+
+pub returns-in_err-part-clause-inside : goal.returns-in_err-part-clause-inside
+returns-in_err-part-clause-inside g c = IfOk-from_err c.from_residual-in_err-part.result _ c.from_residual-in_err-part.ensures.0
+
+pub returns-in_err-push-clause-parts : goal.returns-in_err-push-clause-parts
+returns-in_err-push-clause-parts g c = IfOk-from_err c.from_residual-in_err-push.result _ c.from_residual-in_err-push.ensures.0
+
+pub returns-in_err-push-clause-few : goal.returns-in_err-push-clause-few
+returns-in_err-push-clause-few g c = IfOk-from_err c.from_residual-in_err-push.result _ c.from_residual-in_err-push.ensures.0
+
+pub returns-in_err-push-clause-inside : goal.returns-in_err-push-clause-inside
+returns-in_err-push-clause-inside g c = IfOk-from_err c.from_residual-in_err-push.result _ c.from_residual-in_err-push.ensures.0
+
+pub returns-clause-inside : goal.returns-clause-inside
+returns-clause-inside g c = c.loop-place.invariant.inside
