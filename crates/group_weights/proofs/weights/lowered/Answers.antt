@@ -1,4 +1,6 @@
-use Rattle.std.proofs.Common.{ap, length, arith}
+use Rattle.std.proofs.Common.{◌<◌, ◌≤◌, ◌-◌, ap, sym, subst, length, arith}
+use Rattle.std.proofs.Math.ListN.{length-set}
+use Rattle.std.proofs.lemmas.List.Elements.{All-set}
 use Rattle.std.proofs.lemmas.Result.{IfOk-from_err}
 use Rattle.group_weights.proofs.weights.lowered.Goals as goal
 
@@ -25,3 +27,14 @@ returns-clause-count g c = c.loop-place.invariant.count
 
 pub returns-clause-range : goal.returns-clause-range
 returns-clause-range g c = c.loop-place.invariant.range
+
+pub loop-place-preserved : goal.loop-place-preserved
+loop-place-preserved g c =
+    let old = c.loop-place.lower.items in
+    let inv = c.loop-place.invariant in
+    let below : c.from.result < length old = omega (arith, c.requires.within c.in-Some.place c.in-Some.ensures.least.1, inv.count, c.from.ensures) in
+    let small : c.index_mut.result.now ≤ 1000000 = subst (λ z. z ≤ 1000000) (sym c.index_mut.ensures.value) (inv.range c.from.result c.index_mut.result.now below) in
+    record {
+      count = simp length-set inv.count;
+      range = All-set (λ w. w ≤ 1000000) old c.from.result (c.index_mut.result.now - c.slack-slack.result) (omega (arith, small)) inv.range;
+    }
