@@ -1,0 +1,7 @@
+use Rattle.std.proofs.Common.{arith}
+use Rattle.bound_verdicts.proofs.bound.judge_allowance.Goals as goal
+
+pub returns-then-all-wanted-2-clause-line : goal.returns-then-all-wanted-2-clause-line
+returns-then-all-wanted-2-clause-line g c counts is =
+    let fair = c.in_ok-allowance.ensures.line in
+    (fair.0, omega (arith, fair.1, c.closed_of_size.ensures.value, c.from-wanted.ensures, is))
