@@ -22,3 +22,12 @@ returns-then-size-round-clause-next g c = record {
 pub room_leaf-requires-clause-none : goal.room_leaf-requires-clause-none
 room_leaf-requires-clause-none g c = λ group fits small.
     none_at g.row.C.Denot g.C.CountySet.test g.C.CountySet.PLACES c.args.ground.now c.requires.ground c.places-places.ensures.order (state_in c.args.ground.now g.C.CountySet.test c.args.position.now.state) c.args.position.now c.requires.at c.requires.none group fits (omega (arith, small))
+
+pub returns-in-Some-clause-next : goal.returns-in-Some-clause-next
+returns-in-Some-clause-next g c = rw c.in-Some.is at c.in_ok-leaf.ensures
+
+pub returns-in-Some-2-clause-next : goal.returns-in-Some-2-clause-next
+returns-in-Some-2-clause-next g c = rw c.in-Some-2.is at c.in_ok-leaf-2.ensures
+
+pub returns-in-Ok-clause-next : goal.returns-in-Ok-clause-next
+returns-in-Ok-clause-next g c = (omega (arith, c.requires.at.small, c.if-size-round.false), c.in-Ok.ensures.below, c.in-Ok.ensures.groups)
