@@ -41,11 +41,12 @@ fn weights_within<C: CountySet>(
 {
     let mut table = Vec::new(alloc);
     for place in 0..weights.len() {
-        if region.has(place as u16) {
-            table.push(weights[place])?;
+        let weight = if region.has(place as u16) {
+            weights[place]
         } else {
-            table.push(0)?;
-        }
+            0
+        };
+        table.push(weight)?;
     }
     Ok(table)
 }
