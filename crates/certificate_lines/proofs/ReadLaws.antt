@@ -1,6 +1,7 @@
 -- Readings one after the other.
-use Rattle.std.proofs.Common.{◌≡◌, ℕ, ◌==◌, ◌+◌, ◌<◌, ◌≤◌, true, false, List, [], ◌∷◌, ◌++◌, length, Result, Ok, Err, refl, ap, sym, subst, ◌∙◌, append_assoc, append-nil, arith}
+use Rattle.std.proofs.Common.{◌≡◌, ℕ, ◌==◌, ◌+◌, ◌<◌, ◌≤◌, true, false, List, [], ◌∷◌, ◌++◌, length, reverse, Result, Ok, Err, refl, ap, sym, subst, ◌∙◌, append_assoc, append-nil, arith}
 use Rattle.std.proofs.lemmas.Bool.Decides.{nat_tests}
+use Rattle.std.proofs.lemmas.List.{reverse-append}
 use Rattle.std.proofs.lemmas.Grind.{flat_map-append}
 use Rattle.field_lines.specs.Raw.{RawLine, text_of as raw_text}
 use Rattle.field_lines.proofs.TextLemmas.{text_of-raw_lines}
@@ -86,6 +87,17 @@ module _ {X : Type 0} (w : Wanted) (read : RawLine → Result X TextKind) (view 
         fits = λ more later h. (item_fits w takes.piece (view x) item, h);
       }
 
+  -- what was read is the item of the line
+  pub took_line : (x : X) (old new : Rest) → TakesLine read x old new → TakesLine (item_on w) (view x) old new
+  took_line x old new takes = record {
+    piece = takes.piece;
+    lines = takes.lines;
+    value = same takes.piece ∙ seen_value view (read takes.piece) x takes.value;
+    number = takes.number;
+    text = takes.text;
+    shorter = takes.shorter;
+  }
+
   fault_go : (n : ℕ) (pieces : List RawLine) (fault : TextFault) (more : List Wanted) → FaultOf read n pieces fault → items_from (w ∷ more) n pieces ≡ Err fault
   fault_go n [] fault more h = ap (λ (f : TextFault). Err f) (sym h)
   fault_go n (piece ∷ pieces) fault more h =
@@ -126,3 +138,13 @@ pub order_taken : (cs : List ℕ) (old new : Rest) → TakesLine (by_words line.
 order_taken cs old new taken =
     let w = bind_ok (line_words taken.piece.bytes taken.piece.ended) line.order_on cs taken.value in
     order_few w.value cs w.then
+
+-- what was put on the stack lies on its top: one thing, two or four
+pub stacked_one : (old new : List Wanted) (x : Wanted) → new ≡ old ++ x ∷ [] → reverse new ≡ x ∷ reverse old
+stacked_one old new x e = ap reverse e ∙ reverse-append old (x ∷ [])
+
+pub stacked_two : (old new : List Wanted) (x y : Wanted) → new ≡ old ++ x ∷ y ∷ [] → reverse new ≡ y ∷ x ∷ reverse old
+stacked_two old new x y e = ap reverse e ∙ reverse-append old (x ∷ y ∷ [])
+
+pub stacked_four : (old new : List Wanted) (x y z t : Wanted) → new ≡ old ++ x ∷ y ∷ z ∷ t ∷ [] → reverse new ≡ t ∷ z ∷ y ∷ x ∷ reverse old
+stacked_four old new x y z t e = ap reverse e ∙ reverse-append old (x ∷ y ∷ z ∷ t ∷ [])

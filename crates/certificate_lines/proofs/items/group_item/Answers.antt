@@ -1,0 +1,28 @@
+use Rattle.std.proofs.Common.{◌≡◌, ◌∙◌, ◌-◌, ◌<◌, ◌++◌, List, ℕ, reverse, refl, ap, sym, arith}
+use Rattle.certificate_lines.specs.Items.{by_words, groups_wanted}
+use Rattle.certificate_lines.specs.Lines as line
+use Rattle.certificate_lines.specs.declared.item.Item.TheVariants as item
+use Rattle.certificate_lines.specs.declared.item.Wanted.{Wanted}
+use Rattle.certificate_lines.specs.declared.item.Wanted.TheVariants as want
+use Rattle.certificate_lines.proofs.ReadLaws.{took_line, stacked_one, groups_more}
+use Rattle.certificate_lines.proofs.items.group_item.Goals.{then-left-gt1+in_ok-push_on, else-left-gt1}
+use Rattle.certificate_lines.proofs.items.group_item.Goals as goal
+
+pub returns : goal.returns
+returns c =
+    let left = c.args.left in
+    let below = c.args.stack.now.items in
+    let line = took_line (want.Groups left) (by_words line.group_on) item.Grouped (λ p. refl) c.in_ok-group.group c.args.cursor.now c.group.new.self c.in_ok-group.ensures in
+    elim c.if-left-gt1.branch [
+      | then-left-gt1+in_ok-push_on w ↦
+          let some : 0 < left - 1 = omega arith in
+          rw w.stack-is (record {
+            line = line;
+            stacked =
+                stacked_one below w.push_on.new.items.items (want.Groups (left - 1)) w.in_ok-push_on.ensures.pushed
+                ∙ ap (λ (l : List Wanted). l ++ reverse below) (sym (groups_more (left - 1) some));
+          })
+      | else-left-gt1 w ↦
+          let none : left - 1 ≡ 0 = omega arith in
+          rw w.stack-is (record { line = line; stacked = ap (λ (n : ℕ). groups_wanted n ++ reverse below) (sym none) })
+    ]
