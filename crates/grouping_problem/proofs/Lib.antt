@@ -2,3 +2,4 @@ pub mod RisingLemmas
 pub mod BuildLemmas
 pub mod ProblemLemmas
 pub mod PeopleLemmas
+pub mod TestLemmas

@@ -191,6 +191,37 @@ fn totals_of(
     Ok((total, left))
 }
 
+/// The problem of listed counties, by the withdrawn codes, and the people and the seats left, which are known.
+fn with_totals(
+    alloc: Global,
+    counties: &[County],
+    pairs: &[(CountyCode, CountyCode)],
+    withdrawn: &[Withdrawn],
+    taken: &[CountyCode],
+    totals: (u64, u16),
+    chamber: u16,
+) -> Result<Problem, AllocError>
+    requires some { 1 ≤ chamber }
+    requires most { chamber ≤ 1000 }
+    requires few { length counties.now ≤ 128 }
+    requires taken { taken.now ≡ codes_in withdrawn.now }
+    requires once { first_repeated (codes_of counties.now) ≡ None }
+    requires people { (totals.0 ≡ people_in counties.now) × ((1 ≤ totals.0) × (totals.0 ≤ 2 ^ 40)) }
+    requires seats { totals.1 + seats_in withdrawn.now ≡ chamber }
+    requires sets { length withdrawn.now ≤ chamber }
+    ensures { IfOk result (IsProblemOf counties.now pairs.now withdrawn.now chamber) }
+{
+    let counties = counties_left(alloc, counties, taken)?;
+    Ok(Problem {
+        pairs: pairs_between(alloc, &counties, pairs)?,
+        withdrawn: copy_sets(alloc, withdrawn)?,
+        counties,
+        total: totals.0,
+        chamber,
+        left: totals.1,
+    })
+}
+
 impl Problem {
     /// The problem of the listed counties, the pairs of adjacent codes, the withdrawn sets and a chamber's
     /// seats, or the first fault. A pair of a county with itself is ignored, and so is a pair of listed
@@ -224,15 +255,7 @@ impl Problem {
         }
         let listed = listed_codes(alloc, counties)?;
         let taken = withdrawn_codes(alloc, withdrawn)?;
-        let (total, left) = totals_of(counties, &listed, pairs, withdrawn, &taken, chamber)?;
-        let counties = counties_left(alloc, counties, &taken)?;
-        Ok(Problem {
-            pairs: pairs_between(alloc, &counties, pairs)?,
-            withdrawn: copy_sets(alloc, withdrawn)?,
-            counties,
-            total,
-            chamber,
-            left,
-        })
+        let totals = totals_of(counties, &listed, pairs, withdrawn, &taken, chamber)?;
+        Ok(with_totals(alloc, counties, pairs, withdrawn, &taken, totals, chamber)?)
     }
 }
