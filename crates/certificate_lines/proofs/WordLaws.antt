@@ -1,7 +1,7 @@
 -- What words are read as, and how that is written: both ways.
-use Rattle.std.proofs.Common.{◌≡◌, ℕ, ◌+◌, ◌-◌, ◌*◌, ◌/◌, ◌%◌, ◌<◌, ◌≤◌, ◌^◌, ◌==◌, ◌&&◌, cond, not, Bool, true, false, List, [], ◌∷◌, ◌++◌, length, map, get_or, Some, None, Result, Ok, Err, refl, ap, sym, subst, ◌∙◌, arith, lit<}
+use Rattle.std.proofs.Common.{◌≡◌, ℕ, ◌+◌, ◌-◌, ◌*◌, ◌/◌, ◌%◌, ◌<◌, ◌≤◌, ◌^◌, ◌==◌, ◌&&◌, cond, not, Bool, true, false, List, [], ◌∷◌, ◌++◌, length, map, get_or, Some, None, Result, Ok, Err, refl, ap, sym, subst, ◌∙◌, ◌⊎◌, inl, inr, arith, rules, lit<}
 use Rattle.std.specs.Fmt.{decimal}
-use Rattle.std.specs.Prelude.{nat_le}
+use Rattle.std.specs.Prelude.{nat_le, nat_lt}
 use Rattle.std.specs.List.{AllByRecursion, list_all, join_with_byte}
 use Rattle.std.specs.Char.{is_ascii_digit}
 use Rattle.std.specs.Option.{ok_or}
@@ -16,10 +16,10 @@ use Rattle.field_lines.specs.Fields.{fields_of}
 use Rattle.field_lines.specs.Number.{number_of, number_in, kept_in}
 use Rattle.field_lines.proofs.NumberLemmas.{is_digit}
 use Rattle.certificate_lines.specs.Words.{has_bytes, is_numeral, has_leading_zero, number, code, pair, halves}
-use Rattle.certificate_lines.specs.Lines.{each}
+use Rattle.certificate_lines.specs.Lines.{each, counted}
 use Rattle.certificate_lines.specs.Spelling.{five_digits, weight_word}
 use Rattle.certificate_lines.specs.declared.fault.TextKind.{TextKind}
-use Rattle.certificate_lines.specs.declared.fault.TextKind.TheVariants.{BadNumber, NotCanonical}
+use Rattle.certificate_lines.specs.declared.fault.TextKind.TheVariants.{BadNumber, BadWord, NotCanonical}
 use Rattle.certificate_lines.specs.declared.weights.Weight.{Weight}
 
 -- a step that was made, and the one after it
@@ -182,3 +182,22 @@ module _ {X : Type 0} (read : List ℕ → Result X TextKind) (write : X → Lis
       let rest = each_ok words more.value more.first in
       let is : x.value ∷ more.value ≡ xs = cc (more.then) in
       subst (λ (l : List X). ((word ∷ words) ≡ map write l) × AllByRecursion Fits l) is (cc (first.0, rest.0), (first.1, rest.1))
+
+-- a zero in front of other bytes
+pub zero_before : (word : List ℕ) → 1 < length word → (get_or word 0 0 == 48) ≡ has_leading_zero word
+zero_before [] long = absurd (omega arith)
+zero_before (x ∷ []) long = absurd (omega arith)
+zero_before (x ∷ y ∷ rest) long = search rules
+
+pub nothing_before : (word : List ℕ) → length word ≤ 1 → nat_lt 1 (length word) ≡ has_leading_zero word
+nothing_before [] short = search rules
+nothing_before (x ∷ []) short = search rules
+nothing_before (x ∷ y ∷ rest) short = absurd (omega arith)
+
+-- so many words, or not
+pub counted_right : (least greatest n : ℕ) (words : List (List ℕ)) → n ≡ length words → least ≤ n → n ≤ greatest → counted least greatest words ≡ Ok words
+counted_right least greatest n words is enough few = grind (arith, nat_tests)
+
+pub counted_wrong : (least greatest n : ℕ) (words : List (List ℕ)) → n ≡ length words → (((least ≤ n) × (greatest < n)) ⊎ (n < least)) → counted least greatest words ≡ Err BadWord
+counted_wrong least greatest n words is (inl many) = grind (arith, nat_tests)
+counted_wrong least greatest n words is (inr few) = grind (arith, nat_tests)
