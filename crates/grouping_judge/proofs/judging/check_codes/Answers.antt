@@ -55,3 +55,6 @@ returns-clause-small c =
     let once : NoneTwice (problem_of v) groups = ((sym c.empty_group.ensures ∙ c.in_default.is, none_unknown), none_twice) in
     let whole = is_whole (problem_of v) groups (once, unlisted_none (codes_read groups) (codes_of v.counties) (first_missing ∙ c.in_default-unlisted_code.is)) in
     small_groups (problem_of v) groups 128 whole (omega (arith, length-map v.counties (λ x. x.code), ap length c.counties.ensures.value, c.counties.ensures.few))
+
+pub returns-in-Some-clause-memory : goal.returns-in-Some-clause-memory
+returns-in-Some-clause-memory c = λ memory. absurd cc
