@@ -13,7 +13,7 @@ use Rattle.std.proofs.lemmas.Bool.{eqb-true, eq-eqb}
 use Rattle.county_codes.specs.declared.county.County.{County}
 use Rattle.county_codes.specs.declared.withdrawn.Withdrawn.{Withdrawn}
 use Rattle.grouping_problem.specs.declared.fault.ProblemFault.{ProblemFault}
-use Rattle.grouping_problem.specs.declared.fault.ProblemFault.TheVariants.{EmptyWithdrawn}
+use Rattle.grouping_problem.specs.declared.fault.ProblemFault.TheVariants.{EmptyWithdrawn, SeatsOutOfRange, TooManyCounties, Memory}
 use Rattle.grouping_laws.specs.Sets.{digit, total, often}
 use Rattle.grouping_problem.specs.ProblemValue.{codes_of}
 use Rattle.grouping_problem.specs.Building.{first_repeated, people_in, seats_in, first_of, withdrawn_fault}
@@ -130,3 +130,10 @@ first_none (Some n) faults e = absurd cc
 -- withdrawn sets without fault are no more than the chamber's seats
 pub few_sets : (listed : List ℕ) (sets : List Withdrawn) (chamber left : ℕ) → withdrawn_fault listed sets chamber ≡ None → left + seats_in sets ≡ chamber → length sets ≤ chamber
 few_sets listed sets chamber left none sum = let each = each_seated sets 1 (first_none _ _ none) in omega (arith, each, sum)
+
+-- the faults of the two limits are none of memory
+pub seats_not_memory : SeatsOutOfRange ≡ Memory → ⊥
+seats_not_memory e = absurd cc
+
+pub counties_not_memory : TooManyCounties ≡ Memory → ⊥
+counties_not_memory e = absurd cc
