@@ -1,5 +1,5 @@
 -- Loops that append the text of one element after the other, where the text of what is left gives the whole.
-use Rattle.std.proofs.Common.{◌≡◌, ◌∙◌, ◌+◌, ◌<◌, ◌≤◌, ◌++◌, ◌∷◌, [], ℕ, List, length, get_or, drop, ap, sym, append_assoc, append-nil}
+use Rattle.std.proofs.Common.{◌≡◌, ◌∙◌, ◌+◌, ◌<◌, ◌++◌, ◌∷◌, [], ℕ, List, length, get_or, drop, ap, sym, append_assoc, append-nil}
 use Rattle.std.proofs.lemmas.List.{at_drop_more}
 
 -- one element more

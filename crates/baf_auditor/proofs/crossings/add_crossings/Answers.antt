@@ -1,4 +1,4 @@
-use Rattle.std.proofs.Common.{◌≡◌, ◌∙◌, ◌+◌, ◌-◌, ◌≤◌, ◌++◌, ℕ, List, length, drop, take_all, length-drop, ap, arith}
+use Rattle.std.proofs.Common.{◌∙◌, ◌+◌, ◌-◌, ◌≤◌, ◌++◌, ℕ, List, length, drop, take_all, length-drop, ap, arith}
 use Rattle.std.proofs.lemmas.List.{at_drop_all}
 use Rattle.baf_auditor.specs.Districts.{crossings_with, crossings}
 use Rattle.baf_auditor.proofs.LoopLemmas.{step_more, step_done, from_read}

@@ -1,4 +1,4 @@
-use Rattle.std.proofs.Common.{◌∙◌, ◌+◌, ◌++◌, ℕ, List, drop, ap}
+use Rattle.std.proofs.Common.{◌∙◌, ◌+◌, ◌++◌, ℕ, List, ap}
 use Rattle.std.proofs.lemmas.List.{at_drop_all}
 use Rattle.county_codes.specs.declared.group.Group.{Group}
 use Rattle.baf_auditor.specs.Findings.{groups_from}
