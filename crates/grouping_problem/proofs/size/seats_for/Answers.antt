@@ -1,4 +1,4 @@
-use Rattle.std.proofs.Common.{Some, None}
+use Rattle.std.proofs.Common.{None}
 use Rattle.grouping_problem.proofs.TestLemmas.{first_where, second_where}
 use Rattle.grouping_problem.proofs.size.seats_for.Goals as goal
 
