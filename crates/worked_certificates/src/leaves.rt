@@ -1,19 +1,23 @@
-//! The leaf that is found at a state where nothing is closed.
+//! The leaf that is found at a state where nothing is closed, and what the checker says of it as a tree.
 
 ghost use Rattle.std.specs.Prelude.{◌≡◌, ◌≤◌, map, length, IfOk};
 ghost use Rattle.std.specs.Vec.{vec_items};
 ghost use Rattle.county_regions.specs.Rows.{AreRows};
 ghost use Rattle.grouping_problem.specs.ProblemValue.{problem_of};
 ghost use Rattle.ordered_counties.specs.OrderedValue.{problem_at};
-ghost use Rattle.proof_trees.specs.RoundValue.{round_of};
+ghost use Rattle.proof_trees.specs.RoundValue.{round_of, target_of};
 ghost use Rattle.line_verdicts.specs.Placed.{state_at, IsPlaced};
 ghost use Rattle.bound_proofs.specs.CountLeaves.{AreListsFrom};
+ghost use Rattle.grouping_laws.specs.GroupsFrom.{IsOrder};
+ghost use Rattle.verdicts.specs.Verdict.{IsLawfulTarget};
 
-use anyhow::Result;
+use anyhow::{Error, Result};
 use bound_proofs::find_leaf;
-use certificate_text::Leaf;
+use certificate_checker::{TreeVerdict, check_tree};
+use certificate_text::{Leaf, Tree};
 use county_codes::{Codes, Grouping, listed_codes};
 use county_regions::neighbour_rows;
+use grouping_judge::judge;
 use grouping_problem::Problem;
 use known_groups::groups_of_size;
 use line_verdicts::first_state;
@@ -59,46 +63,98 @@ fn groups_by_size<C: CountySet>(
     Ok(lists)
 }
 
-/// The leaf that is found where nothing is closed.
-fn first_leaf<C: CountySet>(alloc: Global, ordered: &Ordered, round: &Round) -> Result<Option<Leaf>>
+/// The leaf that is found at a state.
+fn leaf_at<C: CountySet>(
+    alloc: Global,
+    ordered: &Ordered,
+    round: &Round,
+    state: &State<C>,
+) -> Result<Option<Leaf>>
     requires fits { length ordered.now.order ≤ C.PLACES }
     requires order { ordered.now.order ≡ round.now.order }
+    requires placed { IsPlaced (length ordered.now.order) C.test state.now }
 {
     let near: Vec<C> = neighbour_rows(alloc, ordered)?;
-    let state: State<C> = first_state(alloc, ordered)?;
-    let lists = groups_by_size(alloc, ordered, &near, round, &state)?;
-    Ok(find_leaf(alloc, ordered, &near, round, &state, &lists)?)
+    let lists = groups_by_size(alloc, ordered, &near, round, state)?;
+    Ok(find_leaf(alloc, ordered, &near, round, state, &lists)?)
 }
 
-/// The target that a grouping text tells; none where it is empty.
-fn target_in(alloc: Global, text: &[u8]) -> Result<Option<Grouping>> {
+/// The lawful target that a grouping text tells; none where it is empty.
+fn target_in(alloc: Global, problem: &Problem, text: &[u8]) -> Result<Option<Grouping>>
+    ensures { IfOk result (λ target. IsLawfulTarget (problem_of problem.now) (target_of target)) }
+{
     if text.is_empty() {
         return Ok(None);
     }
-    Ok(Some(read_grouping(alloc, text)?))
+    let target = read_grouping(alloc, text)?;
+    let _counts = judge(alloc, problem, &target)?;
+    Ok(Some(target))
 }
 
 /// A leaf in words.
-fn kind_of(leaf: Option<&Leaf>) -> &'static str {
+fn kind_of(leaf: &Leaf) -> &'static str {
     match leaf {
-        Some(Leaf::Stuck(_)) => "a stuck leaf",
-        Some(Leaf::Seats) => "a seats leaf",
-        Some(Leaf::Bound(_)) => "a bound leaf",
-        None => "no leaf",
+        Leaf::Stuck(_) => "a stuck leaf",
+        Leaf::Seats => "a seats leaf",
+        Leaf::Bound(_) => "a bound leaf",
     }
 }
 
-/// What leaf is found where nothing is closed, in a wide round of the limit whose target the text tells.
+/// A leaf in words, and what the checker says of it as a tree at the state.
+fn checked<C: CountySet>(
+    alloc: Global,
+    problem: &Problem,
+    round: &Round,
+    state: &State<C>,
+    leaf: Leaf,
+) -> Result<String>
+    requires fits { length round.now.order ≤ C.PLACES }
+    requires order { IsOrder (problem_of problem.now) round.now.order }
+    requires small { round.now.limit ≤ 128 }
+    requires target { IsLawfulTarget (problem_of problem.now) (target_of round.now.target) }
+    requires placed { IsPlaced (length round.now.order) C.test state.now }
+{
+    let kind = kind_of(&leaf);
+    let branches = Vec::new(alloc);
+    let tree = Tree { branches, leaf };
+    let said = match check_tree(alloc, problem, round, state, &tree, ENOUGH)? {
+        TreeVerdict::Proof => "a proof",
+        TreeVerdict::Fault(_) => "NO PROOF",
+        TreeVerdict::Budget => "BUDGET",
+    };
+    Ok(format!(in alloc; "{kind}, checked {said}")?)
+}
+
+/// What leaf is found where nothing is closed, and what the checker says of it.
+fn first_leaf(alloc: Global, problem: &Problem, ordered: &Ordered, round: &Round) -> Result<String>
+    requires few { length ordered.now.order ≤ 128 }
+    requires same { ordered.now.order ≡ round.now.order }
+    requires order { IsOrder (problem_of problem.now) round.now.order }
+    requires small { round.now.limit ≤ 128 }
+    requires target { IsLawfulTarget (problem_of problem.now) (target_of round.now.target) }
+{
+    let state: State<MaskSet> = first_state(alloc, ordered)?;
+    match leaf_at(alloc, ordered, round, &state)? {
+        Some(leaf) => checked(alloc, problem, round, &state, leaf),
+        None => Ok(String::from_str(alloc, "no leaf")?),
+    }
+}
+
+/// What leaf is found where nothing is closed, in a wide round of the limit whose target the text tells, and what the
+/// checker says of it.
 pub fn leaf_said(alloc: Global, problem: &Problem, limit: u16, text: &[u8]) -> Result<String> {
+    if limit > 128 {
+        return Err(Error::msg("a limit is at most 128"));
+    }
     let order = listed_codes(alloc, problem.counties())?;
+    let target = target_in(alloc, problem, text)?;
     let ordered = Ordered::build(alloc, problem, &order)?;
     let _places = ordered.places();
     let round = Round {
         order: Codes::new(order),
         limit,
-        target: target_in(alloc, text)?,
+        target,
         language: Language::Wide,
     };
-    let leaf = first_leaf::<MaskSet>(alloc, &ordered, &round)?;
-    Ok(String::from_str(alloc, kind_of(leaf.as_ref()))?)
+    first_leaf(alloc, problem, &ordered, &round)
 }
