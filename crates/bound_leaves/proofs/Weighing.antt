@@ -7,8 +7,8 @@ use Rattle.grouping_laws.specs.GroupsFrom.{IsOrder}
 use Rattle.grouping_laws.proofs.Alike.{Alike, length_alike, in_order_alike, member_same}
 use Rattle.grouping_laws.proofs.Elements.{Has, has_all, all_from_has, has_from_contains}
 use Rattle.grouping_laws.proofs.PlaceCodes.{has_mapped}
-use Rattle.place_sets.specs.CountySet.{places_of}
-use Rattle.place_sets.proofs.Sums.{total_alike}
+use Rattle.place_lists.specs.PlaceSets.{places_of}
+use Rattle.place_lists.proofs.Sums.{total_alike}
 use Rattle.proof_trees.specs.Round.{Round}
 use Rattle.proof_trees.specs.Regions.{listed}
 use Rattle.proof_trees.specs.State.{State, open_to}

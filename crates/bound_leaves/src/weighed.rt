@@ -1,6 +1,6 @@
 ghost use Rattle.std.specs.Prelude.{◌≡◌, ℕ, true, cond, ◌<◌, ◌≤◌, List, length, get_or, All, ⊤, IfOk, MatchOption};
 ghost use Rattle.grouping_laws.specs.Sets.{total};
-ghost use Rattle.place_sets.specs.CountySet.{places_of};
+ghost use Rattle.place_lists.specs.PlaceSets.{places_of};
 ghost use Rattle.grouping_problem.specs.ProblemValue.{problem_of};
 ghost use Rattle.growing_sets.specs.Listing.{AreBelow};
 ghost use Rattle.proof_trees.specs.RoundValue.{round_of};

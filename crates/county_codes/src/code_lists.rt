@@ -1,5 +1,5 @@
 ghost use Rattle.std.specs.Prelude.{◌≡◌, ℕ, IfOk};
-ghost use Rattle.place_sets.specs.Lists.{member};
+ghost use Rattle.place_lists.specs.Lists.{member};
 ghost use Rattle.county_codes.specs.CodeLists.{first_repeated, first_unlisted};
 ghost use Rattle.county_codes.specs.Counties.{codes_of};
 

@@ -2,9 +2,9 @@
 use Rattle.std.proofs.Common.{◌≡◌, ℕ, zero, suc, ◌+◌, ◌≤◌, ◌<◌, Bool, true, false, ◌||◌, ◌&&◌, not, ◌==◌, length, refl, sym, ap, ◌∙◌, arith}
 use Rattle.std.proofs.lemmas.Bool.{false≢true, eqb-true, eq-eqb}
 use Rattle.std.proofs.lemmas.List.{length-map}
-use Rattle.place_sets.specs.Lists.{places_below}
-use Rattle.place_sets.specs.CountySet.{places_of}
-use Rattle.place_sets.proofs.Sums.{total_ones}
+use Rattle.place_lists.specs.Lists.{places_below}
+use Rattle.place_lists.specs.PlaceSets.{places_of}
+use Rattle.place_lists.proofs.Sums.{total_ones}
 use Rattle.grouping_laws.specs.Sets.{member}
 use Rattle.grouping_laws.specs.Problem.{Problem}
 use Rattle.grouping_laws.specs.Parts.{IsPart}
@@ -15,7 +15,7 @@ use Rattle.growing_sets.proofs.PlaceLists.{often_placed, placed, placed_test}
 use Rattle.growing_sets.proofs.Starts.{start_growth}
 use Rattle.growing_sets.specs.Growing.{later}
 use Rattle.growing_sets.proofs.StartSets.{starts_as}
-use Rattle.place_sets.proofs.PlaceSums.{total_all}
+use Rattle.place_lists.proofs.PlaceSums.{total_all}
 
 pub and_parts : (a b : Bool) → (a && b) ≡ true → (a ≡ true) × (b ≡ true)
 and_parts true b e = (refl, e)

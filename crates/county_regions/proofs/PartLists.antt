@@ -2,9 +2,9 @@
 use Rattle.std.proofs.Common.{◌≡◌, ℕ, ◌+◌, ◌<◌, Bool, true, false, nat_lt, ◌&&◌, not, ◌==◌, List, [], ◌∷◌, ◌++◌, length, refl, sym, ap, ◌∙◌, arith, ⊎_elim, subst}
 use Rattle.std.proofs.lemmas.Bool.{false≢true, eqb-true, ltb-true}
 use Rattle.std.proofs.lemmas.Bool.Decides.{nat_tests}
-use Rattle.place_sets.specs.CountySet.{places_of}
-use Rattle.place_sets.proofs.Sums.{total-append, total_ones}
-use Rattle.place_sets.proofs.PlaceSets.{often-places_of, total_part, total_without}
+use Rattle.place_lists.specs.PlaceSets.{places_of}
+use Rattle.place_lists.proofs.Sums.{total-append, total_ones}
+use Rattle.place_lists.proofs.PlaceSets.{often-places_of, total_part, total_without}
 use Rattle.grouping_laws.specs.Sets.{digit, often, stands}
 use Rattle.grouping_laws.specs.Problem.{Problem}
 use Rattle.grouping_laws.specs.Parts.{IsPart, AreParts}

@@ -1,5 +1,5 @@
 ghost use Rattle.std.specs.Prelude.{◌≡◌, ℕ, true, ◌<◌, ◌≤◌, IfOk};
-ghost use Rattle.place_sets.specs.CountySet.{places_of};
+ghost use Rattle.place_lists.specs.PlaceSets.{places_of};
 
 use place_sets::CountySet;
 use smallvec::SmallVec;

@@ -1,6 +1,6 @@
 ghost use Rattle.std.specs.Prelude.{◌≡◌, ℕ, true, ◌<◌, ◌≤◌, ◌&&◌, not, length, IfOk};
 ghost use Rattle.grouping_laws.specs.Parts.{IsPart};
-ghost use Rattle.place_sets.specs.CountySet.{places_of};
+ghost use Rattle.place_lists.specs.PlaceSets.{places_of};
 ghost use Rattle.county_regions.specs.Rows.{problem_at, AreRows};
 
 use ordered_counties::Ordered;

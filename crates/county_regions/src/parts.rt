@@ -1,6 +1,6 @@
 ghost use Rattle.std.specs.Prelude.{◌≡◌, ℕ, true, ◌<◌, ◌≤◌, length, map, All, IfOk};
 ghost use Rattle.grouping_laws.specs.Parts.{AreParts};
-ghost use Rattle.place_sets.specs.CountySet.{places_of};
+ghost use Rattle.place_lists.specs.PlaceSets.{places_of};
 ghost use Rattle.county_regions.specs.Rows.{problem_at, AreRows};
 
 use crate::part::part_around;

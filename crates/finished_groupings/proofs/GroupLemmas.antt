@@ -14,8 +14,8 @@ use Rattle.grouping_laws.specs.Ranges.{seated}
 use Rattle.grouping_laws.proofs.Elements.{Has, has_all, all_from_has, has_set}
 use Rattle.grouping_laws.specs.Places.{codes_at}
 use Rattle.grouping_laws.specs.PlaceProblem.{code_at}
-use Rattle.place_sets.specs.CountySet.{places_of}
-use Rattle.place_sets.proofs.PlaceSums.{places_step}
+use Rattle.place_lists.specs.PlaceSets.{places_of}
+use Rattle.place_lists.proofs.PlaceSums.{places_step}
 use Rattle.line_verdicts.proofs.PlacedLemmas.{all_one}
 use Rattle.tree_spelling.specs.TreeItems.{HasTargetLines}
 use Rattle.finished_groupings.specs.Finished.{CoverOnce, HasNumbers}

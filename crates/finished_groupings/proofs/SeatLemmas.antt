@@ -7,7 +7,7 @@ use Rattle.grouping_laws.specs.Ranges.{SuitAll}
 use Rattle.grouping_laws.specs.GroupsFrom.{IsOrder}
 use Rattle.grouping_laws.specs.Places.{places_below}
 use Rattle.grouping_laws.specs.PlaceProblem.{at_places}
-use Rattle.place_sets.proofs.Sums.{total-map}
+use Rattle.place_lists.proofs.Sums.{total-map}
 use Rattle.ordered_counties.specs.Allot.{SuitEach}
 use Rattle.line_verdicts.specs.Placed.{codes_of_set, codes_of_sets}
 use Rattle.finished_groupings.specs.Finished.{CoverOnce}

@@ -2,7 +2,7 @@
 use Rattle.std.proofs.Common.{◌≡◌, ℕ, Bool, true, false, List, [], refl, sym, ◌∙◌}
 use Rattle.std.specs.Prelude.{IsTrue, ◌↔◌}
 use Rattle.std.proofs.lemmas.Bool.{false≢true}
-use Rattle.place_sets.specs.CountySet.{places_of}
+use Rattle.place_lists.specs.PlaceSets.{places_of}
 use Rattle.grouping_laws.specs.Problem.{Problem, Suits, people_of}
 use Rattle.growing_sets.specs.Growing.{IsExtension, IsGrowth, IsWhole, AreKept}
 use Rattle.growing_sets.proofs.Growing.{none_kept, leaf_only}

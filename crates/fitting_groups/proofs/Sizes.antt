@@ -12,7 +12,7 @@ use Rattle.grouping_laws.specs.Problem.{Problem}
 use Rattle.grouping_laws.specs.Places.{places_below}
 use Rattle.grouping_laws.specs.GroupsFrom.{BeginsWith, IsBefore}
 use Rattle.grouping_laws.proofs.Elements.{Has, has_all, all_from_has, has_append, has_left, has_right, has_from_contains, contains_from_has}
-use Rattle.place_sets.specs.CountySet.{places_of}
+use Rattle.place_lists.specs.PlaceSets.{places_of}
 use Rattle.growing_sets.specs.Growing.{only, IsExtension, sort_key}
 use Rattle.growing_sets.specs.Listing.{lists_of, AreBelow, IsListed, OneStepEach, HasStepped}
 use Rattle.growing_sets.proofs.Distinct.{Distinct, distinct_append, distinct_pairs, distinct_from_pairs}

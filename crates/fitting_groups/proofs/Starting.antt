@@ -8,7 +8,7 @@ use Rattle.std.proofs.lemmas.List.Sorted.{IsPermutation-map}
 use Rattle.grouping_laws.specs.Problem.{Problem}
 use Rattle.grouping_laws.specs.Places.{places_below}
 use Rattle.grouping_laws.proofs.Elements.{has_all, all_from_has}
-use Rattle.place_sets.specs.CountySet.{places_of}
+use Rattle.place_lists.specs.PlaceSets.{places_of}
 use Rattle.growing_sets.specs.Growing.{only, IsFront, IsCandidate, IsExtension, AreKept, sort_key}
 use Rattle.growing_sets.specs.Listing.{lists_of, OneStepEach, HasStepped}
 use Rattle.growing_sets.proofs.Distinct.{distinct_pairs}

@@ -1,6 +1,6 @@
 ghost use Rattle.std.specs.Prelude.{◌≡◌, ℕ, ◌+◌, ◌-◌, ◌*◌, ◌^◌, Bool, List, [], true, ◌<◌, ◌≤◌, ◌&&◌, not, ◌==◌, nat_lt, MatchOption, MatchResult, OnOk, IfOk, IsTrue, ◌↔◌, IsErrOf, length};
 ghost use Rattle.grouping_laws.specs.Problem.{Connected, people_of};
-ghost use Rattle.place_sets.specs.CountySet.{places_of};
+ghost use Rattle.place_lists.specs.PlaceSets.{places_of};
 ghost use Rattle.grouping_laws.specs.Places.{places_below};
 ghost use Rattle.grouping_laws.specs.SeatWindow.{people_bounds};
 ghost use Rattle.ordered_counties.specs.OrderedValue.{problem_at};

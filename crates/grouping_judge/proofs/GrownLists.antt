@@ -7,7 +7,7 @@ use Rattle.grouping_problem.specs.ProblemValue.{ProblemValue}
 use Rattle.grouping_problem.specs.ProblemValue.{problem_of}
 use Rattle.grouping_laws.specs.Sets.{digit, often, member}
 use Rattle.grouping_laws.specs.Problem.{Problem}
-use Rattle.place_sets.proofs.Sums.{total-append, total_within, total_ones, often_none, often_some, member_from_often}
+use Rattle.place_lists.proofs.Sums.{total-append, total_within, total_ones, often_none, often_some, member_from_often}
 use Rattle.grouping_laws.proofs.Alike.{connected_alike}
 use Rattle.grouping_laws.proofs.Fill.{grown}
 use Rattle.grouping_problem.proofs.ProblemLemmas.{symmetric}

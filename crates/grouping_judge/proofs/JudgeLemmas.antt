@@ -14,7 +14,7 @@ use Rattle.grouping_laws.specs.SeatWindow.{IsRun}
 use Rattle.grouping_laws.specs.Grouping.{Grouping, Lawful, sets_of, seats_of, counts}
 use Rattle.grouping_problem.specs.Building.{first_unlisted}
 use Rattle.grouping_judge.specs.Judging.{in_group, first_unknown, codes_read, IsLeastMissing, IsFirstNot, NoneEmpty, NoneMissing, AllSuit, IsFault}
-use Rattle.place_sets.proofs.Sums.{digit_one, total-append, often_none, often_some}
+use Rattle.place_lists.proofs.Sums.{digit_one, total-append, often_none, often_some}
 use Rattle.grouping_laws.proofs.Elements.{Has, has_all, all_from_has, has_get, has_right, has_set}
 use Rattle.grouping_laws.proofs.Sizes.{stands_some, often-le-stands}
 use Rattle.grouping_laws.proofs.AddUp.{sizes, few_codes}

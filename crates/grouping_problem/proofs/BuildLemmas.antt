@@ -17,7 +17,7 @@ use Rattle.grouping_problem.specs.declared.fault.ProblemFault.TheVariants.{Empty
 use Rattle.grouping_laws.specs.Sets.{digit, total, often}
 use Rattle.grouping_problem.specs.ProblemValue.{codes_of}
 use Rattle.grouping_problem.specs.Building.{first_repeated, people_in, seats_in, first_of, withdrawn_fault}
-use Rattle.place_sets.proofs.Sums.{total_ones}
+use Rattle.place_lists.proofs.Sums.{total_ones}
 use Rattle.county_codes.proofs.CodeListLemmas.{repeated_none}
 
 -- codes that stand once each are distinct

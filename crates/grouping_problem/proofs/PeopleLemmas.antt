@@ -6,7 +6,7 @@ use Rattle.county_codes.specs.declared.county.County.{County}
 use Rattle.grouping_laws.specs.Sets.{digit, total, often}
 use Rattle.grouping_problem.specs.ProblemValue.{codes_of, people_at}
 use Rattle.grouping_problem.specs.Building.{people_in}
-use Rattle.place_sets.proofs.Sums.{total_add}
+use Rattle.place_lists.proofs.Sums.{total_add}
 
 -- a code that no county has has no people
 nobody : (counties : List County) (code : ℕ) → often code (codes_of counties) ≡ 0 → people_at counties code ≡ 0

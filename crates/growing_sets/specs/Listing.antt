@@ -1,7 +1,7 @@
 -- What a search puts behind the sets that were there, and the steps that it takes.
 use Rattle.std.specs.Prelude.{ℕ, ◌+◌, ◌≡◌, ◌≢◌, ◌<◌, ◌≤◌, Bool, true, List, ◌++◌, map, length, All, AllPairs}
 use Rattle.grouping_laws.specs.Problem.{Problem}
-use Rattle.place_sets.specs.CountySet.{places_of}
+use Rattle.place_lists.specs.PlaceSets.{places_of}
 use Rattle.growing_sets.specs.Growing.{AreKept, IsExtension}
 
 -- the lists of places of sets

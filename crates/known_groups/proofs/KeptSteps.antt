@@ -8,8 +8,8 @@ use Rattle.grouping_laws.specs.PlaceProblem.{code_at}
 use Rattle.grouping_laws.proofs.Elements.{Has, has_all, has_get, has_append, all_from_has}
 use Rattle.grouping_laws.proofs.Places.{has_member}
 use Rattle.grouping_laws.proofs.PlaceCodes.{Below, member_code, code_place}
-use Rattle.place_sets.specs.CountySet.{places_of, Meets}
-use Rattle.place_sets.proofs.PlaceSets.{places_same, member-places_of}
+use Rattle.place_lists.specs.PlaceSets.{places_of, Meets}
+use Rattle.place_lists.proofs.PlaceSets.{places_same, member-places_of}
 use Rattle.growing_sets.specs.Listing.{AreBelow}
 use Rattle.growing_sets.proofs.PlaceLists.{placed_test, placed_below}
 use Rattle.line_verdicts.specs.Placed.{codes_of_set, codes_of_sets}

@@ -5,8 +5,8 @@ use Rattle.std.proofs.lemmas.List.{length-map, length-append}
 use Rattle.std.proofs.lemmas.List.Elements.{All-nil}
 use Rattle.grouping_laws.specs.Problem.{Problem}
 use Rattle.grouping_laws.proofs.Elements.{Has, has_all, all_from_has}
-use Rattle.place_sets.specs.CountySet.{places_of}
-use Rattle.place_sets.specs.Lists.{places_below, member}
+use Rattle.place_lists.specs.PlaceSets.{places_of}
+use Rattle.place_lists.specs.Lists.{places_below, member}
 use Rattle.ordered_counties.specs.OrderedValue.{at_places}
 use Rattle.county_regions.proofs.Filling.{few, and_parts}
 use Rattle.growing_sets.specs.Listing.{lists_of, AreBelow}
@@ -17,7 +17,7 @@ use Rattle.proof_trees.specs.StateValue.{state_of}
 use Rattle.proof_trees.proofs.StateLemmas.{all_below, pushed_places}
 use Rattle.proof_trees.proofs.Counting.{fewer_kept}
 use Rattle.proof_trees.proofs.States.{same_state}
-use Rattle.place_sets.proofs.PlaceSets.{places_same}
+use Rattle.place_lists.proofs.PlaceSets.{places_same}
 use Rattle.line_verdicts.specs.Placed.{IsPlaced, IsClosable}
 
 -- two facts of an answer give a third

@@ -3,8 +3,8 @@ use Rattle.std.proofs.Common.{◌≡◌, ℕ, zero, suc, ◌+◌, ◌-◌, ◌�
 use Rattle.std.proofs.lemmas.Bool.{false≢true}
 use Rattle.std.proofs.lemmas.List.{append_assoc, append-nil, append_cancel_left, map-append, length-append, drop_more, drop_all, length-map, get_or-map}
 use Rattle.grouping_laws.specs.Places.{codes_at}
-use Rattle.place_sets.specs.CountySet.{places_of, IsNext}
-use Rattle.place_sets.proofs.PlaceSums.{places_step}
+use Rattle.place_lists.specs.PlaceSets.{places_of, IsNext}
+use Rattle.place_lists.proofs.PlaceSums.{places_step}
 use Rattle.ordered_counties.specs.OrderedValue.{code_at}
 
 -- no place from one to another

@@ -7,7 +7,7 @@ use Rattle.grouping_laws.specs.GroupsFrom.{IsOrder, BeginsWith, place}
 use Rattle.grouping_laws.specs.Places.{codes_at}
 use Rattle.grouping_laws.proofs.PlaceProblem.{order_once}
 use Rattle.grouping_laws.proofs.Places.{place_at, places_are_codes}
-use Rattle.place_sets.specs.CountySet.{IsNext}
+use Rattle.place_lists.specs.PlaceSets.{IsNext}
 use Rattle.growing_sets.proofs.Starts.{begins_least}
 use Rattle.ordered_counties.specs.OrderedValue.{code_at}
 use Rattle.county_regions.proofs.Filling.{and_parts}

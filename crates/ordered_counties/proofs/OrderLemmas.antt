@@ -12,7 +12,7 @@ use Rattle.grouping_problem.specs.Building.{first_repeated, first_unlisted, peop
 use Rattle.grouping_laws.specs.GroupsFrom.{IsOrder}
 use Rattle.grouping_laws.specs.Places.{places_below}
 use Rattle.ordered_counties.specs.OrderedValue.{code_at, at_places, rows_of}
-use Rattle.place_sets.proofs.Sums.{digit_one, often_none, often_some, total-map, total_ones, total_alike}
+use Rattle.place_lists.proofs.Sums.{digit_one, often_none, often_some, total-map, total_ones, total_alike}
 use Rattle.grouping_laws.proofs.Digits.{often_member}
 use Rattle.county_codes.proofs.CodeListLemmas.{repeated_none, repeated_some, unlisted_none, unlisted_some}
 use Rattle.grouping_problem.proofs.PeopleLemmas.{people_within}

@@ -2,7 +2,7 @@
 use Rattle.std.proofs.Common.{◌≡◌, ℕ, ◌+◌, ◌≤◌, ◌<◌, Bool, true, false, cond, ◌||◌, ◌==◌, List, [], ◌∷◌, length, filter, refl, sym, ap, subst, arith}
 use Rattle.std.proofs.lemmas.Bool.{false≢true, eqb-true}
 use Rattle.grouping_laws.specs.Sets.{digit, total, often, member}
-use Rattle.place_sets.proofs.Sums.{total_le, often_none, often_some, total_within, total_ones}
+use Rattle.place_lists.proofs.Sums.{total_le, often_none, often_some, total_within, total_ones}
 
 -- a sum over what a test keeps
 pub total-filter : (f : ℕ → ℕ) (q : ℕ → Bool) (xs : List ℕ) → total f (filter q xs) ≡ total (λ x. cond (q x) (f x) 0) xs

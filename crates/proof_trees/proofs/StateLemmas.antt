@@ -3,10 +3,10 @@ use Rattle.std.proofs.Common.{◌≡◌, ℕ, ◌+◌, ◌≤◌, ◌<◌, Bool,
 use Rattle.std.proofs.lemmas.Bool.{lt-ltb, ltb-true, ltb-false, cases_lt}
 use Rattle.std.proofs.lemmas.List.{append_assoc, append-nil, drop_more, drop_all, map_push, get_or_past}
 use Rattle.grouping_laws.specs.Sets.{member}
-use Rattle.place_sets.specs.CountySet.{places_of}
-use Rattle.place_sets.specs.Lists.{places_below}
-use Rattle.place_sets.proofs.Sums.{often_none, often_some}
-use Rattle.place_sets.proofs.PlaceSets.{member-places_of, often_below, often_above}
+use Rattle.place_lists.specs.PlaceSets.{places_of}
+use Rattle.place_lists.specs.Lists.{places_below}
+use Rattle.place_lists.proofs.Sums.{often_none, often_some}
+use Rattle.place_lists.proofs.PlaceSets.{member-places_of, often_below, often_above}
 
 -- one more set is copied
 pub copied_more : {X Y : Type 0} (f : X → Y) (copies more sets : List X) (i : ℕ) (x y : X) → i < length sets → x ≡ get_or sets i x → more ≡ copies ++ y ∷ [] → f y ≡ f x

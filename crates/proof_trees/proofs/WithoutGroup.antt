@@ -4,7 +4,7 @@ use Rattle.std.proofs.lemmas.Bool.{and_parts, false≢true}
 use Rattle.grouping_laws.specs.Sets.{digit, often, member}
 use Rattle.grouping_laws.specs.Problem.{Problem}
 use Rattle.grouping_laws.specs.Parts.{IsPart}
-use Rattle.place_sets.proofs.Sums.{often_none, often_some}
+use Rattle.place_lists.proofs.Sums.{often_none, often_some}
 use Rattle.proof_trees.specs.Regions.{without}
 
 and_yes : (b : Bool) → digit (b && not false) ≡ digit b

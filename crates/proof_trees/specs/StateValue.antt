@@ -1,6 +1,6 @@
 -- The state that a value of the Rust type stands for.
 use Rattle.std.specs.Prelude.{ℕ, Bool, map, length, get_or}
-use Rattle.place_sets.specs.CountySet.{places_of}
+use Rattle.place_lists.specs.PlaceSets.{places_of}
 use Rattle.proof_trees.specs.declared.state.State.{State as StateHeld}
 use Rattle.proof_trees.specs.State.{State}
 

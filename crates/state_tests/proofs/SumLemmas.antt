@@ -1,8 +1,8 @@
 -- Sums over the places of a set, taken one after another.
 use Rattle.std.proofs.Common.{◌≡◌, ℕ, zero, suc, ◌+◌, ◌-◌, ◌≤◌, ◌<◌, Bool, true, false, cond, ap, ◌∙◌, arith, subst}
-use Rattle.place_sets.specs.Lists.{total}
-use Rattle.place_sets.specs.CountySet.{places_of}
-use Rattle.place_sets.proofs.PlaceSums.{total_step}
+use Rattle.place_lists.specs.Lists.{total}
+use Rattle.place_lists.specs.PlaceSets.{places_of}
+use Rattle.place_lists.proofs.PlaceSums.{total_step}
 
 step_none : (f : ℕ → ℕ) (t : ℕ → Bool) (i : ℕ) → t i ≡ false → total f (places_of (i + 1) t) ≡ total f (places_of i t)
 step_none f t i e = omega (arith, total_step f t i, ap (λ b. cond b (f i) 0) e)

@@ -1,6 +1,6 @@
 ghost use Rattle.std.specs.Prelude.{◌≡◌, ℕ, true, ◌<◌, ◌≤◌, length, get_or, All, IfOk, IsTrue, ◌↔◌};
 ghost use Rattle.grouping_laws.specs.Sets.{total};
-ghost use Rattle.place_sets.specs.CountySet.{places_of};
+ghost use Rattle.place_lists.specs.PlaceSets.{places_of};
 ghost use Rattle.ordered_counties.specs.OrderedValue.{problem_at};
 ghost use Rattle.proof_trees.specs.StateValue.{state_of};
 ghost use Rattle.proof_trees.specs.BoundLines.{room_at};

@@ -1,7 +1,7 @@
 ghost use Rattle.std.specs.Prelude.{◌≡◌, ℕ, true, ◌<◌, ◌≤◌, length, get_or};
 ghost use Rattle.grouping_laws.specs.Sets.{total};
 ghost use Rattle.grouping_laws.specs.Problem.{people_of};
-ghost use Rattle.place_sets.specs.CountySet.{places_of};
+ghost use Rattle.place_lists.specs.PlaceSets.{places_of};
 ghost use Rattle.ordered_counties.specs.OrderedValue.{problem_at};
 
 use ordered_counties::Ordered;

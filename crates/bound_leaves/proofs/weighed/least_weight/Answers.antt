@@ -1,6 +1,6 @@
 use Rattle.std.proofs.Common.{◌≤◌, List, length, get_or, take_all, subst, arith, All}
 use Rattle.grouping_laws.specs.Sets.{total}
-use Rattle.place_sets.specs.CountySet.{places_of}
+use Rattle.place_lists.specs.PlaceSets.{places_of}
 use Rattle.bound_leaves.proofs.WeightSteps.{lesser_next}
 use Rattle.bound_leaves.proofs.weighed.least_weight.Goals as goal
 

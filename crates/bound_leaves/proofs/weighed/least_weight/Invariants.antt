@@ -1,6 +1,6 @@
 use Rattle.std.proofs.Common.{◌≤◌, length, get_or, take, All}
 use Rattle.grouping_laws.specs.Sets.{total}
-use Rattle.place_sets.specs.CountySet.{places_of}
+use Rattle.place_lists.specs.PlaceSets.{places_of}
 use Rattle.bound_leaves.proofs.weighed.least_weight.Given as goal
 
 abbrev pub invariant-loop-group : goal.invariant-loop-group

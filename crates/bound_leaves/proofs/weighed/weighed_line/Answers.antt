@@ -2,7 +2,7 @@ use Rattle.std.proofs.Common.{◌≤◌, ◌∙◌, List, ℕ, length, get_or, a
 use Rattle.grouping_laws.specs.Sets.{total}
 use Rattle.grouping_laws.proofs.PlaceProblem.{order_once}
 use Rattle.grouping_problem.specs.ProblemValue.{problem_of}
-use Rattle.place_sets.specs.CountySet.{places_of}
+use Rattle.place_lists.specs.PlaceSets.{places_of}
 use Rattle.proof_trees.specs.RoundValue.{round_of}
 use Rattle.proof_trees.specs.StateValue.{state_of}
 use Rattle.proof_trees.specs.Places.{IsStateAt, in_codes}

@@ -1,6 +1,6 @@
 use Rattle.std.proofs.Common.{◌∙◌, sym, length}
 use Rattle.grouping_problem.specs.ProblemValue.{problem_of}
-use Rattle.place_sets.specs.CountySet.{places_of}
+use Rattle.place_lists.specs.PlaceSets.{places_of}
 use Rattle.proof_trees.specs.BoundLines.{room_at}
 use Rattle.proof_trees.specs.RoundValue.{round_of}
 use Rattle.line_verdicts.specs.Placed.{state_at}

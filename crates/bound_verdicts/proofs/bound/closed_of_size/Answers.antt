@@ -1,6 +1,6 @@
 use Rattle.std.proofs.Common.{◌≡◌, ◌≤◌, ◌==◌, length, sym, ◌∙◌, arith}
 use Rattle.std.proofs.lemmas.List.{at_drop_all}
-use Rattle.place_sets.specs.CountySet.{places_of}
+use Rattle.place_lists.specs.PlaceSets.{places_of}
 use Rattle.grouping_laws.specs.Sets.{digit, total}
 use Rattle.bound_verdicts.proofs.Allowances.{closed_counts}
 use Rattle.bound_verdicts.proofs.bound.closed_of_size.Goals as goal

@@ -1,5 +1,5 @@
 use Rattle.std.proofs.Common.{◌≡◌, ◌+◌, ◌≤◌, ◌==◌, drop, length}
-use Rattle.place_sets.specs.CountySet.{places_of}
+use Rattle.place_lists.specs.PlaceSets.{places_of}
 use Rattle.grouping_laws.specs.Sets.{digit, total}
 use Rattle.bound_verdicts.proofs.bound.closed_of_size.Given as goal
 

@@ -1,7 +1,7 @@
 use Rattle.std.proofs.Common.{◌+◌, ◌≡◌, ◌≤◌, ℕ, ◌∷◌, ◌++◌, [], List, cond, ap, sym, ◌∙◌, subst, append-nil, arith}
 use Rattle.std.specs.List.{AllByRecursion}
-use Rattle.place_sets.specs.CountySet.{places_of}
-use Rattle.place_sets.proofs.PlaceSums.{places_step}
+use Rattle.place_lists.specs.PlaceSets.{places_of}
+use Rattle.place_lists.proofs.PlaceSums.{places_step}
 use Rattle.grouping_laws.specs.Places.{codes_at}
 use Rattle.branch_bound.proofs.Joining.{all_append, codes_end}
 use Rattle.branch_bound.proofs.moves.codes_of.Goals.{then-has+in_ok-push, else-has}

@@ -1,5 +1,5 @@
 use Rattle.std.proofs.Common.{◌≡◌}
-use Rattle.place_sets.specs.CountySet.{places_of}
+use Rattle.place_lists.specs.PlaceSets.{places_of}
 use Rattle.grouping_laws.specs.Places.{codes_at}
 use Rattle.certificate_lines.specs.Fits.{AreCodes}
 use Rattle.branch_bound.proofs.moves.codes_of.Given as goal

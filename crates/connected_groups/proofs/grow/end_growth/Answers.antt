@@ -1,6 +1,6 @@
 use Rattle.std.proofs.Common.{length, arith}
 use Rattle.std.proofs.lemmas.Result.{IfOk-from_err}
-use Rattle.place_sets.proofs.PlaceSums.{total_all}
+use Rattle.place_lists.proofs.PlaceSums.{total_all}
 use Rattle.growing_sets.proofs.Listing.{stepped_none, stepped_leaf}
 use Rattle.connected_groups.specs.Search.{problem_at}
 use Rattle.connected_groups.proofs.Passing.{whole_listed}

@@ -1,6 +1,6 @@
 use Rattle.std.proofs.Common.{◌≡◌, ℕ, ◌<◌, ◌&&◌, not, ◌==◌, get_or, length, arith, ap, ◌∙◌}
 use Rattle.std.proofs.lemmas.Result.{IfOk-from_err}
-use Rattle.place_sets.proofs.PlaceSums.{total_all}
+use Rattle.place_lists.proofs.PlaceSums.{total_all}
 use Rattle.connected_groups.specs.Search.{problem_at}
 use Rattle.growing_sets.specs.Growing.{IsMove}
 use Rattle.growing_sets.proofs.Fronts.{grown_front}

@@ -1,5 +1,5 @@
 use Rattle.std.proofs.Common.{◌≡◌, true, length}
-use Rattle.place_sets.specs.CountySet.{places_of}
+use Rattle.place_lists.specs.PlaceSets.{places_of}
 use Rattle.county_regions.specs.Rows.{problem_at}
 use Rattle.county_regions.proofs.Filling.{IsFilled}
 use Rattle.county_regions.proofs.part.part_around.Given as goal

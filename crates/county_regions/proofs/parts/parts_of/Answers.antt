@@ -3,7 +3,7 @@ use Rattle.std.proofs.lemmas.List.Elements.{All-append}
 use Rattle.grouping_laws.proofs.Elements.{all_from_has}
 use Rattle.std.proofs.lemmas.List.{map-append, length-append}
 use Rattle.std.proofs.lemmas.Result.{IfOk-from_err}
-use Rattle.place_sets.specs.CountySet.{places_of}
+use Rattle.place_lists.specs.PlaceSets.{places_of}
 use Rattle.county_regions.specs.Rows.{problem_at}
 use Rattle.county_regions.proofs.Filling.{few}
 use Rattle.county_regions.proofs.PartLists.{IsParted, parted_start, parted_inside, parted_more, parted_fewer, parted_all}

@@ -1,5 +1,5 @@
 use Rattle.std.proofs.Common.{◌≡◌, ◌+◌, ◌≤◌, ℕ, true, map, length, All}
-use Rattle.place_sets.specs.CountySet.{places_of}
+use Rattle.place_lists.specs.PlaceSets.{places_of}
 use Rattle.county_regions.specs.Rows.{problem_at}
 use Rattle.county_regions.proofs.PartLists.{IsParted}
 use Rattle.county_regions.proofs.parts.parts_of.Given as goal

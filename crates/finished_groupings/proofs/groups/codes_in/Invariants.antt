@@ -1,5 +1,5 @@
 use Rattle.std.proofs.Common.{◌≡◌, ◌≤◌, All}
-use Rattle.place_sets.specs.CountySet.{places_of}
+use Rattle.place_lists.specs.PlaceSets.{places_of}
 use Rattle.grouping_laws.specs.Places.{codes_at}
 use Rattle.finished_groupings.proofs.groups.codes_in.Given as goal
 

@@ -8,7 +8,7 @@ use Rattle.growing_sets.proofs.Growing.{skipped_growth, fewer_free}
 use Rattle.growing_sets.proofs.Listing.{on_ok, listed_none, listed_fork, stepped_none, stepped_taken, stepped_fork}
 use Rattle.growing_sets.proofs.People.{fewer_most}
 use Rattle.grouping_laws.specs.Problem.{people_of}
-use Rattle.place_sets.specs.CountySet.{places_of}
+use Rattle.place_lists.specs.PlaceSets.{places_of}
 use Rattle.ordered_counties.specs.OrderedValue.{problem_at}
 use Rattle.fitting_groups.specs.declared.stop.Stop.TheVariants.{StepLimit}
 use Rattle.fitting_groups.proofs.Failing.{refused_not_stopped, handed_on}

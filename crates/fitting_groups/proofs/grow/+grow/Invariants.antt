@@ -1,5 +1,5 @@
 use Rattle.std.proofs.Common.{length}
-use Rattle.place_sets.specs.CountySet.{places_of}
+use Rattle.place_lists.specs.PlaceSets.{places_of}
 use Rattle.fitting_groups.proofs.grow.+grow.Given as goal
 
 abbrev pub decreases-grow : goal.decreases-grow

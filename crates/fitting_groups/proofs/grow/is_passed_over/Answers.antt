@@ -1,6 +1,6 @@
 use Rattle.std.proofs.Common.{length, arith, sym, ◌∙◌}
 use Rattle.std.proofs.lemmas.Result.{IfOk-weaker}
-use Rattle.place_sets.proofs.PlaceSums.{total_all}
+use Rattle.place_lists.proofs.PlaceSums.{total_all}
 use Rattle.ordered_counties.specs.OrderedValue.{problem_at}
 use Rattle.growing_sets.proofs.People.{small_none}
 use Rattle.proof_trees.specs.StateValue.{state_of}

@@ -1,6 +1,6 @@
 use Rattle.std.proofs.Common.{ℕ, ◌<◌, inl, Bool, Option, Some, None, MatchOption, length, tests, arith}
 use Rattle.grouping_laws.specs.Problem.{Problem}
-use Rattle.place_sets.specs.CountySet.{IsNext, places_of}
+use Rattle.place_lists.specs.PlaceSets.{IsNext, places_of}
 use Rattle.ordered_counties.specs.OrderedValue.{problem_at}
 use Rattle.growing_sets.specs.Growing.{IsGrowth, IsFront, IsWhole, IsCandidate}
 use Rattle.growing_sets.proofs.Fronts.{whole_front}

@@ -2,7 +2,7 @@ use Rattle.std.proofs.Common.{◌≡◌, ℕ, Bool, refl, ap, ◌∙◌, sym, su
 use mathlib.Core.Path.{fun_ext}
 use Rattle.std.proofs.lemmas.Result.{IfOk-from_err}
 use Rattle.grouping_laws.specs.Problem.{people_of}
-use Rattle.place_sets.specs.CountySet.{places_of}
+use Rattle.place_lists.specs.PlaceSets.{places_of}
 use Rattle.ordered_counties.specs.OrderedValue.{problem_at}
 use Rattle.growing_sets.specs.Growing.{only, later}
 use Rattle.growing_sets.specs.Listing.{IsListed, HasStepped}

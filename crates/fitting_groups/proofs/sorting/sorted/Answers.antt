@@ -5,7 +5,7 @@ use Rattle.std.specs.List.Sorted.{IsSortedBy}
 use Rattle.std.proofs.lemmas.Cmp.{nat_list_cmp_total}
 use Rattle.std.proofs.lemmas.Fn.{always_returns_same}
 use Rattle.std.proofs.lemmas.List.Sorted.{ranks_by}
-use Rattle.place_sets.specs.CountySet.{sized}
+use Rattle.place_lists.specs.PlaceSets.{sized}
 use Rattle.growing_sets.proofs.Keys.{lists_sorted, all_moved}
 use Rattle.fitting_groups.proofs.sorting.sorted.Goals as goal
 

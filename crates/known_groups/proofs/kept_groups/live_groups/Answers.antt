@@ -3,7 +3,7 @@ use Rattle.std.proofs.lemmas.Bool.{false≢true}
 use Rattle.std.proofs.lemmas.Result.{IfOk-from_err}
 use Rattle.grouping_problem.specs.ProblemValue.{problem_of}
 use Rattle.grouping_laws.specs.Sets.{member}
-use Rattle.place_sets.specs.CountySet.{places_of}
+use Rattle.place_lists.specs.PlaceSets.{places_of}
 use Rattle.growing_sets.proofs.PlaceLists.{placed_below}
 use Rattle.proof_trees.specs.Fitting.{IsLive}
 use Rattle.proof_trees.specs.StateValue.{state_of}

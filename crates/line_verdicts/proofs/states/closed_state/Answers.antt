@@ -1,13 +1,13 @@
 use Rattle.std.proofs.Common.{◌≡◌, ◌++◌, ℕ, true, ◌&&◌, not, [], ◌∷◌, ◌<◌, List, length, sym, ap, ◌∙◌, subst, cond, get_or, arith}
-use Rattle.place_sets.specs.Lists.{member}
+use Rattle.place_lists.specs.Lists.{member}
 use Rattle.std.proofs.lemmas.List.{map-id}
 use Rattle.std.proofs.lemmas.List.Elements.{All-append}
 use Rattle.std.proofs.lemmas.Slice.Zip.{AllZip-map}
 use Rattle.grouping_problem.specs.ProblemValue.{problem_of}
 use Rattle.grouping_laws.proofs.PlaceProblem.{order_once}
 use Rattle.county_regions.proofs.Filling.{and_parts}
-use Rattle.place_sets.specs.CountySet.{places_of}
-use Rattle.place_sets.proofs.PlaceSets.{places_same}
+use Rattle.place_lists.specs.PlaceSets.{places_of}
+use Rattle.place_lists.proofs.PlaceSets.{places_same}
 use Rattle.growing_sets.specs.Listing.{lists_of, AreBelow}
 use Rattle.growing_sets.proofs.PlaceLists.{placed_below}
 use Rattle.proof_trees.specs.State.{close}

@@ -1,6 +1,6 @@
 use Rattle.std.proofs.Common.{arith}
-use Rattle.place_sets.specs.CountySet.{places_of}
-use Rattle.place_sets.proofs.PlaceSets.{places_same}
+use Rattle.place_lists.specs.PlaceSets.{places_of}
+use Rattle.place_lists.proofs.PlaceSets.{places_same}
 use Rattle.proof_trees.proofs.StateLemmas.{copied_more, copied_all}
 use Rattle.proof_trees.proofs.state.copy_sets.Goals as goal
 

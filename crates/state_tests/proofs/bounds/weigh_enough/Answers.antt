@@ -1,7 +1,7 @@
 use Rattle.std.proofs.Common.{ℕ, ◌≤◌, subst, sym, length, get_or, arith}
 use Rattle.std.proofs.lemmas.Bool.{false≢true}
-use Rattle.place_sets.specs.Lists.{total}
-use Rattle.place_sets.specs.CountySet.{places_of}
+use Rattle.place_lists.specs.Lists.{total}
+use Rattle.place_lists.specs.PlaceSets.{places_of}
 use Rattle.state_tests.proofs.bounds.weigh_enough.Goals as goal
 
 pub returns-then-weight_in-quota : goal.returns-then-weight_in-quota

@@ -1,5 +1,5 @@
 use Rattle.std.proofs.Common.{map, take, length}
-use Rattle.place_sets.specs.CountySet.{places_of}
+use Rattle.place_lists.specs.PlaceSets.{places_of}
 use Rattle.ordered_counties.specs.OrderedValue.{problem_at}
 use Rattle.state_tests.specs.Sums.{AreSums}
 use Rattle.state_tests.proofs.seats.seat_sums.Given as goal

@@ -2,7 +2,7 @@ use Rattle.std.proofs.Common.{◌≡◌, ℕ, ◌<◌, true, false, refl, sym, �
 use Rattle.std.proofs.lemmas.Bool.{false≢true}
 use Rattle.grouping_laws.specs.Sets.{member}
 use Rattle.proof_trees.specs.Stuck.{CannotFill}
-use Rattle.place_sets.specs.CountySet.{places_of}
+use Rattle.place_lists.specs.PlaceSets.{places_of}
 use Rattle.growing_sets.proofs.PlaceLists.{placed, placed_test}
 use Rattle.ordered_counties.specs.OrderedValue.{problem_at}
 use Rattle.county_regions.proofs.PartLists.{parted_inside, parted_fewer}

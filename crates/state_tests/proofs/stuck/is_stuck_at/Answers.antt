@@ -1,5 +1,5 @@
 use Rattle.std.proofs.Common.{length}
-use Rattle.place_sets.specs.CountySet.{places_of}
+use Rattle.place_lists.specs.PlaceSets.{places_of}
 use Rattle.growing_sets.proofs.PlaceLists.{placed}
 use Rattle.ordered_counties.specs.OrderedValue.{problem_at}
 use Rattle.proof_trees.specs.StateValue.{state_of}

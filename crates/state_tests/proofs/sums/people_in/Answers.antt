@@ -1,7 +1,7 @@
 use Rattle.std.proofs.Common.{◌+◌, ap, ◌∙◌, sym, length, arith}
-use Rattle.place_sets.specs.Lists.{total}
-use Rattle.place_sets.specs.CountySet.{places_of}
-use Rattle.place_sets.proofs.PlaceSums.{total_all}
+use Rattle.place_lists.specs.Lists.{total}
+use Rattle.place_lists.specs.PlaceSets.{places_of}
+use Rattle.place_lists.proofs.PlaceSums.{total_all}
 use Rattle.grouping_problem.specs.ProblemValue.{ProblemValue}
 use Rattle.ordered_counties.specs.OrderedValue.{problem_at}
 use Rattle.state_tests.proofs.SumLemmas.{sum_next, sum_all, sum_below}

@@ -1,5 +1,5 @@
 use Rattle.std.proofs.Common.{◌≡◌, ◌-◌, ◌≤◌, length}
-use Rattle.place_sets.specs.CountySet.{places_of}
+use Rattle.place_lists.specs.PlaceSets.{places_of}
 use Rattle.grouping_laws.specs.Problem.{people_of}
 use Rattle.ordered_counties.specs.OrderedValue.{problem_at}
 use Rattle.state_tests.proofs.sums.people_in.Given as goal

@@ -1,6 +1,6 @@
 use Rattle.std.proofs.Common.{ℕ, ◌+◌, ap, ◌∙◌, sym, length, get_or, arith}
-use Rattle.place_sets.specs.Lists.{total}
-use Rattle.place_sets.specs.CountySet.{places_of}
+use Rattle.place_lists.specs.Lists.{total}
+use Rattle.place_lists.specs.PlaceSets.{places_of}
 use Rattle.state_tests.proofs.SumLemmas.{sum_next, sum_all}
 use Rattle.state_tests.proofs.sums.weight_in.Goals as goal
 

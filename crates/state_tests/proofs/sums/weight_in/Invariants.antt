@@ -1,6 +1,6 @@
 use Rattle.std.proofs.Common.{◌≡◌, ◌-◌, ◌*◌, ◌≤◌, length, get_or}
-use Rattle.place_sets.specs.Lists.{total}
-use Rattle.place_sets.specs.CountySet.{places_of}
+use Rattle.place_lists.specs.Lists.{total}
+use Rattle.place_lists.specs.PlaceSets.{places_of}
 use Rattle.state_tests.proofs.sums.weight_in.Given as goal
 
 abbrev pub invariant-loop-place : goal.invariant-loop-place

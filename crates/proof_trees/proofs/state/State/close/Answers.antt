@@ -1,5 +1,5 @@
 use Rattle.std.proofs.Common.{length, ap, ◌∙◌, sym, not, ◌&&◌, refl}
-use Rattle.place_sets.specs.CountySet.{places_of}
+use Rattle.place_lists.specs.PlaceSets.{places_of}
 use Rattle.proof_trees.proofs.StateLemmas.{pushed_places, cleared, own_places}
 use Rattle.proof_trees.proofs.States.{same_state}
 use Rattle.proof_trees.proofs.state.State.close.Goals as goal

@@ -1,7 +1,7 @@
 use Rattle.std.proofs.Common.{◌≡◌, map, length, get_or, ap, ◌∙◌}
 use Rattle.std.proofs.lemmas.List.{map-id}
 use Rattle.std.proofs.lemmas.Slice.Zip.{AllZip-map}
-use Rattle.place_sets.specs.CountySet.{places_of}
+use Rattle.place_lists.specs.PlaceSets.{places_of}
 use Rattle.proof_trees.proofs.StateLemmas.{copied_places}
 use Rattle.proof_trees.proofs.States.{same_state}
 use Rattle.proof_trees.proofs.state.State.copy.Goals as goal

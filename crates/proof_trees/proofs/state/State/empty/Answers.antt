@@ -1,5 +1,5 @@
 use Rattle.std.proofs.Common.{length, ap, ◌∙◌, map, nat_lt}
-use Rattle.place_sets.specs.CountySet.{places_of}
+use Rattle.place_lists.specs.PlaceSets.{places_of}
 use Rattle.proof_trees.proofs.StateLemmas.{all_below}
 use Rattle.proof_trees.proofs.States.{same_state}
 use Rattle.proof_trees.proofs.state.State.empty.Goals as goal

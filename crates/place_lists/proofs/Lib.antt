@@ -1,0 +1,4 @@
+pub mod Sums
+pub mod PlaceSets
+pub mod PlaceSums
+pub mod SizeOrder
