@@ -154,13 +154,18 @@ pub fn push_branch(
     }
 }
 
+/// Whether a county's weight is in its range.
+fn is_weight(weight: u32) -> bool
+    ensures { result ≡ (nat_le 1 weight && nat_le weight 1000000) }
+{
+    1 <= weight && weight <= 1_000_000
+}
+
 /// Whether each weight is in its range.
 fn are_weights(weights: &[Weight]) -> bool
     ensures { result ≡ list_all (λ w. nat_le 1 w.weight && nat_le w.weight 1000000) weights.now }
 {
-    weights
-        .iter()
-        .all(|w| 1 <= w.weight && w.weight <= 1_000_000)
+    weights.iter().all(|w| is_weight(w.weight))
 }
 
 /// Whether the quota and the weights are in their ranges, and the codes ascend.
