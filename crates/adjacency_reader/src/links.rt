@@ -45,12 +45,19 @@ fn sign_in(field: &[u8]) -> Option<Sign>
 fn link_in(line: &[u8]) -> Result<Link, CodeLineKind>
     ensures { result ≡ link_on line.now }
 {
-    let sign = field_at(line, DELIMITER, 0).ok_or(CodeLineKind::TooFewFields)?;
-    let a = field_at(line, DELIMITER, 1).ok_or(CodeLineKind::TooFewFields)?;
-    let b = field_at(line, DELIMITER, 2).ok_or(CodeLineKind::TooFewFields)?;
-    let sign = sign_in(sign).ok_or(CodeLineKind::BadSign)?;
-    let a = code_in(a).ok_or(CodeLineKind::BadCode)?;
-    let b = code_in(b).ok_or(CodeLineKind::BadCode)?;
+    let (Some(sign), Some(a), Some(b)) = (
+        field_at(line, DELIMITER, 0),
+        field_at(line, DELIMITER, 1),
+        field_at(line, DELIMITER, 2),
+    ) else {
+        return Err(CodeLineKind::TooFewFields);
+    };
+    let Some(sign) = sign_in(sign) else {
+        return Err(CodeLineKind::BadSign);
+    };
+    let (Some(a), Some(b)) = (code_in(a), code_in(b)) else {
+        return Err(CodeLineKind::BadCode);
+    };
     Ok(Link { sign, a, b })
 }
 

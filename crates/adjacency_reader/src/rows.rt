@@ -14,10 +14,15 @@ use std::alloc::Global;
 fn row_in(line: &[u8]) -> Result<(CountyCode, CountyCode), CodeLineKind>
     ensures { result ≡ row_on line.now }
 {
-    let county = field_at(line, DELIMITER, 1).ok_or(CodeLineKind::TooFewFields)?;
-    let neighbour = field_at(line, DELIMITER, 3).ok_or(CodeLineKind::TooFewFields)?;
-    let county = code_in(county).ok_or(CodeLineKind::BadCode)?;
-    let neighbour = code_in(neighbour).ok_or(CodeLineKind::BadCode)?;
+    let (Some(county), Some(neighbour)) = (
+        field_at(line, DELIMITER, 1),
+        field_at(line, DELIMITER, 3),
+    ) else {
+        return Err(CodeLineKind::TooFewFields);
+    };
+    let (Some(county), Some(neighbour)) = (code_in(county), code_in(neighbour)) else {
+        return Err(CodeLineKind::BadCode);
+    };
     Ok((county, neighbour))
 }
 
