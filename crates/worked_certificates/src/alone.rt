@@ -96,7 +96,7 @@ fn show_weighed(rt: &HostRuntime, problem: &Problem, head: &str, quota: u32) -> 
 }
 
 /// Prints what the checker says over as many counties as there may be.
-pub fn show_alone(rt: &HostRuntime) -> Result<()> {
+pub(crate) fn show_alone(rt: &HostRuntime) -> Result<()> {
     let problem = problem(rt.alloc())?;
     for (head, limit) in HEADS {
         show_nested(rt, &problem, head, limit)?;

@@ -12,11 +12,11 @@ use std::alloc::Global;
 
 /// An answer in words, and the text of its certificate, if it has one.
 #[derive(Drop)]
-pub struct InWords {
+pub(crate) struct InWords {
     /// What is answered.
-    pub said: String,
+    pub(crate) said: String,
     /// The certificate's text.
-    pub text: Option<Vec<u8>>,
+    pub(crate) text: Option<Vec<u8>>,
 }
 
 /// How many groups there are of each size, from one county up to the longest size with a group.
@@ -109,7 +109,7 @@ fn certified(
 
 /// An answer to a problem in words, with the groups where they are asked for, and what the checker says of its
 /// certificate within a budget.
-pub fn told(
+pub(crate) fn told(
     alloc: Global,
     problem: &Problem,
     answer: &Answer,

@@ -7,13 +7,13 @@ use std::str;
 
 /// A case: what is tried, its name, and its bytes.
 #[derive(Drop)]
-pub struct Case<'a> {
+pub(crate) struct Case<'a> {
     /// What is tried.
-    pub kind: &'a str,
+    pub(crate) kind: &'a str,
     /// What the case is called.
-    pub name: &'a str,
+    pub(crate) name: &'a str,
     /// The bytes.
-    pub bytes: Vec<u8>,
+    pub(crate) bytes: Vec<u8>,
 }
 
 /// The kind and the name on the line that begins a case, if it begins one.
@@ -23,7 +23,7 @@ fn title<'a>(line: &'a [u8]) -> Option<(&'a str, &'a str)> {
 }
 
 /// The cases of a text. Lines in front of the first are left out.
-pub fn cases_of<'a>(alloc: Global, text: &'a [u8]) -> Result<Vec<Case<'a>>> {
+pub(crate) fn cases_of<'a>(alloc: Global, text: &'a [u8]) -> Result<Vec<Case<'a>>> {
     let mut cases: Vec<Case<'a>> = Vec::new(alloc);
     let mut lines = RawLines::new(text);
     for _ in 0..text.len() {

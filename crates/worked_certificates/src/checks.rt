@@ -17,7 +17,7 @@ const ENOUGH: u64 = 100_000;
 const MARKS: u32 = 100_000;
 
 /// Adds a blank, and the seats and codes of a group.
-pub fn add_group(alloc: Global, said: &mut String, group: &Group) -> Result<()> {
+pub(crate) fn add_group(alloc: Global, said: &mut String, group: &Group) -> Result<()> {
     let seats = group.seats;
     said.push_str(&format!(in alloc; " {seats}")?)?;
     for code in group.codes.as_slice() {
@@ -57,7 +57,7 @@ fn verdict_said(alloc: Global, verdict: &Verdict) -> Result<String> {
 }
 
 /// What the checker says with sets of a form: `lists`, `masks` or `wide`.
-pub fn said_with(
+pub(crate) fn said_with(
     alloc: Global,
     problem: &Problem,
     text: &[u8],
@@ -75,7 +75,7 @@ pub fn said_with(
 }
 
 /// What the checker says with masks, and with lists and wide masks where one of them says something else.
-pub fn checked(alloc: Global, problem: &Problem, text: &[u8], budget: u64) -> Result<String> {
+pub(crate) fn checked(alloc: Global, problem: &Problem, text: &[u8], budget: u64) -> Result<String> {
     let masks = said_with(alloc, problem, text, budget, "masks")?;
     let lists = said_with(alloc, problem, text, budget, "lists")?;
     let wide = said_with(alloc, problem, text, budget, "wide")?;
@@ -145,7 +145,7 @@ fn numbered(alloc: Global, problem: &Problem, kind: &str, text: &[u8]) -> Result
 }
 
 /// What is said of a case.
-pub fn judged(alloc: Global, problem: &Problem, kind: &str, text: &[u8]) -> Result<String> {
+pub(crate) fn judged(alloc: Global, problem: &Problem, kind: &str, text: &[u8]) -> Result<String> {
     match kind {
         "check" => checked(alloc, problem, text, ENOUGH),
         "prefixes" => prefixes(alloc, problem, text),

@@ -7,7 +7,7 @@ use std::fs;
 
 /// Prints what the checker says of the file `text` over the problem that the file `problem` tells, at a budget, with
 /// sets of a form.
-pub fn show_file(rt: &HostRuntime, budget: &str, form: &str) -> Result<()> {
+pub(crate) fn show_file(rt: &HostRuntime, budget: &str, form: &str) -> Result<()> {
     let alloc = rt.alloc();
     let problem = problem_in(alloc, &fs::read(rt, "problem")?)?;
     let text = fs::read(rt, "text")?;

@@ -15,7 +15,7 @@ use std::alloc::Global;
 const MARKS: u32 = 1_000_000;
 
 /// A text of these first lines, so often a branch and a mark, and a leaf with the end.
-pub fn marked_text(
+pub(crate) fn marked_text(
     alloc: Global,
     front: &[u8],
     branch: &[u8],
@@ -43,7 +43,7 @@ fn marked(alloc: Global, head: &[u8], branch: &[u8]) -> Result<String> {
 }
 
 /// A wide text with a million marks.
-pub fn million_marks(alloc: Global) -> Result<String> {
+pub(crate) fn million_marks(alloc: Global) -> Result<String> {
     marked(
         alloc,
         b"county-groups wide certificate 1\n",
@@ -52,7 +52,7 @@ pub fn million_marks(alloc: Global) -> Result<String> {
 }
 
 /// A plain text with a million marks.
-pub fn million_plain_marks(alloc: Global) -> Result<String> {
+pub(crate) fn million_plain_marks(alloc: Global) -> Result<String> {
     marked(alloc, b"county-groups certificate 1\n", b"branch 37001\n")
 }
 
@@ -171,7 +171,7 @@ fn comes_back(alloc: Global, tree: &Tree, language: Language, levels: u16) -> Re
 }
 
 /// How many trees of so many come back.
-pub fn round_trips(alloc: Global, trees: u32) -> Result<u32> {
+pub(crate) fn round_trips(alloc: Global, trees: u32) -> Result<u32> {
     let mut dice = Dice { state: 2026 };
     let mut back = 0_u32;
     for tree in 0..trees {

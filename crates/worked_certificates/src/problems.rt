@@ -65,7 +65,7 @@ impl Sketch {
 }
 
 /// The problem that the lines tell.
-pub fn problem_in(alloc: Global, text: &[u8]) -> Result<Problem> {
+pub(crate) fn problem_in(alloc: Global, text: &[u8]) -> Result<Problem> {
     let mut sketch = Sketch {
         chamber: 0,
         counties: Vec::new(alloc),

@@ -55,7 +55,7 @@ fn certificate_back(alloc: Global, certificate: &Certificate, bytes: &[u8]) -> R
 }
 
 /// A certificate, read, copied and written.
-pub fn certificate(alloc: Global, bytes: &[u8]) -> Result<String> {
+pub(crate) fn certificate(alloc: Global, bytes: &[u8]) -> Result<String> {
     let (lines, met) = count_items(&mut Items::of_certificate(alloc, bytes)?);
     match read(alloc, bytes) {
         Ok(certificate) => {
@@ -117,7 +117,7 @@ fn words(alloc: Global, bytes: &[u8]) -> Result<String> {
 }
 
 /// How many LFs there are.
-pub fn feeds(bytes: &[u8]) -> u64 {
+pub(crate) fn feeds(bytes: &[u8]) -> u64 {
     bytes.iter().filter(|byte| **byte == b'\n').count() as u64
 }
 
@@ -144,7 +144,7 @@ fn prefixes(alloc: Global, bytes: &[u8]) -> Result<String> {
 }
 
 /// What is said of the bytes of a case.
-pub fn reading(alloc: Global, kind: &str, bytes: &[u8]) -> Result<String> {
+pub(crate) fn reading(alloc: Global, kind: &str, bytes: &[u8]) -> Result<String> {
     match kind {
         "certificate" => certificate(alloc, bytes),
         "certificate cut" => certificate(alloc, bytes.strip_suffix(b"\n").unwrap_or(bytes)),

@@ -79,7 +79,7 @@ fn show_case(rt: &HostRuntime, problem: &mut Option<Problem>, case: &Case) -> Re
 }
 
 /// Prints what is said of each case of the file `problems`.
-pub fn show_solved(rt: &HostRuntime) -> Result<()> {
+pub(crate) fn show_solved(rt: &HostRuntime) -> Result<()> {
     let text = fs::read(rt, "problems")?;
     let mut problem = None;
     for case in &cases_of(rt.alloc(), &text)? {

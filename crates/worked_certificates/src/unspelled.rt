@@ -253,7 +253,7 @@ fn long_lines(alloc: Global, lines: &mut Vec<String>) -> Result<()> {
 }
 
 /// What is said of each value.
-pub fn without_spelling(alloc: Global) -> Result<Vec<String>> {
+pub(crate) fn without_spelling(alloc: Global) -> Result<Vec<String>> {
     let mut lines = Vec::new(alloc);
     certificates(alloc, &mut lines)?;
     branches(alloc, &mut lines)?;

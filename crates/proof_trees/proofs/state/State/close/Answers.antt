@@ -1,3 +1,4 @@
+use native.Mathlib.Omega.{arith}
 use Rattle.std.proofs.Common.{length, ap, ◌∙◌, sym, not, ◌&&◌, refl}
 use Rattle.place_lists.specs.PlaceSets.{places_of}
 use Rattle.proof_trees.proofs.StateLemmas.{pushed_places, cleared, own_places}
@@ -10,5 +11,5 @@ returns-clause-value g c =
     let group = g.C.CountySet.test c.args.group in
     same_state _ _
     (pushed_places (λ k s. places_of k (g.C.CountySet.test s)) c.args.self.closed.items c.push.new.self.items c.args.group (length c.clear_sizes.new.least.items) n c.clear_sizes.ensures.count c.in_ok-push.ensures.items)
-    (λ x. c.minus-rest.ensures.places x ∙ ap (λ b. g.C.CountySet.test c.args.self.rest x && not b) (sym (own_places n group c.requires.places x)))
+    (λ x. grind (arith, c, own_places n group c.requires.places x))
     (cleared c.args.self.least.items c.clear_sizes.new.least.items group n refl c.clear_sizes.ensures.count c.requires.places c.clear_sizes.ensures.sizes)
