@@ -75,7 +75,12 @@ pub(crate) fn said_with(
 }
 
 /// What the checker says with masks, and with lists and wide masks where one of them says something else.
-pub(crate) fn checked(alloc: Global, problem: &Problem, text: &[u8], budget: u64) -> Result<String> {
+pub(crate) fn checked(
+    alloc: Global,
+    problem: &Problem,
+    text: &[u8],
+    budget: u64,
+) -> Result<String> {
     let masks = said_with(alloc, problem, text, budget, "masks")?;
     let lists = said_with(alloc, problem, text, budget, "lists")?;
     let wide = said_with(alloc, problem, text, budget, "wide")?;

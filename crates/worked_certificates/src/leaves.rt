@@ -142,7 +142,12 @@ fn first_leaf(alloc: Global, problem: &Problem, ordered: &Ordered, round: &Round
 
 /// What leaf is found where nothing is closed, in a wide round of the limit whose target the text tells, and what the
 /// checker says of it.
-pub(crate) fn leaf_said(alloc: Global, problem: &Problem, limit: u16, text: &[u8]) -> Result<String> {
+pub(crate) fn leaf_said(
+    alloc: Global,
+    problem: &Problem,
+    limit: u16,
+    text: &[u8],
+) -> Result<String> {
     if limit > 128 {
         return Err(Error::msg("a limit is at most 128"));
     }
