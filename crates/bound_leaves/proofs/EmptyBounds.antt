@@ -6,7 +6,7 @@ use Rattle.grouping_laws.specs.Sets.{total, member}
 use Rattle.grouping_laws.specs.Problem.{Problem}
 use Rattle.grouping_laws.specs.Grouping.{counts}
 use Rattle.grouping_laws.proofs.Elements.{all_from_has}
-use Rattle.proof_trees.specs.declared.language.Language.{Language}
+use Rattle.certificate_languages.specs.declared.language.Language.{Language}
 use Rattle.proof_trees.specs.Regions.{listed}
 use Rattle.proof_trees.specs.State.{State, open_to}
 use Rattle.proof_trees.specs.Fitting.{Fits}

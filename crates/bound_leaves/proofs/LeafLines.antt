@@ -2,8 +2,8 @@
 use Rattle.std.proofs.Common.{ℕ, ◌+◌, ◌≤◌, List, [], ◌∷◌, ◌++◌, map, length, refl, sym, subst, arith}
 use Rattle.std.specs.List.{AllByRecursion}
 use Rattle.grouping_laws.specs.Problem.{Problem}
-use Rattle.proof_trees.specs.declared.language.Language.{Language}
-use Rattle.proof_trees.specs.declared.language.Language.TheVariants.{Plain, Wide}
+use Rattle.certificate_languages.specs.declared.language.Language.{Language}
+use Rattle.certificate_languages.specs.declared.language.Language.TheVariants.{Plain, Wide}
 use Rattle.proof_trees.specs.State.{State}
 use Rattle.proof_trees.specs.Tree.{Weight, Allowance, room, weigh, bound}
 use Rattle.certificate_lines.specs.Fits.{AreWeights}

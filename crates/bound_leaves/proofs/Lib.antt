@@ -4,3 +4,4 @@ pub mod Endings
 pub mod PlacedWeights
 pub mod Weighing
 pub mod WeightSteps
+pub mod StuckPlaces

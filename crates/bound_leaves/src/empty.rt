@@ -8,8 +8,7 @@ ghost use Rattle.bound_leaves.specs.GivenLeaf.{IsGiven};
 ghost use Rattle.bound_leaves.specs.EmptyLines.{IsEmptyLine, AreEmptyThrough, EndsWith};
 ghost use Rattle.bound_leaves.specs.Missing.{TargetEndsAt};
 
-use crate::standing::first_difference;
-use bound_proofs::groups_of_size;
+use crate::standing::{first_difference, groups_of_size};
 use bound_verdicts::{closed_of_size, room_left};
 use certificate_lines::{Allowance, Weights};
 use certificate_text::Leaf;

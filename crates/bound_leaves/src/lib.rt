@@ -9,11 +9,13 @@
 mod empty;
 mod room;
 mod standing;
+mod stuck;
 mod weighed;
 mod whole;
 
 pub use empty::empty_leaf;
 pub use room::room_leaf;
-pub use standing::wanted_more;
+pub use standing::{groups_of_size, wanted_more};
+pub use stuck::stuck_county;
 pub use weighed::weighed_leaf;
 pub use whole::whole_leaf;

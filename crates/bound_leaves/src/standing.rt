@@ -5,12 +5,24 @@ ghost use Rattle.line_verdicts.specs.Placed.{state_at, IsPlaced};
 ghost use Rattle.known_groups.specs.Standing.{IsLevel};
 ghost use Rattle.bound_leaves.specs.Missing.{DiffersAt, IsMissing};
 
-use bound_proofs::groups_of_size;
 use bound_verdicts::closed_of_size;
 use county_codes::Grouping;
 use ordered_counties::Ordered;
 use place_sets::CountySet;
 use proof_trees::{Round, State};
+
+/// How many groups of the grouping have so many counties.
+pub fn groups_of_size(grouping: &Grouping, size: u16) -> usize
+    ensures { result ≡ counts (sets_of grouping.now.groups.items) size }
+{
+    let mut count = 0;
+    for group in &grouping.groups {
+        if group.codes.as_slice().len() == usize::from(size) {
+            count += 1;
+        }
+    }
+    count
+}
 
 /// The first size from 1 through the last one, in counties, of which there are not as many closed groups as the target
 /// has; `None` where there are as many of each.

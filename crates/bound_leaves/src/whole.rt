@@ -7,7 +7,7 @@ ghost use Rattle.proof_trees.specs.Leaves.{IsStuck, IsOffSeats};
 ghost use Rattle.line_verdicts.specs.Placed.{state_at, IsPlaced};
 ghost use Rattle.bound_leaves.specs.GivenLeaf.{IsGiven};
 
-use bound_proofs::stuck_county;
+use crate::stuck::stuck_county;
 use certificate_text::Leaf;
 use line_verdicts::judge_seats;
 use ordered_counties::Ordered;

@@ -12,7 +12,7 @@ use Rattle.grouping_laws.proofs.Places.{has_member, place_at}
 use Rattle.proof_trees.specs.Round.{Round}
 use Rattle.proof_trees.specs.State.{State}
 use Rattle.proof_trees.specs.Tree.{Weight, weigh}
-use Rattle.proof_trees.specs.declared.language.Language.{Language}
+use Rattle.certificate_languages.specs.declared.language.Language.{Language}
 use Rattle.proof_trees.specs.Search.{IsCounted, IsCountLine}
 use Rattle.certificate_lines.specs.declared.weights.Weight.{Weight as WeightHeld}
 use Rattle.certificate_text.specs.Trees.{weight_of as held_weight}

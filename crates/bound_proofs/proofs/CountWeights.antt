@@ -10,7 +10,7 @@ use Rattle.grouping_laws.proofs.Places.{has_member}
 use Rattle.grouping_laws.proofs.PlaceCodes.{member_has, mapped_has, has_mapped}
 use Rattle.place_lists.specs.PlaceSets.{places_of}
 use Rattle.place_lists.proofs.Sums.{total_same, total_ones}
-use Rattle.proof_trees.specs.declared.language.Language.{Language}
+use Rattle.certificate_languages.specs.declared.language.Language.{Language}
 use Rattle.proof_trees.specs.Regions.{listed}
 use Rattle.proof_trees.specs.State.{State, open_to}
 use Rattle.proof_trees.specs.Tree.{Weight, Allowance, weigh}

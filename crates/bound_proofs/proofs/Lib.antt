@@ -2,4 +2,3 @@ pub mod CountWeights
 pub mod CountedPlaces
 pub mod CountBounds
 pub mod CountSteps
-pub mod StuckPlaces

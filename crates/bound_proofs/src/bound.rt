@@ -11,6 +11,7 @@ ghost use Rattle.line_verdicts.specs.Placed.{state_at, IsPlaced};
 ghost use Rattle.bound_proofs.specs.CountLeaves.{IsListOf, AreListsFrom, BoundBy, BoundByNone};
 
 use crate::lines::{count_lines, places_in};
+use bound_leaves::groups_of_size;
 use bound_verdicts::{closed_of_size, room_left};
 use certificate_lines::Allowance;
 use county_codes::Grouping;
@@ -18,19 +19,6 @@ use ordered_counties::Ordered;
 use place_sets::CountySet;
 use proof_trees::{Round, State};
 use std::alloc::{AllocError, Global};
-
-/// How many groups of the grouping have so many counties.
-pub fn groups_of_size(grouping: &Grouping, size: u16) -> usize
-    ensures { result ≡ counts (sets_of grouping.now.groups.items) size }
-{
-    let mut count = 0;
-    for group in &grouping.groups {
-        if group.codes.as_slice().len() == usize::from(size) {
-            count += 1;
-        }
-    }
-    count
-}
 
 /// How many groups of a size, in counties, the count line for it allows, where smaller groups use up so many counties,
 /// at most 128, and these are the groups of the size that fit.

@@ -11,7 +11,7 @@ ghost use Rattle.line_verdicts.specs.Placed.{state_at, IsPlaced};
 ghost use Rattle.bound_proofs.specs.CountLeaves.{AreListsFrom};
 
 use crate::bound::bounding_lines;
-use crate::stuck::stuck_county;
+use bound_leaves::stuck_county;
 use certificate_text::Leaf;
 use line_verdicts::judge_seats;
 use ordered_counties::Ordered;

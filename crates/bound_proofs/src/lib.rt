@@ -6,8 +6,5 @@
 mod bound;
 mod finder;
 mod lines;
-mod stuck;
 
-pub use bound::groups_of_size;
 pub use finder::find_leaf;
-pub use stuck::stuck_county;

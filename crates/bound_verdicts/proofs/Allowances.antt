@@ -8,7 +8,7 @@ use Rattle.grouping_laws.specs.Places.{codes_at}
 use Rattle.grouping_laws.specs.PlaceProblem.{code_at}
 use Rattle.place_lists.specs.PlaceSets.{places_of}
 use Rattle.place_lists.proofs.Sums.{total-map, total_same}
-use Rattle.proof_trees.specs.declared.language.Language.{Language}
+use Rattle.certificate_languages.specs.declared.language.Language.{Language}
 use Rattle.proof_trees.specs.declared.state.State.{State as StateHeld}
 use Rattle.proof_trees.specs.Regions.{listed}
 use Rattle.proof_trees.specs.State.{State, open_to}

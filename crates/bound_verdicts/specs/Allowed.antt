@@ -1,7 +1,7 @@
 -- What the answers of the call that judges a line of a bound leaf say.
 use Rattle.std.specs.Prelude.{ℕ, ◌+◌, ◌*◌, ◌≡◌, ◌≤◌, true, ⊤}
 use Rattle.grouping_laws.specs.Problem.{Problem}
-use Rattle.proof_trees.specs.declared.language.Language.{Language}
+use Rattle.certificate_languages.specs.declared.language.Language.{Language}
 use Rattle.proof_trees.specs.State.{State}
 use Rattle.proof_trees.specs.Tree.{Allowance}
 use Rattle.proof_trees.specs.BoundLines.{allowance, IsFair}

@@ -1,7 +1,7 @@
 -- The weights of a line of a bound leaf, as values of the Rust type, and where the line isn't fair.
 use Rattle.std.specs.Prelude.{ℕ, ◌≡◌, List, map, ◌⊎◌}
 use Rattle.grouping_laws.specs.Problem.{Problem}
-use Rattle.proof_trees.specs.declared.language.Language.{Language}
+use Rattle.certificate_languages.specs.declared.language.Language.{Language}
 use Rattle.proof_trees.specs.State.{State}
 use Rattle.proof_trees.specs.Tree.{Weight, Allowance}
 use Rattle.proof_trees.specs.BoundLines.{weight_of}

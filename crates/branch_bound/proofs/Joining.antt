@@ -8,8 +8,8 @@ use Rattle.grouping_laws.specs.GroupsFrom.{IsBefore}
 use Rattle.grouping_laws.specs.Places.{codes_at}
 use Rattle.ordered_counties.specs.OrderedValue.{code_at}
 use Rattle.proof_trees.specs.Round.{Round}
-use Rattle.proof_trees.specs.declared.language.Language.{Language}
-use Rattle.proof_trees.specs.declared.language.Language.TheVariants.{Wide}
+use Rattle.certificate_languages.specs.declared.language.Language.{Language}
+use Rattle.certificate_languages.specs.declared.language.Language.TheVariants.{Wide}
 use Rattle.proof_trees.specs.State.{State, raise}
 use Rattle.proof_trees.specs.Tree.{Tree, branch, Takes, no_take, groups_of}
 use Rattle.proof_trees.specs.Groups.{AreGroupsAt}

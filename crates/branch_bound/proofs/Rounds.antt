@@ -8,8 +8,8 @@ use Rattle.grouping_laws.specs.Grouping.{Grouping, IsImpossible}
 use Rattle.grouping_laws.specs.GroupsFrom.{IsOrder}
 use Rattle.grouping_laws.proofs.Digits.{often_member}
 use Rattle.proof_trees.specs.Round.{Round}
-use Rattle.proof_trees.specs.declared.language.Language.{Language}
-use Rattle.proof_trees.specs.declared.language.Language.TheVariants.{Plain, Wide}
+use Rattle.certificate_languages.specs.declared.language.Language.{Language}
+use Rattle.certificate_languages.specs.declared.language.Language.TheVariants.{Plain, Wide}
 use Rattle.proof_trees.specs.declared.round.Round.{Round as RoundHeld}
 use Rattle.proof_trees.specs.RoundValue.{round_of}
 use Rattle.proof_trees.specs.State.{State, empty_state}

@@ -21,7 +21,7 @@ use Rattle.proof_trees.specs.Fitting.{Fits}
 use Rattle.proof_trees.specs.Groups.{IsGroupAt, AreGroupsAt}
 use Rattle.proof_trees.specs.Proving.{Proves, CanBranch}
 use Rattle.proof_trees.specs.Round.{Round}
-use Rattle.proof_trees.specs.declared.language.Language.TheVariants.{Wide}
+use Rattle.certificate_languages.specs.declared.language.Language.TheVariants.{Wide}
 use Rattle.proof_trees.specs.State.{State, close, raise}
 use Rattle.proof_trees.specs.Tree.{Tree, leaf, Takes}
 use Rattle.proof_trees.specs.Tree as tree

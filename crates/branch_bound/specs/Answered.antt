@@ -5,8 +5,8 @@ use Rattle.grouping_laws.specs.Problem.{Problem}
 use Rattle.grouping_laws.specs.Grouping.{Grouping, Lawful, sets_of, IsBest, IsImpossible}
 use Rattle.grouping_laws.specs.GroupsFrom.{IsLesser}
 use Rattle.county_codes.specs.declared.group.Grouping.{Grouping as GroupingHeld}
-use Rattle.proof_trees.specs.declared.language.Language.{Language}
-use Rattle.proof_trees.specs.declared.language.Language.TheVariants.{Plain, Wide}
+use Rattle.certificate_languages.specs.declared.language.Language.{Language}
+use Rattle.certificate_languages.specs.declared.language.Language.TheVariants.{Plain, Wide}
 use Rattle.proof_trees.specs.Certificate.{IsCertificate}
 use Rattle.certificate_text.specs.declared.certificate.Certificate.{Certificate as CertificateHeld}
 use Rattle.certificate_text.specs.Trees.{certificate_of}

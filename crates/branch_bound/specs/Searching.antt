@@ -11,7 +11,7 @@ use Rattle.ordered_counties.specs.OrderedValue.{problem_at, code_at}
 use Rattle.county_regions.specs.Rows.{AreRows}
 use Rattle.growing_sets.specs.Listing.{AreBelow}
 use Rattle.proof_trees.specs.Round.{Round}
-use Rattle.proof_trees.specs.declared.language.Language.TheVariants.{Wide}
+use Rattle.certificate_languages.specs.declared.language.Language.TheVariants.{Wide}
 use Rattle.proof_trees.specs.RoundValue.{round_of}
 use Rattle.proof_trees.specs.State.{State, IsState, close}
 use Rattle.proof_trees.specs.declared.state.State.{State as StateHeld}

@@ -2,7 +2,7 @@
 use Rattle.std.specs.Prelude.{ℕ, List, None}
 use Rattle.grouping_laws.specs.Problem.{Problem}
 use Rattle.grouping_laws.specs.Grouping.{Grouping, Lawful}
-use Rattle.proof_trees.specs.declared.language.Language.TheVariants.{Plain}
+use Rattle.certificate_languages.specs.declared.language.Language.TheVariants.{Plain}
 use Rattle.tree_spelling.specs.TreeItems.{HasTargetLines}
 use Rattle.branch_bound.specs.Searching.{IsSorted}
 use Rattle.branch_bound.specs.Answered.{Certifies}

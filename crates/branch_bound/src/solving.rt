@@ -6,7 +6,7 @@ ghost use Rattle.certificate_lines.specs.Fits.{AreCodes};
 ghost use Rattle.county_regions.specs.Rows.{AreRows};
 ghost use Rattle.grouping_problem.specs.ProblemValue.{problem_of};
 ghost use Rattle.ordered_counties.specs.OrderedValue.{problem_at};
-ghost use Rattle.proof_trees.specs.declared.language.Language.TheVariants.{Plain, Wide};
+ghost use Rattle.certificate_languages.specs.declared.language.Language.TheVariants.{Plain, Wide};
 ghost use Rattle.proof_trees.specs.RoundValue.{round_of};
 ghost use Rattle.proof_trees.specs.Leaves.{IsStuck, IsOffSeats};
 ghost use Rattle.proof_trees.specs.State.{empty_state};

@@ -1,7 +1,7 @@
 -- One line of a bound leaf, read and judged.
 use Rattle.std.proofs.Common.{◌≡◌, ℕ, ◌+◌, ◌*◌, ◌≤◌, List, [], ◌∷◌, ◌++◌, Result, Ok, Err, MatchResult, IfOk, IsErrOf, refl, sym, ◌∙◌, ap, subst, arith}
 use Rattle.grouping_laws.specs.Problem.{Problem}
-use Rattle.proof_trees.specs.declared.language.Language.{Language}
+use Rattle.certificate_languages.specs.declared.language.Language.{Language}
 use Rattle.proof_trees.specs.Round.{Round}
 use Rattle.proof_trees.specs.State.{State}
 use Rattle.proof_trees.specs.Tree.{Allowance}

@@ -1,6 +1,6 @@
 -- The tree of a certificate that a text can spell is readable, and the certificate's limit and order are small.
 use Rattle.std.proofs.Common.{◌≤◌, List, [], ◌∷◌, length}
-use Rattle.proof_trees.specs.declared.language.Language.{Language}
+use Rattle.certificate_languages.specs.declared.language.Language.{Language}
 use Rattle.proof_trees.specs.Tree.{Allowance, room, weigh, stuck, seats, bound, Tree, leaf, branch, Takes, no_take, take}
 use Rattle.certificate_lines.specs.Fits.{AllFit}
 use Rattle.certificate_lines.specs.declared.item.Wanted.TheVariants as want

@@ -1,7 +1,7 @@
 -- What is left of a tree, and what each line does to it.
 use Rattle.std.proofs.Common.{◌≡◌, ℕ, ◌+◌, ◌*◌, ◌≤◌, List, ◌∷◌, ◌++◌, length, Option, Result, Ok, Err, IfOk, IsErrOf, MatchResult, refl, sym, ◌∙◌, ap, subst, arith}
 use Rattle.grouping_laws.specs.Problem.{Problem}
-use Rattle.proof_trees.specs.declared.language.Language.{Language}
+use Rattle.certificate_languages.specs.declared.language.Language.{Language}
 use Rattle.proof_trees.specs.Round.{Round}
 use Rattle.proof_trees.specs.State.{State, raise}
 use Rattle.proof_trees.specs.Groups.{AreGroupsAt, IsSetAt}

@@ -1,6 +1,6 @@
 -- Trees that some text spells, whatever the ranges of their numbers.
 use Rattle.std.specs.Prelude.{List, [], ◌∷◌, ⊤}
-use Rattle.proof_trees.specs.declared.language.Language.{Language}
+use Rattle.certificate_languages.specs.declared.language.Language.{Language}
 use Rattle.proof_trees.specs.Tree.{Allowance, Leaf, stuck, seats, bound, Tree, leaf, branch, Takes, no_take, take}
 use Rattle.proof_trees.specs.Proving.{NamesLimit}
 use Rattle.certificate_text.specs.Trees.{declared_allowance}

@@ -19,8 +19,8 @@ use Rattle.certificate_lines.proofs.TextLaws.{item_ok, seen_ok, in_front_ok}
 use Rattle.certificate_lines.specs.declared.fault.TextKind.{TextKind}
 use Rattle.certificate_lines.specs.declared.fault.TextKind.TheVariants.{BadWord, NotCanonical, CutShort, TooDeep}
 use Rattle.certificate_lines.specs.declared.fault.TextFault.{TextFault}
-use Rattle.proof_trees.specs.declared.language.Language.{Language}
-use Rattle.proof_trees.specs.declared.language.Language.TheVariants.{Plain, Wide}
+use Rattle.certificate_languages.specs.declared.language.Language.{Language}
+use Rattle.certificate_languages.specs.declared.language.Language.TheVariants.{Plain, Wide}
 use Rattle.certificate_lines.specs.declared.weights.Weight.{Weight}
 use Rattle.county_codes.specs.declared.group.Group.{Group}
 use Rattle.certificate_lines.specs.declared.item.Allowance.{Allowance}

@@ -5,7 +5,7 @@ use Rattle.field_lines.specs.Fault.{most_bytes}
 use Rattle.certificate_lines.specs.Lines.{most, ascend}
 use Rattle.certificate_lines.specs.Items.{wanted_after}
 use Rattle.certificate_lines.specs.Spelling.{item_words}
-use Rattle.proof_trees.specs.declared.language.Language.TheVariants.{Plain, Wide}
+use Rattle.certificate_languages.specs.declared.language.Language.TheVariants.{Plain, Wide}
 use Rattle.certificate_lines.specs.declared.weights.Weight.{Weight}
 use Rattle.certificate_lines.specs.declared.item.Allowance.TheVariants.{Room, Weigh}
 use Rattle.certificate_lines.specs.declared.item.Opening.TheVariants.{Branch, Stuck, Seats, Bound}

@@ -15,7 +15,7 @@ use crate::lines::{
 use crate::words::{Words, bytes_of_line};
 use county_codes::{Codes, Group};
 use field_lines::split_piece;
-use proof_trees::Language;
+use certificate_languages::Language;
 use std::alloc::Global;
 use std::marker::Model;
 

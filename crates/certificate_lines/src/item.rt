@@ -2,7 +2,7 @@ ghost use Rattle.std.specs.Prelude.{◌≡◌, IfOk};
 
 use crate::weights::Weights;
 use county_codes::{Codes, CountyCode, Group};
-use proof_trees::Language;
+use certificate_languages::Language;
 use std::alloc::AllocError;
 
 /// A line of a bound leaf: how many groups of one size there may still be.

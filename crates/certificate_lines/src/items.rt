@@ -11,7 +11,7 @@ use crate::cursor::{Cursor, ended, push_on};
 use crate::fault::{TextFault, TextKind};
 use crate::item::{Item, Opening, Wanted};
 use crate::lines::levels_after;
-use proof_trees::Language;
+use certificate_languages::Language;
 use std::alloc::{AllocError, Global};
 use std::marker::Model;
 

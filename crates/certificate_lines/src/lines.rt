@@ -2,18 +2,18 @@
 
 ghost use Rattle.std.specs.Prelude.{◌≡◌, ℕ, nat_lt, None, Ok, Err, IfOk, if◌then◌else◌};
 ghost use Rattle.field_lines.specs.Values.{GivesUnless};
-ghost use Rattle.proof_trees.specs.Depth.{after_raise};
+ghost use Rattle.certificate_languages.specs.Levels.{after_raise};
 ghost use Rattle.certificate_lines.specs.Lines.{head_on, order_on, limit_on, target_on, group_on, branch_on, stuck_on, bound_on, opening_on, take_on, weigh_on, allowance_on, end_on, ascend, HasLevel};
 ghost use Rattle.certificate_lines.specs.declared.fault.TextKind.TheVariants.{Memory, TooDeep};
 ghost use Rattle.certificate_lines.specs.declared.item.Opening.TheVariants.{Branch};
-ghost use Rattle.proof_trees.specs.declared.language.Language.TheVariants.{Plain, Wide};
+ghost use Rattle.certificate_languages.specs.declared.language.Language.TheVariants.{Plain, Wide};
 
 use crate::fault::TextKind;
 use crate::item::{Allowance, Opening};
 use crate::weights::Weight;
 use crate::words::Words;
 use county_codes::{Codes, CountyCode, Group};
-use proof_trees::Language;
+use certificate_languages::Language;
 use std::alloc::Global;
 
 /// How many counties, groups, lines of a bound and levels of branches there may be.

@@ -21,7 +21,7 @@ use crate::writing_words::{
 };
 use county_codes::{CountyCode, Group};
 use field_lines::MAX_LINE;
-use proof_trees::Language;
+use certificate_languages::Language;
 use std::alloc::AllocError;
 
 /// Appends the head.

@@ -4,7 +4,7 @@ use Rattle.field_lines.specs.Raw.{raw_lines_from}
 use Rattle.county_codes.specs.declared.group.Group.{Group}
 use Rattle.grouping_laws.specs.Grouping.{Grouping}
 use Rattle.proof_trees.specs.Tree.{Tree}
-use Rattle.proof_trees.specs.declared.language.Language.{Language}
+use Rattle.certificate_languages.specs.declared.language.Language.{Language}
 use Rattle.certificate_lines.specs.Items.{items_from}
 use Rattle.certificate_lines.specs.Spelling.{text_of}
 use Rattle.certificate_lines.specs.Fits.{AllFit}

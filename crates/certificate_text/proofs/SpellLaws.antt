@@ -15,8 +15,8 @@ use Rattle.certificate_lines.specs.Lines.{most, begins, counted, number_at, code
 use Rattle.certificate_lines.specs.Spelling.{five_digits, weight_word, item_words}
 use Rattle.certificate_lines.specs.Fits.{AreCodes, IsSet, FitsWeight, AreWeights}
 use Rattle.certificate_text.proofs.BackLaws.{number_back, code_back, Digit, decimal_digits, pair_back, each_back}
-use Rattle.proof_trees.specs.declared.language.Language.{Language}
-use Rattle.proof_trees.specs.declared.language.Language.TheVariants.{Plain, Wide}
+use Rattle.certificate_languages.specs.declared.language.Language.{Language}
+use Rattle.certificate_languages.specs.declared.language.Language.TheVariants.{Plain, Wide}
 use Rattle.certificate_lines.specs.declared.weights.Weight.{Weight}
 use Rattle.county_codes.specs.declared.group.Group.{Group}
 use Rattle.certificate_lines.specs.declared.item.Allowance.TheVariants.{Weigh}

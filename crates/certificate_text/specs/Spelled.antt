@@ -1,6 +1,6 @@
 -- What is spelled by a text.
 use Rattle.std.specs.Prelude.{◌≡◌, ℕ, List, [], ◌∷◌}
-use Rattle.proof_trees.specs.declared.language.Language.{Language}
+use Rattle.certificate_languages.specs.declared.language.Language.{Language}
 use Rattle.certificate_lines.specs.declared.item.Wanted.TheVariants as want
 use Rattle.certificate_lines.specs.Fits.{AllFit}
 use Rattle.certificate_lines.specs.Spelling.{text_of}

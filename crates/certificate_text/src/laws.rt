@@ -3,7 +3,7 @@
 ghost use Rattle.std.specs.Prelude.{◌≡◌, ℕ, List, [], ◌++◌, Ok};
 ghost use Rattle.field_lines.specs.Raw.{RawLine, raw_lines_from};
 ghost use Rattle.proof_trees.specs.Tree.{Tree};
-ghost use Rattle.proof_trees.specs.declared.language.Language.{Language};
+ghost use Rattle.certificate_languages.specs.declared.language.Language.{Language};
 ghost use Rattle.certificate_lines.specs.declared.item.Item.{Item};
 ghost use Rattle.certificate_lines.specs.declared.item.Wanted.{Wanted};
 ghost use Rattle.certificate_lines.specs.Items.{items_from};

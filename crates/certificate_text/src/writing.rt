@@ -9,7 +9,7 @@ ghost use Rattle.certificate_lines.specs.Lines.{most};
 ghost use Rattle.certificate_lines.specs.Writes.{WritesLine, Writes};
 ghost use Rattle.certificate_text.specs.Trees.{tree_of, items_of_tree, list_of_takes, items_of_takes, leaf_of, leaf_items, items_of_target, certificate_of};
 ghost use Rattle.proof_trees.specs.RoundValue.{target_of};
-ghost use Rattle.proof_trees.specs.declared.language.Language.{Language};
+ghost use Rattle.certificate_languages.specs.declared.language.Language.{Language};
 ghost use Rattle.certificate_lines.specs.declared.item.Item.TheVariants as item;
 ghost use Rattle.certificate_lines.specs.declared.item.Opening.TheVariants as opening;
 ghost use Rattle.certificate_lines.specs.declared.item.Wanted.TheVariants as want;

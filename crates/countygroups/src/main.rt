@@ -2,24 +2,11 @@
 //! from standard input. What helps a person stands on standard error.
 #![tactic(auto)]
 
-mod again;
-mod answer_line;
-mod certificate_fault;
-mod explain;
-mod fields;
-mod figures;
-mod grouping_fault;
 mod kept;
-mod line_of;
-mod options;
-mod refused;
-mod refused_problem;
-mod shown;
 
-use crate::explain::{Ended, explain};
 use crate::kept::Kept;
-use crate::options::options_of;
 use cli::{FileShelf, Sink, Writing, run_program};
+use explanations::{Ended, explain};
 use field_lines::Reading;
 use std::alloc::AllocError;
 use std::io::{ErrorKind, IsTerminal};
@@ -42,7 +29,6 @@ fn tell(
     out: &Kept<impl Sink>,
     (status, reason): (u8, Option<ErrorKind>),
 ) -> Result<(), AllocError> {
-    let options = options_of(rt.alloc(), &*words)?;
     let ended = Ended {
         start: out.start(),
         status,
@@ -50,7 +36,7 @@ fn tell(
         is_case: words.is_empty(),
         is_unwritten: out.failed(),
     };
-    let text = explain(rt, &options, ended)?;
+    let text = explain(rt, words, ended)?;
     let _ = eprint!(rt; "{text}");
     Ok(())
 }

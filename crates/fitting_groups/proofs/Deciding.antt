@@ -8,8 +8,8 @@ use Rattle.grouping_laws.specs.SeatWindow.{IsRun, seat_run}
 use Rattle.grouping_laws.proofs.WindowLemmas.{window_law}
 use Rattle.grouping_laws.proofs.Elements.{Has, has_from_contains, contains_from_has}
 use Rattle.growing_sets.proofs.PlaceLists.{often_placed, placed_below}
-use Rattle.proof_trees.specs.declared.language.Language.{Language}
-use Rattle.proof_trees.specs.declared.language.Language.TheVariants.{Plain, Wide}
+use Rattle.certificate_languages.specs.declared.language.Language.{Language}
+use Rattle.certificate_languages.specs.declared.language.Language.TheVariants.{Plain, Wide}
 use Rattle.proof_trees.specs.State.{State, open_to}
 use Rattle.proof_trees.specs.Regions.{without}
 use Rattle.proof_trees.specs.Stuck.{CannotFill}

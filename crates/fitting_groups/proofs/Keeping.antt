@@ -6,7 +6,7 @@ use Rattle.place_lists.specs.PlaceSets.{places_of}
 use Rattle.grouping_laws.specs.Problem.{Problem, Suits, people_of}
 use Rattle.growing_sets.specs.Growing.{IsExtension, IsGrowth, IsWhole, AreKept}
 use Rattle.growing_sets.proofs.Growing.{none_kept, leaf_only}
-use Rattle.proof_trees.specs.declared.language.Language.{Language}
+use Rattle.certificate_languages.specs.declared.language.Language.{Language}
 use Rattle.proof_trees.specs.State.{State}
 use Rattle.proof_trees.specs.Fitting.{Fits}
 use Rattle.state_tests.specs.Stranding.{NoneFits}

@@ -16,7 +16,7 @@ use Rattle.place_lists.specs.PlaceSets.{places_of}
 use Rattle.growing_sets.specs.Growing.{only, IsExtension, sort_key}
 use Rattle.growing_sets.specs.Listing.{lists_of, AreBelow, IsListed, OneStepEach, HasStepped}
 use Rattle.growing_sets.proofs.Distinct.{Distinct, distinct_append, distinct_pairs, distinct_from_pairs}
-use Rattle.proof_trees.specs.declared.language.Language.{Language}
+use Rattle.certificate_languages.specs.declared.language.Language.{Language}
 use Rattle.proof_trees.specs.Round.{Round}
 use Rattle.proof_trees.specs.State.{State, open_to}
 use Rattle.proof_trees.specs.Fitting.{Fits}

@@ -12,7 +12,7 @@ use Rattle.place_lists.specs.PlaceSets.{places_of}
 use Rattle.growing_sets.specs.Growing.{only, IsFront, IsCandidate, IsExtension, AreKept, sort_key}
 use Rattle.growing_sets.specs.Listing.{lists_of, OneStepEach, HasStepped}
 use Rattle.growing_sets.proofs.Distinct.{distinct_pairs}
-use Rattle.proof_trees.specs.declared.language.Language.{Language}
+use Rattle.certificate_languages.specs.declared.language.Language.{Language}
 use Rattle.proof_trees.specs.Round.{Round}
 use Rattle.proof_trees.specs.State.{State, open_to}
 use Rattle.proof_trees.specs.Fitting.{Fits}

@@ -6,7 +6,7 @@ use Rattle.grouping_laws.specs.Problem.{Problem, IsProblem}
 use Rattle.grouping_laws.specs.GroupsFrom.{IsOrder, IsBefore}
 use Rattle.grouping_laws.proofs.Alike.{Alike, length_alike, in_order_alike, member_same}
 use Rattle.grouping_laws.proofs.Elements.{has_from_contains}
-use Rattle.proof_trees.specs.declared.language.Language.TheVariants.{Wide}
+use Rattle.certificate_languages.specs.declared.language.Language.TheVariants.{Wide}
 use Rattle.proof_trees.specs.Round.{Round}
 use Rattle.proof_trees.specs.State.{State, IsState, open_to, close, raise}
 use Rattle.proof_trees.specs.Fitting.{Fits, IsLive, IsKept}

@@ -3,7 +3,7 @@ use Rattle.std.specs.Prelude.{ℕ, ◌+◌, ◌≡◌, ◌≤◌, ◌<◌, true,
 use Rattle.grouping_laws.specs.Sets.{member, Inside}
 use Rattle.grouping_laws.specs.Problem.{Problem, IsProblem, LawfulGroup}
 use Rattle.grouping_laws.specs.GroupsFrom.{IsOrder, IsBefore}
-use Rattle.proof_trees.specs.declared.language.Language.TheVariants.{Wide}
+use Rattle.certificate_languages.specs.declared.language.Language.TheVariants.{Wide}
 use Rattle.proof_trees.specs.Round.{Round}
 use Rattle.proof_trees.specs.State.{State, IsState, open_to, close, raise}
 use Rattle.proof_trees.specs.Fitting.{Fits, IsLive}

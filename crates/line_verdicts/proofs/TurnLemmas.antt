@@ -11,7 +11,7 @@ use Rattle.place_lists.specs.PlaceSets.{IsNext}
 use Rattle.growing_sets.proofs.Starts.{begins_least}
 use Rattle.ordered_counties.specs.OrderedValue.{code_at}
 use Rattle.county_regions.proofs.Filling.{and_parts}
-use Rattle.proof_trees.specs.declared.language.Language.TheVariants.{Plain, Wide}
+use Rattle.certificate_languages.specs.declared.language.Language.TheVariants.{Plain, Wide}
 use Rattle.proof_trees.specs.Round.{Round}
 use Rattle.proof_trees.specs.State.{State, open_to}
 use Rattle.proof_trees.specs.Proving.{CanBranch, GoesInOrder}

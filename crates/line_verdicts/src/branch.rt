@@ -3,7 +3,7 @@ ghost use Rattle.grouping_problem.specs.ProblemValue.{problem_of};
 ghost use Rattle.ordered_counties.specs.OrderedValue.{problem_at, code_at};
 ghost use Rattle.county_regions.specs.Rows.{AreRows};
 ghost use Rattle.growing_sets.specs.Listing.{AreBelow};
-ghost use Rattle.proof_trees.specs.declared.language.Language.TheVariants.{Plain};
+ghost use Rattle.certificate_languages.specs.declared.language.Language.TheVariants.{Plain};
 ghost use Rattle.proof_trees.specs.RoundValue.{round_of};
 ghost use Rattle.proof_trees.specs.Groups.{AreGroupsAt, IsSetAt};
 ghost use Rattle.proof_trees.specs.Proving.{limit_of, NamesLimit, CanBranch};

@@ -2,16 +2,12 @@
 use Rattle.std.specs.Prelude.{ℕ, ◌+◌, ◌-◌, ◌*◌, ◌≡◌, ◌≤◌, length, max, ⊤}
 use Rattle.grouping_laws.specs.Problem.{Problem}
 use Rattle.grouping_laws.specs.GroupsFrom.{IsOrder}
-use Rattle.proof_trees.specs.Round.{Language, Plain, Wide, Round}
+pub use Rattle.certificate_languages.specs.Levels.{after_raise}
+use Rattle.proof_trees.specs.Round.{Language, Plain, Round}
 use Rattle.proof_trees.specs.State.{State, IsState}
 use Rattle.proof_trees.specs.Tree.{Tree, leaf, branch, Takes, no_take, take}
 use Rattle.proof_trees.specs.Proving.{Proves, limit_of}
 use Rattle.proof_trees.specs.Branching.{steps_left}
-
--- how deep the tree where a county is raised may be, in a branch of so much: a plain text counts that branch, a wide one doesn't
-abbrev pub after_raise : Language → ℕ → ℕ
-after_raise Plain n = n - 1
-after_raise Wide n = n
 
 -- the depth of each branch is below n: in a wide text how many takes it stands in, in a plain one how many branches
 abbrev mutual

@@ -1,8 +1,8 @@
 -- What a search for groupings greater than a target goes by.
 use Rattle.std.specs.Prelude.{ℕ, List, Option}
 use Rattle.grouping_laws.specs.Grouping.{Grouping}
-pub use Rattle.proof_trees.specs.declared.language.Language.{Language}
-pub use Rattle.proof_trees.specs.declared.language.Language.TheVariants.{Plain, Wide}
+pub use Rattle.certificate_languages.specs.declared.language.Language.{Language}
+pub use Rattle.certificate_languages.specs.declared.language.Language.TheVariants.{Plain, Wide}
 
 -- The order of the counties, the limit of sizes, the target, if there is one, and the language: in a plain round the limit serves the
 -- whole tree and branches stand at the first open county; in a wide one each branch has a county and a limit of its own, and groups

@@ -15,15 +15,14 @@
 //! The definitions stand in `specs/`: `Round`, `State`, `Agreement`, `Stuck`, `Fitting`, `Groups` (of a branch),
 //! `Tree` (the data), `BoundLines`, `Leaves`, `Proving` and `Certificate`; the other files state the laws.
 //! `docs/definitions.md` tells them with examples. Code is only what the crates above share: the types of
-//! language, round and state.
+//! round and state; that of the language is given on.
 #![tactic(auto)]
 
-mod language;
 mod laws;
 mod round;
 mod state;
 
-pub use language::Language;
+pub use certificate_languages::Language;
 pub use laws::{
     branches_keep_states, certificates_show, example_certificates, finished_states_beat,
     impossible_is_a_leaf, leaves_are_decided, lists_serve, places_serve,

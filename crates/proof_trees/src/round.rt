@@ -1,7 +1,7 @@
 ghost use Rattle.std.specs.Prelude.{◌≡◌, IfOk};
 ghost use Rattle.proof_trees.specs.RoundValue.{round_of, target_of};
 
-use crate::language::Language;
+use certificate_languages::Language;
 use county_codes::{Codes, Grouping};
 use std::alloc::AllocError;
 

@@ -8,7 +8,7 @@ use Rattle.place_lists.proofs.PlaceSums.{every}
 use Rattle.grouping_laws.specs.Sets.{member, Inside}
 use Rattle.grouping_laws.specs.Problem.{Problem, Suits, people_of, Connected}
 use Rattle.growing_sets.proofs.PlaceLists.{placed, placed_test, placed_below, often_placed}
-use Rattle.proof_trees.specs.declared.language.Language.{Language}
+use Rattle.certificate_languages.specs.declared.language.Language.{Language}
 use Rattle.proof_trees.specs.State.{State, open_to}
 use Rattle.proof_trees.specs.Fitting.{IsKept, Fits}
 

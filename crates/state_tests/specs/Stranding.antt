@@ -2,7 +2,7 @@
 use Rattle.std.specs.Prelude.{ℕ, Bool, List}
 use Rattle.grouping_laws.specs.Problem.{Problem}
 use Rattle.growing_sets.specs.Growing.{IsExtension}
-use Rattle.proof_trees.specs.declared.language.Language.{Language}
+use Rattle.certificate_languages.specs.declared.language.Language.{Language}
 use Rattle.proof_trees.specs.State.{State}
 use Rattle.proof_trees.specs.Fitting.{Fits}
 

@@ -1,7 +1,7 @@
 -- Which items may stand where something is wanted.
 use Rattle.std.proofs.Common.{◌≡◌, ℕ, List, [], ◌∷◌, length, Option, Some, None, refl}
-use Rattle.proof_trees.specs.declared.language.Language.{Language}
-use Rattle.proof_trees.specs.declared.language.Language.TheVariants.{Plain, Wide}
+use Rattle.certificate_languages.specs.declared.language.Language.{Language}
+use Rattle.certificate_languages.specs.declared.language.Language.TheVariants.{Plain, Wide}
 use Rattle.county_codes.specs.declared.group.Group.{Group}
 use Rattle.certificate_lines.specs.Items.{taken}
 use Rattle.certificate_lines.specs.Fits.{Fits, AllFit}

@@ -1,7 +1,7 @@
 -- Items that come one after the other where a tree is wanted begin with the items of a tree.
 use Rattle.std.proofs.Common.{◌≡◌, ℕ, zero, suc, ◌-◌, ◌<◌, ◌≤◌, List, [], ◌∷◌, ◌++◌, length, map, Option, Some, None, refl, ap, sym, subst, ◌∙◌, arith, append_assoc}
 use Rattle.county_codes.specs.declared.group.Group.{Group}
-use Rattle.proof_trees.specs.declared.language.Language.{Language}
+use Rattle.certificate_languages.specs.declared.language.Language.{Language}
 use Rattle.proof_trees.specs.Depth.{after_raise}
 use Rattle.proof_trees.specs.Tree.{Allowance, stuck, seats, bound, Tree, leaf, branch, Takes, no_take, take}
 use Rattle.certificate_lines.specs.Items.{wanted_after, taken, allowances_wanted, groups_wanted}

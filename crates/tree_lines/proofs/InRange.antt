@@ -1,7 +1,7 @@
 -- Items that fit where a tree is wanted are in range.
 use Rattle.std.proofs.Common.{ℕ, ◌-◌, cond, Bool, true, false, List, [], ◌∷◌, ◌++◌, Some, None, arith}
 use Rattle.std.specs.List.{AllByRecursion}
-use Rattle.proof_trees.specs.declared.language.Language.TheVariants.{Plain, Wide}
+use Rattle.certificate_languages.specs.declared.language.Language.TheVariants.{Plain, Wide}
 use Rattle.certificate_lines.specs.Items.{wanted_after, allowances_wanted}
 use Rattle.certificate_lines.specs.Fits.{FitsWeight, Fits, AllFit}
 use Rattle.certificate_lines.specs.declared.weights.Weight.{Weight}

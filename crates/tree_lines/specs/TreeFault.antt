@@ -1,7 +1,7 @@
 -- The first fault of the lines of a tree.
 use Rattle.std.specs.Prelude.{◌≡◌, ℕ, List, Some}
 use Rattle.proof_trees.specs.Tree.{Tree}
-use Rattle.proof_trees.specs.declared.language.Language.{Language}
+use Rattle.certificate_languages.specs.declared.language.Language.{Language}
 use Rattle.certificate_lines.specs.Courses.{tree_course}
 use Rattle.certificate_lines.specs.Spelling.{text_of}
 use Rattle.certificate_lines.specs.declared.fault.TextFault.{TextFault}

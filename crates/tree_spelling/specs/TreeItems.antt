@@ -8,7 +8,7 @@ use Rattle.certificate_lines.specs.Fits.{Fits}
 use Rattle.certificate_lines.specs.declared.item.Item.{Item}
 use Rattle.certificate_lines.specs.declared.item.Item.TheVariants.{Grouped, Opens, Takes, Mark, Allows}
 use Rattle.certificate_lines.specs.declared.item.Wanted.TheVariants as want
-use Rattle.proof_trees.specs.declared.language.Language.{Language}
+use Rattle.certificate_languages.specs.declared.language.Language.{Language}
 use Rattle.proof_trees.specs.Tree.{Tree}
 use Rattle.certificate_text.specs.Trees.{items_of_tree}
 

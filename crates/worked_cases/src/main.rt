@@ -1,5 +1,5 @@
 //! What the gate runs and compares with texts that were made elsewhere: worked cases of the command, from standard
-//! input; calls that no case reaches; and the real files of North Carolina 2020, whose texts other programs made
+//! input; commands whose input, output or files fail; and the real files of North Carolina 2020, whose texts other programs made
 //! (`bench/judge_report.py`, `bench/size_table.py`, `bench/adjacency_pairs.sh`), with the best groupings' counts.
 //!
 //! With the words LIMIT and FORM (`lists`, `masks` or `wide`) it only counts the real counties' groups of at most LIMIT
@@ -11,37 +11,18 @@ mod certificates;
 mod chambers;
 mod counts;
 mod devices;
-mod lines;
-mod links;
-mod numbers;
-mod seats;
-mod shelf;
-mod sources;
 mod state;
 mod tables;
-mod texts;
 
 use crate::state::State;
 use anyhow::{Context, Result};
 use std::env;
 
-/// Shows calls that no case of the command reaches.
-fn show_calls(rt: &HostRuntime) -> Result<()> {
-    lines::show(rt)?;
-    numbers::show(rt)?;
-    sources::show(rt)?;
-    seats::show(rt)?;
-    links::show(rt)?;
-    texts::show(rt)?;
-    shelf::show(rt)?;
-    devices::show(rt)?;
-    certificates::show(rt)
-}
-
-/// Shows the cases, the calls and the real files.
+/// Shows the cases, commands whose ends fail or store, and the real files.
 fn show_all(rt: &HostRuntime) -> Result<()> {
     cases::show(rt)?;
-    show_calls(rt)?;
+    devices::show(rt)?;
+    certificates::show(rt)?;
     tables::show(rt)?;
     chambers::show(rt)?;
     counts::show(rt, &State::load(rt)?)

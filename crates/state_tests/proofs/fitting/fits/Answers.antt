@@ -8,7 +8,7 @@ use Rattle.grouping_laws.specs.SeatWindow.{IsRun, seat_run}
 use Rattle.grouping_laws.proofs.WindowLemmas.{window_law}
 use Rattle.grouping_problem.specs.ProblemValue.{ProblemValue, problem_of}
 use Rattle.ordered_counties.specs.OrderedValue.{problem_at}
-use Rattle.proof_trees.specs.declared.language.Language.TheVariants.{Plain, Wide}
+use Rattle.certificate_languages.specs.declared.language.Language.TheVariants.{Plain, Wide}
 use Rattle.proof_trees.specs.StateValue.{state_of}
 use Rattle.proof_trees.specs.State.{open_to}
 use Rattle.proof_trees.specs.Fitting.{Fits, IsLive}

@@ -1,7 +1,7 @@
 use Rattle.std.proofs.Common.{◌∙◌, ◌&&◌, ℕ, not, ap, sym, subst, length}
 use Rattle.std.specs.Prelude.{IsTrue, ◌↔◌}
 use Rattle.ordered_counties.specs.OrderedValue.{problem_at}
-use Rattle.proof_trees.specs.declared.language.Language.{Language}
+use Rattle.certificate_languages.specs.declared.language.Language.{Language}
 use Rattle.proof_trees.specs.StateValue.{state_of}
 use Rattle.state_tests.specs.Cut.{CutOff}
 use Rattle.state_tests.specs.Stranding.{NoneFits}

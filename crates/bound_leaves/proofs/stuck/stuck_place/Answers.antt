@@ -1,6 +1,6 @@
 use Rattle.std.proofs.Common.{sym, ◌∙◌, ⊎_elim}
 use Rattle.std.proofs.lemmas.Bool.{false≢true, cases_lt}
-use Rattle.bound_proofs.proofs.stuck.stuck_place.Goals as goal
+use Rattle.bound_leaves.proofs.stuck.stuck_place.Goals as goal
 
 pub returns : goal.returns
 returns g c = λ i v.

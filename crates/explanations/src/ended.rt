@@ -5,7 +5,7 @@ use crate::answer_line::{AnswerLine, DeviceWord, read_answer};
 use crate::certificate_fault::explain_certificate;
 use crate::figures::lacks_pairs;
 use crate::grouping_fault::explain_fault;
-use crate::options::{FileOption, Options};
+use crate::options::{FileOption, Options, options_of};
 use crate::refused::{RefusedLine, explain_refused};
 use crate::refused_problem::explain_problem;
 use crate::shown::name_of;
@@ -22,19 +22,22 @@ const NO_MEMORY: &str = "countygroups: memory was refused: more of it has to be 
 const SMALL_BUDGET: &str =
     "countygroups: the steps of --budget ran out before the certificate was checked: give a greater number\n";
 
+const UNWRITTEN: &str =
+    "countygroups: the answer could not be written whole to standard output: see that there is room, and that its reader takes all\n";
+
 /// How a run ended.
 #[derive(Clone, Copy)]
-pub(crate) struct Ended<'a> {
+pub struct Ended<'a> {
     /// The start of its answer.
-    pub(crate) start: &'a [u8],
+    pub start: &'a [u8],
     /// Its exit status.
-    pub(crate) status: u8,
+    pub status: u8,
     /// What sort of error the system gave at the last file that failed.
-    pub(crate) reason: Option<ErrorKind>,
+    pub reason: Option<ErrorKind>,
     /// Whether it was a case, without any words.
-    pub(crate) is_case: bool,
+    pub is_case: bool,
     /// Whether the answer could not be written.
-    pub(crate) is_unwritten: bool,
+    pub is_unwritten: bool,
 }
 
 /// Why a file could not be had or stored.
@@ -191,27 +194,35 @@ fn warn_of_adjacency(
     )
 }
 
-/// What a person is told of a run that has ended, in whole lines; nothing of one that went well.
+/// What a person is told of a run whose words gave these options.
+fn explain_run(
+    rt: &(impl Files + AllocGlobal),
+    out: &mut String,
+    options: &Options<'_>,
+    ended: Ended<'_>,
+) -> Result<(), AllocError> {
+    if ended.is_unwritten {
+        return out.push_str(UNWRITTEN);
+    }
+    if ended.status > 0 {
+        explain_answer(rt, out, options, ended)?;
+    }
+    warn_of_adjacency(rt, out, options, ended)
+}
+
+/// What a person is told of a run of these words that has ended, in whole lines that each begin with `countygroups: `;
+/// nothing of one that went well. Plain files that the words name are looked at again.
 ///
 /// # Errors
 ///
 /// `AllocError` where memory was refused.
-pub(crate) fn explain(
+pub fn explain(
     rt: &(impl Files + AllocGlobal),
-    options: &Options<'_>,
+    words: &[&str],
     ended: Ended<'_>,
 ) -> Result<String, AllocError> {
+    let options = options_of(rt.alloc(), words)?;
     let mut out = String::new(rt.alloc());
-    if ended.is_unwritten {
-        writeln!(
-            out,
-            "countygroups: the answer could not be written whole to standard output: see that there is room, and that its reader takes all"
-        )?;
-        return Ok(out);
-    }
-    if ended.status > 0 {
-        explain_answer(rt, &mut out, options, ended)?;
-    }
-    warn_of_adjacency(rt, &mut out, options, ended)?;
+    explain_run(rt, &mut out, &options, ended)?;
     Ok(out)
 }

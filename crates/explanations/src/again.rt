@@ -1,7 +1,7 @@
 //! Files that are looked at again once a run has ended.
 
 use crate::options::NamedFile;
-use cli::{FileShelf, Shelf};
+use shelves::{FileShelf, Shelf};
 use std::fs;
 use std::io::ErrorKind;
 use std::rt::Files;

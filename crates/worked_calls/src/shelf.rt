@@ -1,7 +1,7 @@
 //! The files of the machine, and files in memory.
 
 use anyhow::Result;
-use cli::{FileShelf, MemoryShelf, Shelf};
+use shelves::{FileShelf, MemoryShelf, Shelf};
 use std::fs;
 
 /// Prints what a name gives, and how often the device has failed.

@@ -4,8 +4,8 @@ use Rattle.grouping_problem.specs.ProblemValue.{problem_of}
 use Rattle.ordered_counties.specs.OrderedValue.{problem_at}
 use Rattle.proof_trees.specs.StateValue.{state_of}
 use Rattle.line_verdicts.proofs.LeafLemmas.{stuck_both}
-use Rattle.bound_proofs.proofs.StuckPlaces.{none_cut, none_stuck}
-use Rattle.bound_proofs.proofs.stuck.stuck_county.Goals as goal
+use Rattle.bound_leaves.proofs.StuckPlaces.{none_cut, none_stuck}
+use Rattle.bound_leaves.proofs.stuck.stuck_county.Goals as goal
 
 pub returns-then-not-branch : goal.returns-then-not-branch
 returns-then-not-branch g c =

@@ -1,6 +1,6 @@
 use Rattle.std.proofs.Common.{◌≡◌, ◌+◌, drop}
 use Rattle.place_lists.specs.Lists.{total}
-use Rattle.worked_problems.proofs.orders.show_seats.Given as goal
+use Rattle.worked_calls.proofs.orders.show_seats.Given as goal
 
 abbrev pub invariant-loop-entry : goal.invariant-loop-entry
 invariant-loop-entry l = l.sum + total (λ n. n) (drop l.entry-index l.people) ≡ total (λ n. n) l.people

@@ -1,4 +1,5 @@
-//! Worked problems: what the public calls of the county grouping problem answer on small problems whose answers are known.
+//! Worked calls: what public calls below the command answer where no case of the command reaches them. Lines, numbers,
+//! sources, seats, links, texts and shelves come first, and then small problems whose answers are known.
 //! The gate runs it and compares what it prints with `stdout`, which was written by hand from the rules.
 #![tactic(auto)]
 
@@ -6,12 +7,19 @@ ghost use Rattle.std.specs.Prelude.{◌≤◌};
 
 mod groups;
 mod judged;
+mod lines;
+mod links;
+mod numbers;
 mod orders;
 mod problems;
 mod regions;
+mod seats;
 mod sets;
+mod shelf;
 mod sketch;
+mod sources;
 mod states;
+mod texts;
 
 use anyhow::Result;
 use place_sets::{CountySet, ListSet, MaskSet, WideSet};
@@ -34,7 +42,19 @@ fn show_forms(rt: &HostRuntime) -> Result<()> {
     show_sets::<WideSet>(rt, "wide masks")
 }
 
+/// Prints what calls on bytes, lines and files answer.
+fn show_files(rt: &HostRuntime) -> Result<()> {
+    lines::show(rt)?;
+    numbers::show(rt)?;
+    sources::show(rt)?;
+    seats::show(rt)?;
+    links::show(rt)?;
+    texts::show(rt)?;
+    shelf::show(rt)
+}
+
 fn main(rt: HostRuntime) -> Result<()> {
+    show_files(&rt)?;
     problems::show(&rt)?;
     judged::show(&rt)?;
     orders::show(&rt)?;

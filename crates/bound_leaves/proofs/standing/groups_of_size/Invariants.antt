@@ -1,6 +1,6 @@
 use Rattle.std.proofs.Common.{◌≡◌, ◌+◌, ◌≤◌, drop}
 use Rattle.grouping_laws.specs.Grouping.{counts, sets_of}
-use Rattle.bound_proofs.proofs.bound.groups_of_size.Given as goal
+use Rattle.bound_leaves.proofs.standing.groups_of_size.Given as goal
 
 abbrev pub invariant-loop-group : goal.invariant-loop-group
 invariant-loop-group l = record {

@@ -2,7 +2,7 @@ use Rattle.std.proofs.Common.{ℕ, ◌-◌, ◌≤◌, ◌<◌, length}
 use Rattle.ordered_counties.specs.OrderedValue.{problem_at}
 use Rattle.proof_trees.specs.StateValue.{state_of}
 use Rattle.proof_trees.specs.Leaves.{IsStuck}
-use Rattle.bound_proofs.proofs.stuck.stuck_place.Given as goal
+use Rattle.bound_leaves.proofs.stuck.stuck_place.Given as goal
 
 abbrev pub invariant-loop-place : goal.invariant-loop-place
 invariant-loop-place g l = record {

@@ -2,9 +2,8 @@
 ghost use Rattle.std.specs.Prelude.{◌≡◌, false};
 
 use anyhow::Result;
-use cli::WholeFault;
 use field_lines::{Reading, Source, SourceFault};
-use shelves::read_whole;
+use shelves::{WholeFault, read_whole};
 use std::io;
 use std::io::{ErrorKind, Read};
 
