@@ -13,9 +13,9 @@ use crate::lines::{
     allowance_on, end_on, group_on, head_on, limit_on, opening_on, order_on, take_on, target_on,
 };
 use crate::words::{Words, bytes_of_line};
+use certificate_languages::Language;
 use county_codes::{Codes, Group};
 use field_lines::split_piece;
-use certificate_languages::Language;
 use std::alloc::Global;
 use std::marker::Model;
 

@@ -1,8 +1,8 @@
 ghost use Rattle.std.specs.Prelude.{◌≡◌, IfOk};
 
 use crate::weights::Weights;
-use county_codes::{Codes, CountyCode, Group};
 use certificate_languages::Language;
+use county_codes::{Codes, CountyCode, Group};
 use std::alloc::AllocError;
 
 /// A line of a bound leaf: how many groups of one size there may still be.

@@ -12,8 +12,8 @@ use crate::fault::TextKind;
 use crate::item::{Allowance, Opening};
 use crate::weights::Weight;
 use crate::words::Words;
-use county_codes::{Codes, CountyCode, Group};
 use certificate_languages::Language;
+use county_codes::{Codes, CountyCode, Group};
 use std::alloc::Global;
 
 /// How many counties, groups, lines of a bound and levels of branches there may be.

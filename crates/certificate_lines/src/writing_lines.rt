@@ -19,9 +19,9 @@ use crate::writing_words::{
     push_code_and_number_line, push_code_line, push_codes_line, push_number_and_codes_line,
     push_number_and_weights, push_number_line,
 };
+use certificate_languages::Language;
 use county_codes::{CountyCode, Group};
 use field_lines::MAX_LINE;
-use certificate_languages::Language;
 use std::alloc::AllocError;
 
 /// Appends the head.
