@@ -12,7 +12,7 @@ const ABOUT: &str =
 
 /// What `--version` says after the program's name.
 const VERSION: &str =
-    "0.1.0 (Rattle kit 13b, logic dac8208d650f15bf; rt keeps the program only where all of it is proved)";
+    "0.1.0 (Rattle kit 13f, logic dac8208d650f15bf; rt keeps the program only where all of it is proved)";
 
 /// What `--help` ends with.
 const AFTER_HELP: &str = "\

@@ -54,7 +54,7 @@ module _ (language : Language) (p : Problem) (s : State) (whole : IsWhole p s) (
       (le-div_iff_mul-le some).1 (omega (arith, each, few))
 
   -- no line allows fewer groups of a size than there are
-  line_fits : (line : Allowance) (i used : ℕ) → IsFair language p s i line → 1 ≤ i → used ≡ below i (sets_of opens) → counts (sets_of opens) i ≤ allowance p s i used line
+  pub line_fits : (line : Allowance) (i used : ℕ) → IsFair language p s i line → 1 ≤ i → used ≡ below i (sets_of opens) → counts (sets_of opens) i ≤ allowance p s i used line
   line_fits room i used fair some e = by_room i used some e
   line_fits (weigh q ws) i used fair some e = omega (arith, by_room i used some e, by_weight q i (weight_of ws) fair.0 fair.2)
 
