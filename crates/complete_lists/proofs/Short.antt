@@ -1,6 +1,6 @@
--- Bound lines that fall short leave no completion with the counts that are wanted.
+-- Lines that fall short leave no completion with the counts that are wanted.
 use Rattle.std.proofs.Common.{◌≡◌, ℕ, ◌+◌, ◌*◌, ◌≤◌, ◌<◌, Bool, true, false, nat_lt, ◌||◌, List, [], ◌∷◌, refl, ap, arith, ◌⊎◌, inl, inr, add-one}
-use Rattle.std.proofs.lemmas.Bool.{ltb-true, false≢true}
+use Rattle.std.proofs.lemmas.Bool.{ltb-true, lt-ltb, false≢true}
 use Rattle.grouping_laws.specs.Problem.{Problem}
 use Rattle.grouping_laws.specs.Grouping.{Grouping, counts, sets_of}
 use Rattle.grouping_laws.proofs.Sizes.{below, below_more}
@@ -11,6 +11,18 @@ use Rattle.proof_trees.specs.BoundLines.{allowance, Bounds}
 use Rattle.proof_trees.proofs.Completion.{IsWhole, Completes}
 use Rattle.proof_trees.proofs.BoundLemmas.{line_fits}
 use Rattle.complete_lists.specs.Ends.{falls_short}
+
+-- the first line allows too few groups
+pub short_here : (p : Problem) (s : State) (f : ℕ → ℕ) (i used : ℕ) (line : Allowance) (lines : List Allowance) → counts s.closed i + allowance p s i used line < f i → falls_short p s f i used (line ∷ lines) ≡ true
+short_here p s f i used line lines l = rw (lt-ltb (counts s.closed i + allowance p s i used line) (f i) l) refl
+
+-- the lines behind the first fall short
+pub short_behind : (p : Problem) (s : State) (f : ℕ → ℕ) (i used : ℕ) (line : Allowance) (lines : List Allowance) → falls_short p s f (i + 1) (used + i * allowance p s i used line) lines ≡ true → falls_short p s f i used (line ∷ lines) ≡ true
+short_behind p s f i used line lines short = go (nat_lt (counts s.closed i + allowance p s i used line) (f i))
+  where
+    go : (b : Bool) → (b || falls_short p s f (i + 1) (used + i * allowance p s i used line) lines) ≡ true
+    go true = refl
+    go false = short
 
 module _ (language : Language) (p : Problem) (s : State) (whole : IsWhole p s) (opens : Grouping) (c : Completes p s opens) where
   pub none_short : (limit : ℕ) (f : ℕ → ℕ) → ((j : ℕ) → 1 ≤ j → counts s.closed j + counts (sets_of opens) j ≡ f j)
