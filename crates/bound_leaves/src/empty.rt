@@ -116,6 +116,8 @@ fn last_size<C: CountySet>(
 /// groups are closed than the target has, or through the limit where all counts are the target's. `None` where more
 /// groups are closed at the first size that differs, where none differs below the limit, and where there is no target.
 ///
+/// The leaf is complete, or the closed groups have the target's counts through the limit.
+///
 /// An error comes where memory was refused.
 pub fn empty_leaf<C: CountySet>(
     alloc: Global,

@@ -18,7 +18,8 @@ use proof_trees::{Round, State};
 use std::alloc::{AllocError, Global};
 
 /// A bound leaf that ends with `room` at a size, in counties, below which no group fits: there is no room for as many
-/// groups of the size as are wanted. `None` where there is, and where `wanted_more` says none.
+/// groups of the size as are wanted. `None` where there is, and where `wanted_more` says none. The leaf falls short, so
+/// it is complete.
 ///
 /// An error comes where memory was refused.
 pub fn room_leaf<C: CountySet>(

@@ -14,6 +14,8 @@ use Rattle.proof_trees.specs.State.{State, raise}
 use Rattle.proof_trees.specs.Tree.{Tree, branch, Takes, no_take, groups_of}
 use Rattle.proof_trees.specs.Groups.{AreGroupsAt}
 use Rattle.proof_trees.specs.Proving.{NamesLimit, CanBranch, Proves, EachProves}
+use Rattle.proof_trees.specs.Certificate.{TargetFits}
+use Rattle.complete_lists.specs.Complete.{IsComplete, EachIsComplete}
 use Rattle.certificate_lines.specs.Lines.{most}
 use Rattle.certificate_lines.specs.Fits.{Fits}
 use Rattle.certificate_lines.specs.declared.item.Item.{Item}
@@ -34,14 +36,23 @@ joined (a ∷ bs) b tree = ap (branch_onto a) (joined bs b tree)
 wide_names : (language : Language) (size : ℕ) → language ≡ Wide → NamesLimit language (Some size)
 wide_names language size e = subst (λ l. NamesLimit l (Some size)) (sym e) tt
 
+-- what holds of a tree with one branch before it holds behind one branch more
+behind_one : (Here First : Tree → Type 0) (bs news : List Branch) (b : Branch) (put tree : Tree) → branch_onto b tree ≡ put → news ≡ bs ++ b ∷ [] → ((t : Tree) → Here t → First (list_onto bs t)) → Here put → First (list_onto news tree)
+behind_one Here First bs news b put tree made pushed whole here =
+    subst (λ (l : List Branch). First (list_onto l tree)) (sym pushed) (subst First (sym (joined bs b tree)) (whole (branch_onto b tree) (subst Here (sym made) here)))
+
 -- what proves the raised state proves, behind one branch more, the first one
 pub branch_step : (p : Problem) (round : Round) (first s : State) (county size : ℕ) (bs news : List Branch) (b : Branch) (takes : Takes) → round.language ≡ Wide → CanBranch round s county size → AreGroupsAt p round s county size (groups_of takes) → EachProves takes p round s
     → ((raised : Tree) → branch_onto b raised ≡ branch county (Some size) takes raised) → news ≡ bs ++ b ∷ [] → ((tree : Tree) → Proves tree p round s → Proves (list_onto bs tree) p round first)
     → (tree : Tree) → Proves tree p round (raise county size s) → Proves (list_onto news tree) p round first
 branch_step p round first s county size bs news b takes wide can groups each made pushed whole tree proves =
-    let here : Proves (branch county (Some size) takes tree) p round s = (wide_names round.language size wide, can, groups, each, proves) in
-    let put : Proves (branch_onto b tree) p round s = subst (λ (t : Tree). Proves t p round s) (sym (made tree)) here in
-    subst (λ (l : List Branch). Proves (list_onto l tree) p round first) (sym pushed) (subst (λ (t : Tree). Proves t p round first) (sym (joined bs b tree)) (whole (branch_onto b tree) put))
+    behind_one (λ t. Proves t p round s) (λ t. Proves t p round first) bs news b (branch county (Some size) takes tree) tree (made tree) pushed whole (wide_names round.language size wide, can, groups, each, proves)
+
+-- what is complete at the raised state is, behind one branch more, complete at the first one
+pub complete_step : (p : Problem) (round : Round) (first s : State) (county size : ℕ) (bs news : List Branch) (b : Branch) (takes : Takes) → EachIsComplete takes p round s → ((raised : Tree) → branch_onto b raised ≡ branch county (Some size) takes raised) → news ≡ bs ++ b ∷ []
+    → ((tree : Tree) → IsComplete tree p round s → IsComplete (list_onto bs tree) p round first) → (tree : Tree) → IsComplete tree p round (raise county size s) → IsComplete (list_onto news tree) p round first
+complete_step p round first s county size bs news b takes each made pushed whole tree complete =
+    behind_one (λ t. IsComplete t p round s) (λ t. IsComplete t p round first) bs news b (branch county (Some size) takes tree) tree (made tree) pushed whole (each, complete)
 
 pub all_append : {X : Type 0} (P : X → Type 0) (xs ys : List X) → AllByRecursion P xs → AllByRecursion P ys → AllByRecursion P (xs ++ ys)
 all_append P [] ys a b = b
@@ -68,6 +79,7 @@ take_step p round s groups group ts t are is = record {
   groups_are = groups_behind ts ∙ ap (λ l. l ++ group ∷ []) are.groups_are;
   each = each_behind ts are.each;
   lines = lines_behind ts are.lines;
+  complete = λ fits. complete_behind ts fits (are.complete fits);
 }
   where
     groups_behind : (us : List Take) → groups_of (list_of_takes (us ++ t ∷ [])) ≡ groups_of (list_of_takes us) ++ group ∷ []
@@ -77,6 +89,10 @@ take_step p round s groups group ts t are is = record {
     each_behind : (us : List Take) → EachProves (list_of_takes us) p round s → EachProves (list_of_takes (us ++ t ∷ [])) p round s
     each_behind [] e = subst (λ (x : Takes). EachProves x p round s) (sym (is.is no_take)) (is.proves, tt)
     each_behind (Take' codes tree ∷ us) e = (e.0, each_behind us e.1)
+
+    complete_behind : (us : List Take) → TargetFits p round.limit round.target → EachIsComplete (list_of_takes us) p round s → EachIsComplete (list_of_takes (us ++ t ∷ [])) p round s
+    complete_behind [] fits e = subst (λ (x : Takes). EachIsComplete x p round s) (sym (is.is no_take)) (is.complete fits, tt)
+    complete_behind (Take' codes tree ∷ us) fits e = (e.0, complete_behind us fits e.1)
 
     lines_behind : (us : List Take) → AllByRecursion (FitsInTree round.language) (items_of_takes (list_of_takes us)) → AllByRecursion (FitsInTree round.language) (items_of_takes (list_of_takes (us ++ t ∷ [])))
     lines_behind [] e = subst (λ (x : Takes). AllByRecursion (FitsInTree round.language) (items_of_takes x)) (sym (is.is no_take)) (is.lines.0, all_append (FitsInTree round.language) (items_of_tree is.tree) [] is.lines.1 tt)

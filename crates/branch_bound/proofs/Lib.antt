@@ -1,6 +1,7 @@
 pub mod Joining
 pub mod Positions
 pub mod Verdicts
+pub mod LeafEnds
 pub mod Searches
 pub mod Orders
 pub mod Rounds

@@ -17,6 +17,7 @@ use Rattle.proof_trees.specs.Certificate.{IsCertificate, TargetFits, Conclusion}
 use Rattle.proof_trees.specs.Tree.{leaf, Tree as TreeValue}
 use Rattle.proof_trees.specs.Proving.{Proves}
 use Rattle.proof_trees.proofs.Agreement.{certificate_shows}
+use Rattle.complete_lists.specs.Complete.{IsComplete}
 use Rattle.certificate_lines.specs.Fits.{AreCodes}
 use Rattle.certificate_text.specs.declared.tree.Leaf.{Leaf}
 use Rattle.certificate_text.specs.declared.tree.Tree.{Tree, roll-Tree}
@@ -29,21 +30,21 @@ use Rattle.tree_spelling.proofs.Texts.{have_texts}
 use Rattle.bound_leaves.specs.GivenLeaf.{IsGiven}
 use Rattle.branch_bound.specs.Searching.{IsProof}
 use Rattle.branch_bound.specs.Solving.{IsTarget}
-use Rattle.branch_bound.specs.Answered.{Certifies, IsFoundOpen, IsAnswer, NamesBest, SaysWhether}
+use Rattle.branch_bound.specs.Answered.{Certifies, IsFoundOpen, IsAnswer, NamesBest, HasCompleteTree, SaysWhether}
 use Rattle.branch_bound.proofs.Orders.{stands_in_order}
 use Rattle.branch_bound.specs.declared.answer.Answer.{Answer}
 use Rattle.branch_bound.specs.declared.answer.Answer.TheVariants.{Best, Impossible, Open}
 
 -- a round with a tree that proves it where nothing is closed
 certified : (p : Problem) (r : Round) (round : RoundHeld) (tree : Tree) → round_of round ≡ r → IsOrder p r.order → TargetFits p r.limit r.target → length r.order ≤ 128 → r.limit ≤ 128 → AreCodes round.order → TargetHasLines r.target
-    → IsProof p r (empty_state p) tree → Certifies p r.language r.target (record { round = round; tree = tree })
+    → Proves (tree_of tree) p r (empty_state p) × HasLines r.language (tree_of tree) → Certifies p r.language r.target (record { round = round; tree = tree })
 certified p r round tree e order fits few small codes target proof =
-    subst (λ (x : Round). IsOrder p x.order → TargetFits p x.limit x.target → length x.order ≤ 128 → x.limit ≤ 128 → TargetHasLines x.target → IsProof p x (empty_state p) tree → Certifies p x.language x.target c) e whole order fits few small target proof
+    subst (λ (x : Round). IsOrder p x.order → TargetFits p x.limit x.target → length x.order ≤ 128 → x.limit ≤ 128 → TargetHasLines x.target → Proves (tree_of tree) p x (empty_state p) × HasLines x.language (tree_of tree) → Certifies p x.language x.target c) e whole order fits few small target proof
   where
     c : CertificateHeld
     c = record { round = round; tree = tree }
 
-    whole : IsOrder p round.order → TargetFits p round.limit (round_of round).target → length round.order ≤ 128 → round.limit ≤ 128 → TargetHasLines (round_of round).target → IsProof p (round_of round) (empty_state p) tree
+    whole : IsOrder p round.order → TargetFits p round.limit (round_of round).target → length round.order ≤ 128 → round.limit ≤ 128 → TargetHasLines (round_of round).target → Proves (tree_of tree) p (round_of round) (empty_state p) × HasLines round.language (tree_of tree)
         → Certifies p round.language (round_of round).target c
     whole order fits few small target proof =
         let is : IsCertificate p (certificate_of c).round (certificate_of c).tree = record { order = order; target = fits; proof = proof.0 } in
@@ -54,7 +55,7 @@ best_certified : (p : Problem) (order : List ℕ) (limit : ℕ) (g : Grouping) (
     → round_of round ≡ record { order = order; limit = limit; target = Some g; language = Wide } → AreCodes round.order → IsProof p (record { order = order; limit = limit; target = Some g; language = Wide }) (empty_state p) tree
     → Certifies p Wide (Some g) (record { round = round; tree = tree })
 best_certified p order limit g round tree whole few target small large e codes proof =
-    certified p (record { order = order; limit = limit; target = Some g; language = Wide }) round tree e whole (target.lawful, large) few small codes target.lines proof
+    certified p (record { order = order; limit = limit; target = Some g; language = Wide }) round tree e whole (target.lawful, large) few small codes target.lines (proof.0, proof.1)
 
 -- the answer that a target is best
 pub best_answer : (p : Problem) (order : List ℕ) (limit : ℕ) (g : GroupingHeld) (round : RoundHeld) (tree : Tree) → IsOrder p order → length order ≤ 128 → IsStrictlyIncreasing order → IsTarget p order g.groups.items → limit ≤ 128
@@ -63,8 +64,15 @@ pub best_answer : (p : Problem) (order : List ℕ) (limit : ℕ) (g : GroupingHe
 best_answer p order limit g round tree whole few ascending target small large e codes proof allowed some =
     (some, best_certified p order limit g.groups.items round tree whole few target small large e codes proof, stands_in_order order ascending g.groups.items target.sorted)
 
+-- and its tree is complete
+pub best_complete : (p : Problem) (order : List ℕ) (limit : ℕ) (g : GroupingHeld) (round : RoundHeld) (tree : Tree) → IsTarget p order g.groups.items → All (λ (m : Group). length m.codes ≤ limit) g.groups.items
+    → round_of round ≡ record { order = order; limit = limit; target = Some g.groups.items; language = Wide } → IsProof p (record { order = order; limit = limit; target = Some g.groups.items; language = Wide }) (empty_state p) tree
+    → HasCompleteTree p (Best g (record { round = round; tree = tree }))
+best_complete p order limit g round tree target large e proof = subst (λ (x : Round). IsComplete (tree_of tree) p x (empty_state p)) (sym e) (proof.2 (target.lawful, large))
+
 -- a leaf alone
-leaf_proof : (p : Problem) (r : Round) (s : State) (branches : Vec Branch Global) (last : Leaf) → branches.items ≡ [] → IsGiven p r s last → IsProof p r s (roll-Tree (record { branches = branches; leaf = last }))
+leaf_proof : (p : Problem) (r : Round) (s : State) (branches : Vec Branch Global) (last : Leaf) → branches.items ≡ [] → IsGiven p r s last
+    → Proves (tree_of (roll-Tree (record { branches = branches; leaf = last }))) p r s × HasLines r.language (tree_of (roll-Tree (record { branches = branches; leaf = last })))
 leaf_proof p r s branches last none given =
     let made : tree_of (roll-Tree (record { branches = branches; leaf = last })) ≡ leaf (leaf_of last) = made_tree branches last ∙ alone branches.items none in
     subst (λ (t : TreeValue). Proves t p r s × HasLines r.language t) (sym made) (given.valid, given.lines)
@@ -101,6 +109,9 @@ answer_says_whether p limit (Open found steps) is = found_possible p limit found
 pub solved_best : {E : Type 0} (p q : Problem) (limit allowed : ℕ) (r : Result Answer E) → p ≡ q → limit ≡ allowed → IfOk r (IsAnswer p limit) → IfOk r (NamesBest q)
 solved_best p q limit allowed (Ok a) e k is = subst (λ (x : Problem). NamesBest x a) e (answer_names_best p limit a is)
 solved_best p q limit allowed (Err f) e k is = tt
+
+pub solved_complete : {E : Type 0} (p q : Problem) (r : Result Answer E) → p ≡ q → IfOk r (HasCompleteTree p) → IfOk r (HasCompleteTree q)
+solved_complete p q r e is = subst (λ (x : Problem). IfOk r (HasCompleteTree x)) e is
 
 pub solved_whether : {E : Type 0} (p q : Problem) (limit allowed : ℕ) (r : Result Answer E) → p ≡ q → limit ≡ allowed → IfOk r (IsAnswer p limit) → IfOk r (SaysWhether q allowed)
 solved_whether p q limit allowed (Ok a) e k is = subst (λ (x : Problem). SaysWhether x allowed a) e (subst (λ n. SaysWhether p n a) k (answer_says_whether p limit a is))

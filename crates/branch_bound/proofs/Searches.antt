@@ -20,6 +20,8 @@ use Rattle.proof_trees.specs.Agreement.{Agrees}
 use Rattle.proof_trees.specs.Fitting.{Fits}
 use Rattle.proof_trees.specs.Groups.{IsGroupAt, AreGroupsAt}
 use Rattle.proof_trees.specs.Proving.{Proves, CanBranch}
+use Rattle.proof_trees.specs.Certificate.{TargetFits}
+use Rattle.complete_lists.specs.Complete.{IsComplete}
 use Rattle.proof_trees.specs.Round.{Round}
 use Rattle.certificate_languages.specs.declared.language.Language.TheVariants.{Wide}
 use Rattle.proof_trees.specs.State.{State, close, raise}
@@ -28,11 +30,10 @@ use Rattle.proof_trees.specs.Tree as tree
 use Rattle.proof_trees.proofs.Branches.{branch_keeps_state}
 use Rattle.proof_trees.proofs.Completion.{open_least}
 use Rattle.tree_spelling.specs.TreeItems.{FitsInTree}
-use Rattle.bound_leaves.specs.GivenLeaf.{IsGiven}
-use Rattle.branch_bound.specs.Searching.{state_in, IsAt, IsProof, IsBetter, IsTakeOf, AreTakesOf, IsChoice}
+use Rattle.branch_bound.specs.Searching.{state_in, IsAt, IsEnd, IsProof, IsBetter, IsTakeOf, AreTakesOf, IsChoice}
 use Rattle.branch_bound.specs.declared.ground.Ground.{Ground}
 use Rattle.branch_bound.specs.declared.position.Position.{Position}
-use Rattle.branch_bound.proofs.Joining.{all_append, take_step, branch_step, lines_step}
+use Rattle.branch_bound.proofs.Joining.{all_append, take_step, branch_step, complete_step, lines_step}
 
 -- a position is at its own state
 pub own : (C : Type 0) (test : C → ℕ → Bool) (g : Ground C) (s : State) (at : Position C) → IsAt test g s at → IsAt test g (state_in g test at.state) at
@@ -50,6 +51,7 @@ take_made p round s closed group codes t is same set proof = record {
   is = λ others. made_take_onto codes t others ∙ ap (λ z. tree.take z (tree_of t) others) same;
   proves = subst (λ z. Proves (tree_of t) p round z) is proof.0;
   lines = (subst IsSet same set, proof.1);
+  complete = λ fits. subst (λ z. IsComplete (tree_of t) p round z) is (proof.2 fits);
 }
 
 -- a better grouping where a group is closed is one
@@ -93,10 +95,11 @@ module _ (C : Type 0) (test : C → ℕ → Bool) (order : List ℕ) (p : Proble
 
 -- a leaf behind the branches so far
 pub leaf_end : (p : Problem) (round : Round) (first s : State) (branches : Vec Branch Global) (last : DeclaredLeaf) → ((t : Tree) → Proves t p round s → Proves (list_onto branches.items t) p round first) → AllByRecursion (FitsInTree round.language) (items_of_branches branches.items)
-    → IsGiven p round s last → IsProof p round first (roll-Tree (record { branches = branches; leaf = last }))
-leaf_end p round first s branches last whole lines given = (
-  subst (λ (t : Tree). Proves t p round first) (sym (made_tree branches last)) (whole (leaf (leaf_of last)) given.valid),
-  subst (λ (l : List Item). AllByRecursion (FitsInTree round.language) l) (sym (tree_items branches last)) (all_append (FitsInTree round.language) (items_of_branches branches.items) (leaf_items (leaf_of last)) lines given.lines),
+    → (TargetFits p round.limit round.target → (t : Tree) → IsComplete t p round s → IsComplete (list_onto branches.items t) p round first) → IsEnd p round s last → IsProof p round first (roll-Tree (record { branches = branches; leaf = last }))
+leaf_end p round first s branches last whole lines complete end = (
+  subst (λ (t : Tree). Proves t p round first) (sym (made_tree branches last)) (whole (leaf (leaf_of last)) end.0.valid),
+  subst (λ (l : List Item). AllByRecursion (FitsInTree round.language) l) (sym (tree_items branches last)) (all_append (FitsInTree round.language) (items_of_branches branches.items) (leaf_items (leaf_of last)) lines end.0.lines),
+  λ fits. subst (λ (t : Tree). IsComplete t p round first) (sym (made_tree branches last)) (complete fits (leaf (leaf_of last)) (end.1 fits)),
 )
 
 module _ (p : Problem) (round : Round) (first s : State) (county size : ℕ) (bs news : List Branch) (takes : Vec Take Global) (wide : round.language ≡ Wide) (pushed : news ≡ bs ++ roll-Branch (record { county = county; limit = Some size; takes = takes }) ∷ []) where
@@ -106,6 +109,12 @@ module _ (p : Problem) (round : Round) (first s : State) (county size : ℕ) (bs
   branched next groups can all are raised whole t proves =
       branch_step p round first s county size bs news (roll-Branch (record { county = county; limit = Some size; takes = takes })) (list_of_takes takes.items) wide can (subst (AreGroupsAt p round s county size) (sym are.groups_are) all) are.each
       (λ r. made_takes county (Some size) takes r) pushed whole t (subst (λ z. Proves t p round z) raised proves)
+
+  pub branched_complete : (next : State) (groups : List (List ℕ)) → AreTakesOf p round s groups takes.items → next ≡ raise county size s → TargetFits p round.limit round.target → ((t : Tree) → IsComplete t p round s → IsComplete (list_onto bs t) p round first)
+      → (t : Tree) → IsComplete t p round next → IsComplete (list_onto news t) p round first
+  branched_complete next groups are raised fits whole t complete =
+      complete_step p round first s county size bs news (roll-Branch (record { county = county; limit = Some size; takes = takes })) (list_of_takes takes.items) (are.complete fits) (λ r. made_takes county (Some size) takes r) pushed whole t
+      (subst (λ z. IsComplete t p round z) raised complete)
 
   pub branched_lines : (groups : List (List ℕ)) → county ≤ 99999 → 1 ≤ size → size ≤ most → AreTakesOf p round s groups takes.items → AllByRecursion (FitsInTree round.language) (items_of_branches bs) → AllByRecursion (FitsInTree round.language) (items_of_branches news)
   branched_lines groups small from to are lines =

@@ -7,7 +7,9 @@ use Rattle.grouping_laws.specs.GroupsFrom.{IsLesser}
 use Rattle.county_codes.specs.declared.group.Grouping.{Grouping as GroupingHeld}
 use Rattle.certificate_languages.specs.declared.language.Language.{Language}
 use Rattle.certificate_languages.specs.declared.language.Language.TheVariants.{Plain, Wide}
+use Rattle.proof_trees.specs.State.{empty_state}
 use Rattle.proof_trees.specs.Certificate.{IsCertificate}
+use Rattle.complete_lists.specs.Complete.{IsComplete}
 use Rattle.certificate_text.specs.declared.certificate.Certificate.{Certificate as CertificateHeld}
 use Rattle.certificate_text.specs.Trees.{certificate_of}
 use Rattle.certificate_text.specs.Spelled.{IsSpelling}
@@ -42,6 +44,11 @@ IsAnswer p limit (Open found steps) = (steps ≡ limit) × IsFoundOpen p limit f
 abbrev pub NamesBest : Problem → Answer → Type 0
 NamesBest p (Best g c) = IsBest p g.groups.items
 NamesBest p _ = ⊤
+
+-- The tree of Best's certificate is complete: its ends are the sets of all best groupings (law `complete_certificates_list`).
+abbrev pub HasCompleteTree : Problem → Answer → Type 0
+HasCompleteTree p (Best g c) = IsComplete (certificate_of c).tree p (certificate_of c).round (empty_state p)
+HasCompleteTree p _ = ⊤
 
 -- Impossible is said exactly where no grouping is lawful, unless no step was allowed
 abbrev pub SaysWhether : Problem → ℕ → Answer → Type 0

@@ -18,10 +18,13 @@ use Rattle.proof_trees.specs.declared.state.State.{State as StateHeld}
 use Rattle.proof_trees.specs.Groups.{AreGroupsAt, AreGroupsOf}
 use Rattle.proof_trees.specs.Tree.{groups_of, take, Tree as TreeValue, Takes as TakesValue}
 use Rattle.proof_trees.specs.Proving.{Proves, EachProves}
+use Rattle.proof_trees.specs.Certificate.{TargetFits}
 use Rattle.proof_trees.specs.Search.{IsFound}
+use Rattle.complete_lists.specs.Complete.{IsCompleteLeaf, IsComplete, EachIsComplete}
+use Rattle.certificate_text.specs.declared.tree.Leaf.{Leaf}
 use Rattle.certificate_text.specs.declared.tree.Tree.{Tree}
 use Rattle.certificate_text.specs.declared.tree.Take.{Take}
-use Rattle.certificate_text.specs.Trees.{tree_of, take_onto, list_of_takes, items_of_takes, items_of_tree}
+use Rattle.certificate_text.specs.Trees.{leaf_of, tree_of, take_onto, list_of_takes, items_of_takes, items_of_tree}
 use Rattle.certificate_lines.specs.declared.item.Item.TheVariants as item
 use Rattle.line_verdicts.specs.Placed.{state_at, codes_of_sets, IsPlaced}
 use Rattle.tree_spelling.specs.TreeItems.{FitsInTree, HasLines, HasTargetLines}
@@ -72,9 +75,13 @@ pub record IsSorted (order : List ℕ) (g : Grouping) : Type 0 where
   pub in_turn : AllPairs (IsBefore order) (sets_of g)
   pub in_order : All (λ m. filter (member m.codes) order ≡ m.codes) g
 
--- a proof tree, whose numbers are in the ranges of its lines
+-- A leaf that is valid, its numbers in the ranges of its lines. It is complete if the target fits the limit.
+abbrev pub IsEnd : Problem → Round → State → Leaf → Type 0
+IsEnd p round s leaf = IsGiven p round s leaf × (TargetFits p round.limit round.target → IsCompleteLeaf (leaf_of leaf) p round s)
+
+-- A proof tree, its numbers in the ranges of its lines. It is complete if the target fits the limit.
 abbrev pub IsProof : Problem → Round → State → Tree → Type 0
-IsProof p round s tree = Proves (tree_of tree) p round s × HasLines round.language (tree_of tree)
+IsProof p round s tree = Proves (tree_of tree) p round s × HasLines round.language (tree_of tree) × (TargetFits p round.limit round.target → IsComplete (tree_of tree) p round s)
 
 -- a lawful grouping that agrees with the state and is greater than the target, sorted
 pub record IsBetter (p : Problem) (round : Round) (s : State) (g : GroupingHeld) : Type 0 where
@@ -92,6 +99,7 @@ pub record IsTakeOf (p : Problem) (round : Round) (s : State) (group : List ℕ)
   pub is : (others : TakesValue) → take_onto t others ≡ take group tree others
   pub proves : Proves tree p round (close group s)
   pub lines : AllByRecursion (FitsInTree round.language) (item.Takes group ∷ items_of_tree tree)
+  pub complete : TargetFits p round.limit round.target → IsComplete tree p round (close group s)
 
 abbrev pub IsTaken : Problem → Round → State → List ℕ → Taken → Type 0
 IsTaken p round s group (taken.Proved t) = IsTakeOf p round s group t
@@ -102,6 +110,7 @@ pub record AreTakesOf (p : Problem) (round : Round) (s : State) (groups : List (
   pub groups_are : groups_of (list_of_takes list) ≡ groups
   pub each : EachProves (list_of_takes list) p round s
   pub lines : AllByRecursion (FitsInTree round.language) (items_of_takes (list_of_takes list))
+  pub complete : TargetFits p round.limit round.target → EachIsComplete (list_of_takes list) p round s
 
 -- all takes of a branch, each with its proof tree
 abbrev pub AreTakesAt : Problem → Round → State → ℕ → ℕ → Takes → Type 0
@@ -117,13 +126,13 @@ pub record IsChoice {C : Type 0} (test : C → ℕ → Bool) (order : List ℕ) 
 
 -- a leaf that is valid, a grouping that is better, or a county to branch at
 abbrev pub IsVerdict : {C : Type 0} → (C → ℕ → Bool) → Ground C → State → Verdict C → Type 0
-IsVerdict test g s (verdict.Leaf leaf) = IsGiven (problem_in g) (round_in g) s leaf
+IsVerdict test g s (verdict.Leaf leaf) = IsEnd (problem_in g) (round_in g) s leaf
 IsVerdict test g s (verdict.Better found) = IsBetter (problem_in g) (round_in g) s found
 IsVerdict test g s (verdict.Branch place at) = IsAt test g s at × IsChoice test g.ordered.now.order at.groups.items place
 
 -- where no group of at most so many counties fits: a leaf that is valid, a grouping that is better, or the groups of one county more
 abbrev pub IsNext : {C : Type 0} → (C → ℕ → Bool) → Ground C → State → ℕ → Next C → Type 0
-IsNext test g s size (next.Leaf leaf) = IsGiven (problem_in g) (round_in g) s leaf
+IsNext test g s size (next.Leaf leaf) = IsEnd (problem_in g) (round_in g) s leaf
 IsNext test g s size (next.Better found) = IsBetter (problem_in g) (round_in g) s found
 IsNext test g s size (next.Groups groups) =
     (size < g.round.now.limit)

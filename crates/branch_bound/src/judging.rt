@@ -3,8 +3,7 @@
 ghost use Rattle.std.specs.Prelude.{◌≡◌, ℕ, ◌+◌, ◌≤◌, ◌<◌, List, [], length, All, IfOk, OnOk, IsErrOf, MatchOption, ⊤};
 ghost use Rattle.proof_trees.specs.Leaves.{IsStuck, IsOffSeats};
 ghost use Rattle.fitting_groups.specs.declared.stop.Stop.{Stop};
-ghost use Rattle.bound_leaves.specs.GivenLeaf.{IsGiven};
-ghost use Rattle.branch_bound.specs.Searching.{problem_in, round_in, state_in, IsGround, IsAt, IsVerdict, IsNext};
+ghost use Rattle.branch_bound.specs.Searching.{problem_in, round_in, state_in, IsGround, IsAt, IsEnd, IsVerdict, IsNext};
 
 use crate::ground::Ground;
 use crate::outcome::{Next, Verdict};
@@ -44,6 +43,7 @@ fn next_size<C: CountySet>(
     } = ground;
     let Position { state, size, .. } = position;
     let _places = ordered.places();
+    let _problem = ordered.problem();
     if let Some(leaf) = empty_leaf(*alloc, ordered, round, state, *size)? {
         return Ok(Next::Leaf(leaf));
     }
@@ -212,7 +212,7 @@ fn present_room<C: CountySet>(
 ) -> Result<Option<Leaf>, AllocError>
     requires ground { IsGround C.PLACES C.test ground.now }
     requires at { IsAt C.test ground.now (state_in ground.now C.test position.now.state) position.now }
-    ensures { IfOk result (λ found. MatchOption found ⊤ (IsGiven (problem_in ground.now) (round_in ground.now) (state_in ground.now C.test position.now.state))) }
+    ensures { IfOk result (λ found. MatchOption found ⊤ (IsEnd (problem_in ground.now) (round_in ground.now) (state_in ground.now C.test position.now.state))) }
 {
     if position.size == 0 {
         return Ok(None);
@@ -239,7 +239,7 @@ fn early_leaf<C: CountySet>(
         found
         (((c : ℕ) → ¬ IsStuck (problem_in ground.now) (state_in ground.now C.test position.now.state) c)
         × ¬ IsOffSeats (problem_in ground.now) (state_in ground.now C.test position.now.state))
-        (IsGiven (problem_in ground.now) (round_in ground.now) (state_in ground.now C.test position.now.state))) }
+        (IsEnd (problem_in ground.now) (round_in ground.now) (state_in ground.now C.test position.now.state))) }
 {
     let Ground {
         alloc,

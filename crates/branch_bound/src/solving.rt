@@ -15,7 +15,7 @@ ghost use Rattle.fitting_groups.specs.declared.stop.Stop.{Stop};
 ghost use Rattle.branch_bound.specs.Searching.{IsOutcome, IsProof};
 ghost use Rattle.branch_bound.specs.Solving.{IsTarget, IsFirst};
 ghost use Rattle.bound_leaves.specs.GivenLeaf.{IsGiven};
-ghost use Rattle.branch_bound.specs.Answered.{IsAnswer, Certifies, NamesBest, SaysWhether};
+ghost use Rattle.branch_bound.specs.Answered.{IsAnswer, Certifies, NamesBest, HasCompleteTree, SaysWhether};
 
 use crate::answer::Answer;
 use crate::ground::Ground;
@@ -169,6 +169,7 @@ fn best(
         (empty_state (problem_of ordered.now.problem))
         tree }
     ensures answer { IfOk result (λ answer. (allowed : ℕ) → 1 ≤ allowed → IsAnswer (problem_of ordered.now.problem) allowed answer) }
+    ensures complete { IfOk result (HasCompleteTree (problem_of ordered.now.problem)) }
 {
     let _places = ordered.places();
     let round = round_for(alloc, ordered, &target, limit)?;
@@ -190,6 +191,7 @@ fn improve<C: CountySet>(
     requires target { IsTarget (problem_of ordered.now.problem) ordered.now.order first.groups.items }
     requires some { 1 ≤ steps.old.limit }
     ensures answer { IfOk result (IsAnswer (problem_of ordered.now.problem) steps.old.limit) }
+    ensures complete { IfOk result (HasCompleteTree (problem_of ordered.now.problem)) }
 {
     let _places = ordered.places();
     let mut target = first;
@@ -309,6 +311,7 @@ fn solve_ordered<C: CountySet>(
     requires order { IsStrictlyIncreasing ordered.now.order }
     requires some { 1 ≤ steps.old.limit }
     ensures answer { IfOk result (IsAnswer (problem_of ordered.now.problem) steps.old.limit) }
+    ensures complete { IfOk result (HasCompleteTree (problem_of ordered.now.problem)) }
 {
     let near: Vec<C> = neighbour_rows(alloc, ordered)?;
     match first_found(alloc, ordered, &near)? {
@@ -330,6 +333,7 @@ pub fn solve_over<C: CountySet>(
     requires fits { length problem.now.counties ≤ C.PLACES }
     ensures answer { IfOk result (IsAnswer (problem_of problem.now) step_limit) }
     ensures best { IfOk result (NamesBest (problem_of problem.now)) }
+    ensures complete { IfOk result (HasCompleteTree (problem_of problem.now)) }
     ensures impossible { IfOk result (SaysWhether (problem_of problem.now) step_limit) }
 {
     let mut steps = Steps::new(step_limit);
@@ -354,7 +358,7 @@ pub fn solve_over<C: CountySet>(
 /// the answer is always open; with a limit of 1 or more `Impossible` is answered exactly where no grouping is lawful.
 /// Best is the grouping whose counts of groups by size are the greatest, the count of the smallest size first
 /// (Stephenson v. Bartlett, in the form of Carter et al.). The certificate of Best is a wide one, that of Impossible
-/// a plain one; a text spells each.
+/// a plain one; a text spells each. The certificate of Best is complete: its ends are the sets of all best groupings.
 ///
 /// # Errors
 ///
@@ -362,6 +366,7 @@ pub fn solve_over<C: CountySet>(
 pub fn solve(alloc: Global, problem: &Problem, step_limit: u64) -> Result<Answer, AllocError>
     ensures answer { IfOk result (IsAnswer (problem_of problem.now) step_limit) }
     ensures best { IfOk result (NamesBest (problem_of problem.now)) }
+    ensures complete { IfOk result (HasCompleteTree (problem_of problem.now)) }
     ensures impossible { IfOk result (SaysWhether (problem_of problem.now) step_limit) }
 {
     let _counties = problem.counties();

@@ -2,8 +2,7 @@ use Rattle.std.proofs.Common.{◌+◌, subst, refl, ◌∙◌, arith}
 use Rattle.proof_trees.specs.Leaves.{IsStuck}
 use Rattle.proof_trees.specs.Groups.{AreGroupsOf}
 use Rattle.line_verdicts.specs.Placed.{codes_of_sets}
-use Rattle.bound_leaves.specs.GivenLeaf.{IsGiven}
-use Rattle.branch_bound.specs.Searching.{problem_in, round_in, state_in, IsBetter, IsNext, IsVerdict}
+use Rattle.branch_bound.specs.Searching.{problem_in, round_in, state_in, IsEnd, IsBetter, IsNext, IsVerdict}
 use Rattle.branch_bound.proofs.Searches.{own}
 use Rattle.branch_bound.proofs.Verdicts.{sized_at}
 use Rattle.branch_bound.proofs.judging.judge_sizes.Goals as goal
@@ -30,7 +29,7 @@ returns-in-Ok-Leaf-clause-verdict g c =
     let test = g.C.CountySet.test in
     let ground = c.args.ground.now in
     let at = c.loop-position.position in
-    subst (λ z. IsGiven (problem_in ground) (round_in ground) (state_in ground test z) c.in-Ok-Leaf.leaf) c.loop-position.invariant.state
+    subst (λ z. IsEnd (problem_in ground) (round_in ground) (state_in ground test z) c.in-Ok-Leaf.leaf) c.loop-position.invariant.state
     (subst (λ z. IsNext test ground (state_in ground test at.state) at.size z) c.in-Ok-Leaf.field-0-is c.in-Ok-Leaf.ensures.next)
 
 pub returns-in-Ok-Better-clause-verdict : goal.returns-in-Ok-Better-clause-verdict

@@ -1,5 +1,6 @@
 use Rattle.std.proofs.Common.{arith}
-use Rattle.branch_bound.specs.Searching.{state_in}
+use Rattle.branch_bound.specs.Searching.{problem_in, round_in, state_in}
+use Rattle.branch_bound.proofs.LeafEnds.{leaf_complete}
 use Rattle.branch_bound.proofs.Verdicts.{none_at}
 use Rattle.branch_bound.proofs.Joining.{sorted_as}
 use Rattle.branch_bound.proofs.judging.next_size.Goals as goal
@@ -24,10 +25,13 @@ room_leaf-requires-clause-none g c = λ group fits small.
     none_at g.row.C.Denot g.C.CountySet.test g.C.CountySet.PLACES c.args.ground.now c.requires.ground c.places-places.ensures.order (state_in c.args.ground.now g.C.CountySet.test c.args.position.now.state) c.args.position.now c.requires.at c.requires.none group fits (omega (arith, small))
 
 pub returns-in-Some-clause-next : goal.returns-in-Some-clause-next
-returns-in-Some-clause-next g c = rw c.in-Some.is at c.in_ok-leaf.ensures
+returns-in-Some-clause-next g c = (
+  rw c.in-Some.is at c.in_ok-leaf.ensures.leaf,
+  leaf_complete (problem_in c.args.ground.now) (round_in c.args.ground.now) (state_in c.args.ground.now g.C.CountySet.test c.args.position.now.state) c.in-Some.leaf c.problem-problem.ensures.law c.requires.at.state c.requires.no_seats (rw c.in-Some.is at c.in_ok-leaf.ensures.complete),
+)
 
 pub returns-in-Some-2-clause-next : goal.returns-in-Some-2-clause-next
-returns-in-Some-2-clause-next g c = rw c.in-Some-2.is at c.in_ok-leaf-2.ensures
+returns-in-Some-2-clause-next g c = (rw c.in-Some-2.is at c.in_ok-leaf-2.ensures.leaf, λ fits. rw c.in-Some-2.is at c.in_ok-leaf-2.ensures.complete)
 
 pub returns-in-Ok-clause-next : goal.returns-in-Ok-clause-next
 returns-in-Ok-clause-next g c = (omega (arith, c.requires.at.small, c.if-size-round.false), c.in-Ok.ensures.below, c.in-Ok.ensures.groups)

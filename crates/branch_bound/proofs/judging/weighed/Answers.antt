@@ -7,7 +7,7 @@ weighed_leaf-requires-clause-size g c =
     some_size g.row.C.Denot g.C.CountySet.test g.C.CountySet.PLACES c.args.ground.now c.requires.ground c.places.ensures.order (state_in c.args.ground.now g.C.CountySet.test c.args.position.state) c.args.position c.requires.at c.requires.some
 
 pub returns-in-Some : goal.returns-in-Some
-returns-in-Some g c = rw c.in-Some.is at c.in_ok-leaf.ensures
+returns-in-Some g c = (rw c.in-Some.is at c.in_ok-leaf.ensures.leaf, λ fits. rw c.in-Some.is at c.in_ok-leaf.ensures.complete)
 
 pub returns : goal.returns
 returns g c = c.branch_at.ensures

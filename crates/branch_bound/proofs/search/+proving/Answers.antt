@@ -7,9 +7,10 @@ use Rattle.proof_trees.specs.Agreement.{Agrees}
 use Rattle.proof_trees.specs.State.{raise}
 use Rattle.proof_trees.specs.Groups.{AreGroupsAt}
 use Rattle.proof_trees.specs.Proving.{Proves}
+use Rattle.complete_lists.specs.Complete.{IsComplete}
 use Rattle.branch_bound.specs.Searching.{problem_in, round_in, state_in, IsOutcome, IsTaken, IsVerdict}
 use Rattle.branch_bound.proofs.Positions.{choice_can}
-use Rattle.branch_bound.proofs.Searches.{own, better_as, listed, group_there, takes_more, leaf_end, branched, branched_lines, raised_agrees, choice_size}
+use Rattle.branch_bound.proofs.Searches.{own, better_as, listed, group_there, takes_more, leaf_end, branched, branched_complete, branched_lines, raised_agrees, choice_size}
 use Rattle.branch_bound.proofs.search.+proving.Goals as goal
 
 pub prove-returns-in-Ok-Leaf-clause-outcome : goal.prove-returns-in-Ok-Leaf-clause-outcome
@@ -18,7 +19,7 @@ prove-returns-in-Ok-Leaf-clause-outcome g t c =
     let ground = c.args.ground.now in
     let s = state_in ground test c.branching.position.state in
     let inv = c.branching.invariant in
-    leaf_end (problem_in ground) (round_in ground) (state_in ground test c.args.position.state) s c.branching.branches c.in-Ok-Leaf.leaf inv.whole inv.lines
+    leaf_end (problem_in ground) (round_in ground) (state_in ground test c.args.position.state) s c.branching.branches c.in-Ok-Leaf.leaf inv.whole inv.lines inv.complete
     (subst (λ z. IsVerdict test ground s z) c.in-Ok-Leaf.field-0-is c.in-Ok-Leaf.ensures.verdict)
 
 pub prove-returns-in-Ok-Better-clause-outcome : goal.prove-returns-in-Ok-Better-clause-outcome
@@ -84,6 +85,7 @@ prove-branching-preserved g t c =
     record {
       at = own g.row.C.Denot test ground (raise county at.size here) next step.0;
       whole = branched p round first here county at.size bs news step.1.0 c.requires.ground.wide pushed (state_in ground test next.state) takes.0 can takes.1 takes.2 step.0.is (λ tree proves. inv.whole tree (subst (λ z. Proves tree p round z) v.0.is proves));
+      complete = λ fits. branched_complete p round first here county at.size bs news step.1.0 c.requires.ground.wide pushed (state_in ground test next.state) takes.0 takes.2 step.0.is fits (λ tree complete. inv.complete fits tree (subst (λ z. IsComplete tree p round z) v.0.is complete));
       agrees = λ h a. inv.agrees h (subst (λ z. Agrees z h) v.0.is (raised_agrees round here (state_in ground test next.state) county at.size h can step.0.is a));
       lines = branched_lines p round first here county at.size bs news step.1.0 c.requires.ground.wide pushed takes.0 c.in-Ok-At.ensures.county (choice_size g.row.C.Denot test ground s at c.in-Ok-Branch.place v.0 v.1) (omega (arith, v.0.small, c.requires.ground.small)) takes.2 inv.lines;
       more = omega (arith, inv.more, e.more, f.more);

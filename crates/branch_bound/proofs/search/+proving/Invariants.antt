@@ -5,6 +5,8 @@ use Rattle.line_verdicts.specs.Placed.{codes_of_sets}
 use Rattle.proof_trees.specs.Agreement.{Agrees}
 use Rattle.proof_trees.specs.Tree.{Tree}
 use Rattle.proof_trees.specs.Proving.{Proves}
+use Rattle.proof_trees.specs.Certificate.{TargetFits}
+use Rattle.complete_lists.specs.Complete.{IsComplete}
 use Rattle.certificate_text.proofs.TreeViews.{list_onto, items_of_branches}
 use Rattle.tree_spelling.specs.TreeItems.{FitsInTree}
 use Rattle.branch_bound.specs.Searching.{problem_in, round_in, state_in, IsAt, AreTakesOf}
@@ -34,6 +36,10 @@ invariant-prove-branching g l = record {
   at : IsAt g.C.CountySet.test l.ground (state_in l.ground g.C.CountySet.test l.position.state) l.position;
   whole : (tree : Tree) → Proves tree (problem_in l.ground) (round_in l.ground) (state_in l.ground g.C.CountySet.test l.position.state)
       → Proves (list_onto l.branches.items tree) (problem_in l.ground) (round_in l.ground) (state_in l.ground g.C.CountySet.test l.fn.position.state);
+  complete : TargetFits (problem_in l.ground) l.ground.round.now.limit (round_in l.ground).target
+      → (tree : Tree)
+      → IsComplete tree (problem_in l.ground) (round_in l.ground) (state_in l.ground g.C.CountySet.test l.position.state)
+      → IsComplete (list_onto l.branches.items tree) (problem_in l.ground) (round_in l.ground) (state_in l.ground g.C.CountySet.test l.fn.position.state);
   agrees : (grouping : Grouping) → Agrees (state_in l.ground g.C.CountySet.test l.position.state) grouping → Agrees (state_in l.ground g.C.CountySet.test l.fn.position.state) grouping;
   lines : AllByRecursion (FitsInTree l.ground.round.now.language) (items_of_branches l.branches.items);
   more : l.fn.steps.used ≤ l.steps.used;

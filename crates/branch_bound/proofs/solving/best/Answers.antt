@@ -1,6 +1,6 @@
 use Rattle.std.proofs.Common.{arith}
 use Rattle.grouping_problem.specs.ProblemValue.{problem_of}
-use Rattle.branch_bound.proofs.Rounds.{best_answer}
+use Rattle.branch_bound.proofs.Rounds.{best_answer, best_complete}
 use Rattle.branch_bound.proofs.solving.best.Goals as goal
 
 pub returns : goal.returns
@@ -24,4 +24,5 @@ returns c =
           c.in_ok-round.ensures.value
           c.in_ok-round.ensures.codes
           c.requires.tree;
+      complete = best_complete (problem_of ordered.problem) ordered.order c.args.limit c.args.target c.in_ok-round.round c.args.tree c.requires.target c.requires.large c.in_ok-round.ensures.value c.requires.tree;
     }

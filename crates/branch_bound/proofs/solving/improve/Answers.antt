@@ -7,4 +7,4 @@ returns-in-Err-StepLimit g c =
     let target = c.loop-tree.invariant.target in
     let all : c.used.result ≡ c.args.steps.now.limit =
     omega (arith, c.used.ensures.value, c.in-Err-StepLimit.ensures.stopped (ap Err c.in-Err-StepLimit.field-0-is), c.prove_round.ensures.limit, c.loop-tree.invariant.limit) in
-    record { answer = (all, (target.lawful, stands_in_order c.args.ordered.now.order c.requires.order c.loop-tree.target.groups.items target.sorted)) }
+    record { answer = (all, (target.lawful, stands_in_order c.args.ordered.now.order c.requires.order c.loop-tree.target.groups.items target.sorted)); complete = tt }

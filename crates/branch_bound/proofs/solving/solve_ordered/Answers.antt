@@ -4,4 +4,4 @@ pub returns : goal.returns
 returns g c = c.improve.ensures
 
 pub returns-in-Impossible : goal.returns-in-Impossible
-returns-in-Impossible g c = record { answer = (c.requires.some, rw c.in-Impossible.is at c.in_ok-certificate.ensures) }
+returns-in-Impossible g c = record { answer = (c.requires.some, rw c.in-Impossible.is at c.in_ok-certificate.ensures); complete = tt }

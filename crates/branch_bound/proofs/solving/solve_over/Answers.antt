@@ -1,7 +1,7 @@
 use Rattle.std.proofs.Common.{ap, ◌∙◌}
 use Rattle.grouping_problem.specs.ProblemValue.{problem_of, codes_of}
 use Rattle.ordered_counties.specs.OrderedValue.{OrderedValue}
-use Rattle.branch_bound.proofs.Rounds.{solved_best, solved_whether, listed_order}
+use Rattle.branch_bound.proofs.Rounds.{solved_best, solved_complete, solved_whether, listed_order}
 use Rattle.branch_bound.proofs.solving.solve_over.Goals as goal
 
 pub returns-in-Ok-clause-best : goal.returns-in-Ok-clause-best
@@ -15,6 +15,10 @@ returns-in-Ok-clause-best g c =
     (ap (λ (v : OrderedValue). problem_of v.problem) c.in-Ok.ensures.value)
     (c.tick.ensures.limit ∙ c.new-steps.ensures.limit)
     c.solve_ordered.ensures.answer
+
+pub returns-in-Ok-clause-complete : goal.returns-in-Ok-clause-complete
+returns-in-Ok-clause-complete g c =
+    solved_complete (problem_of c.in-Ok.ordered.problem) (problem_of c.args.problem.now) c.solve_ordered.result (ap (λ (v : OrderedValue). problem_of v.problem) c.in-Ok.ensures.value) c.solve_ordered.ensures.complete
 
 pub returns-in-Ok-clause-impossible : goal.returns-in-Ok-clause-impossible
 returns-in-Ok-clause-impossible g c =
