@@ -3,7 +3,7 @@
 ghost use Rattle.std.specs.Prelude.{◌≤◌};
 
 use adjacency_reader::read_pairs;
-use anyhow::Result;
+use anyhow::{Error, Result};
 use connected_groups::{GroupList, groups_over};
 use county_codes::{County, CountyCode, listed_codes};
 use county_regions::neighbour_rows;
@@ -17,7 +17,7 @@ use std::fs;
 /// The state's FIPS code.
 const STATE: u8 = 37;
 
-/// The most counties of a group that is counted.
+/// The most counties of a group that is counted where no word says it.
 const LIMIT: u16 = 4;
 
 /// The counties of the state, and the pairs of those that are adjacent.
@@ -74,7 +74,7 @@ impl State {
 }
 
 /// How many lawful groups there are of an order, and the steps that they took.
-fn count_over<C: CountySet>(alloc: Global, ordered: &Ordered) -> Result<(usize, u64)>
+fn count_over<C: CountySet>(alloc: Global, ordered: &Ordered, limit: u16) -> Result<(usize, u64)>
     requires { 128 ≤ C.PLACES }
 {
     let places = ordered.places();
@@ -82,40 +82,60 @@ fn count_over<C: CountySet>(alloc: Global, ordered: &Ordered) -> Result<(usize, 
     let mut steps = Steps::new(u64::MAX);
     let mut groups = 0_usize;
     for place in 0..places {
-        let list: GroupList<C> = groups_over(alloc, ordered, &near, place, LIMIT, &mut steps)?;
+        let list: GroupList<C> = groups_over(alloc, ordered, &near, place, limit, &mut steps)?;
         groups = groups.saturating_add(list.groups.len());
     }
     Ok((groups, steps.used()))
 }
 
 /// How many lawful groups a problem has, and the steps that they took.
-fn count<C: CountySet>(alloc: Global, problem: &Problem) -> Result<(usize, u64)>
+fn count<C: CountySet>(alloc: Global, problem: &Problem, limit: u16) -> Result<(usize, u64)>
     requires { 128 ≤ C.PLACES }
 {
     let order = listed_codes(alloc, problem.counties())?;
     let ordered = Ordered::build(alloc, problem, &order)?;
-    count_over::<C>(alloc, &ordered)
+    count_over::<C>(alloc, &ordered, limit)
 }
 
 /// Prints how many lawful groups a chamber has, and the steps.
-fn show_chamber<C: CountySet>(rt: &HostRuntime, state: &State, chamber: u16) -> Result<()>
+fn show_chamber<C: CountySet>(
+    rt: &HostRuntime,
+    state: &State,
+    chamber: u16,
+    limit: u16,
+) -> Result<()>
     requires { 128 ≤ C.PLACES }
 {
-    let (groups, steps) = count::<C>(rt.alloc(), &state.problem(rt.alloc(), chamber)?)?;
+    let (groups, steps) = count::<C>(rt.alloc(), &state.problem(rt.alloc(), chamber)?, limit)?;
     println!(rt; "chamber {chamber}: {groups} lawful groups, {steps} steps")?;
     Ok(())
 }
 
-/// Prints how many lawful groups and connected sets there are, in sets of a form.
-fn show_form<C: CountySet>(rt: &HostRuntime, state: &State, form: &str) -> Result<()>
+/// Prints how many lawful groups and connected sets there are of at most so many counties.
+fn show_counts<C: CountySet>(rt: &HostRuntime, state: &State, limit: u16) -> Result<()>
     requires { 128 ≤ C.PLACES }
 {
-    println!(rt; "-- carolina by {form}")?;
-    show_chamber::<C>(rt, state, 50)?;
-    show_chamber::<C>(rt, state, 120)?;
-    let (sets, _) = count::<C>(rt.alloc(), &state.equal_problem(rt.alloc())?)?;
+    show_chamber::<C>(rt, state, 50, limit)?;
+    show_chamber::<C>(rt, state, 120, limit)?;
+    let (sets, _) = count::<C>(rt.alloc(), &state.equal_problem(rt.alloc())?, limit)?;
     println!(rt; "{sets} connected sets")?;
     Ok(())
+}
+
+/// Prints the counts in sets of a form.
+fn show_in(rt: &HostRuntime, state: &State, limit: u16, form: &str) -> Result<()> {
+    println!(rt; "-- carolina by {form}")?;
+    match form {
+        "lists" => show_counts::<ListSet>(rt, state, limit),
+        "masks" => show_counts::<MaskSet>(rt, state, limit),
+        "wide" => show_counts::<WideSet>(rt, state, limit),
+        _ => Err(Error::msg("a form of sets is lists, masks or wide")),
+    }
+}
+
+/// Prints the counts of at most so many counties, in sets of a form.
+pub(crate) fn show_form(rt: &HostRuntime, limit: u16, form: &str) -> Result<()> {
+    show_in(rt, &State::load(rt)?, limit, form)
 }
 
 /// Prints the adjacent pairs.
@@ -131,7 +151,8 @@ fn show_pairs(rt: &HostRuntime, state: &State) -> Result<()> {
 pub(crate) fn show(rt: &HostRuntime) -> Result<()> {
     let state = State::load(rt)?;
     show_pairs(rt, &state)?;
-    show_form::<ListSet>(rt, &state, "lists")?;
-    show_form::<MaskSet>(rt, &state, "masks")?;
-    show_form::<WideSet>(rt, &state, "wide masks")
+    for form in ["lists", "masks", "wide"] {
+        show_in(rt, &state, LIMIT, form)?;
+    }
+    Ok(())
 }

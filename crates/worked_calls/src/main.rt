@@ -1,6 +1,7 @@
 //! Worked calls: what public calls below the command answer where no case of the command reaches them. Lines, numbers,
 //! sources, links, texts and shelves come first, and then small problems whose answers are known.
-//! With the word `carolina` the adjacent pairs and the lawful groups of North Carolina 2020 follow.
+//! With the word `carolina` the adjacent pairs and the lawful groups of North Carolina 2020 follow. With the words LIMIT and FORM
+//! (`lists`, `masks` or `wide`) it only counts the lawful groups of at most LIMIT counties, by sets of that form.
 //! The gate runs it with that word, and compares what it prints with `stdout`, which was written by hand from the rules or by
 //! other programs.
 #![tactic(auto)]
@@ -68,8 +69,12 @@ fn show_all(rt: &HostRuntime) -> Result<()> {
 
 fn main(rt: HostRuntime) -> Result<()> {
     let words: Vec<String> = env::args(&rt)?.collect(rt.alloc())?;
+    if let Some(form) = words.get(2) {
+        let limit = words[1].parse::<u16>()?;
+        return carolina::show_form(&rt, limit, form);
+    }
     show_all(&rt)?;
-    if words.get(1).is_some() {
+    if words.len() > 1 {
         carolina::show(&rt)?;
     }
     Ok(())
