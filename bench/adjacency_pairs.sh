@@ -1,5 +1,5 @@
 #!/usr/bin/env bash
-# The pairs of counties of an adjacency file, the lesser code first, each once, by awk: what `worked_cases` writes after the tables is
+# The pairs of counties of an adjacency file, the lesser code first, each once, by awk: what `worked_calls` writes with the word `carolina` is
 # compared with it, where all counties of the file are listed. Usage: adjacency_pairs.sh FILE
 set -euo pipefail
 [ $# -eq 1 ] || { echo "usage: adjacency_pairs.sh FILE" >&2; exit 2; }

@@ -2,7 +2,7 @@
 ghost use Rattle.std.specs.Prelude.{◌≤◌};
 
 use crate::sketch::{ONE_AND_FIVE, RING_OF_FOUR, STRANDING_PATH, Sketch};
-use anyhow::Result;
+use anyhow::{Error, Result};
 use connected_groups::{GroupList, Stop, groups_from};
 use county_codes::listed_codes;
 use county_regions::place_list;
@@ -51,6 +51,7 @@ fn show_found<C: CountySet>(rt: &HostRuntime, found: Result<GroupList<C>, Stop>)
 {
     match found {
         Ok(list) => show_each(rt, &list.groups),
+        Err(Stop::Memory) => Err(Error::from(Stop::Memory)),
         Err(stop) => {
             println!(rt; "{stop}")?;
             Ok(())

@@ -1,10 +1,14 @@
 //! Worked calls: what public calls below the command answer where no case of the command reaches them. Lines, numbers,
-//! sources, seats, links, texts and shelves come first, and then small problems whose answers are known.
-//! The gate runs it and compares what it prints with `stdout`, which was written by hand from the rules.
+//! sources, links, texts and shelves come first, and then small problems whose answers are known.
+//! With the word `carolina` the adjacent pairs and the lawful groups of North Carolina 2020 follow. With the words LIMIT and FORM
+//! (`lists`, `masks` or `wide`) it only counts the lawful groups of at most LIMIT counties, by sets of that form.
+//! The gate runs it with that word, and compares what it prints with `stdout`, which was written by hand from the rules or by
+//! other programs.
 #![tactic(auto)]
 
 ghost use Rattle.std.specs.Prelude.{◌≤◌};
 
+mod carolina;
 mod groups;
 mod judged;
 mod lines;
@@ -13,7 +17,6 @@ mod numbers;
 mod orders;
 mod problems;
 mod regions;
-mod seats;
 mod sets;
 mod shelf;
 mod sketch;
@@ -23,6 +26,7 @@ mod texts;
 
 use anyhow::Result;
 use place_sets::{CountySet, ListSet, MaskSet, WideSet};
+use std::env;
 
 /// Prints what calls over one form of sets answer.
 fn show_sets<C: CountySet>(rt: &HostRuntime, form: &str) -> Result<()>
@@ -47,18 +51,31 @@ fn show_files(rt: &HostRuntime) -> Result<()> {
     lines::show(rt)?;
     numbers::show(rt)?;
     sources::show(rt)?;
-    seats::show(rt)?;
     links::show(rt)?;
     texts::show(rt)?;
     shelf::show(rt)
 }
 
+/// Prints all that needs no file.
+fn show_all(rt: &HostRuntime) -> Result<()> {
+    show_files(rt)?;
+    problems::show(rt)?;
+    judged::show(rt)?;
+    orders::show(rt)?;
+    show_forms(rt)?;
+    sets::show_ends(rt)?;
+    states::show_rounds(rt)
+}
+
 fn main(rt: HostRuntime) -> Result<()> {
-    show_files(&rt)?;
-    problems::show(&rt)?;
-    judged::show(&rt)?;
-    orders::show(&rt)?;
-    show_forms(&rt)?;
-    sets::show_ends(&rt)?;
-    states::show_rounds(&rt)
+    let words: Vec<String> = env::args(&rt)?.collect(rt.alloc())?;
+    if let Some(form) = words.get(2) {
+        let limit = words[1].parse::<u16>()?;
+        return carolina::show_form(&rt, limit, form);
+    }
+    show_all(&rt)?;
+    if words.len() > 1 {
+        carolina::show(&rt)?;
+    }
+    Ok(())
 }

@@ -1,9 +1,9 @@
 //! Orders of counties, seats allotted, and steps.
 
 use crate::sketch::{STRANDING_PATH, Sketch, THIRTY_NINE_SEATS, codes};
-use anyhow::{Context, Result};
+use anyhow::{Context, Error, Result};
 use grouping_problem::Problem;
-use ordered_counties::{Ordered, Steps, allot};
+use ordered_counties::{OrderFault, Ordered, Steps, allot};
 
 /// Prints the county at a place.
 fn show_place(rt: &HostRuntime, ordered: &Ordered, place: u16) -> Result<()> {
@@ -37,6 +37,7 @@ fn show_order(rt: &HostRuntime, problem: &Problem, numbers: &[u32]) -> Result<()
     let order = codes(rt.alloc(), numbers)?;
     match Ordered::build(rt.alloc(), problem, &order) {
         Ok(ordered) => show_places(rt, &ordered),
+        Err(OrderFault::Memory) => Err(Error::from(OrderFault::Memory)),
         Err(fault) => {
             println!(rt; "{fault}")?;
             Ok(())

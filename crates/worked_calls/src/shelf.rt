@@ -1,13 +1,14 @@
 //! The files of the machine, and files in memory.
 
-use anyhow::Result;
-use shelves::{FileShelf, MemoryShelf, Shelf};
+use anyhow::{Error, Result};
+use shelves::{FileShelf, MemoryShelf, Shelf, ShelfFault};
 use std::fs;
 
 /// Prints what a name gives, and how often the device has failed.
 fn show_load<H: Shelf>(rt: &HostRuntime, shelf: &mut H, name: &str) -> Result<()> {
     match shelf.load(rt.alloc(), name) {
         Ok(bytes) => println!(rt; "{name}: {:?}", str::from_utf8(&bytes)?)?,
+        Err(ShelfFault::Memory) => return Err(Error::from(ShelfFault::Memory)),
         Err(fault) => println!(rt; "{name}: {fault}, failures {}", shelf.failures())?,
     }
     Ok(())
@@ -17,6 +18,7 @@ fn show_load<H: Shelf>(rt: &HostRuntime, shelf: &mut H, name: &str) -> Result<()
 fn show_store<H: Shelf>(rt: &HostRuntime, shelf: &mut H, name: &str, text: &str) -> Result<()> {
     match shelf.store(rt.alloc(), name, text.as_bytes()) {
         Ok(()) => println!(rt; "store {name}")?,
+        Err(ShelfFault::Memory) => return Err(Error::from(ShelfFault::Memory)),
         Err(fault) => println!(rt; "store {name}: {fault}, failures {}", shelf.failures())?,
     }
     Ok(())

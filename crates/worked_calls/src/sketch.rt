@@ -1,6 +1,5 @@
-use anyhow::Result;
 use county_codes::{Codes, County, CountyCode, Group, Grouping, Withdrawn};
-use grouping_problem::Problem;
+use grouping_problem::{Problem, ProblemFault};
 use std::alloc::{AllocError, Global};
 
 /// A small problem of counties of North Carolina, each named by the last three digits of its code.
@@ -15,14 +14,6 @@ pub(crate) struct Sketch<'a> {
     /// The chamber's seats.
     pub(crate) chamber: u16,
 }
-
-/// Four counties in a path.
-pub(crate) const FOUR_COUNTY_PATH: Sketch = Sketch {
-    people: &[(1, 100), (3, 60), (5, 40), (7, 200)],
-    pairs: &[(1, 3), (3, 5), (5, 7)],
-    withdrawn: &[],
-    chamber: 4,
-};
 
 /// A path whose middle county would strand its neighbours.
 pub(crate) const STRANDING_PATH: Sketch = Sketch {
@@ -134,23 +125,12 @@ fn withdrawn(alloc: Global, sets: &[(u16, &[u32])]) -> Result<Vec<Withdrawn>, Al
     Ok(list)
 }
 
-/// The problem of these counties, pairs, withdrawn sets and seats, or why there is none.
-fn built(
-    alloc: Global,
-    counties: &[County],
-    pairs: &[(CountyCode, CountyCode)],
-    sets: &[Withdrawn],
-    chamber: u16,
-) -> Result<Problem> {
-    Ok(Problem::build(alloc, counties, pairs, sets, chamber)?)
-}
-
 impl Sketch<'_> {
     /// The problem, or why there is none.
-    pub(crate) fn problem(self, alloc: Global) -> Result<Problem> {
+    pub(crate) fn problem(self, alloc: Global) -> Result<Problem, ProblemFault> {
         let counties = counties(alloc, self.people)?;
         let pairs = pairs(alloc, self.pairs)?;
         let sets = withdrawn(alloc, self.withdrawn)?;
-        built(alloc, &counties, &pairs, &sets, self.chamber)
+        Problem::build(alloc, &counties, &pairs, &sets, self.chamber)
     }
 }

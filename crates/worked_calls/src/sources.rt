@@ -1,7 +1,7 @@
 //! Readers as sources, and sources that are read whole.
 ghost use Rattle.std.specs.Prelude.{◌≡◌, false};
 
-use anyhow::Result;
+use anyhow::{Error, Result};
 use field_lines::{Reading, Source, SourceFault};
 use shelves::{WholeFault, read_whole};
 use std::io;
@@ -69,6 +69,7 @@ where
 {
     match read_whole(rt.alloc(), &mut source, limit) {
         Ok(bytes) => println!(rt; "whole up to {limit}: {:?}", str::from_utf8(&bytes)?)?,
+        Err(WholeFault::Memory) => return Err(Error::from(WholeFault::Memory)),
         Err(fault) => println!(rt; "whole up to {limit}: {fault}")?,
     }
     Ok(())

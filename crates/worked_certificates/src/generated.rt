@@ -1,8 +1,7 @@
-//! Texts and values that are made here.
+//! Trees that are made here.
 
 ghost use Rattle.std.specs.Prelude.{◌<◌, ◌≤◌};
 
-use crate::readings::certificate;
 use anyhow::{Context, Result};
 use certificate_text::{
     Allowance, Branch, Leaf, Take, Tree, Weight, Weights, read_tree, write_tree,
@@ -10,51 +9,6 @@ use certificate_text::{
 use county_codes::{Codes, CountyCode};
 use proof_trees::Language;
 use std::alloc::Global;
-
-/// How many marks make a long text.
-const MARKS: u32 = 1_000_000;
-
-/// A text of these first lines, so often a branch and a mark, and a leaf with the end.
-pub(crate) fn marked_text(
-    alloc: Global,
-    front: &[u8],
-    branch: &[u8],
-    marks: u32,
-    leaf: &[u8],
-) -> Result<Vec<u8>> {
-    let mut text = Vec::new(alloc);
-    text.extend_from_slice(front)?;
-    for _ in 0..marks {
-        text.extend_from_slice(branch)?;
-        text.extend_from_slice(b"mark\n")?;
-    }
-    text.extend_from_slice(leaf)?;
-    text.extend_from_slice(b"end\n")?;
-    Ok(text)
-}
-
-/// What is said of a certificate with this head and a million marks.
-fn marked(alloc: Global, head: &[u8], branch: &[u8]) -> Result<String> {
-    let mut front = Vec::new(alloc);
-    front.extend_from_slice(head)?;
-    front.extend_from_slice(b"order 37001 37003\nlimit 2\ntarget none\n")?;
-    let text = marked_text(alloc, &front, branch, MARKS, b"seats\n")?;
-    certificate(alloc, &text)
-}
-
-/// A wide text with a million marks.
-pub(crate) fn million_marks(alloc: Global) -> Result<String> {
-    marked(
-        alloc,
-        b"county-groups wide certificate 1\n",
-        b"branch 37001 1\n",
-    )
-}
-
-/// A plain text with a million marks.
-pub(crate) fn million_plain_marks(alloc: Global) -> Result<String> {
-    marked(alloc, b"county-groups certificate 1\n", b"branch 37001\n")
-}
 
 /// Numbers that look random, the same in each run.
 #[derive(Drop)]

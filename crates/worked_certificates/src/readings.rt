@@ -1,20 +1,11 @@
-//! What is said of a case.
+//! What is said of a case: a tree, a tree in front of other bytes, or a line of words.
 
 use anyhow::Result;
 use certificate_text::{
-    Certificate, ItemSource, Items, TextFault, TextKind, Words, front_tree, read, read_tree, write,
-    write_tree,
+    ItemSource, Items, TextFault, TextKind, Words, front_tree, read_tree, write_tree,
 };
 use proof_trees::Language;
 use std::alloc::Global;
-
-/// A language, in a word.
-fn name_of(language: Language) -> &'static str {
-    match language {
-        Language::Plain => "plain",
-        Language::Wide => "wide",
-    }
-}
 
 /// What a comparison showed.
 fn outcome(equal: bool) -> &'static str {
@@ -45,25 +36,6 @@ fn fault_said(alloc: Global, fault: TextFault, met: Option<TextFault>) -> Result
         Ok(format!(in alloc; "{kind:?} line {line}")?)
     } else {
         Ok(format!(in alloc; "{kind:?} line {line}, and not so item by item")?)
-    }
-}
-
-/// A certificate's text, written back from a copy, and whether it is the same.
-fn certificate_back(alloc: Global, certificate: &Certificate, bytes: &[u8]) -> Result<bool> {
-    let again = write(alloc, &certificate.copy()?)?;
-    Ok(again.as_slice() == bytes)
-}
-
-/// A certificate, read, copied and written.
-pub(crate) fn certificate(alloc: Global, bytes: &[u8]) -> Result<String> {
-    let (lines, met) = count_items(&mut Items::of_certificate(alloc, bytes)?);
-    match read(alloc, bytes) {
-        Ok(certificate) => {
-            let name = name_of(certificate.round.language);
-            let outcome = outcome(certificate_back(alloc, &certificate, bytes)?);
-            Ok(format!(in alloc; "{name} certificate of {lines} lines, written back {outcome}")?)
-        }
-        Err(fault) => fault_said(alloc, fault, met),
     }
 }
 
@@ -116,39 +88,9 @@ fn words(alloc: Global, bytes: &[u8]) -> Result<String> {
     }
 }
 
-/// How many LFs there are.
-pub(crate) fn feeds(bytes: &[u8]) -> u64 {
-    bytes.iter().filter(|byte| **byte == b'\n').count() as u64
-}
-
-/// Whether a text is cut short on the line after its LFs.
-fn is_cut_short(alloc: Global, text: &[u8]) -> bool {
-    match read(alloc, text) {
-        Ok(_certificate) => false,
-        Err(fault) => {
-            fault.kind == TextKind::CutShort && fault.line == feeds(text).saturating_add(1)
-        }
-    }
-}
-
-/// How many proper prefixes there are, and how many are cut short at one more than their LFs.
-fn prefixes(alloc: Global, bytes: &[u8]) -> Result<String> {
-    let mut cut = 0_usize;
-    for end in 0..bytes.len() {
-        if is_cut_short(alloc, &bytes[..end]) {
-            cut = cut.saturating_add(1);
-        }
-    }
-    let all = bytes.len();
-    Ok(format!(in alloc; "{cut} of {all} prefixes cut short")?)
-}
-
 /// What is said of the bytes of a case.
 pub(crate) fn reading(alloc: Global, kind: &str, bytes: &[u8]) -> Result<String> {
     match kind {
-        "certificate" => certificate(alloc, bytes),
-        "certificate cut" => certificate(alloc, bytes.strip_suffix(b"\n").unwrap_or(bytes)),
-        "prefixes" => prefixes(alloc, bytes),
         "plain tree" => tree(alloc, bytes, Language::Plain),
         "wide tree" => tree(alloc, bytes, Language::Wide),
         "plain front" => front(alloc, bytes, Language::Plain),

@@ -103,7 +103,7 @@ fn bound(alloc: Global, count: u32) -> Result<Tree> {
 
 /// A certificate whose limit is this.
 fn limited(alloc: Global, limit: u16) -> Result<String> {
-    let mut certificate = read(alloc, TEXT)?;
+    let mut certificate = read(alloc, TEXT)?.copy()?;
     certificate.round.limit = limit;
     let name = format!(in alloc; "limit {limit}")?;
     said(alloc, &name, write(alloc, &certificate))
