@@ -37,8 +37,8 @@ pub fn push_code(out: &mut Vec<u8>, code: CountyCode) -> Result<(), AllocError>
     push_five_digits(out, code.get())
 }
 
-/// Appends codes, each after a mark.
-pub(crate) fn push_codes(
+/// Appends codes, each after a mark. It fails only where a growth was refused.
+pub fn push_codes(
     out: &mut Vec<u8>,
     mark: &[u8],
     codes: &[CountyCode],

@@ -1,0 +1,23 @@
+-- What the regions are: two counties lie in one exactly where a chain of sets joins them.
+use Rattle.std.specs.Prelude.{ℕ, ◌≡◌, ◌≤◌, ◌↔◌, true, List, map, All, Contains}
+use Rattle.grouping_laws.specs.Sets.{member}
+use Rattle.list_report.specs.Regions.{first_county, regions}
+
+-- a chain of the sets from one county to another: each set has the county where the next begins
+pub data Joined (sets : List (List ℕ)) : ℕ → ℕ → Type 0 where
+  here : (x : ℕ) → Joined sets x x
+  along : (x y z : ℕ) (s : List ℕ) → Contains sets s → member s x ≡ true → member s y ≡ true → Joined sets y z → Joined sets x z
+
+-- two counties lie in one of the regions
+abbrev pub InOneRegion : List ℕ → List (List ℕ) → ℕ → ℕ → Type 0
+InOneRegion free sets x y = (region : List ℕ) × Contains (regions free sets) region × (member region x ≡ true) × (member region y ≡ true)
+
+-- of sets of free counties: two free counties lie in one region exactly where a chain joins them
+abbrev pub RegionsAreJoined : Type 0
+RegionsAreJoined =
+    (free : List ℕ) (sets : List (List ℕ)) → ((s : List ℕ) (c : ℕ) → Contains sets s → member s c ≡ true → member free c ≡ true)
+    → (x y : ℕ) → member free x ≡ true → member free y ≡ true → InOneRegion free sets x y ↔ Joined sets x y
+
+-- the first county of a region is its least
+abbrev pub FirstIsLeast : Type 0
+FirstIsLeast = (free : List ℕ) (sets : List (List ℕ)) (c : ℕ) → first_county free sets c ≤ c
