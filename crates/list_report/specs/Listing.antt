@@ -34,7 +34,7 @@ set_lines v sets = flat_map (λ s. set_line (seat_run (problem_of v) (people_ins
 -- alternatives, the first of which has number i: the number, and a line for each set
 abbrev pub alternatives_text : ProblemValue → ℕ → List (List (List ℕ)) → List ℕ
 alternatives_text v i [] = []
-alternatives_text v i (a ∷ as) = (with_number (codes "alternative ") i ++ codes "\n" ++ set_lines v a) ++ alternatives_text v (i + 1) as
+alternatives_text v i (a ∷ others) = (with_number (codes "alternative ") i ++ codes "\n" ++ set_lines v a) ++ alternatives_text v (i + 1) others
 
 -- the line of a region: its number, how many counties it has, and how many alternatives
 unfoldable pub region_line : ℕ → ℕ → ℕ → List ℕ

@@ -8,11 +8,11 @@
 
 mod alternatives;
 mod laws;
-mod listing;
+mod listings;
 mod regions;
 mod sets;
 mod shared;
 mod texts;
 
 pub use laws::regions_are_joined;
-pub use listing::listing;
+pub use listings::listing;

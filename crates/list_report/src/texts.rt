@@ -18,8 +18,9 @@ fn people_of(problem: &Problem, set: &[CountyCode]) -> u64
     ensures value { result ≡ people_inside problem.now set.now }
     ensures bound { result ≤ problem.now.total_people }
 {
+    let counties = problem.counties();
     let mut people = 0;
-    for county in problem.counties() {
+    for county in counties {
         if has_code(set, county.code) {
             people += u64::from(county.people);
         }
