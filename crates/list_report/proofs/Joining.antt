@@ -20,11 +20,11 @@ fold_start a (x ∷ xs) = omega (arith, fold_start (min a x) xs, min-le_left a x
 
 fold_member : (a : ℕ) (xs : List ℕ) (c : ℕ) → member xs c ≡ true → fold min a xs ≤ c
 fold_member a [] c m = absurd (false≢true m)
-fold_member a (x ∷ xs) c m = go (member_cases x xs c m)
+fold_member a (x ∷ xs) c m = go (fold_member (min a x) xs c) (member_cases x xs c m)
   where
-    go : (x ≡ c) ⊎ (member xs c ≡ true) → fold min (min a x) xs ≤ c
-    go (inl e) = omega (arith, fold_start (min a x) xs, min-le_right a x, e)
-    go (inr k) = fold_member (min a x) xs c k
+    go : (member xs c ≡ true → fold min (min a x) xs ≤ c) → (x ≡ c) ⊎ (member xs c ≡ true) → fold min (min a x) xs ≤ c
+    go later (inl e) = omega (arith, fold_start (min a x) xs, min-le_right a x, e)
+    go later (inr k) = later k
 
 fold_reached : (a : ℕ) (xs : List ℕ) → (fold min a xs ≡ a) ⊎ (member xs (fold min a xs) ≡ true)
 fold_reached a [] = inl refl
@@ -132,7 +132,7 @@ module _ (free : List ℕ) where
 
   -- counties of one region are joined by a chain
   module _ (all : List (List ℕ)) where
-    IsChained : (ℕ → ℕ) → Type 0
+    abbrev IsChained : (ℕ → ℕ) → Type 0
     IsChained f = (x y : ℕ) → member free x ≡ true → member free y ≡ true → f x ≡ f y → Joined all x y
 
     chained_join : (f : ℕ → ℕ) (s : List ℕ) → Has all s → IsChained f → IsChained (join free f s)
@@ -176,20 +176,20 @@ map_has F (x ∷ xs) y (inr h) = map_has F xs y h
 
 has_map : {X : Type 0} (F : ℕ → X) (xs : List ℕ) (r : ℕ) → member xs r ≡ true → Has (map F xs) (F r)
 has_map F [] r m = absurd (false≢true m)
-has_map F (x ∷ xs) r m = go (member_cases x xs r m)
+has_map F (x ∷ xs) r m = go (has_map F xs r) (member_cases x xs r m)
   where
-    go : (x ≡ r) ⊎ (member xs r ≡ true) → Has (map F (x ∷ xs)) (F r)
-    go (inl e) = inl (ap F e)
-    go (inr k) = inr (has_map F xs r k)
+    go : (member xs r ≡ true → Has (map F xs) (F r)) → (x ≡ r) ⊎ (member xs r ≡ true) → Has (map F (x ∷ xs)) (F r)
+    go later (inl e) = inl (ap F e)
+    go later (inr k) = inr (later k)
 
 module _ (free : List ℕ) (sets : List (List ℕ)) where
-  first : ℕ → ℕ
+  abbrev first : ℕ → ℕ
   first = first_county free sets
 
-  region : ℕ → List ℕ
+  abbrev region : ℕ → List ℕ
   region r = filter (λ c. first c == r) free
 
-  heads : List ℕ
+  abbrev heads : List ℕ
   heads = filter (λ c. first c == c) free
 
   -- counties of one region have one first county
