@@ -1,2 +1,5 @@
 mod Members
 mod Joining
+mod Loops
+mod PlaceLists
+mod Sizes

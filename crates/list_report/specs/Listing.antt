@@ -20,7 +20,7 @@ people_inside v s = people_in (filter (λ k. member s k.code) v.counties)
 -- the number of seats that suits, or the least and the greatest of several
 abbrev pub seats_words : Option (ℕ × ℕ) → List ℕ
 seats_words None = codes "none"
-seats_words (Some r) = if r.0 == r.1 then decimal r.0 else with_number (decimal r.0 ++ codes " to ") r.1
+seats_words (Some r) = if r.0 == r.1 then decimal r.0 else decimal r.0 ++ with_number (codes " to ") r.1
 
 -- the line of a set: the seats that suit its people, its people and its codes
 unfoldable pub set_line : Option (ℕ × ℕ) → ℕ → List ℕ → List ℕ
