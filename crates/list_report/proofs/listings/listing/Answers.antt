@@ -9,9 +9,9 @@ use Rattle.list_report.specs.Listing.{body_text}
 use Rattle.list_report.proofs.listings.listing.Goals as goal
 
 -- the groups of the first grouping are those of the first list
-first_read : (gs : List Grouping) (g : Grouping) → 1 ≤ length gs → g ≡ get_or gs 0 g → sets_of g.groups.items ≡ first_sets (map sets_of (map (λ g. g.groups.items) gs))
-first_read [] g some is = absurd (omega (arith, some))
-first_read (x ∷ xs) g some is = ap (λ (y : Grouping). sets_of y.groups.items) is
+first_read : (gs : List Grouping) (g : Grouping) → 1 ≤ length gs → sets_of (get_or gs 0 g).groups.items ≡ first_sets (map sets_of (map (λ g. g.groups.items) gs))
+first_read [] g some = absurd (omega (arith, some))
+first_read (x ∷ xs) g some = refl
 
 pub returns : goal.returns
 returns c =
@@ -23,7 +23,7 @@ returns c =
     let two = after _ one c.in_ok-push_answer.ensures in
     let three = after _ two c.in_ok-push_counts.ensures in
     let four = after _ three c.in_ok-push_body.ensures in
-    let counts : sets_of c.as_slice.result.now ≡ first_sets listed = ap sets_of c.as_slice.ensures.value ∙ first_read gs c.index-groupings-0.result c.requires c.index-groupings-0.is in
+    let counts : sets_of c.as_slice.result.now ≡ first_sets listed = ap sets_of c.as_slice.ensures.value ∙ first_read gs c.index-groupings-0.result c.requires in
     four.is
     ∙ (ap (λ (l : List ℕ). l ++ (head ++ counts_line (sets_of c.as_slice.result.now) ++ body_text v c.deref.result.now)) c.new-out.ensures.items
     ∙ (ap (λ (s : List (List ℕ)). head ++ counts_line s ++ body_text v c.deref.result.now) counts
