@@ -1,5 +1,5 @@
 -- What the regions are.
-use Rattle.std.proofs.Common.{◌≡◌, ℕ, ◌≤◌, ◌==◌, Bool, true, false, cond, ◌||◌, min, List, [], ◌∷◌, map, filter, fold, Contains, refl, sym, ap, subst, ◌∙◌, ◌⊎◌, inl, inr, arith}
+use Rattle.std.proofs.Common.{◌≡◌, ℕ, ◌≤◌, ◌==◌, Bool, true, false, cond, ◌||◌, min, List, [], ◌∷◌, map, filter, fold, Contains, ◌↔◌, refl, sym, ap, subst, ◌∙◌, ◌⊎◌, inl, inr, arith}
 use Rattle.std.proofs.lemmas.Bool.{eqb-true, eq-eqb, false≢true}
 use Rattle.std.proofs.Math.Nat.{min-le_left, min-le_right}
 use Rattle.grouping_laws.specs.Sets.{member}
@@ -8,7 +8,7 @@ use Rattle.grouping_laws.proofs.Fill.{member_cases}
 use Rattle.grouping_laws.proofs.Parts.{member_head, member_tail}
 use Rattle.list_report.specs.Regions.{met, join, first_county, regions}
 use Rattle.list_report.specs.Places.{moved}
-use Rattle.list_report.specs.Joined.{Joined, InOneRegion, RegionsAreJoined, FirstIsLeast}
+use Rattle.list_report.specs.Joined.{Joined, InOneRegion, FirstIsLeast}
 use Rattle.list_report.specs.Joined.Joined.{here, along}
 use Rattle.list_report.proofs.Members.{filter_in, filter_out, map_in, map_out}
 
@@ -32,8 +32,9 @@ fold_reached a (x ∷ xs) = go (fold_reached (min a x) xs) (either a x)
   where
     either : (a x : ℕ) → (min a x ≡ a) ⊎ (min a x ≡ x)
     either a x = grind arith
+
     go : (fold min (min a x) xs ≡ min a x) ⊎ (member xs (fold min (min a x) xs) ≡ true) → (min a x ≡ a) ⊎ (min a x ≡ x)
-      → (fold min (min a x) xs ≡ a) ⊎ (member (x ∷ xs) (fold min (min a x) xs) ≡ true)
+        → (fold min (min a x) xs ≡ a) ⊎ (member (x ∷ xs) (fold min (min a x) xs) ≡ true)
     go (inl e) (inl k) = inl (e ∙ k)
     go (inl e) (inr k) = inr (ap (λ z. z || member xs (fold min (min a x) xs)) (eq-eqb x (fold min (min a x) xs) (sym (e ∙ k))))
     go (inr m) k = inr (member_tail x xs (fold min (min a x) xs) m)
@@ -113,6 +114,7 @@ module _ (free : List ℕ) where
     where
       ms : List ℕ
       ms = met free f s
+
       go : (c : ℕ) → member free c ≡ true → (b : Bool) → member ms (f c) ≡ b → (member free (join free f s c) ≡ true) × (join free f s (join free f s c) ≡ join free f s c)
       go c h false k =
           let same : join free f s c ≡ f c = moved_out ms (f c) k in
@@ -122,9 +124,10 @@ module _ (free : List ℕ) where
           let same : join free f s c ≡ m = moved_in ms (f c) k in
           let in_met : member ms m ≡ true = least_member ms (f c) k in
           let r = met_out f s m in_met in
-          let own : f m ≡ m = ap f (sym r.3) ∙ (is.again r.0 r.1 ∙ r.3) in
-          ( ap (member free) (same ∙ sym r.3) ∙ is.county r.0 r.1
-          , ap (join free f s) same ∙ (ap (moved ms) own ∙ (moved_in ms m in_met ∙ (least_same ms m (f c) in_met k ∙ sym same))) )
+          let own : f m ≡ m = ap f (sym r.3) ∙ (is.again r.0 r.1 ∙ r.3) in (
+            ap (member free) (same ∙ sym r.3) ∙ is.county r.0 r.1,
+            ap (join free f s) same ∙ (ap (moved ms) own ∙ (moved_in ms m in_met ∙ (least_same ms m (f c) in_met k ∙ sym same))),
+          )
 
   first_all : (f : ℕ → ℕ) (sets : List (List ℕ)) → IsFirst f → IsFirst (fold (join free) f sets)
   first_all f [] is = is
@@ -140,8 +143,10 @@ module _ (free : List ℕ) where
       where
         ms : List ℕ
         ms = met free f s
+
         clash : (u v : ℕ) → moved ms u ≡ moved ms v → member ms u ≡ true → member ms v ≡ false → ⊥
         clash u v e k l = false≢true (sym l ∙ (ap (member ms) (sym (moved_out ms v l) ∙ (sym e ∙ moved_in ms u k)) ∙ least_member ms u k))
+
         go : (b : Bool) → member ms (f x) ≡ b → (d : Bool) → member ms (f y) ≡ d → Joined all x y
         go false k false l = is x y hx hy (sym (moved_out ms (f x) k) ∙ (e ∙ moved_out ms (f y) l))
         go true k false l = absurd (clash (f x) (f y) e k l)
@@ -197,7 +202,7 @@ module _ (free : List ℕ) (sets : List (List ℕ)) where
   same_first x y in_one =
       let r = map_has region heads in_one.0 (has_from_contains (regions free sets) in_one.0 in_one.1) in
       let at : (c : ℕ) → member in_one.0 c ≡ true → first c ≡ r.0 = λ c m.
-        eqb-true (first c) r.0 (filter_out (λ c. first c == r.0) free c (ap (λ (l : List ℕ). member l c) r.1 ∙ m)).1 in
+      eqb-true (first c) r.0 (filter_out (λ c. first c == r.0) free c (ap (λ (l : List ℕ). member l c) r.1 ∙ m)).1 in
       at x in_one.2 ∙ sym (at y in_one.3)
 
   -- and where they have, they lie in the region of that county
@@ -205,16 +210,20 @@ module _ (free : List ℕ) (sets : List (List ℕ)) where
   one_region x y hx hy e =
       let is : IsFirst free first = first_all free (λ c. c) sets (record { county = λ c h. h; again = λ c h. refl }) in
       let r = first x in
-      let head : member heads r ≡ true = filter_in (λ c. first c == c) free r (is.county x hx) (eq-eqb (first r) r (is.again x hx)) in
-      ( region r
-      , contains_from_has (regions free sets) (region r) (has_map region heads r head)
-      , filter_in (λ c. first c == r) free x hx (eq-eqb (first x) r refl)
-      , filter_in (λ c. first c == r) free y hy (eq-eqb (first y) r (sym e)) )
+      let head : member heads r ≡ true = filter_in (λ c. first c == c) free r (is.county x hx) (eq-eqb (first r) r (is.again x hx)) in (
+        region r,
+        contains_from_has (regions free sets) (region r) (has_map region heads r head),
+        filter_in (λ c. first c == r) free x hx (eq-eqb (first x) r refl),
+        filter_in (λ c. first c == r) free y hy (eq-eqb (first y) r (sym e)),
+      )
 
-pub regions_are_joined : RegionsAreJoined
-regions_are_joined free sets inside x y hx hy =
-    ( λ in_one. chained_all free sets (λ c. c) sets (λ s h. h) (λ a b ha hb e. subst (Joined sets a) e (here a)) x y hx hy (same_first free sets x y in_one)
-    , λ chain. one_region free sets x y hx hy (along_chain free sets inside x y hx chain) )
+-- of sets of free counties: two free counties lie in one region exactly where a chain joins them
+pub regions_joined : (free : List ℕ) (sets : List (List ℕ)) → ((s : List ℕ) (c : ℕ) → Contains sets s → member s c ≡ true → member free c ≡ true)
+    → (x y : ℕ) → member free x ≡ true → member free y ≡ true → InOneRegion free sets x y ↔ Joined sets x y
+regions_joined free sets inside x y hx hy = (
+  λ in_one. chained_all free sets (λ c. c) sets (λ s h. h) (λ a b ha hb e. subst (Joined sets a) e (here a)) x y hx hy (same_first free sets x y in_one),
+  λ chain. one_region free sets x y hx hy (along_chain free sets inside x y hx chain),
+)
 
 pub first_is_least : FirstIsLeast
 first_is_least free sets c = less free (λ c. c) sets c (omega arith)

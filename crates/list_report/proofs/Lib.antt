@@ -1,5 +1,6 @@
 mod Members
 mod Joining
+mod Listed
 mod Loops
 mod PlaceLists
 mod Sizes

@@ -24,8 +24,9 @@ filter_out q (x ∷ xs) c m = go (λ h. let r = filter_out q xs c h in (member_t
     now : (member (filter q xs) c ≡ true → (member (x ∷ xs) c ≡ true) × (q c ≡ true)) → q x ≡ true → (x ≡ c) ⊎ (member (filter q xs) c ≡ true) → (member (x ∷ xs) c ≡ true) × (q c ≡ true)
     now later t (inl e) = (ap (λ z. z || member xs c) (eq-eqb x c e), ap q (sym e) ∙ t)
     now later t (inr m) = later m
+
     go : (member (filter q xs) c ≡ true → (member (x ∷ xs) c ≡ true) × (q c ≡ true)) → (b : Bool) → q x ≡ b → member (cond b (x ∷ filter q xs) (filter q xs)) c ≡ true
-      → (member (x ∷ xs) c ≡ true) × (q c ≡ true)
+        → (member (x ∷ xs) c ≡ true) × (q c ≡ true)
     go later true t m = now later t (member_cases x (filter q xs) c m)
     go later false t m = later m
 

@@ -13,6 +13,7 @@ places_kept {Y} f q F (x ∷ xs) = go (q (record { county = x; first = f x })) (
   where
     P : ℕ → Place
     P c = record { county = c; first = f c }
+
     go : (b : Bool) → map F (filter q (places_at f xs)) ≡ map (λ c. F (record { county = c; first = f c })) (filter (λ c. q (record { county = c; first = f c })) xs)
         → map F (cond b (record { county = x; first = f x } ∷ filter q (places_at f xs)) (filter q (places_at f xs)))
         ≡ map (λ c. F (record { county = c; first = f c })) (cond b (x ∷ filter (λ c. q (record { county = c; first = f c })) xs) (filter (λ c. q (record { county = c; first = f c })) xs))

@@ -1,7 +1,10 @@
 -- What the regions are: two counties lie in one exactly where a chain of sets joins them.
 use Rattle.std.specs.Prelude.{ℕ, ◌≡◌, ◌≤◌, ◌↔◌, true, List, map, All, Contains}
 use Rattle.grouping_laws.specs.Sets.{member}
-use Rattle.list_report.specs.Regions.{first_county, regions}
+use Rattle.grouping_laws.specs.Problem.{Problem}
+use Rattle.grouping_laws.specs.Grouping.{Grouping, Lawful, sets_of}
+use Rattle.list_report.specs.Shared.{shared_sets, open_sets}
+use Rattle.list_report.specs.Regions.{free_counties, first_county, regions}
 
 -- a chain of the sets from one county to another: each set has the county where the next begins
 pub data Joined (sets : List (List ℕ)) : ℕ → ℕ → Type 0 where
@@ -12,11 +15,15 @@ pub data Joined (sets : List (List ℕ)) : ℕ → ℕ → Type 0 where
 abbrev pub InOneRegion : List ℕ → List (List ℕ) → ℕ → ℕ → Type 0
 InOneRegion free sets x y = (region : List ℕ) × Contains (regions free sets) region × (member region x ≡ true) × (member region y ≡ true)
 
--- of sets of free counties: two free counties lie in one region exactly where a chain joins them
+-- of lawful groupings: two counties that no shared set has lie in one region exactly where a chain of sets that are not shared joins them
 abbrev pub RegionsAreJoined : Type 0
 RegionsAreJoined =
-    (free : List ℕ) (sets : List (List ℕ)) → ((s : List ℕ) (c : ℕ) → Contains sets s → member s c ≡ true → member free c ≡ true)
-    → (x y : ℕ) → member free x ≡ true → member free y ≡ true → InOneRegion free sets x y ↔ Joined sets x y
+    (p : Problem) (groupings : List Grouping) → All (Lawful p) groupings →
+    let listed = map sets_of groupings in
+    let shared = shared_sets listed in
+    let free = free_counties p.counties shared in
+    let sets = open_sets shared listed in
+    (x y : ℕ) → member free x ≡ true → member free y ≡ true → InOneRegion free sets x y ↔ Joined sets x y
 
 -- the first county of a region is its least
 abbrev pub FirstIsLeast : Type 0

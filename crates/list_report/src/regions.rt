@@ -58,7 +58,11 @@ fn lone_places(alloc: Global, free: &[CountyCode]) -> Result<Vec<Place>, AllocEr
 }
 
 /// The first counties of the regions that the set meets.
-fn met_by(alloc: Global, places: &[Place], set: &[CountyCode]) -> Result<Vec<CountyCode>, AllocError>
+fn met_by(
+    alloc: Global,
+    places: &[Place],
+    set: &[CountyCode],
+) -> Result<Vec<CountyCode>, AllocError>
     ensures { IfOk result (λ v. v.items ≡ places_met places.now set.now) }
 {
     let mut met = Vec::new(alloc);

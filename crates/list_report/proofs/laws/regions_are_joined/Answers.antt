@@ -1,4 +1,5 @@
-use Rattle.list_report.proofs.Joining.{regions_are_joined, first_is_least}
+use Rattle.list_report.proofs.Joining.{first_is_least}
+use Rattle.list_report.proofs.Listed.{regions_are_joined}
 use Rattle.list_report.proofs.laws.regions_are_joined.Goals as goal
 
 pub returns-clause-joined : goal.returns-clause-joined

@@ -11,7 +11,7 @@ returns c =
     let listed = c.args.listed.now in
     let counties = codes_of c.args.counties.now in
     let parts = c.deref-2.ensures.value
-      ∙ (c.in_ok-parts.ensures
-      ∙ (ap (regions (free_counties counties c.args.shared.now)) (c.deref.ensures.value ∙ c.in_ok-open.ensures)
-      ∙ ap (λ (s : List (List ℕ)). regions (free_counties counties s) (open_sets s listed)) c.requires)) in
+    ∙ (c.in_ok-parts.ensures
+    ∙ (ap (regions (free_counties counties c.args.shared.now)) (c.deref.ensures.value ∙ c.in_ok-open.ensures)
+    ∙ ap (λ (s : List (List ℕ)). regions (free_counties counties s) (open_sets s listed)) c.requires)) in
     subst (λ (l : List (List ℕ)). IfOk c.regions_with.result (λ v. v.items ≡ with_alternatives listed l)) parts c.regions_with.ensures

@@ -16,12 +16,12 @@ loop-county-preserved c =
     let ks = drop (c.loop-county.county-index + 1) c.args.counties.now in
     let left = read F c.args.counties.now c.loop-county.county-index k c.loop-county-test.true c.county-item.is in
     elim c.if-not-is_taken.branch [
-      then-not-is_taken+in_ok-push w ↦
-        let passes : q k.code ≡ true = search rules in
-        let new : c.if-not-is_taken.free.items ≡ now ++ k.code ∷ [] = search rules in
-        more now (k.code ∷ []) (F ks) new (left ∙ keeps q k.code (codes_of ks) passes) c.loop-county.invariant
+      | then-not-is_taken+in_ok-push w ↦
+          let passes : q k.code ≡ true = search rules in
+          let new : c.if-not-is_taken.free.items ≡ now ++ k.code ∷ [] = search rules in
+          more now (k.code ∷ []) (F ks) new (left ∙ keeps q k.code (codes_of ks) passes) c.loop-county.invariant
       | else-not-is_taken w ↦
-        let fails : q k.code ≡ false = search rules in
-        let new : c.if-not-is_taken.free.items ≡ now = search rules in
-        passed now new (left ∙ drops q k.code (codes_of ks) fails) c.loop-county.invariant
+          let fails : q k.code ≡ false = search rules in
+          let new : c.if-not-is_taken.free.items ≡ now = search rules in
+          passed now new (left ∙ drops q k.code (codes_of ks) fails) c.loop-county.invariant
     ]

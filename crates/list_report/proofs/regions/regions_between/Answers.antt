@@ -13,6 +13,6 @@ returns c =
     let free = free_counties (codes_of c.args.counties.now) c.args.shared.now in
     let first = first_county free sets in
     let places : c.deref-2.result.now ≡ places_at first free =
-      c.deref-2.ensures.value ∙ (c.in_ok-places.ensures ∙ ap (λ (l : List ℕ). places_at (first_county l sets) l) (c.deref.ensures.value ∙ c.in_ok-free.ensures)) in
+    c.deref-2.ensures.value ∙ (c.in_ok-places.ensures ∙ ap (λ (l : List ℕ). places_at (first_county l sets) l) (c.deref.ensures.value ∙ c.in_ok-free.ensures)) in
     let found = λ (l : List Place). map (λ (q : Place). map (λ (p : Place). p.county) (filter (λ p. p.first == q.county) l)) (filter (λ (q : Place). q.first == q.county) l) in
     subst (λ (l : List (List ℕ)). IfOk c.place_regions.result (λ v. v.items ≡ l)) (ap found places ∙ places_regions first free) c.place_regions.ensures
