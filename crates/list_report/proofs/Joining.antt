@@ -5,7 +5,7 @@ use Rattle.std.proofs.Math.Nat.{min-le_left, min-le_right}
 use Rattle.grouping_laws.specs.Sets.{member}
 use Rattle.grouping_laws.proofs.Elements.{Has, has_from_contains, contains_from_has}
 use Rattle.grouping_laws.proofs.Fill.{member_cases}
-use Rattle.grouping_laws.proofs.Parts.{member_head, member_tail}
+use Rattle.grouping_laws.proofs.Parts.{member_tail}
 use Rattle.list_report.specs.Regions.{met, join, first_county, regions}
 use Rattle.list_report.specs.Places.{moved}
 use Rattle.list_report.specs.Joined.{Joined, InOneRegion, FirstIsLeast}
@@ -76,73 +76,73 @@ turned sets x y (along a b c s h m n rest) = chains_meet sets c b a (turned sets
 
 -- ---- the first counties of regions
 
-module _ (free : List ℕ) where
-  met_in : (f : ℕ → ℕ) (s : List ℕ) (c : ℕ) → member free c ≡ true → member s c ≡ true → member (met free f s) (f c) ≡ true
-  met_in f s c h m = map_in f (filter (member s) free) c (filter_in (member s) free c h m)
+module _ (unshared : List ℕ) where
+  met_in : (f : ℕ → ℕ) (s : List ℕ) (c : ℕ) → member unshared c ≡ true → member s c ≡ true → member (met unshared f s) (f c) ≡ true
+  met_in f s c h m = map_in f (filter (member s) unshared) c (filter_in (member s) unshared c h m)
 
-  met_out : (f : ℕ → ℕ) (s : List ℕ) (m : ℕ) → member (met free f s) m ≡ true → (a : ℕ) × (member free a ≡ true) × (member s a ≡ true) × (f a ≡ m)
+  met_out : (f : ℕ → ℕ) (s : List ℕ) (m : ℕ) → member (met unshared f s) m ≡ true → (a : ℕ) × (member unshared a ≡ true) × (member s a ≡ true) × (f a ≡ m)
   met_out f s m h =
-      let r = map_out f (filter (member s) free) m h in
-      let k = filter_out (member s) free r.0 r.1 in
+      let r = map_out f (filter (member s) unshared) m h in
+      let k = filter_out (member s) unshared r.0 r.1 in
       (r.0, k.0, k.1, r.2)
 
   -- counties of one region stay so
-  stay : (f : ℕ → ℕ) (sets : List (List ℕ)) (x y : ℕ) → f x ≡ f y → fold (join free) f sets x ≡ fold (join free) f sets y
+  stay : (f : ℕ → ℕ) (sets : List (List ℕ)) (x y : ℕ) → f x ≡ f y → fold (join unshared) f sets x ≡ fold (join unshared) f sets y
   stay f [] x y e = e
-  stay f (s ∷ ss) x y e = stay (join free f s) ss x y (ap (moved (met free f s)) e)
+  stay f (s ∷ ss) x y e = stay (join unshared f s) ss x y (ap (moved (met unshared f s)) e)
 
   -- those of a set become so
-  become : (f : ℕ → ℕ) (sets : List (List ℕ)) (s : List ℕ) (x y : ℕ) → Has sets s → member free x ≡ true → member free y ≡ true → member s x ≡ true → member s y ≡ true
-      → fold (join free) f sets x ≡ fold (join free) f sets y
+  become : (f : ℕ → ℕ) (sets : List (List ℕ)) (s : List ℕ) (x y : ℕ) → Has sets s → member unshared x ≡ true → member unshared y ≡ true → member s x ≡ true → member s y ≡ true
+      → fold (join unshared) f sets x ≡ fold (join unshared) f sets y
   become f [] s x y h fx fy mx my = absurd h
   become f (t ∷ ts) s x y (inl e) fx fy mx my =
       let tx = ap (λ (l : List ℕ). member l x) e ∙ mx in
       let ty = ap (λ (l : List ℕ). member l y) e ∙ my in
-      let ms = met free f t in
+      let ms = met unshared f t in
       let kx = met_in f t x fx tx in
       let ky = met_in f t y fy ty in
-      stay (join free f t) ts x y (moved_in ms (f x) kx ∙ (least_same ms (f x) (f y) kx ky ∙ sym (moved_in ms (f y) ky)))
-  become f (t ∷ ts) s x y (inr h) fx fy mx my = become (join free f t) ts s x y h fx fy mx my
+      stay (join unshared f t) ts x y (moved_in ms (f x) kx ∙ (least_same ms (f x) (f y) kx ky ∙ sym (moved_in ms (f y) ky)))
+  become f (t ∷ ts) s x y (inr h) fx fy mx my = become (join unshared f t) ts s x y h fx fy mx my
 
   -- each first county is a county, and its own first
   record IsFirst (f : ℕ → ℕ) : Type 0 where
-    county : (c : ℕ) → member free c ≡ true → member free (f c) ≡ true
-    again : (c : ℕ) → member free c ≡ true → f (f c) ≡ f c
+    county : (c : ℕ) → member unshared c ≡ true → member unshared (f c) ≡ true
+    again : (c : ℕ) → member unshared c ≡ true → f (f c) ≡ f c
 
-  first_join : (f : ℕ → ℕ) (s : List ℕ) → IsFirst f → IsFirst (join free f s)
+  first_join : (f : ℕ → ℕ) (s : List ℕ) → IsFirst f → IsFirst (join unshared f s)
   first_join f s is = record { county = λ c h. (go c h (member ms (f c)) refl).0; again = λ c h. (go c h (member ms (f c)) refl).1 }
     where
       ms : List ℕ
-      ms = met free f s
+      ms = met unshared f s
 
-      go : (c : ℕ) → member free c ≡ true → (b : Bool) → member ms (f c) ≡ b → (member free (join free f s c) ≡ true) × (join free f s (join free f s c) ≡ join free f s c)
+      go : (c : ℕ) → member unshared c ≡ true → (b : Bool) → member ms (f c) ≡ b → (member unshared (join unshared f s c) ≡ true) × (join unshared f s (join unshared f s c) ≡ join unshared f s c)
       go c h false k =
-          let same : join free f s c ≡ f c = moved_out ms (f c) k in
-          (ap (member free) same ∙ is.county c h, ap (join free f s) same ∙ ap (moved ms) (is.again c h))
+          let same : join unshared f s c ≡ f c = moved_out ms (f c) k in
+          (ap (member unshared) same ∙ is.county c h, ap (join unshared f s) same ∙ ap (moved ms) (is.again c h))
       go c h true k =
           let m = fold min (f c) ms in
-          let same : join free f s c ≡ m = moved_in ms (f c) k in
+          let same : join unshared f s c ≡ m = moved_in ms (f c) k in
           let in_met : member ms m ≡ true = least_member ms (f c) k in
           let r = met_out f s m in_met in
           let own : f m ≡ m = ap f (sym r.3) ∙ (is.again r.0 r.1 ∙ r.3) in (
-            ap (member free) (same ∙ sym r.3) ∙ is.county r.0 r.1,
-            ap (join free f s) same ∙ (ap (moved ms) own ∙ (moved_in ms m in_met ∙ (least_same ms m (f c) in_met k ∙ sym same))),
+            ap (member unshared) (same ∙ sym r.3) ∙ is.county r.0 r.1,
+            ap (join unshared f s) same ∙ (ap (moved ms) own ∙ (moved_in ms m in_met ∙ (least_same ms m (f c) in_met k ∙ sym same))),
           )
 
-  first_all : (f : ℕ → ℕ) (sets : List (List ℕ)) → IsFirst f → IsFirst (fold (join free) f sets)
+  first_all : (f : ℕ → ℕ) (sets : List (List ℕ)) → IsFirst f → IsFirst (fold (join unshared) f sets)
   first_all f [] is = is
-  first_all f (s ∷ ss) is = first_all (join free f s) ss (first_join f s is)
+  first_all f (s ∷ ss) is = first_all (join unshared f s) ss (first_join f s is)
 
   -- counties of one region are joined by a chain
   module _ (all : List (List ℕ)) where
     abbrev IsChained : (ℕ → ℕ) → Type 0
-    IsChained f = (x y : ℕ) → member free x ≡ true → member free y ≡ true → f x ≡ f y → Joined all x y
+    IsChained f = (x y : ℕ) → member unshared x ≡ true → member unshared y ≡ true → f x ≡ f y → Joined all x y
 
-    chained_join : (f : ℕ → ℕ) (s : List ℕ) → Has all s → IsChained f → IsChained (join free f s)
+    chained_join : (f : ℕ → ℕ) (s : List ℕ) → Has all s → IsChained f → IsChained (join unshared f s)
     chained_join f s has is x y hx hy e = go (member ms (f x)) refl (member ms (f y)) refl
       where
         ms : List ℕ
-        ms = met free f s
+        ms = met unshared f s
 
         clash : (u v : ℕ) → moved ms u ≡ moved ms v → member ms u ≡ true → member ms v ≡ false → ⊥
         clash u v e k l = false≢true (sym l ∙ (ap (member ms) (sym (moved_out ms v l) ∙ (sym e ∙ moved_in ms u k)) ∙ least_member ms u k))
@@ -157,20 +157,20 @@ module _ (free : List ℕ) where
             chains_meet all x a.0 y (is x a.0 hx a.1 (sym a.3))
             (along a.0 b.0 y s (contains_from_has all s has) a.2 b.2 (is b.0 y b.1 hy b.3))
 
-    chained_all : (f : ℕ → ℕ) (sets : List (List ℕ)) → ((s : List ℕ) → Has sets s → Has all s) → IsChained f → IsChained (fold (join free) f sets)
+    chained_all : (f : ℕ → ℕ) (sets : List (List ℕ)) → ((s : List ℕ) → Has sets s → Has all s) → IsChained f → IsChained (fold (join unshared) f sets)
     chained_all f [] within is = is
-    chained_all f (s ∷ ss) within is = chained_all (join free f s) ss (λ t h. within t (inr h)) (chained_join f s (within s (inl refl)) is)
+    chained_all f (s ∷ ss) within is = chained_all (join unshared f s) ss (λ t h. within t (inr h)) (chained_join f s (within s (inl refl)) is)
 
   -- a chain within the counties joins counties of one region
-  along_chain : (sets : List (List ℕ)) → ((s : List ℕ) (c : ℕ) → Contains sets s → member s c ≡ true → member free c ≡ true) → (x y : ℕ) → member free x ≡ true → Joined sets x y
-      → first_county free sets x ≡ first_county free sets y
+  along_chain : (sets : List (List ℕ)) → ((s : List ℕ) (c : ℕ) → Contains sets s → member s c ≡ true → member unshared c ≡ true) → (x y : ℕ) → member unshared x ≡ true → Joined sets x y
+      → first_county unshared sets x ≡ first_county unshared sets y
   along_chain sets inside x y h (here a) = refl
   along_chain sets inside x y h (along a b c s has m n rest) =
       become (λ c. c) sets s a b (has_from_contains sets s has) h (inside s b has n) m n ∙ along_chain sets inside b c (inside s b has n) rest
 
-  less : (f : ℕ → ℕ) (sets : List (List ℕ)) (c : ℕ) → f c ≤ c → fold (join free) f sets c ≤ c
+  less : (f : ℕ → ℕ) (sets : List (List ℕ)) (c : ℕ) → f c ≤ c → fold (join unshared) f sets c ≤ c
   less f [] c h = h
-  less f (s ∷ ss) c h = less (join free f s) ss c (omega (arith, moved_less (met free f s) (f c), h))
+  less f (s ∷ ss) c h = less (join unshared f s) ss c (omega (arith, moved_less (met unshared f s) (f c), h))
 
 -- ---- the regions
 
@@ -187,43 +187,43 @@ has_map F (x ∷ xs) r m = go (has_map F xs r) (member_cases x xs r m)
     go later (inl e) = inl (ap F e)
     go later (inr k) = inr (later k)
 
-module _ (free : List ℕ) (sets : List (List ℕ)) where
+module _ (unshared : List ℕ) (sets : List (List ℕ)) where
   abbrev first : ℕ → ℕ
-  first = first_county free sets
+  first = first_county unshared sets
 
   abbrev region : ℕ → List ℕ
-  region r = filter (λ c. first c == r) free
+  region r = filter (λ c. first c == r) unshared
 
   abbrev heads : List ℕ
-  heads = filter (λ c. first c == c) free
+  heads = filter (λ c. first c == c) unshared
 
   -- counties of one region have one first county
-  same_first : (x y : ℕ) → InOneRegion free sets x y → first x ≡ first y
+  same_first : (x y : ℕ) → InOneRegion unshared sets x y → first x ≡ first y
   same_first x y in_one =
-      let r = map_has region heads in_one.0 (has_from_contains (regions free sets) in_one.0 in_one.1) in
+      let r = map_has region heads in_one.0 (has_from_contains (regions unshared sets) in_one.0 in_one.1) in
       let at : (c : ℕ) → member in_one.0 c ≡ true → first c ≡ r.0 = λ c m.
-      eqb-true (first c) r.0 (filter_out (λ c. first c == r.0) free c (ap (λ (l : List ℕ). member l c) r.1 ∙ m)).1 in
+      eqb-true (first c) r.0 (filter_out (λ c. first c == r.0) unshared c (ap (λ (l : List ℕ). member l c) r.1 ∙ m)).1 in
       at x in_one.2 ∙ sym (at y in_one.3)
 
   -- and where they have, they lie in the region of that county
-  one_region : (x y : ℕ) → member free x ≡ true → member free y ≡ true → first x ≡ first y → InOneRegion free sets x y
+  one_region : (x y : ℕ) → member unshared x ≡ true → member unshared y ≡ true → first x ≡ first y → InOneRegion unshared sets x y
   one_region x y hx hy e =
-      let is : IsFirst free first = first_all free (λ c. c) sets (record { county = λ c h. h; again = λ c h. refl }) in
+      let is : IsFirst unshared first = first_all unshared (λ c. c) sets (record { county = λ c h. h; again = λ c h. refl }) in
       let r = first x in
-      let head : member heads r ≡ true = filter_in (λ c. first c == c) free r (is.county x hx) (eq-eqb (first r) r (is.again x hx)) in (
+      let head : member heads r ≡ true = filter_in (λ c. first c == c) unshared r (is.county x hx) (eq-eqb (first r) r (is.again x hx)) in (
         region r,
-        contains_from_has (regions free sets) (region r) (has_map region heads r head),
-        filter_in (λ c. first c == r) free x hx (eq-eqb (first x) r refl),
-        filter_in (λ c. first c == r) free y hy (eq-eqb (first y) r (sym e)),
+        contains_from_has (regions unshared sets) (region r) (has_map region heads r head),
+        filter_in (λ c. first c == r) unshared x hx (eq-eqb (first x) r refl),
+        filter_in (λ c. first c == r) unshared y hy (eq-eqb (first y) r (sym e)),
       )
 
--- of sets of free counties: two free counties lie in one region exactly where a chain joins them
-pub regions_joined : (free : List ℕ) (sets : List (List ℕ)) → ((s : List ℕ) (c : ℕ) → Contains sets s → member s c ≡ true → member free c ≡ true)
-    → (x y : ℕ) → member free x ≡ true → member free y ≡ true → InOneRegion free sets x y ↔ Joined sets x y
-regions_joined free sets inside x y hx hy = (
-  λ in_one. chained_all free sets (λ c. c) sets (λ s h. h) (λ a b ha hb e. subst (Joined sets a) e (here a)) x y hx hy (same_first free sets x y in_one),
-  λ chain. one_region free sets x y hx hy (along_chain free sets inside x y hx chain),
+-- where the sets have such counties alone, two of them lie in one region exactly where a chain joins them
+pub regions_joined : (unshared : List ℕ) (sets : List (List ℕ)) → ((s : List ℕ) (c : ℕ) → Contains sets s → member s c ≡ true → member unshared c ≡ true)
+    → (x y : ℕ) → member unshared x ≡ true → member unshared y ≡ true → InOneRegion unshared sets x y ↔ Joined sets x y
+regions_joined unshared sets inside x y hx hy = (
+  λ in_one. chained_all unshared sets (λ c. c) sets (λ s h. h) (λ a b ha hb e. subst (Joined sets a) e (here a)) x y hx hy (same_first unshared sets x y in_one),
+  λ chain. one_region unshared sets x y hx hy (along_chain unshared sets inside x y hx chain),
 )
 
 pub first_is_least : FirstIsLeast
-first_is_least free sets c = less free (λ c. c) sets c (omega arith)
+first_is_least unshared sets c = less unshared (λ c. c) sets c (omega arith)

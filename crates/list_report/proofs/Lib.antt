@@ -4,3 +4,4 @@ mod Listed
 mod Loops
 mod PlaceLists
 mod Sizes
+mod GroupPeople

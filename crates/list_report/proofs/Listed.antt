@@ -1,18 +1,18 @@
 -- The sets of lawful groupings that are not shared have counties alone that no shared set has.
-use Rattle.std.proofs.Common.{◌≡◌, ℕ, ◌+◌, ◌≤◌, ◌==◌, Bool, true, false, cond, not, ◌&&◌, ◌||◌, nat_eq, List, [], ◌∷◌, ◌++◌, map, filter, All, Contains, refl, sym, ap, ◌∙◌, ◌⊎◌, inl, inr, subst, arith}
+use Rattle.std.proofs.Common.{◌≡◌, ℕ, ◌≤◌, Bool, true, false, cond, not, ◌&&◌, ◌||◌, nat_eq, List, [], ◌∷◌, ◌++◌, map, filter, All, Contains, refl, sym, ap, ◌∙◌, ◌⊎◌, inl, inr, subst, arith}
 use Rattle.std.specs.List.{list_any, list_all, flat_map}
 use Rattle.std.specs.Cmp.{first_so, second_so}
 use Rattle.std.specs.Cmp.Lexicographic.{pointwise}
 use Rattle.std.proofs.lemmas.Bool.{eqb-true, eq-eqb, false≢true}
-use Rattle.grouping_laws.specs.Sets.{digit, often, stands, member}
+use Rattle.grouping_laws.specs.Sets.{digit, stands, member}
 use Rattle.grouping_laws.specs.Problem.{Problem}
 use Rattle.grouping_laws.specs.Grouping.{Grouping, Lawful, sets_of}
 use Rattle.grouping_laws.proofs.Elements.{Has, has_from_contains, has_all}
 use Rattle.grouping_laws.proofs.Digits.{digit_true}
 use Rattle.grouping_laws.proofs.Sizes.{stands_some}
 use Rattle.place_lists.proofs.Sums.{often_some, digit_one}
-use Rattle.list_report.specs.Shared.{has_set, first_sets, shared_sets, open_sets}
-use Rattle.list_report.specs.Regions.{free_counties}
+use Rattle.list_report.specs.Shared.{has_set, first_sets, shared_sets, unshared_sets}
+use Rattle.list_report.specs.Regions.{unshared_counties}
 use Rattle.list_report.specs.Joined.{RegionsAreJoined}
 use Rattle.list_report.proofs.Members.{filter_in}
 use Rattle.list_report.proofs.Joining.{regions_joined}
@@ -105,14 +105,14 @@ module _ (p : Problem) (groupings : List Grouping) (lawful : All (Lawful p) grou
       subst (Has g) (same_codes found.0 t found.2) found.1
 
   -- a set that is not shared has no county of a shared one
-  apart : (s : List ℕ) (c : ℕ) → Contains (open_sets shared listed) s → member s c ≡ true → member (free_counties p.counties shared) c ≡ true
+  apart : (s : List ℕ) (c : ℕ) → Contains (unshared_sets shared listed) s → member s c ≡ true → member (unshared_counties p.counties shared) c ≡ true
   apart s c h m = filter_in (λ c. not (list_any (λ t. member t c) shared)) p.counties c known (ap not (none (list_any (λ t. member t c) shared) refl))
     where
       from : (g : List (List ℕ)) × Has listed g × Has (filter (λ s. not (has_set shared s)) g) s
-      from = flat_has (λ g. filter (λ s. not (has_set shared s)) g) listed s (has_from_contains (open_sets shared listed) s h)
+      from = flat_has (λ g. filter (λ s. not (has_set shared s)) g) listed s (has_from_contains (unshared_sets shared listed) s h)
 
-      open_set : Has from.0 s × (not (has_set shared s) ≡ true)
-      open_set = kept_has (λ s. not (has_set shared s)) from.0 s from.2
+      own_set : Has from.0 s × (not (has_set shared s) ≡ true)
+      own_set = kept_has (λ s. not (has_set shared s)) from.0 s from.2
 
       own : (g : Grouping) × Has groupings g × (sets_of g ≡ from.0)
       own = map_has sets_of groupings from.0 from.1
@@ -121,21 +121,21 @@ module _ (p : Problem) (groupings : List Grouping) (lawful : All (Lawful p) grou
       once = ap (stands c) (sym own.2) ∙ (has_all (Lawful p) groupings lawful own.0 own.1).once c
 
       known : member p.counties c ≡ true
-      known = digit_true (member p.counties c) (omega (arith, once, stands_some c from.0 s open_set.0 m))
+      known = digit_true (member p.counties c) (omega (arith, once, stands_some c from.0 s own_set.0 m))
 
       clash : (t : List ℕ) → Has shared t → (s ≡ t) ⊎ (2 ≤ stands c from.0) → ⊥
       clash t k (inl e) =
           let has : has_set shared s ≡ true = has_any (λ x. pointwise nat_eq x s) shared t k (ap (λ (l : List ℕ). pointwise nat_eq l s) (sym e) ∙ itself s) in
-          false≢true (ap not (sym has) ∙ open_set.1)
+          false≢true (ap not (sym has) ∙ own_set.1)
       clash t k (inr l) = omega (arith, l, once, digit_one (member p.counties c))
 
       none : (b : Bool) → list_any (λ t. member t c) shared ≡ b → list_any (λ t. member t c) shared ≡ false
       none false e = e
       none true e =
           let r = any_has (λ t. member t c) shared e in
-          absurd (clash r.0 r.1 (same_or_twice c from.0 s r.0 open_set.0 (stands_in from.0 r.0 from.1 r.1) m r.2))
+          absurd (clash r.0 r.1 (same_or_twice c from.0 s r.0 own_set.0 (stands_in from.0 r.0 from.1 r.1) m r.2))
 
 pub regions_are_joined : RegionsAreJoined
 regions_are_joined p groupings lawful =
     let shared = shared_sets (map sets_of groupings) in
-    regions_joined (free_counties p.counties shared) (open_sets shared (map sets_of groupings)) (apart p groupings lawful)
+    regions_joined (unshared_counties p.counties shared) (unshared_sets shared (map sets_of groupings)) (apart p groupings lawful)

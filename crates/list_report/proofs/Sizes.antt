@@ -1,10 +1,7 @@
 -- Sums and products of lists.
-use Rattle.std.proofs.Common.{◌≡◌, ℕ, ◌+◌, ◌*◌, ◌<◌, ◌≤◌, ◌==◌, Bool, true, false, cond, List, [], ◌∷◌, length, get_or, drop, filter, refl, sym, ap, ◌∙◌, arith}
+use Rattle.std.proofs.Common.{◌≡◌, ◌+◌, ◌≤◌, Bool, true, false, cond, List, [], ◌∷◌, filter, ap, arith}
 use Rattle.county_codes.specs.declared.county.County.{County}
 use Rattle.county_codes.specs.Counties.{people_in}
-use Rattle.list_report.specs.declared.alternatives.Region.{Region}
-use Rattle.list_report.specs.Alternatives.{product}
-use Rattle.std.proofs.Math.Nat.{mul_assoc}
 
 -- some of the counties have no more people than all
 pub people_kept : (q : County → Bool) (ks : List County) → people_in (filter q ks) ≤ people_in ks

@@ -1,5 +1,5 @@
 -- What the listed groupings choose in each region.
-use Rattle.std.specs.Prelude.{ℕ, ◌+◌, ◌*◌, ◌==◌, Bool, List, [], ◌∷◌, ◌++◌, fold, map, filter, length, if◌then◌else◌}
+use Rattle.std.specs.Prelude.{ℕ, ◌+◌, ◌*◌, List, [], ◌∷◌, ◌++◌, fold, map, filter, length, if◌then◌else◌}
 use Rattle.std.specs.List.{list_any, list_all}
 use Rattle.grouping_laws.specs.Sets.{member}
 use Rattle.list_report.specs.declared.alternatives.Region.{Region}

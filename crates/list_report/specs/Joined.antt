@@ -3,8 +3,8 @@ use Rattle.std.specs.Prelude.{ℕ, ◌≡◌, ◌≤◌, ◌↔◌, true, List, 
 use Rattle.grouping_laws.specs.Sets.{member}
 use Rattle.grouping_laws.specs.Problem.{Problem}
 use Rattle.grouping_laws.specs.Grouping.{Grouping, Lawful, sets_of}
-use Rattle.list_report.specs.Shared.{shared_sets, open_sets}
-use Rattle.list_report.specs.Regions.{free_counties, first_county, regions}
+use Rattle.list_report.specs.Shared.{shared_sets, unshared_sets}
+use Rattle.list_report.specs.Regions.{unshared_counties, first_county, regions}
 
 -- a chain of the sets from one county to another: each set has the county where the next begins
 pub data Joined (sets : List (List ℕ)) : ℕ → ℕ → Type 0 where
@@ -13,7 +13,7 @@ pub data Joined (sets : List (List ℕ)) : ℕ → ℕ → Type 0 where
 
 -- two counties lie in one of the regions
 abbrev pub InOneRegion : List ℕ → List (List ℕ) → ℕ → ℕ → Type 0
-InOneRegion free sets x y = (region : List ℕ) × Contains (regions free sets) region × (member region x ≡ true) × (member region y ≡ true)
+InOneRegion unshared sets x y = (region : List ℕ) × Contains (regions unshared sets) region × (member region x ≡ true) × (member region y ≡ true)
 
 -- of lawful groupings: two counties that no shared set has lie in one region exactly where a chain of sets that are not shared joins them
 abbrev pub RegionsAreJoined : Type 0
@@ -21,10 +21,10 @@ RegionsAreJoined =
     (p : Problem) (groupings : List Grouping) → All (Lawful p) groupings →
     let listed = map sets_of groupings in
     let shared = shared_sets listed in
-    let free = free_counties p.counties shared in
-    let sets = open_sets shared listed in
-    (x y : ℕ) → member free x ≡ true → member free y ≡ true → InOneRegion free sets x y ↔ Joined sets x y
+    let unshared = unshared_counties p.counties shared in
+    let sets = unshared_sets shared listed in
+    (x y : ℕ) → member unshared x ≡ true → member unshared y ≡ true → InOneRegion unshared sets x y ↔ Joined sets x y
 
 -- the first county of a region is its least
 abbrev pub FirstIsLeast : Type 0
-FirstIsLeast = (free : List ℕ) (sets : List (List ℕ)) (c : ℕ) → first_county free sets c ≤ c
+FirstIsLeast = (unshared : List ℕ) (sets : List (List ℕ)) (c : ℕ) → first_county unshared sets c ≤ c

@@ -4,3 +4,4 @@ pub mod Places
 pub mod Alternatives
 pub mod Joined
 pub mod Listing
+pub mod GroupPeople

@@ -9,8 +9,8 @@ use Rattle.grouping_report.specs.Digits.{each_after}
 use Rattle.grouping_report.specs.FaultWords.{with_number}
 use Rattle.grouping_report.specs.Report.{head_lines, answer_line, counts_line}
 use Rattle.list_report.specs.declared.alternatives.Region.{Region}
-use Rattle.list_report.specs.Shared.{first_sets, shared_sets, open_sets}
-use Rattle.list_report.specs.Regions.{free_counties, regions}
+use Rattle.list_report.specs.Shared.{first_sets, shared_sets, unshared_sets}
+use Rattle.list_report.specs.Regions.{unshared_counties, regions}
 use Rattle.list_report.specs.Alternatives.{sets_inside, with_alternatives, number_of, product}
 
 -- the people of the problem's counties in a set
@@ -68,7 +68,7 @@ shared_text v number shared =
 abbrev pub regions_found : List ℕ → List (List (List ℕ)) → List Region
 regions_found counties listed =
     let shared = shared_sets listed in
-    with_alternatives listed (regions (free_counties counties shared) (open_sets shared listed))
+    with_alternatives listed (regions (unshared_counties counties shared) (unshared_sets shared listed))
 
 -- what stands behind the counts: the shared sets, the regions, and which alternatives each grouping has
 abbrev pub body_text : ProblemValue → List (List (List ℕ)) → List ℕ

@@ -5,7 +5,7 @@ use Rattle.list_report.specs.declared.regions.Place.{Place}
 
 -- each county with the first county of its region
 abbrev pub places_at : (ℕ → ℕ) → List ℕ → List Place
-places_at first free = map (λ c. record { county = c; first = first c }) free
+places_at first unshared = map (λ c. record { county = c; first = first c }) unshared
 
 -- the first counties of the regions that a set meets
 abbrev pub places_met : List Place → List ℕ → List ℕ

@@ -4,23 +4,23 @@ use Rattle.std.specs.List.{list_any}
 use Rattle.grouping_laws.specs.Sets.{member}
 
 -- the counties of no shared set
-abbrev pub free_counties : List ℕ → List (List ℕ) → List ℕ
-free_counties counties shared = filter (λ c. not (list_any (λ s. member s c) shared)) counties
+abbrev pub unshared_counties : List ℕ → List (List ℕ) → List ℕ
+unshared_counties counties shared = filter (λ c. not (list_any (λ s. member s c) shared)) counties
 
 -- the first counties of the regions that a set meets, where `first` tells the first county of each county's region
 abbrev pub met : List ℕ → (ℕ → ℕ) → List ℕ → List ℕ
-met free first s = map first (filter (member s) free)
+met unshared first s = map first (filter (member s) unshared)
 
 -- the set makes one region of those that it meets; the least of their first counties is its first
 abbrev pub join : List ℕ → (ℕ → ℕ) → List ℕ → ℕ → ℕ
-join free first s c = if member (met free first s) (first c) then fold min (first c) (met free first s) else first c
+join unshared first s c = if member (met unshared first s) (first c) then fold min (first c) (met unshared first s) else first c
 
 -- the first county of each county's region: each county begins as a region of its own, and then set after set joins
 abbrev pub first_county : List ℕ → List (List ℕ) → ℕ → ℕ
-first_county free sets = fold (join free) (λ c. c) sets
+first_county unshared sets = fold (join unshared) (λ c. c) sets
 
 -- the counties of each region, by its first county
 abbrev pub regions : List ℕ → List (List ℕ) → List (List ℕ)
-regions free sets =
-    let first = first_county free sets in
-    map (λ r. filter (λ c. first c == r) free) (filter (λ c. first c == c) free)
+regions unshared sets =
+    let first = first_county unshared sets in
+    map (λ r. filter (λ c. first c == r) unshared) (filter (λ c. first c == c) unshared)

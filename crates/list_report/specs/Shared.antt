@@ -21,5 +21,5 @@ abbrev pub shared_sets : List (List (List ℕ)) → List (List ℕ)
 shared_sets listed = filter (λ s. list_all (λ g. has_set g s) listed) (first_sets listed)
 
 -- the sets of all listed groupings that are not shared, one grouping after the other
-abbrev pub open_sets : List (List ℕ) → List (List (List ℕ)) → List (List ℕ)
-open_sets shared listed = flat_map (λ g. filter (λ s. not (has_set shared s)) g) listed
+abbrev pub unshared_sets : List (List ℕ) → List (List (List ℕ)) → List (List ℕ)
+unshared_sets shared listed = flat_map (λ g. filter (λ s. not (has_set shared s)) g) listed

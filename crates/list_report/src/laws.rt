@@ -1,5 +1,6 @@
-//! Laws of the regions: the function does nothing, and its contract is the laws.
+//! Laws of what a list says: the functions do nothing, and their contracts are the laws.
 
+ghost use Rattle.list_report.specs.GroupPeople.{PeopleAreOfGroups};
 ghost use Rattle.list_report.specs.Joined.{RegionsAreJoined, FirstIsLeast};
 
 /// Of lawful groupings: two counties that no shared set has lie in one region exactly where a chain of sets that are not shared joins
@@ -7,4 +8,10 @@ ghost use Rattle.list_report.specs.Joined.{RegionsAreJoined, FirstIsLeast};
 pub fn regions_are_joined()
     ensures joined { RegionsAreJoined }
     ensures least { FirstIsLeast }
+{}
+
+/// Of each group of a lawful grouping: the people that the text gives, those of the problem's counties in the group, are the people of its
+/// codes, as a report has them.
+pub fn people_are_of_groups()
+    ensures { PeopleAreOfGroups }
 {}

@@ -14,5 +14,5 @@ mod sets;
 mod shared;
 mod texts;
 
-pub use laws::regions_are_joined;
+pub use laws::{people_are_of_groups, regions_are_joined};
 pub use listings::listing;

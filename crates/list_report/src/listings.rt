@@ -23,8 +23,8 @@ fn found_regions(
     requires { shared.now ≡ shared_sets listed.now }
     ensures { IfOk result (λ v. v.items ≡ regions_found (codes_of counties.now) listed.now) }
 {
-    let open = not_shared(alloc, shared, listed)?;
-    let parts = regions_between(alloc, counties, shared, &open)?;
+    let unshared = not_shared(alloc, shared, listed)?;
+    let parts = regions_between(alloc, counties, shared, &unshared)?;
     regions_with(alloc, listed, &parts)
 }
 

@@ -4,7 +4,7 @@ ghost use Rattle.std.specs.Prelude.{◌≡◌, ℕ, ◌==◌, min, not, List, fo
 ghost use Rattle.std.specs.List.{list_any};
 ghost use Rattle.grouping_laws.specs.Sets.{member};
 ghost use Rattle.county_codes.specs.Counties.{codes_of};
-ghost use Rattle.list_report.specs.Regions.{free_counties, join, first_county, regions};
+ghost use Rattle.list_report.specs.Regions.{unshared_counties, join, first_county, regions};
 ghost use Rattle.list_report.specs.Places.{places_met, moved, places_at};
 
 use county_codes::{Codes, County, CountyCode, has_code};
@@ -27,28 +27,28 @@ fn is_taken(sets: &[Codes], code: CountyCode) -> bool
 }
 
 /// The codes of the counties that no shared set has.
-fn free_codes(
+fn unshared_codes(
     alloc: Global,
     counties: &[County],
     shared: &[Codes],
 ) -> Result<Vec<CountyCode>, AllocError>
-    ensures { IfOk result (λ v. v.items ≡ free_counties (codes_of counties.now) shared.now) }
+    ensures { IfOk result (λ v. v.items ≡ unshared_counties (codes_of counties.now) shared.now) }
 {
-    let mut free = Vec::new(alloc);
+    let mut unshared = Vec::new(alloc);
     for county in counties {
         if !is_taken(shared, county.code) {
-            free.push(county.code)?;
+            unshared.push(county.code)?;
         }
     }
-    Ok(free)
+    Ok(unshared)
 }
 
 /// Each county as a region of its own.
-fn lone_places(alloc: Global, free: &[CountyCode]) -> Result<Vec<Place>, AllocError>
-    ensures { IfOk result (λ v. v.items ≡ places_at (λ c. c) free.now) }
+fn lone_places(alloc: Global, unshared: &[CountyCode]) -> Result<Vec<Place>, AllocError>
+    ensures { IfOk result (λ v. v.items ≡ places_at (λ c. c) unshared.now) }
 {
     let mut places = Vec::new(alloc);
-    for county in free {
+    for county in unshared {
         places.push(Place {
             county: *county,
             first: *county,
@@ -116,12 +116,12 @@ fn after_join(alloc: Global, places: &[Place], set: &[CountyCode]) -> Result<Vec
 /// The places once all sets have joined regions.
 fn joined_places(
     alloc: Global,
-    free: &[CountyCode],
+    unshared: &[CountyCode],
     sets: &[Codes],
 ) -> Result<Vec<Place>, AllocError>
-    ensures { IfOk result (λ v. v.items ≡ places_at (first_county free.now sets.now) free.now) }
+    ensures { IfOk result (λ v. v.items ≡ places_at (first_county unshared.now sets.now) unshared.now) }
 {
-    let mut places = lone_places(alloc, free)?;
+    let mut places = lone_places(alloc, unshared)?;
     for set in sets {
         places = after_join(alloc, &places, set.as_slice())?;
     }
@@ -161,9 +161,9 @@ pub(crate) fn regions_between(
     shared: &[Codes],
     sets: &[Codes],
 ) -> Result<Vec<Codes>, AllocError>
-    ensures { IfOk result (λ v. v.items ≡ regions (free_counties (codes_of counties.now) shared.now) sets.now) }
+    ensures { IfOk result (λ v. v.items ≡ regions (unshared_counties (codes_of counties.now) shared.now) sets.now) }
 {
-    let free = free_codes(alloc, counties, shared)?;
-    let places = joined_places(alloc, &free, sets)?;
+    let unshared = unshared_codes(alloc, counties, shared)?;
+    let places = joined_places(alloc, &unshared, sets)?;
     place_regions(alloc, &places)
 }

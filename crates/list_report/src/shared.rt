@@ -2,7 +2,7 @@
 
 ghost use Rattle.std.specs.Prelude.{◌≡◌, ℕ, ◌++◌, List, not, filter, IfOk, OnOk};
 ghost use Rattle.std.specs.List.{list_all};
-ghost use Rattle.list_report.specs.Shared.{has_set, first_sets, shared_sets, open_sets};
+ghost use Rattle.list_report.specs.Shared.{has_set, first_sets, shared_sets, unshared_sets};
 
 use crate::sets::Sets;
 use county_codes::Codes;
@@ -46,7 +46,7 @@ pub(crate) fn shared_by_all(alloc: Global, listed: &[Sets]) -> Result<Vec<Codes>
 }
 
 /// Appends the sets that are not shared.
-fn push_open(out: &mut Vec<Codes>, shared: &[Codes], sets: &[Codes]) -> Result<(), AllocError>
+fn push_unshared(out: &mut Vec<Codes>, shared: &[Codes], sets: &[Codes]) -> Result<(), AllocError>
     ensures { OnOk result (out.new.items ≡ out.old.items ++ filter (λ s. not (has_set shared.now s)) sets.now) }
 {
     for set in sets {
@@ -63,11 +63,11 @@ pub(crate) fn not_shared(
     shared: &[Codes],
     listed: &[Sets],
 ) -> Result<Vec<Codes>, AllocError>
-    ensures { IfOk result (λ v. v.items ≡ open_sets shared.now listed.now) }
+    ensures { IfOk result (λ v. v.items ≡ unshared_sets shared.now listed.now) }
 {
-    let mut open = Vec::new(alloc);
+    let mut unshared = Vec::new(alloc);
     for sets in listed {
-        push_open(&mut open, shared, sets.as_slice())?;
+        push_unshared(&mut unshared, shared, sets.as_slice())?;
     }
-    Ok(open)
+    Ok(unshared)
 }

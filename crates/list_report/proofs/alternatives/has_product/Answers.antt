@@ -1,8 +1,7 @@
-use Rattle.std.proofs.Common.{◌≡◌, ◌∙◌, ◌+◌, ◌*◌, ◌≤◌, ◌<◌, ◌==◌, ◌++◌, ◌∷◌, [], ℕ, Bool, true, false, not, List, length, take, drop, filter, map, fold, get_or, rules, refl, sym, ap, subst, arith, codes, decimal}
-use Rattle.list_report.specs.declared.alternatives.Region.{Region}
+use Rattle.std.proofs.Common.{◌≡◌, ◌∙◌, ◌+◌, ◌*◌, ℕ, length, drop, rules, sym, ap}
 use Rattle.list_report.specs.Alternatives.{product}
 use Rattle.std.proofs.Math.Nat.{mul_assoc}
-use Rattle.list_report.proofs.Loops.{read, more, kept, left_out, kept_same, left_out_same}
+use Rattle.list_report.proofs.Loops.{read}
 use Rattle.list_report.proofs.alternatives.has_product.Goals as goal
 
 pub loop-region-preserved : goal.loop-region-preserved

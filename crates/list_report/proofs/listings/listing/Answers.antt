@@ -1,6 +1,5 @@
-use Rattle.std.proofs.Common.{◌≡◌, ◌∙◌, ◌+◌, ◌*◌, ◌≤◌, ◌<◌, ◌==◌, ◌++◌, ◌∷◌, [], ℕ, Bool, true, false, not, List, length, take, drop, filter, map, fold, get_or, rules, refl, sym, ap, subst, arith, codes, decimal}
-use Rattle.grouping_report.proofs.Appends.{first, first_number, after, after_number, last, extended}
-use Rattle.county_codes.specs.declared.group.Group.{Group}
+use Rattle.std.proofs.Common.{◌≡◌, ◌∙◌, ◌≤◌, ◌++◌, ◌∷◌, [], ℕ, List, length, map, get_or, refl, ap, arith, codes}
+use Rattle.grouping_report.proofs.Appends.{first, after}
 use Rattle.county_codes.specs.declared.group.Grouping.{Grouping}
 use Rattle.grouping_laws.specs.Grouping.{sets_of}
 use Rattle.grouping_report.specs.Report.{head_lines, answer_line, counts_line}

@@ -1,9 +1,9 @@
-use Rattle.std.proofs.Common.{◌≡◌, ◌∙◌, ◌+◌, ◌*◌, ◌≤◌, ◌<◌, ◌==◌, ◌++◌, ◌∷◌, [], ℕ, Bool, true, false, not, List, length, take, drop, filter, map, fold, get_or, rules, refl, sym, ap, subst, arith, codes, decimal}
+use Rattle.std.proofs.Common.{◌≡◌, ◌∙◌, ◌++◌, ℕ, List, length, ap, subst}
 use Rattle.std.proofs.Common.{OnOk}
-use Rattle.grouping_report.proofs.Appends.{first, first_number, after, after_number, last, extended}
-use Rattle.county_codes.specs.Counties.{codes_of, people_in}
+use Rattle.grouping_report.proofs.Appends.{first, after, last}
+use Rattle.county_codes.specs.Counties.{codes_of}
 use Rattle.county_codes.specs.declared.county.County.{County}
-use Rattle.list_report.specs.Shared.{has_set, open_sets, shared_sets}
+use Rattle.list_report.specs.Shared.{shared_sets}
 use Rattle.list_report.specs.declared.alternatives.Region.{Region}
 use Rattle.list_report.specs.Listing.{shared_text, regions_text, choices_text, regions_found}
 use Rattle.list_report.proofs.listings.push_body.Goals as goal

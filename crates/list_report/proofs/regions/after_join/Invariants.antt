@@ -1,5 +1,5 @@
-use Rattle.std.proofs.Common.{◌≡◌, ◌≤◌, ◌==◌, ◌+◌, ◌*◌, ◌++◌, ℕ, List, [], not, min, fold, map, filter, drop, take, codes}
-use Rattle.list_report.specs.Places.{places_met, places_at, moved}
+use Rattle.std.proofs.Common.{◌≡◌, ◌++◌, map, drop}
+use Rattle.list_report.specs.Places.{places_met, moved}
 use Rattle.list_report.proofs.regions.after_join.Given as goal
 
 abbrev pub invariant-loop-place : goal.invariant-loop-place

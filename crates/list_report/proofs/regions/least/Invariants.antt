@@ -1,4 +1,4 @@
-use Rattle.std.proofs.Common.{◌≡◌, ◌≤◌, ◌==◌, ◌+◌, ◌*◌, ◌++◌, ℕ, List, [], not, min, fold, map, filter, drop, take, codes}
+use Rattle.std.proofs.Common.{◌≡◌, min, fold, drop}
 use Rattle.list_report.proofs.regions.least.Given as goal
 
 abbrev pub invariant-loop-code : goal.invariant-loop-code

@@ -1,5 +1,5 @@
-use Rattle.std.proofs.Common.{◌≡◌, ◌≤◌, ◌==◌, ◌+◌, ◌*◌, ◌++◌, ℕ, List, [], not, min, fold, map, filter, drop, take, codes}
-use Rattle.list_report.specs.Places.{places_met, places_at, moved}
+use Rattle.std.proofs.Common.{◌≡◌, ◌++◌, drop}
+use Rattle.list_report.specs.Places.{places_met}
 use Rattle.list_report.proofs.regions.met_by.Given as goal
 
 abbrev pub invariant-loop-place : goal.invariant-loop-place

@@ -1,5 +1,5 @@
-use Rattle.std.proofs.Common.{◌≡◌, ◌∙◌, ◌+◌, ◌*◌, ◌≤◌, ◌<◌, ◌==◌, ◌++◌, ◌∷◌, [], ℕ, Bool, true, false, not, List, length, take, drop, filter, map, fold, get_or, rules, refl, sym, ap, subst, arith, codes, decimal}
-use Rattle.list_report.proofs.Loops.{read, more, kept, left_out, kept_same, left_out_same}
+use Rattle.std.proofs.Common.{◌≡◌, ◌==◌, ◌++◌, ◌∷◌, [], true, false, filter, map, rules}
+use Rattle.list_report.proofs.Loops.{kept, left_out}
 use Rattle.list_report.specs.declared.regions.Place.{Place}
 use Rattle.list_report.proofs.regions.place_regions.Goals as goal
 use Rattle.list_report.proofs.regions.place_regions.Goals.{then-eq+in_ok-region_of+in_ok-push, else-eq}

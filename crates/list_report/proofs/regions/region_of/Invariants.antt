@@ -1,4 +1,4 @@
-use Rattle.std.proofs.Common.{◌≡◌, ◌≤◌, ◌==◌, ◌+◌, ◌*◌, ◌++◌, ℕ, List, [], not, min, fold, map, filter, drop, take, codes}
+use Rattle.std.proofs.Common.{◌≡◌, ◌==◌, ◌++◌, map, filter, drop}
 use Rattle.list_report.proofs.regions.region_of.Given as goal
 
 abbrev pub invariant-loop-place : goal.invariant-loop-place

@@ -1,4 +1,4 @@
-use Rattle.std.proofs.Common.{◌≡◌, ◌≤◌, ◌==◌, ◌+◌, ◌*◌, ◌++◌, ℕ, List, [], not, min, fold, map, filter, drop, take, codes}
+use Rattle.std.proofs.Common.{◌≡◌, ◌++◌, drop}
 use Rattle.grouping_laws.specs.Grouping.{sets_of}
 use Rattle.list_report.proofs.sets.group_sets.Given as goal
 

@@ -1,8 +1,7 @@
-use Rattle.std.proofs.Common.{◌≡◌, ◌∙◌, ◌+◌, ◌*◌, ◌≤◌, ◌<◌, ◌==◌, ◌++◌, ◌∷◌, [], ℕ, Bool, true, false, not, List, length, take, drop, filter, map, fold, get_or, rules, refl, sym, ap, subst, arith, codes, decimal}
-use Rattle.std.proofs.lemmas.Grind.{common_steps}
-use Rattle.std.specs.List.{list_any, list_all}
-use Rattle.list_report.specs.Shared.{has_set, open_sets, shared_sets}
-use Rattle.list_report.proofs.Loops.{read, more, kept, left_out, kept_same, left_out_same}
+use Rattle.std.proofs.Common.{◌≡◌, ◌++◌, ◌∷◌, [], ℕ, true, false, List, rules}
+use Rattle.std.specs.List.{list_all}
+use Rattle.list_report.specs.Shared.{has_set}
+use Rattle.list_report.proofs.Loops.{kept_same, left_out_same}
 use Rattle.list_report.proofs.shared.kept_by_all.Goals as goal
 use Rattle.list_report.proofs.shared.kept_by_all.Goals.{then-all_have+in_ok-copy+in_ok-push, else-all_have}
 

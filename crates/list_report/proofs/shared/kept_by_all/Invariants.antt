@@ -1,6 +1,6 @@
-use Rattle.std.proofs.Common.{◌≡◌, ◌≤◌, ◌==◌, ◌+◌, ◌*◌, ◌++◌, ℕ, List, [], not, min, fold, map, filter, drop, take, codes}
-use Rattle.std.specs.List.{list_any, list_all, flat_map}
-use Rattle.list_report.specs.Shared.{has_set, open_sets}
+use Rattle.std.proofs.Common.{◌≡◌, ◌++◌, filter, drop}
+use Rattle.std.specs.List.{list_all}
+use Rattle.list_report.specs.Shared.{has_set}
 use Rattle.list_report.proofs.shared.kept_by_all.Given as goal
 
 abbrev pub invariant-loop-set : goal.invariant-loop-set

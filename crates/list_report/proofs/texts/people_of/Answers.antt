@@ -1,11 +1,9 @@
-use Rattle.std.proofs.Common.{◌≡◌, ◌∙◌, ◌+◌, ◌*◌, ◌≤◌, ◌<◌, ◌==◌, ◌++◌, ◌∷◌, [], ℕ, Bool, true, false, not, List, length, take, drop, filter, map, fold, get_or, rules, refl, sym, ap, subst, arith, codes, decimal}
-use Rattle.county_codes.specs.Counties.{codes_of, people_in}
+use Rattle.std.proofs.Common.{◌≡◌, ◌∙◌, ◌+◌, true, List, drop, filter, rules, arith}
+use Rattle.county_codes.specs.Counties.{people_in}
 use Rattle.grouping_laws.specs.Sets.{member}
 use Rattle.county_codes.specs.declared.county.County.{County}
-use Rattle.list_report.specs.Listing.{people_inside}
 use Rattle.list_report.proofs.Sizes.{people_kept, people_read}
-use Rattle.std.proofs.lemmas.List.{at_drop_all}
-use Rattle.list_report.proofs.Loops.{read, more, kept, left_out, kept_same, left_out_same}
+use Rattle.list_report.proofs.Loops.{read}
 use Rattle.list_report.proofs.texts.people_of.Goals as goal
 
 pub overflow_add-people : goal.overflow_add-people

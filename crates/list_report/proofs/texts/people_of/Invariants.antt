@@ -1,7 +1,6 @@
-use Rattle.std.proofs.Common.{◌≡◌, ◌≤◌, ◌==◌, ◌+◌, ◌*◌, ◌++◌, ℕ, List, [], not, min, fold, map, filter, drop, take, codes}
-use Rattle.county_codes.specs.Counties.{codes_of, people_in}
+use Rattle.std.proofs.Common.{◌≡◌, ◌+◌, filter, drop}
+use Rattle.county_codes.specs.Counties.{people_in}
 use Rattle.grouping_laws.specs.Sets.{member}
-use Rattle.list_report.specs.Listing.{people_inside, set_lines, alternatives_text, regions_text, choice_numbers, choice_lines}
 use Rattle.list_report.proofs.texts.people_of.Given as goal
 
 abbrev pub invariant-loop-county : goal.invariant-loop-county

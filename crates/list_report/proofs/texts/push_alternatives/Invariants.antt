@@ -1,5 +1,5 @@
-use Rattle.std.proofs.Common.{◌≡◌, ◌≤◌, ◌==◌, ◌+◌, ◌*◌, ◌++◌, ℕ, List, [], not, min, fold, map, filter, drop, take, codes}
-use Rattle.list_report.specs.Listing.{people_inside, set_lines, alternatives_text, regions_text, choice_numbers, choice_lines}
+use Rattle.std.proofs.Common.{◌≡◌, ◌+◌, ◌++◌, drop}
+use Rattle.list_report.specs.Listing.{alternatives_text}
 use Rattle.list_report.proofs.texts.push_alternatives.Given as goal
 
 abbrev pub invariant-loop-i : goal.invariant-loop-i

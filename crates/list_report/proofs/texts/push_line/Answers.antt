@@ -1,5 +1,4 @@
-use Rattle.std.proofs.Common.{◌≡◌, ◌∙◌, ◌+◌, ◌*◌, ◌≤◌, ◌<◌, ◌==◌, ◌++◌, ◌∷◌, [], ℕ, Bool, true, false, not, List, length, take, drop, filter, map, fold, get_or, rules, refl, sym, ap, subst, arith, codes, decimal}
-use Rattle.grouping_report.proofs.Appends.{first, first_number, after, after_number, last, extended}
+use Rattle.grouping_report.proofs.Appends.{first, after, after_number, last, extended}
 use Rattle.list_report.specs.Listing.{set_line}
 use Rattle.list_report.proofs.texts.push_line.Goals as goal
 

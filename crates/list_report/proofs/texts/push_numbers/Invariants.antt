@@ -1,5 +1,5 @@
-use Rattle.std.proofs.Common.{◌≡◌, ◌≤◌, ◌==◌, ◌+◌, ◌*◌, ◌++◌, ℕ, List, [], not, min, fold, map, filter, drop, take, codes}
-use Rattle.list_report.specs.Listing.{people_inside, set_lines, alternatives_text, regions_text, choice_numbers, choice_lines}
+use Rattle.std.proofs.Common.{◌≡◌, ◌++◌, drop}
+use Rattle.list_report.specs.Listing.{choice_numbers}
 use Rattle.list_report.proofs.texts.push_numbers.Given as goal
 
 abbrev pub invariant-loop-region : goal.invariant-loop-region

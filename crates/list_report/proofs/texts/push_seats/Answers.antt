@@ -1,5 +1,5 @@
-use Rattle.std.proofs.Common.{◌≡◌, ◌∙◌, ◌+◌, ◌*◌, ◌≤◌, ◌<◌, ◌==◌, ◌++◌, ◌∷◌, [], ℕ, Bool, true, false, not, List, length, take, drop, filter, map, fold, get_or, rules, refl, sym, ap, subst, arith, codes, decimal}
-use Rattle.grouping_report.proofs.Appends.{first, first_number, after, after_number, last, extended}
+use Rattle.std.proofs.Common.{◌≡◌, ◌++◌, refl, codes, decimal}
+use Rattle.grouping_report.proofs.Appends.{first, last}
 use Rattle.std.proofs.lemmas.Bool.{ne_eqb}
 use Rattle.grouping_report.specs.FaultWords.{with_number}
 use Rattle.list_report.specs.Listing.{seats_words}
