@@ -38,11 +38,7 @@ pub fn push_code(out: &mut Vec<u8>, code: CountyCode) -> Result<(), AllocError>
 }
 
 /// Appends codes, each after a mark. It fails only where a growth was refused.
-pub fn push_codes(
-    out: &mut Vec<u8>,
-    mark: &[u8],
-    codes: &[CountyCode],
-) -> Result<(), AllocError>
+pub fn push_codes(out: &mut Vec<u8>, mark: &[u8], codes: &[CountyCode]) -> Result<(), AllocError>
     ensures text { OnOk result (out.new.items ≡ out.old.items ++ each_after mark.now codes.now) }
     ensures small { OnOk result (All (λ code. code ≤ 99999) codes.now) }
 {
