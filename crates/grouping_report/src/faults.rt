@@ -6,13 +6,9 @@ use county_codes::CountyCode;
 use grouping_judge::GroupingFault;
 use std::alloc::AllocError;
 
-/// Appends words and a number.
+/// Appends words and a number. It fails only where a growth was refused.
 #[tactic(auto, unfolding(crate::specs::FaultWords::with_number))]
-pub(crate) fn push_words_number(
-    out: &mut Vec<u8>,
-    words: &[u8],
-    number: u64,
-) -> Result<(), AllocError>
+pub fn push_words_number(out: &mut Vec<u8>, words: &[u8], number: u64) -> Result<(), AllocError>
     ensures { OnOk result (out.new.items ≡ out.old.items ++ with_number words.now number) }
 {
     out.extend_from_slice(words)?;

@@ -9,13 +9,13 @@ mod reports;
 mod table;
 mod text;
 
-pub use faults::push_grouping_fault;
+pub use faults::{push_grouping_fault, push_words_number};
 pub use findings::findings_text;
 pub use grouping::grouping_text;
 pub use outcome::Outcome;
-pub use reports::report;
+pub use reports::{push_answer, push_counts, push_head, report};
 pub use seat_lines::{
     CodeLineFault as GroupingTextFault, CodeLineKind as GroupingTextKind, read_grouping,
 };
 pub use table::size_table;
-pub use text::{push_code, push_number};
+pub use text::{push_code, push_codes, push_number};

@@ -14,8 +14,8 @@ use county_codes::{Group, Grouping};
 use grouping_problem::Problem;
 use std::alloc::{AllocError, Global};
 
-/// Appends the people, the chamber, the seats left and the number of counties.
-fn push_head(out: &mut Vec<u8>, problem: &Problem) -> Result<(), AllocError>
+/// Appends the people, the chamber, the seats left and the number of counties. It fails only where a growth was refused.
+pub fn push_head(out: &mut Vec<u8>, problem: &Problem) -> Result<(), AllocError>
     ensures { OnOk result (out.new.items ≡ out.old.items ++ head_lines problem.now) }
 {
     push_words_number(out, b"people ", problem.total_people())?;
@@ -25,8 +25,8 @@ fn push_head(out: &mut Vec<u8>, problem: &Problem) -> Result<(), AllocError>
     out.extend_from_slice(b"\n")
 }
 
-/// Appends what the answer is.
-fn push_answer(out: &mut Vec<u8>, answer: &[u8]) -> Result<(), AllocError>
+/// Appends what the answer is. It fails only where a growth was refused.
+pub fn push_answer(out: &mut Vec<u8>, answer: &[u8]) -> Result<(), AllocError>
     ensures { OnOk result (out.new.items ≡ out.old.items ++ answer_line answer.now) }
 {
     out.extend_from_slice(b"answer ")?;
@@ -67,8 +67,8 @@ fn push_numbers(out: &mut Vec<u8>, groups: &[Group]) -> Result<(), AllocError>
     Ok(())
 }
 
-/// Appends how many groups have each size, up to the longest, or `none` without groups.
-fn push_counts(out: &mut Vec<u8>, groups: &[Group]) -> Result<(), AllocError>
+/// Appends how many groups have each size, up to the longest, or `none` without groups. It fails only where a growth was refused.
+pub fn push_counts(out: &mut Vec<u8>, groups: &[Group]) -> Result<(), AllocError>
     ensures { OnOk result (out.new.items ≡ out.old.items ++ counts_line (sets_of groups.now)) }
 {
     if groups.is_empty() {

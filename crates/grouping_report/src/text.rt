@@ -37,12 +37,8 @@ pub fn push_code(out: &mut Vec<u8>, code: CountyCode) -> Result<(), AllocError>
     push_five_digits(out, code.get())
 }
 
-/// Appends codes, each after a mark.
-pub(crate) fn push_codes(
-    out: &mut Vec<u8>,
-    mark: &[u8],
-    codes: &[CountyCode],
-) -> Result<(), AllocError>
+/// Appends codes, each after a mark. It fails only where a growth was refused.
+pub fn push_codes(out: &mut Vec<u8>, mark: &[u8], codes: &[CountyCode]) -> Result<(), AllocError>
     ensures text { OnOk result (out.new.items ≡ out.old.items ++ each_after mark.now codes.now) }
     ensures small { OnOk result (All (λ code. code ≤ 99999) codes.now) }
 {

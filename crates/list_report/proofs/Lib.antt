@@ -1,0 +1,7 @@
+mod Members
+mod Joining
+mod Listed
+mod Loops
+mod PlaceLists
+mod Sizes
+mod GroupPeople

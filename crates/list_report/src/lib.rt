@@ -1,0 +1,18 @@
+//! What a list of groupings says: the sets that all of them share, and in each region of the other counties
+//! the alternatives that they have.
+//!
+//! ```
+//! let text = listing(alloc, &problem, &groupings)?;   // people .., answer all, best groupings 8, ..
+//! ```
+#![tactic(auto)]
+
+mod alternatives;
+mod laws;
+mod listings;
+mod regions;
+mod sets;
+mod shared;
+mod texts;
+
+pub use laws::{people_are_of_groups, regions_are_joined};
+pub use listings::listing;

@@ -1,0 +1,73 @@
+//! The sets that all listed groupings have, and the others.
+
+ghost use Rattle.std.specs.Prelude.{◌≡◌, ℕ, ◌++◌, List, not, filter, IfOk, OnOk};
+ghost use Rattle.std.specs.List.{list_all};
+ghost use Rattle.list_report.specs.Shared.{has_set, first_sets, shared_sets, unshared_sets};
+
+use crate::sets::Sets;
+use county_codes::Codes;
+use std::alloc::{AllocError, Global};
+
+/// Whether the set stands in the list.
+fn has(sets: &[Codes], set: &Codes) -> bool
+    ensures { result ≡ has_set sets.now set.now }
+{
+    sets.iter().any(|other| other == set)
+}
+
+/// Whether each listed grouping has the set.
+fn all_have(listed: &[Sets], set: &Codes) -> bool
+    ensures { result ≡ list_all (λ g. has_set g set.now) listed.now }
+{
+    listed.iter().all(|sets| has(sets.as_slice(), set))
+}
+
+/// The sets that each listed grouping has.
+fn kept_by_all(alloc: Global, listed: &[Sets], sets: &[Codes]) -> Result<Vec<Codes>, AllocError>
+    ensures { IfOk result (λ v. v.items ≡ filter (λ s. list_all (λ g. has_set g s) listed.now) sets.now) }
+{
+    let mut shared = Vec::new(alloc);
+    for set in sets {
+        if all_have(listed, set) {
+            shared.push(set.copy()?)?;
+        }
+    }
+    Ok(shared)
+}
+
+/// The sets of the first listed grouping that all of them have.
+pub(crate) fn shared_by_all(alloc: Global, listed: &[Sets]) -> Result<Vec<Codes>, AllocError>
+    ensures { IfOk result (λ v. v.items ≡ shared_sets listed.now) }
+{
+    match listed.first() {
+        Some(sets) => kept_by_all(alloc, listed, sets.as_slice()),
+        None => Ok(Vec::new(alloc)),
+    }
+}
+
+/// Appends the sets that are not shared.
+fn push_unshared(out: &mut Vec<Codes>, shared: &[Codes], sets: &[Codes]) -> Result<(), AllocError>
+    ensures { OnOk result (out.new.items ≡ out.old.items ++ filter (λ s. not (has_set shared.now s)) sets.now) }
+{
+    for set in sets {
+        if !has(shared, set) {
+            out.push(set.copy()?)?;
+        }
+    }
+    Ok(())
+}
+
+/// The sets of all listed groupings that are not shared, one grouping after the other.
+pub(crate) fn not_shared(
+    alloc: Global,
+    shared: &[Codes],
+    listed: &[Sets],
+) -> Result<Vec<Codes>, AllocError>
+    ensures { IfOk result (λ v. v.items ≡ unshared_sets shared.now listed.now) }
+{
+    let mut unshared = Vec::new(alloc);
+    for sets in listed {
+        push_unshared(&mut unshared, shared, sets.as_slice())?;
+    }
+    Ok(unshared)
+}
