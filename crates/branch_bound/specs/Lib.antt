@@ -1,3 +1,4 @@
 pub mod Searching
 pub mod Answered
 pub mod Solving
+pub mod Pieces

@@ -21,9 +21,12 @@ mod ground;
 mod judging;
 mod moves;
 mod outcome;
+mod piece;
+mod pieces;
 mod position;
 mod search;
 mod solving;
 
 pub use answer::Answer;
+pub use piece::{Piece, Split};
 pub use solving::{solve, solve_over};
