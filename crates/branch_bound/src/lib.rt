@@ -23,6 +23,7 @@ mod moves;
 mod outcome;
 mod piece;
 mod pieces;
+mod plain_judging;
 mod position;
 mod search;
 mod solving;
