@@ -5,7 +5,10 @@ ghost use Rattle.proof_trees.specs.State.{IsState};
 ghost use Rattle.proof_trees.specs.RoundValue.{round_of};
 ghost use Rattle.proof_trees.specs.State.{State as StateValue};
 ghost use Rattle.grouping_laws.specs.Problem.{Problem as ProblemLaw};
-ghost use Rattle.line_verdicts.specs.Placed.{IsPlaced};
+ghost use Rattle.grouping_laws.specs.GroupsFrom.{IsOrder};
+ghost use Rattle.grouping_problem.specs.ProblemValue.{problem_of};
+ghost use Rattle.line_verdicts.specs.Placed.{state_at, IsPlaced};
+ghost use Rattle.branch_bound.specs.PlainRounds.{IsPlainGround, IsStateOf};
 ghost use Rattle.branch_bound.specs.Searching.{problem_in, round_in, state_in, IsGround, IsAt, IsBetter, IsChoice, IsOutcome};
 ghost use Rattle.branch_bound.specs.Pieces.{IsWithin, IsPiece, IsOpen};
 
@@ -13,16 +16,19 @@ use crate::ground::Ground;
 use crate::judging::judge;
 use crate::outcome::{Outcome, Verdict};
 use crate::piece::{Piece, Split};
+use crate::plain_search::prove_plain;
 use crate::position::Position;
 use crate::search::prove;
 use certificate_text::Tree;
 use county_codes::Grouping;
+use county_regions::neighbour_rows;
 use fitting_groups::Stop;
+use grouping_problem::Problem;
 use line_verdicts::copied_state;
-use ordered_counties::Steps;
+use ordered_counties::{OrderFault, Ordered, Steps};
 use place_sets::CountySet;
-use proof_trees::{Round, State};
-use std::alloc::AllocError;
+use proof_trees::{Language, Round, State};
+use std::alloc::{AllocError, Global};
 
 /// Whether no group has more counties than the limit.
 fn is_within(grouping: &Grouping, limit: u16) -> bool
@@ -125,5 +131,92 @@ fn wide_piece<C: CountySet>(
         Ok(Verdict::Branch(place, at)) => branched_piece(ground, place, at, steps),
         Err(Stop::StepLimit) => Ok(Piece::Open(None)),
         Err(Stop::Memory) => Err(AllocError),
+    }
+}
+
+/// What is answered of a piece of a plain round.
+fn plain_piece<C: CountySet>(
+    ground: &Ground<C>,
+    state: &State<C>,
+    steps: &mut Steps,
+) -> Result<Piece, AllocError>
+    requires ground { IsPlainGround C.PLACES C.test ground.now }
+    requires at { IsStateOf C.test ground.now state.now }
+    ensures piece { IfOk result (IsPiece (problem_in ground.now) (round_in ground.now) (state_in ground.now C.test state.now)) }
+    ensures limit { steps.new.limit ≡ steps.old.limit }
+    ensures more { steps.old.used ≤ steps.new.used }
+    ensures open { IfOk result (λ piece. IsOpen piece → steps.new.used ≡ steps.new.limit) }
+{
+    let copy = copied_state(ground.alloc, ground.ordered, state)?;
+    match prove_plain(ground, copy, steps) {
+        Ok(outcome) => Ok(piece_of(ground.round, outcome)),
+        Err(Stop::StepLimit) => Ok(Piece::Open(None)),
+        Err(Stop::Memory) => Err(AllocError),
+    }
+}
+
+/// What is answered of a piece by an order of counties.
+fn ordered_piece<C: CountySet>(
+    alloc: Global,
+    ordered: &Ordered,
+    round: &Round,
+    state: &State<C>,
+    steps: &mut Steps,
+) -> Result<Piece, AllocError>
+    requires fits { length ordered.now.order ≤ C.PLACES }
+    requires order { ordered.now.order ≡ round.now.order }
+    requires small { round.now.limit ≤ 128 }
+    requires placed { IsPlaced (length ordered.now.order) C.test state.now }
+    requires state { IsState (problem_of ordered.now.problem) (round_of round.now) (state_at ordered.now.order C.test state.now) }
+    ensures piece { IfOk result (IsPiece (problem_of ordered.now.problem) (round_of round.now) (state_at ordered.now.order C.test state.now)) }
+    ensures limit { steps.new.limit ≡ steps.old.limit }
+    ensures more { steps.old.used ≤ steps.new.used }
+    ensures open { IfOk result (λ piece. IsOpen piece → steps.new.used ≡ steps.new.limit) }
+{
+    let near: Vec<C> = neighbour_rows(alloc, ordered)?;
+    let ground = Ground {
+        alloc,
+        ordered,
+        near: &near,
+        round,
+    };
+    match round.language {
+        Language::Wide => wide_piece(&ground, state, steps),
+        Language::Plain => plain_piece(&ground, state, steps),
+    }
+}
+
+/// What a desk answers of a piece of a round: a proof tree of its state, a greater grouping that agrees with the state, or
+/// that the steps ran out.
+///
+/// The round's order names each county of the problem once, its limit is at most 128, and the state is one of the round by
+/// the places of the order. If the steps ran out in a wide round, the answer has the branch that the search made first, so
+/// that the piece can be split there. A step is a state that is entered, a set that is grown or a group that is tested for
+/// being live.
+///
+/// # Errors
+///
+/// Where memory was refused.
+pub fn prove_piece<C: CountySet>(
+    alloc: Global,
+    problem: &Problem,
+    round: &Round,
+    state: &State<C>,
+    steps: &mut Steps,
+) -> Result<Piece, AllocError>
+    requires fits { length round.now.order ≤ C.PLACES }
+    requires order { IsOrder (problem_of problem.now) round.now.order }
+    requires small { round.now.limit ≤ 128 }
+    requires placed { IsPlaced (length round.now.order) C.test state.now }
+    requires state { IsState (problem_of problem.now) (round_of round.now) (state_at round.now.order C.test state.now) }
+    ensures piece { IfOk result (IsPiece (problem_of problem.now) (round_of round.now) (state_at round.now.order C.test state.now)) }
+    ensures limit { steps.new.limit ≡ steps.old.limit }
+    ensures more { steps.old.used ≤ steps.new.used }
+    ensures open { IfOk result (λ piece. IsOpen piece → steps.new.used ≡ steps.new.limit) }
+{
+    match Ordered::build(alloc, problem, round.order.as_slice()) {
+        Ok(ordered) => ordered_piece(alloc, &ordered, round, state, steps),
+        Err(OrderFault::Memory) => Err(AllocError),
+        Err(OrderFault::WrongOrder) => unreachable!(),
     }
 }
