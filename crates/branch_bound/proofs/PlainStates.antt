@@ -1,10 +1,10 @@
 -- Where no county is open to the limit no group fits, and where the first open one stands a search may branch.
-use Rattle.std.proofs.Common.{◌≡◌, ℕ, ◌≤◌, true, length, sym, ◌∙◌, arith}
+use Rattle.std.proofs.Common.{length, sym, ◌∙◌, arith}
 use Rattle.std.proofs.lemmas.Bool.{false≢true}
 use Rattle.grouping_laws.specs.Problem.{Problem}
 use Rattle.growing_sets.proofs.PlaceLists.{some_member}
 use Rattle.proof_trees.specs.Round.{Round}
-use Rattle.proof_trees.specs.State.{State, open_to}
+use Rattle.proof_trees.specs.State.{State}
 use Rattle.proof_trees.specs.Fitting.{NoGroupFits}
 use Rattle.proof_trees.proofs.Completion.{open_rest, open_least, is_open}
 use Rattle.verdicts.specs.Branches.{NoneOpen}

@@ -1,12 +1,11 @@
 -- What the search keeps and comes to.
-use Rattle.std.proofs.Common.{◌≡◌, ℕ, ◌+◌, ◌≤◌, ◌<◌, Bool, List, [], ◌∷◌, ◌++◌, length, map, take, get_or, Vec, Global, refl, sym, ap, ◌∙◌, subst, arith, Option, Some, inl, inr}
+use Rattle.std.proofs.Common.{◌≡◌, ℕ, ◌+◌, ◌≤◌, ◌<◌, Bool, List, [], ◌∷◌, ◌++◌, length, map, take, get_or, Vec, Global, refl, sym, ap, ◌∙◌, subst, arith, Option, inl, inr}
 use Rattle.std.specs.List.{AllByRecursion}
 use Rattle.std.proofs.lemmas.List.{map-append, take_more}
 use Rattle.grouping_laws.specs.Problem.{Problem}
 use Rattle.grouping_laws.specs.Grouping.{Grouping}
 use Rattle.grouping_laws.proofs.Elements.{Has, has_get, contains_from_has}
 use Rattle.county_codes.specs.declared.group.Grouping.{Grouping as GroupingHeld}
-use Rattle.certificate_lines.specs.Lines.{most}
 use Rattle.certificate_lines.specs.Fits.{IsSet}
 use Rattle.certificate_lines.specs.declared.item.Item.{Item}
 use Rattle.certificate_lines.specs.declared.item.Item.TheVariants as item
@@ -25,7 +24,6 @@ use Rattle.proof_trees.specs.Proving.{limit_of, NamesLimit, Proves, CanBranch}
 use Rattle.proof_trees.specs.Certificate.{TargetFits}
 use Rattle.complete_lists.specs.Complete.{IsComplete}
 use Rattle.proof_trees.specs.Round.{Round}
-use Rattle.certificate_languages.specs.declared.language.Language.TheVariants.{Wide}
 use Rattle.proof_trees.specs.State.{State, close, raise}
 use Rattle.proof_trees.specs.Tree.{Tree, leaf, Takes}
 use Rattle.proof_trees.specs.Tree as tree

@@ -1,5 +1,5 @@
 -- The search of a piece of a plain round.
-use Rattle.std.specs.Prelude.{ℕ, ◌≡◌, ◌≤◌, ◌<◌, Bool, List, length}
+use Rattle.std.specs.Prelude.{ℕ, ◌≡◌, ◌≤◌, ◌<◌, Bool, length}
 use Rattle.ordered_counties.specs.OrderedValue.{problem_at, code_at}
 use Rattle.county_regions.specs.Rows.{AreRows}
 use Rattle.certificate_languages.specs.declared.language.Language.TheVariants.{Plain}

@@ -22,10 +22,7 @@ use state_tests::open_places;
 use std::alloc::AllocError;
 
 /// The place of the first county that is open to the limit; none where no group of at most the limit fits.
-fn first_open<C: CountySet>(
-    ground: &Ground<C>,
-    state: &State<C>,
-) -> Result<Option<u16>, AllocError>
+fn first_open<C: CountySet>(ground: &Ground<C>, state: &State<C>) -> Result<Option<u16>, AllocError>
     requires ground { IsPlainGround C.PLACES C.test ground.now }
     requires at { IsStateOf C.test ground.now state.now }
     ensures { IfOk
@@ -75,10 +72,7 @@ fn first_leaf<C: CountySet>(
 }
 
 /// What a state ends with at which no group of at most the limit fits.
-fn last_end<C: CountySet>(
-    ground: &Ground<C>,
-    state: &State<C>,
-) -> Result<PlainVerdict, AllocError>
+fn last_end<C: CountySet>(ground: &Ground<C>, state: &State<C>) -> Result<PlainVerdict, AllocError>
     requires ground { IsPlainGround C.PLACES C.test ground.now }
     requires at { IsStateOf C.test ground.now state.now }
     requires none { NoGroupFits (problem_in ground.now) (round_in ground.now) (state_in ground.now C.test state.now) }

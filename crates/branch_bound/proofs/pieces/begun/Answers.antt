@@ -1,7 +1,7 @@
 use Rattle.branch_bound.proofs.pieces.begun.Goals as goal
 use Rattle.known_groups.proofs.KnownGroups.{known_serves}
-use Rattle.std.proofs.Common.{◌≡◌, ℕ, ◌≤◌, [], length, subst, sym, arith, true}
-use Rattle.branch_bound.specs.Searching.{problem_in, round_in, state_in, IsAt}
+use Rattle.std.proofs.Common.{length, subst, sym, arith}
+use Rattle.branch_bound.specs.Searching.{problem_in, round_in, state_in}
 use Rattle.line_verdicts.specs.Placed.{codes_of_sets}
 use Rattle.known_groups.specs.Known.{IsKnown}
 use Rattle.growing_sets.specs.Listing.{AreBelow}

@@ -1,5 +1,5 @@
-use Rattle.std.proofs.Common.{◌≡◌, subst, sym}
-use Rattle.branch_bound.specs.Searching.{problem_in, round_in, state_in, IsOutcome}
+use Rattle.std.proofs.Common.{subst, sym}
+use Rattle.branch_bound.specs.Searching.{problem_in, round_in, state_in}
 use Rattle.branch_bound.proofs.Positions.{choice_can}
 use Rattle.branch_bound.proofs.pieces.branched_piece.Goals as goal
 use Rattle.proof_trees.specs.Proving.{CanBranch}

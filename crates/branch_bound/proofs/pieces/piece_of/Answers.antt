@@ -1,4 +1,4 @@
-use Rattle.std.proofs.Common.{◌≡◌, subst}
+use Rattle.std.proofs.Common.{subst}
 use Rattle.proof_trees.specs.RoundValue.{round_of}
 use Rattle.branch_bound.specs.Searching.{IsOutcome}
 use Rattle.branch_bound.proofs.pieces.piece_of.Goals as goal

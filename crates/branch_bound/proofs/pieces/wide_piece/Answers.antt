@@ -1,11 +1,11 @@
-use Rattle.std.proofs.Common.{◌≡◌, subst, sym}
+use Rattle.std.proofs.Common.{subst, sym}
 use Rattle.std.specs.List.{AllByRecursion}
 use Rattle.certificate_text.specs.Trees.{tree_of}
 use Rattle.certificate_text.specs.declared.tree.Tree.{roll-Tree}
 use Rattle.certificate_text.proofs.TreeViews.{list_onto, items_of_branches}
 use Rattle.complete_lists.specs.Complete.{IsComplete}
 use Rattle.proof_trees.specs.Proving.{Proves}
-use Rattle.tree_spelling.specs.TreeItems.{FitsInTree, HasLines}
+use Rattle.tree_spelling.specs.TreeItems.{FitsInTree}
 use Rattle.branch_bound.specs.Searching.{problem_in, round_in, state_in, IsVerdict}
 use Rattle.branch_bound.specs.Pieces.{IsPiece}
 use Rattle.branch_bound.proofs.Searches.{leaf_end}

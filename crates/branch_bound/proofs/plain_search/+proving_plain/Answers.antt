@@ -1,8 +1,8 @@
-use Rattle.std.proofs.Common.{◌≡◌, ◌<◌, ℕ, true, length, All, Ok, IfOk, None, sym, ap, ◌∙◌, subst, arith}
+use Rattle.std.proofs.Common.{◌≡◌, All, Ok, IfOk, None, sym, ap, ◌∙◌, subst, arith}
 use Rattle.grouping_laws.proofs.Elements.{has_all}
 use Rattle.ordered_counties.specs.OrderedValue.{code_at}
 use Rattle.line_verdicts.specs.Placed.{codes_of_set, codes_of_sets, IsClosable}
-use Rattle.proof_trees.specs.State.{State, IsState, close, raise}
+use Rattle.proof_trees.specs.State.{IsState, raise}
 use Rattle.proof_trees.specs.Groups.{AreGroupsAt}
 use Rattle.proof_trees.proofs.Branches.{branch_keeps_state}
 use Rattle.branch_bound.specs.Searching.{problem_in, round_in, state_in, IsOutcome, IsTaken, AreTakesAt}
@@ -81,10 +81,16 @@ prove_plain_take-prove_plain-outcome-requires g t c κs within =
     let codes = codes_of_set ground.ordered.now.order test c.args.group.now in
     let is = c.requires.group.1 in (
       omega arith,
-      (within, (c.requires.ground, record {
-        placed = c.in_ok-closed.ensures.placed;
-        state = subst (IsState p round) (sym c.in_ok-closed.ensures.value) ((branch_keeps_state).closed_state p round s codes c.requires.at.state is.fits is.small);
-      })),
+      (
+        within,
+        (
+          c.requires.ground,
+          record {
+            placed = c.in_ok-closed.ensures.placed;
+            state = subst (IsState p round) (sym c.in_ok-closed.ensures.value) ((branch_keeps_state).closed_state p round s codes c.requires.at.state is.fits is.small);
+          },
+        ),
+      ),
     )
 
 pub prove_plain_take-returns-clause-taken : goal.prove_plain_take-returns-clause-taken

@@ -1,4 +1,4 @@
-use Rattle.std.proofs.Common.{◌≡◌, ◌≤◌, ℕ, [], length, refl, sym, ◌∙◌, subst, arith}
+use Rattle.std.proofs.Common.{length, refl, sym, ◌∙◌}
 use Rattle.grouping_problem.specs.ProblemValue.{problem_of}
 use Rattle.grouping_laws.specs.Places.{places_below}
 use Rattle.ordered_counties.specs.OrderedValue.{problem_at, code_at}
@@ -6,11 +6,8 @@ use Rattle.proof_trees.specs.Round.{Round}
 use Rattle.proof_trees.specs.RoundValue.{round_of}
 use Rattle.proof_trees.specs.State.{open_to}
 use Rattle.proof_trees.specs.StateValue.{state_of}
-use Rattle.proof_trees.specs.Groups.{AreGroupsAt}
-use Rattle.line_verdicts.specs.Placed.{codes_of_sets}
 use Rattle.line_verdicts.proofs.TurnLemmas.{open_at}
 use Rattle.line_verdicts.proofs.GroupLemmas.{groups_codes, groups_closable}
-use Rattle.branch_bound.specs.Searching.{problem_in, round_in, state_in}
 use Rattle.branch_bound.proofs.plain_search.plain_groups.Goals as goal
 
 pub groups_at-requires-clause-there : goal.groups_at-requires-clause-there
