@@ -1,5 +1,5 @@
 -- A branch behind those of a search so far.
-use Rattle.std.proofs.Common.{◌≡◌, ℕ, ◌≤◌, List, [], ◌∷◌, ◌++◌, filter, All, AllPairs, Some, refl, ap, sym, ◌∙◌, subst, arith}
+use Rattle.std.proofs.Common.{◌≡◌, ℕ, ◌≤◌, List, [], ◌∷◌, ◌++◌, filter, All, AllPairs, Option, Some, None, refl, ap, sym, ◌∙◌, subst, arith}
 use Rattle.std.specs.List.{AllByRecursion}
 use Rattle.grouping_laws.specs.Problem.{Problem}
 use Rattle.grouping_laws.specs.Sets.{member}
@@ -9,11 +9,11 @@ use Rattle.grouping_laws.specs.Places.{codes_at}
 use Rattle.ordered_counties.specs.OrderedValue.{code_at}
 use Rattle.proof_trees.specs.Round.{Round}
 use Rattle.certificate_languages.specs.declared.language.Language.{Language}
-use Rattle.certificate_languages.specs.declared.language.Language.TheVariants.{Wide}
+use Rattle.certificate_languages.specs.declared.language.Language.TheVariants.{Plain, Wide}
 use Rattle.proof_trees.specs.State.{State, raise}
 use Rattle.proof_trees.specs.Tree.{Tree, branch, Takes, no_take, groups_of}
 use Rattle.proof_trees.specs.Groups.{AreGroupsAt}
-use Rattle.proof_trees.specs.Proving.{NamesLimit, CanBranch, Proves, EachProves}
+use Rattle.proof_trees.specs.Proving.{limit_of, NamesLimit, CanBranch, Proves, EachProves}
 use Rattle.proof_trees.specs.Certificate.{TargetFits}
 use Rattle.complete_lists.specs.Complete.{IsComplete, EachIsComplete}
 use Rattle.certificate_lines.specs.Lines.{most}
@@ -33,8 +33,11 @@ pub joined : (bs : List Branch) (b : Branch) (tree : Tree) → list_onto (bs ++ 
 joined [] b tree = refl
 joined (a ∷ bs) b tree = ap (branch_onto a) (joined bs b tree)
 
-wide_names : (language : Language) (size : ℕ) → language ≡ Wide → NamesLimit language (Some size)
+pub wide_names : (language : Language) (size : ℕ) → language ≡ Wide → NamesLimit language (Some size)
 wide_names language size e = subst (λ l. NamesLimit l (Some size)) (sym e) tt
+
+pub plain_names : (language : Language) → language ≡ Plain → NamesLimit language None
+plain_names language e = subst (λ l. NamesLimit l None) (sym e) tt
 
 -- what holds of a tree with one branch before it holds behind one branch more
 behind_one : (Here First : Tree → Type 0) (bs news : List Branch) (b : Branch) (put tree : Tree) → branch_onto b tree ≡ put → news ≡ bs ++ b ∷ [] → ((t : Tree) → Here t → First (list_onto bs t)) → Here put → First (list_onto news tree)
@@ -42,17 +45,17 @@ behind_one Here First bs news b put tree made pushed whole here =
     subst (λ (l : List Branch). First (list_onto l tree)) (sym pushed) (subst First (sym (joined bs b tree)) (whole (branch_onto b tree) (subst Here (sym made) here)))
 
 -- what proves the raised state proves, behind one branch more, the first one
-pub branch_step : (p : Problem) (round : Round) (first s : State) (county size : ℕ) (bs news : List Branch) (b : Branch) (takes : Takes) → round.language ≡ Wide → CanBranch round s county size → AreGroupsAt p round s county size (groups_of takes) → EachProves takes p round s
-    → ((raised : Tree) → branch_onto b raised ≡ branch county (Some size) takes raised) → news ≡ bs ++ b ∷ [] → ((tree : Tree) → Proves tree p round s → Proves (list_onto bs tree) p round first)
-    → (tree : Tree) → Proves tree p round (raise county size s) → Proves (list_onto news tree) p round first
-branch_step p round first s county size bs news b takes wide can groups each made pushed whole tree proves =
-    behind_one (λ t. Proves t p round s) (λ t. Proves t p round first) bs news b (branch county (Some size) takes tree) tree (made tree) pushed whole (wide_names round.language size wide, can, groups, each, proves)
+pub branch_step : (p : Problem) (round : Round) (first s : State) (county : ℕ) (limit : Option ℕ) (bs news : List Branch) (b : Branch) (takes : Takes) → NamesLimit round.language limit → CanBranch round s county (limit_of round limit) → AreGroupsAt p round s county (limit_of round limit) (groups_of takes) → EachProves takes p round s
+    → ((raised : Tree) → branch_onto b raised ≡ branch county limit takes raised) → news ≡ bs ++ b ∷ [] → ((tree : Tree) → Proves tree p round s → Proves (list_onto bs tree) p round first)
+    → (tree : Tree) → Proves tree p round (raise county (limit_of round limit) s) → Proves (list_onto news tree) p round first
+branch_step p round first s county limit bs news b takes names can groups each made pushed whole tree proves =
+    behind_one (λ t. Proves t p round s) (λ t. Proves t p round first) bs news b (branch county limit takes tree) tree (made tree) pushed whole (names, can, groups, each, proves)
 
 -- what is complete at the raised state is, behind one branch more, complete at the first one
-pub complete_step : (p : Problem) (round : Round) (first s : State) (county size : ℕ) (bs news : List Branch) (b : Branch) (takes : Takes) → EachIsComplete takes p round s → ((raised : Tree) → branch_onto b raised ≡ branch county (Some size) takes raised) → news ≡ bs ++ b ∷ []
-    → ((tree : Tree) → IsComplete tree p round s → IsComplete (list_onto bs tree) p round first) → (tree : Tree) → IsComplete tree p round (raise county size s) → IsComplete (list_onto news tree) p round first
-complete_step p round first s county size bs news b takes each made pushed whole tree complete =
-    behind_one (λ t. IsComplete t p round s) (λ t. IsComplete t p round first) bs news b (branch county (Some size) takes tree) tree (made tree) pushed whole (each, complete)
+pub complete_step : (p : Problem) (round : Round) (first s : State) (county : ℕ) (limit : Option ℕ) (bs news : List Branch) (b : Branch) (takes : Takes) → EachIsComplete takes p round s → ((raised : Tree) → branch_onto b raised ≡ branch county limit takes raised) → news ≡ bs ++ b ∷ []
+    → ((tree : Tree) → IsComplete tree p round s → IsComplete (list_onto bs tree) p round first) → (tree : Tree) → IsComplete tree p round (raise county (limit_of round limit) s) → IsComplete (list_onto news tree) p round first
+complete_step p round first s county limit bs news b takes each made pushed whole tree complete =
+    behind_one (λ t. IsComplete t p round s) (λ t. IsComplete t p round first) bs news b (branch county limit takes tree) tree (made tree) pushed whole (each, complete)
 
 pub all_append : {X : Type 0} (P : X → Type 0) (xs ys : List X) → AllByRecursion P xs → AllByRecursion P ys → AllByRecursion P (xs ++ ys)
 all_append P [] ys a b = b
@@ -62,14 +65,17 @@ pub all_parts : {X : Type 0} (P : X → Type 0) (xs ys : List X) → AllByRecurs
 all_parts P [] ys a = (tt, a)
 all_parts P (x ∷ xs) ys a = let rest = all_parts P xs ys a.1 in ((a.0, rest.0), rest.1)
 
-branch_fits : (language : Language) (county size : ℕ) → language ≡ Wide → county ≤ 99999 → 1 ≤ size → size ≤ most → FitsInTree language (item.Opens (opening.Branch county (Some size)))
-branch_fits language county size e c from to = subst (λ l. Fits (want.Tree l 1) (item.Opens (opening.Branch county (Some size)))) (sym e) (c, from, to, omega arith)
+pub wide_fits : (language : Language) (county size : ℕ) → language ≡ Wide → county ≤ 99999 → 1 ≤ size → size ≤ most → FitsInTree language (item.Opens (opening.Branch county (Some size)))
+wide_fits language county size e c from to = subst (λ l. Fits (want.Tree l 1) (item.Opens (opening.Branch county (Some size)))) (sym e) (c, from, to, omega arith)
 
-pub lines_step : (language : Language) (county size : ℕ) (bs news : List Branch) (b : Branch) (takes : Takes) → language ≡ Wide → county ≤ 99999 → 1 ≤ size → size ≤ most → AllByRecursion (FitsInTree language) (items_of_takes takes)
-    → items_of_branch b ≡ item.Opens (opening.Branch county (Some size)) ∷ (items_of_takes takes ++ item.Mark ∷ []) → news ≡ bs ++ b ∷ [] → AllByRecursion (FitsInTree language) (items_of_branches bs) → AllByRecursion (FitsInTree language) (items_of_branches news)
-lines_step language county size bs news b takes wide small from to lines made pushed before =
+pub plain_fits : (language : Language) (county : ℕ) → language ≡ Plain → county ≤ 99999 → FitsInTree language (item.Opens (opening.Branch county None))
+plain_fits language county e c = subst (λ l. Fits (want.Tree l 1) (item.Opens (opening.Branch county None))) (sym e) (c, omega arith)
+
+pub lines_step : (language : Language) (county : ℕ) (limit : Option ℕ) (bs news : List Branch) (b : Branch) (takes : Takes) → FitsInTree language (item.Opens (opening.Branch county limit)) → AllByRecursion (FitsInTree language) (items_of_takes takes)
+    → items_of_branch b ≡ item.Opens (opening.Branch county limit) ∷ (items_of_takes takes ++ item.Mark ∷ []) → news ≡ bs ++ b ∷ [] → AllByRecursion (FitsInTree language) (items_of_branches bs) → AllByRecursion (FitsInTree language) (items_of_branches news)
+lines_step language county limit bs news b takes fits lines made pushed before =
     let here : AllByRecursion (FitsInTree language) (items_of_branch b) =
-    subst (λ (l : List Item). AllByRecursion (FitsInTree language) l) (sym made) (branch_fits language county size wide small from to, all_append (FitsInTree language) (items_of_takes takes) (item.Mark ∷ []) lines (tt, tt)) in
+    subst (λ (l : List Item). AllByRecursion (FitsInTree language) l) (sym made) (fits, all_append (FitsInTree language) (items_of_takes takes) (item.Mark ∷ []) lines (tt, tt)) in
     subst (λ (l : List Branch). AllByRecursion (FitsInTree language) (items_of_branches l)) (sym pushed)
     (subst (λ (l : List Item). AllByRecursion (FitsInTree language) l) (sym (branches_more bs b)) (all_append (FitsInTree language) (items_of_branches bs) (items_of_branch b) before here))
 

@@ -5,3 +5,4 @@ pub mod LeafEnds
 pub mod Searches
 pub mod Orders
 pub mod Rounds
+pub mod PlainStates

@@ -1,14 +1,15 @@
 -- What the search keeps and comes to.
-use Rattle.std.proofs.Common.{◌≡◌, ℕ, ◌+◌, ◌≤◌, ◌<◌, Bool, List, [], ◌∷◌, ◌++◌, length, map, take, get_or, Vec, Global, refl, sym, ap, ◌∙◌, subst, arith, Some, inl, inr}
+use Rattle.std.proofs.Common.{◌≡◌, ℕ, ◌+◌, ◌≤◌, ◌<◌, Bool, List, [], ◌∷◌, ◌++◌, length, map, take, get_or, Vec, Global, refl, sym, ap, ◌∙◌, subst, arith, Option, inl, inr}
 use Rattle.std.specs.List.{AllByRecursion}
 use Rattle.std.proofs.lemmas.List.{map-append, take_more}
 use Rattle.grouping_laws.specs.Problem.{Problem}
 use Rattle.grouping_laws.specs.Grouping.{Grouping}
 use Rattle.grouping_laws.proofs.Elements.{Has, has_get, contains_from_has}
 use Rattle.county_codes.specs.declared.group.Grouping.{Grouping as GroupingHeld}
-use Rattle.certificate_lines.specs.Lines.{most}
 use Rattle.certificate_lines.specs.Fits.{IsSet}
 use Rattle.certificate_lines.specs.declared.item.Item.{Item}
+use Rattle.certificate_lines.specs.declared.item.Item.TheVariants as item
+use Rattle.certificate_lines.specs.declared.item.Opening.TheVariants as opening
 use Rattle.certificate_text.specs.declared.tree.Leaf.{Leaf as DeclaredLeaf}
 use Rattle.certificate_text.specs.declared.tree.Branch.{Branch, roll-Branch}
 use Rattle.certificate_text.specs.declared.tree.Take.{Take, roll-Take}
@@ -19,11 +20,10 @@ use Rattle.line_verdicts.specs.Placed.{codes_of_set, codes_of_sets}
 use Rattle.proof_trees.specs.Agreement.{Agrees}
 use Rattle.proof_trees.specs.Fitting.{Fits}
 use Rattle.proof_trees.specs.Groups.{IsGroupAt, AreGroupsAt}
-use Rattle.proof_trees.specs.Proving.{Proves, CanBranch}
+use Rattle.proof_trees.specs.Proving.{limit_of, NamesLimit, Proves, CanBranch}
 use Rattle.proof_trees.specs.Certificate.{TargetFits}
 use Rattle.complete_lists.specs.Complete.{IsComplete}
 use Rattle.proof_trees.specs.Round.{Round}
-use Rattle.certificate_languages.specs.declared.language.Language.TheVariants.{Wide}
 use Rattle.proof_trees.specs.State.{State, close, raise}
 use Rattle.proof_trees.specs.Tree.{Tree, leaf, Takes}
 use Rattle.proof_trees.specs.Tree as tree
@@ -102,23 +102,26 @@ leaf_end p round first s branches last whole lines complete end = (
   λ fits. subst (λ (t : Tree). IsComplete t p round first) (sym (made_tree branches last)) (complete fits (leaf (leaf_of last)) (end.1 fits)),
 )
 
-module _ (p : Problem) (round : Round) (first s : State) (county size : ℕ) (bs news : List Branch) (takes : Vec Take Global) (wide : round.language ≡ Wide) (pushed : news ≡ bs ++ roll-Branch (record { county = county; limit = Some size; takes = takes }) ∷ []) where
+module _ (p : Problem) (round : Round) (first s : State) (county : ℕ) (limit : Option ℕ) (bs news : List Branch) (takes : Vec Take Global) (pushed : news ≡ bs ++ roll-Branch (record { county = county; limit = limit; takes = takes }) ∷ []) where
+  abbrev size : ℕ
+  size = limit_of round limit
+
   -- a tree where the county is raised, behind one branch more
-  pub branched : (next : State) (groups : List (List ℕ)) → CanBranch round s county size → AreGroupsAt p round s county size groups → AreTakesOf p round s groups takes.items → next ≡ raise county size s → ((t : Tree) → Proves t p round s → Proves (list_onto bs t) p round first)
+  pub branched : (next : State) (groups : List (List ℕ)) → NamesLimit round.language limit → CanBranch round s county size → AreGroupsAt p round s county size groups → AreTakesOf p round s groups takes.items → next ≡ raise county size s → ((t : Tree) → Proves t p round s → Proves (list_onto bs t) p round first)
       → (t : Tree) → Proves t p round next → Proves (list_onto news t) p round first
-  branched next groups can all are raised whole t proves =
-      branch_step p round first s county size bs news (roll-Branch (record { county = county; limit = Some size; takes = takes })) (list_of_takes takes.items) wide can (subst (AreGroupsAt p round s county size) (sym are.groups_are) all) are.each
-      (λ r. made_takes county (Some size) takes r) pushed whole t (subst (λ z. Proves t p round z) raised proves)
+  branched next groups names can all are raised whole t proves =
+      branch_step p round first s county limit bs news (roll-Branch (record { county = county; limit = limit; takes = takes })) (list_of_takes takes.items) names can (subst (AreGroupsAt p round s county size) (sym are.groups_are) all) are.each
+      (λ r. made_takes county limit takes r) pushed whole t (subst (λ z. Proves t p round z) raised proves)
 
   pub branched_complete : (next : State) (groups : List (List ℕ)) → AreTakesOf p round s groups takes.items → next ≡ raise county size s → TargetFits p round.limit round.target → ((t : Tree) → IsComplete t p round s → IsComplete (list_onto bs t) p round first)
       → (t : Tree) → IsComplete t p round next → IsComplete (list_onto news t) p round first
   branched_complete next groups are raised fits whole t complete =
-      complete_step p round first s county size bs news (roll-Branch (record { county = county; limit = Some size; takes = takes })) (list_of_takes takes.items) (are.complete fits) (λ r. made_takes county (Some size) takes r) pushed whole t
+      complete_step p round first s county limit bs news (roll-Branch (record { county = county; limit = limit; takes = takes })) (list_of_takes takes.items) (are.complete fits) (λ r. made_takes county limit takes r) pushed whole t
       (subst (λ z. IsComplete t p round z) raised complete)
 
-  pub branched_lines : (groups : List (List ℕ)) → county ≤ 99999 → 1 ≤ size → size ≤ most → AreTakesOf p round s groups takes.items → AllByRecursion (FitsInTree round.language) (items_of_branches bs) → AllByRecursion (FitsInTree round.language) (items_of_branches news)
-  branched_lines groups small from to are lines =
-      lines_step round.language county size bs news (roll-Branch (record { county = county; limit = Some size; takes = takes })) (list_of_takes takes.items) wide small from to are.lines (made_branch county (Some size) takes) pushed lines
+  pub branched_lines : (groups : List (List ℕ)) → FitsInTree round.language (item.Opens (opening.Branch county limit)) → AreTakesOf p round s groups takes.items → AllByRecursion (FitsInTree round.language) (items_of_branches bs) → AllByRecursion (FitsInTree round.language) (items_of_branches news)
+  branched_lines groups fits are lines =
+      lines_step round.language county limit bs news (roll-Branch (record { county = county; limit = limit; takes = takes })) (list_of_takes takes.items) fits are.lines (made_branch county limit takes) pushed lines
 
 -- what agrees where a county is raised agreed before
 pub raised_agrees : (round : Round) (s next : State) (county size : ℕ) (h : Grouping) → CanBranch round s county size → next ≡ raise county size s → Agrees next h → Agrees s h

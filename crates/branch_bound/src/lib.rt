@@ -21,9 +21,15 @@ mod ground;
 mod judging;
 mod moves;
 mod outcome;
+mod piece;
+mod pieces;
+mod plain_judging;
+mod plain_search;
 mod position;
 mod search;
 mod solving;
 
 pub use answer::Answer;
+pub use piece::{Piece, Split};
+pub use pieces::prove_piece;
 pub use solving::{solve, solve_over};

@@ -37,7 +37,7 @@ pub(crate) fn first_position<C: CountySet>(ground: &Ground<C>) -> Result<Positio
 
 /// The codes of a group, in the order of its places.
 pub(crate) fn codes_of<C: CountySet>(ground: &Ground<C>, group: &C) -> Result<Codes, AllocError>
-    requires ground { IsGround C.PLACES C.test ground.now }
+    requires fits { length ground.now.ordered.now.order ≤ C.PLACES }
     ensures value { IfOk result (λ codes. codes ≡ codes_of_set ground.now.ordered.now.order C.test group.now) }
     ensures small { IfOk result AreCodes }
 {

@@ -68,3 +68,14 @@ pub(crate) enum First {
     /// A certificate that no grouping is lawful.
     Impossible(Certificate),
 }
+
+/// How a state of a plain round ends, or how the search goes on.
+#[derive(Drop)]
+pub(crate) enum PlainVerdict {
+    /// A leaf that is valid.
+    Leaf(Leaf),
+    /// A lawful grouping that agrees with the state and is greater than the target.
+    Better(Grouping),
+    /// A branch at the county at this place.
+    Branch(u16),
+}

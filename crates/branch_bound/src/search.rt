@@ -27,12 +27,12 @@ use place_sets::CountySet;
 use std::alloc::AllocError;
 
 /// The take of a group that is closed where the search has this outcome, or the better grouping that was found there.
-fn taken_of<C: CountySet>(
+pub(crate) fn taken_of<C: CountySet>(
     ground: &Ground<C>,
     group: &C,
     outcome: Result<Outcome, Stop>,
 ) -> Result<Taken, Stop>
-    requires ground { IsGround C.PLACES C.test ground.now }
+    requires fits { length ground.now.ordered.now.order ≤ C.PLACES }
     ensures taken { (s : StateValue)
         → Fits ground.now.round.now.language (problem_in ground.now) s (codes_of_set ground.now.ordered.now.order C.test group.now)
         → length (codes_of_set ground.now.ordered.now.order C.test group.now) ≤ 128
@@ -51,7 +51,7 @@ fn taken_of<C: CountySet>(
 }
 
 /// Takes with one more behind them, or the better grouping that was found in its place.
-fn with_take(takes: Vec<Take>, taken: Result<Taken, Stop>) -> Result<Takes, Stop>
+pub(crate) fn with_take(takes: Vec<Take>, taken: Result<Taken, Stop>) -> Result<Takes, Stop>
     ensures proved { (more : _) → result ≡ Ok (all.Proved more) → (take : TakeHeld) × (taken ≡ Ok (one.Proved take)) × (more.items ≡ takes.items ++ take ∷ []) }
     ensures better { (found : GroupingHeld) → result ≡ Ok (all.Better found) → taken ≡ Ok (one.Better found) }
     ensures stopped { IsErrOf result Stop.StepLimit → IsErrOf taken Stop.StepLimit }

@@ -1,4 +1,4 @@
-use Rattle.std.proofs.Common.{◌≡◌, ◌<◌, ℕ, true, length, Ok, IfOk, sym, ap, ◌∙◌, subst, arith}
+use Rattle.std.proofs.Common.{◌≡◌, ◌<◌, ℕ, true, length, Ok, IfOk, Some, sym, ap, ◌∙◌, subst, arith}
 use Rattle.grouping_laws.proofs.Elements.{has_all}
 use Rattle.ordered_counties.specs.OrderedValue.{code_at}
 use Rattle.line_verdicts.specs.Placed.{codes_of_set, codes_of_sets}
@@ -9,6 +9,7 @@ use Rattle.proof_trees.specs.Groups.{AreGroupsAt}
 use Rattle.proof_trees.specs.Proving.{Proves}
 use Rattle.complete_lists.specs.Complete.{IsComplete}
 use Rattle.branch_bound.specs.Searching.{problem_in, round_in, state_in, IsOutcome, IsTaken, IsVerdict}
+use Rattle.branch_bound.proofs.Joining.{wide_names, wide_fits}
 use Rattle.branch_bound.proofs.Positions.{choice_can}
 use Rattle.branch_bound.proofs.Searches.{own, better_as, listed, group_there, takes_more, leaf_end, branched, branched_complete, branched_lines, raised_agrees, choice_size}
 use Rattle.branch_bound.proofs.search.+proving.Goals as goal
@@ -84,10 +85,11 @@ prove-branching-preserved g t c =
     let news = c.raised_behind.new.branches.items in
     record {
       at = own g.row.C.Denot test ground (raise county at.size here) next step.0;
-      whole = branched p round first here county at.size bs news step.1.0 c.requires.ground.wide pushed (state_in ground test next.state) takes.0 can takes.1 takes.2 step.0.is (λ tree proves. inv.whole tree (subst (λ z. Proves tree p round z) v.0.is proves));
-      complete = λ fits. branched_complete p round first here county at.size bs news step.1.0 c.requires.ground.wide pushed (state_in ground test next.state) takes.0 takes.2 step.0.is fits (λ tree complete. inv.complete fits tree (subst (λ z. IsComplete tree p round z) v.0.is complete));
+      whole = branched p round first here county (Some at.size) bs news step.1.0 pushed (state_in ground test next.state) takes.0 (wide_names round.language at.size c.requires.ground.wide) can takes.1 takes.2 step.0.is (λ tree proves. inv.whole tree (subst (λ z. Proves tree p round z) v.0.is proves));
+      complete = λ fits. branched_complete p round first here county (Some at.size) bs news step.1.0 pushed (state_in ground test next.state) takes.0 takes.2 step.0.is fits (λ tree complete. inv.complete fits tree (subst (λ z. IsComplete tree p round z) v.0.is complete));
       agrees = λ h a. inv.agrees h (subst (λ z. Agrees z h) v.0.is (raised_agrees round here (state_in ground test next.state) county at.size h can step.0.is a));
-      lines = branched_lines p round first here county at.size bs news step.1.0 c.requires.ground.wide pushed takes.0 c.in-Ok-At.ensures.county (choice_size g.row.C.Denot test ground s at c.in-Ok-Branch.place v.0 v.1) (omega (arith, v.0.small, c.requires.ground.small)) takes.2 inv.lines;
+      lines = branched_lines p round first here county (Some at.size) bs news step.1.0 pushed takes.0
+          (wide_fits round.language county at.size c.requires.ground.wide c.in-Ok-At.ensures.county (choice_size g.row.C.Denot test ground s at c.in-Ok-Branch.place v.0 v.1) (omega (arith, v.0.small, c.requires.ground.small))) takes.2 inv.lines;
       more = omega (arith, inv.more, e.more, f.more);
       limit = f.limit ∙ e.limit ∙ inv.limit;
     }

@@ -1,0 +1,37 @@
+-- What a desk answers of a piece of a round: a state.
+use Rattle.std.specs.Prelude.{ℕ, ◌≤◌, length, All, Option, Some, None, ⊤}
+use Rattle.grouping_laws.specs.Problem.{Problem}
+use Rattle.grouping_laws.specs.Grouping.{Grouping}
+use Rattle.certificate_text.specs.Trees.{tree_of}
+use Rattle.proof_trees.specs.Round.{Round}
+use Rattle.proof_trees.specs.State.{State}
+use Rattle.proof_trees.specs.Proving.{Proves, CanBranch}
+use Rattle.proof_trees.specs.Search.{IsFound}
+use Rattle.tree_spelling.specs.TreeItems.{HasLines}
+use Rattle.branch_bound.specs.declared.piece.Piece.{Piece}
+use Rattle.branch_bound.specs.declared.piece.Piece.TheVariants.{Proved, Better, Wider, Open}
+use Rattle.branch_bound.specs.declared.piece.Split.{Split}
+
+-- no group has more counties than the limit
+abbrev pub IsWithin : ℕ → Grouping → Type 0
+IsWithin limit g = All (λ m. length m.codes ≤ limit) g
+
+-- one may branch there
+abbrev pub IsSplit : Round → State → Option Split → Type 0
+IsSplit round s None = ⊤
+IsSplit round s (Some split) = CanBranch round s split.county split.limit
+
+-- A proof tree of the state that a text spells, a lawful grouping that agrees with the state and is greater than the target, within the
+-- limit or not, or a branch that the state may be split at.
+abbrev pub IsPiece : Problem → Round → State → Piece → Type 0
+IsPiece p round s (Proved tree) = Proves (tree_of tree) p round s × HasLines round.language (tree_of tree)
+IsPiece p round s (Better g) = IsFound p round s g.groups.items × IsWithin round.limit g.groups.items
+IsPiece p round s (Wider g) = IsFound p round s g.groups.items × ¬ IsWithin round.limit g.groups.items
+IsPiece p round s (Open split) = IsSplit round s split
+
+-- the steps ran out
+abbrev pub IsOpen : Piece → Type 0
+IsOpen (Proved tree) = ⊥
+IsOpen (Better g) = ⊥
+IsOpen (Wider g) = ⊥
+IsOpen (Open split) = ⊤

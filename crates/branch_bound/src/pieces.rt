@@ -1,0 +1,222 @@
+//! The search of a piece of a round, from its state.
+
+ghost use Rattle.std.specs.Prelude.{◌≡◌, ℕ, ◌≤◌, ◌↔◌, IsTrue, length, IfOk, IsErrOf};
+ghost use Rattle.proof_trees.specs.State.{IsState};
+ghost use Rattle.proof_trees.specs.RoundValue.{round_of};
+ghost use Rattle.proof_trees.specs.State.{State as StateValue};
+ghost use Rattle.grouping_laws.specs.Problem.{Problem as ProblemLaw};
+ghost use Rattle.grouping_laws.specs.GroupsFrom.{IsOrder};
+ghost use Rattle.grouping_problem.specs.ProblemValue.{problem_of};
+ghost use Rattle.line_verdicts.specs.Placed.{state_at, IsPlaced};
+ghost use Rattle.branch_bound.specs.PlainRounds.{IsPlainGround, IsStateOf};
+ghost use Rattle.branch_bound.specs.Searching.{problem_in, round_in, state_in, IsGround, IsAt, IsBetter, IsChoice, IsOutcome};
+ghost use Rattle.branch_bound.specs.Pieces.{IsWithin, IsPiece, IsOpen};
+
+use crate::ground::Ground;
+use crate::judging::judge;
+use crate::outcome::{Outcome, Verdict};
+use crate::piece::{Piece, Split};
+use crate::plain_search::prove_plain;
+use crate::position::Position;
+use crate::search::prove;
+use certificate_text::Tree;
+use county_codes::Grouping;
+use county_regions::neighbour_rows;
+use fitting_groups::Stop;
+use grouping_problem::Problem;
+use line_verdicts::copied_state;
+use ordered_counties::{OrderFault, Ordered, Steps};
+use place_sets::CountySet;
+use proof_trees::{Language, Round, State};
+use std::alloc::{AllocError, Global};
+
+/// Whether no group has more counties than the limit.
+fn is_within(grouping: &Grouping, limit: u16) -> bool
+    ensures { IsTrue result ↔ IsWithin limit grouping.now.groups.items }
+{
+    for group in &grouping.groups {
+        if group.codes.as_slice().len() > usize::from(limit) {
+            return false;
+        }
+    }
+    true
+}
+
+/// The piece of a greater grouping.
+fn found_piece(round: &Round, found: Grouping) -> Piece
+    ensures piece { (p : ProblemLaw) (s : StateValue) → IsBetter p (round_of round.now) s found → IsPiece p (round_of round.now) s result }
+    ensures closed { ¬ IsOpen result }
+{
+    if is_within(&found, round.limit) {
+        Piece::Better(found)
+    } else {
+        Piece::Wider(found)
+    }
+}
+
+/// The piece of an outcome.
+fn piece_of(round: &Round, outcome: Outcome) -> Piece
+    ensures piece { (p : ProblemLaw) (s : StateValue) → IsOutcome p (round_of round.now) s outcome → IsPiece p (round_of round.now) s result }
+    ensures closed { ¬ IsOpen result }
+{
+    match outcome {
+        Outcome::Proved(tree) => Piece::Proved(tree),
+        Outcome::Better(found) => found_piece(round, found),
+    }
+}
+
+/// The position at which the search of a piece begins: nothing is known of any group.
+fn begun<C: CountySet>(ground: &Ground<C>, state: &State<C>) -> Result<Position<C>, AllocError>
+    requires ground { IsGround C.PLACES C.test ground.now }
+    requires placed { IsPlaced (length ground.now.ordered.now.order) C.test state.now }
+    requires state { IsState (problem_in ground.now) (round_in ground.now) (state_in ground.now C.test state.now) }
+    ensures at { IfOk result (IsAt C.test ground.now (state_in ground.now C.test state.now)) }
+{
+    let _places = ground.ordered.places();
+    Ok(Position {
+        state: copied_state(ground.alloc, ground.ordered, state)?,
+        size: 0,
+        groups: Vec::new(ground.alloc),
+        tested: true,
+    })
+}
+
+/// What is answered of a piece at whose state the search branches at the county at the place.
+fn branched_piece<C: CountySet>(
+    ground: &Ground<C>,
+    place: u16,
+    at: Position<C>,
+    steps: &mut Steps,
+) -> Result<Piece, AllocError>
+    requires ground { IsGround C.PLACES C.test ground.now }
+    requires at { IsAt C.test ground.now (state_in ground.now C.test at.state) at }
+    requires choice { IsChoice C.test ground.now.ordered.now.order at.groups.items place }
+    ensures piece { IfOk result (IsPiece (problem_in ground.now) (round_in ground.now) (state_in ground.now C.test at.state)) }
+    ensures limit { steps.new.limit ≡ steps.old.limit }
+    ensures more { steps.old.used ≤ steps.new.used }
+    ensures open { IfOk result (λ piece. IsOpen piece → steps.new.used ≡ steps.new.limit) }
+{
+    let split = Split {
+        county: ground.ordered.code(place),
+        limit: at.size,
+    };
+    match prove(ground, at, steps) {
+        Ok(outcome) => Ok(piece_of(ground.round, outcome)),
+        Err(Stop::StepLimit) => Ok(Piece::Open(Some(split))),
+        Err(Stop::Memory) => Err(AllocError),
+    }
+}
+
+/// What a desk answers of a piece of a wide round.
+fn wide_piece<C: CountySet>(
+    ground: &Ground<C>,
+    state: &State<C>,
+    steps: &mut Steps,
+) -> Result<Piece, AllocError>
+    requires ground { IsGround C.PLACES C.test ground.now }
+    requires placed { IsPlaced (length ground.now.ordered.now.order) C.test state.now }
+    requires state { IsState (problem_in ground.now) (round_in ground.now) (state_in ground.now C.test state.now) }
+    ensures piece { IfOk result (IsPiece (problem_in ground.now) (round_in ground.now) (state_in ground.now C.test state.now)) }
+    ensures limit { steps.new.limit ≡ steps.old.limit }
+    ensures more { steps.old.used ≤ steps.new.used }
+    ensures open { IfOk result (λ piece. IsOpen piece → steps.new.used ≡ steps.new.limit) }
+{
+    let position = begun(ground, state)?;
+    match judge(ground, position, steps) {
+        Ok(Verdict::Leaf(leaf)) => {
+            let branches = Vec::new(ground.alloc);
+            Ok(Piece::Proved(Tree { branches, leaf }))
+        }
+        Ok(Verdict::Better(found)) => Ok(found_piece(ground.round, found)),
+        Ok(Verdict::Branch(place, at)) => branched_piece(ground, place, at, steps),
+        Err(Stop::StepLimit) => Ok(Piece::Open(None)),
+        Err(Stop::Memory) => Err(AllocError),
+    }
+}
+
+/// What is answered of a piece of a plain round.
+fn plain_piece<C: CountySet>(
+    ground: &Ground<C>,
+    state: &State<C>,
+    steps: &mut Steps,
+) -> Result<Piece, AllocError>
+    requires ground { IsPlainGround C.PLACES C.test ground.now }
+    requires at { IsStateOf C.test ground.now state.now }
+    ensures piece { IfOk result (IsPiece (problem_in ground.now) (round_in ground.now) (state_in ground.now C.test state.now)) }
+    ensures limit { steps.new.limit ≡ steps.old.limit }
+    ensures more { steps.old.used ≤ steps.new.used }
+    ensures open { IfOk result (λ piece. IsOpen piece → steps.new.used ≡ steps.new.limit) }
+{
+    let copy = copied_state(ground.alloc, ground.ordered, state)?;
+    match prove_plain(ground, copy, steps) {
+        Ok(outcome) => Ok(piece_of(ground.round, outcome)),
+        Err(Stop::StepLimit) => Ok(Piece::Open(None)),
+        Err(Stop::Memory) => Err(AllocError),
+    }
+}
+
+/// What is answered of a piece by an order of counties.
+fn ordered_piece<C: CountySet>(
+    alloc: Global,
+    ordered: &Ordered,
+    round: &Round,
+    state: &State<C>,
+    steps: &mut Steps,
+) -> Result<Piece, AllocError>
+    requires fits { length ordered.now.order ≤ C.PLACES }
+    requires order { ordered.now.order ≡ round.now.order }
+    requires small { round.now.limit ≤ 128 }
+    requires placed { IsPlaced (length ordered.now.order) C.test state.now }
+    requires state { IsState (problem_of ordered.now.problem) (round_of round.now) (state_at ordered.now.order C.test state.now) }
+    ensures piece { IfOk result (IsPiece (problem_of ordered.now.problem) (round_of round.now) (state_at ordered.now.order C.test state.now)) }
+    ensures limit { steps.new.limit ≡ steps.old.limit }
+    ensures more { steps.old.used ≤ steps.new.used }
+    ensures open { IfOk result (λ piece. IsOpen piece → steps.new.used ≡ steps.new.limit) }
+{
+    let near: Vec<C> = neighbour_rows(alloc, ordered)?;
+    let ground = Ground {
+        alloc,
+        ordered,
+        near: &near,
+        round,
+    };
+    match round.language {
+        Language::Wide => wide_piece(&ground, state, steps),
+        Language::Plain => plain_piece(&ground, state, steps),
+    }
+}
+
+/// What a desk answers of a piece of a round: a proof tree of its state, a greater grouping that agrees with the state, or
+/// that the steps ran out.
+///
+/// The round's order names each county of the problem once, its limit is at most 128, and the state is one of the round by
+/// the places of the order. If the steps ran out in a wide round, the answer has the branch that the search made first, so
+/// that the piece can be split there. A step is a state that is entered, a set that is grown or a group that is tested for
+/// being live.
+///
+/// # Errors
+///
+/// Where memory was refused.
+pub fn prove_piece<C: CountySet>(
+    alloc: Global,
+    problem: &Problem,
+    round: &Round,
+    state: &State<C>,
+    steps: &mut Steps,
+) -> Result<Piece, AllocError>
+    requires fits { length round.now.order ≤ C.PLACES }
+    requires order { IsOrder (problem_of problem.now) round.now.order }
+    requires small { round.now.limit ≤ 128 }
+    requires placed { IsPlaced (length round.now.order) C.test state.now }
+    requires state { IsState (problem_of problem.now) (round_of round.now) (state_at round.now.order C.test state.now) }
+    ensures piece { IfOk result (IsPiece (problem_of problem.now) (round_of round.now) (state_at round.now.order C.test state.now)) }
+    ensures limit { steps.new.limit ≡ steps.old.limit }
+    ensures more { steps.old.used ≤ steps.new.used }
+    ensures open { IfOk result (λ piece. IsOpen piece → steps.new.used ≡ steps.new.limit) }
+{
+    match Ordered::build(alloc, problem, round.order.as_slice()) {
+        Ok(ordered) => ordered_piece(alloc, &ordered, round, state, steps),
+        Err(OrderFault::Memory) => Err(AllocError),
+        Err(OrderFault::WrongOrder) => unreachable!(),
+    }
+}
