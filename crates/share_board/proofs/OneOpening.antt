@@ -38,16 +38,16 @@ one_first c d xs a b = let same : c ∷ a.0 ≡ d ∷ b.0 = sym a.1 ∙ b.1 in c
 
 module _ (p : Problem) (round : Round) (plain : round.language ≡ Plain) where
   -- what a branch without a limit is
-  at_limit : (s : State) (county : ℕ) (limit : Option ℕ) → NamesLimit round.language limit → limit_of round limit ≡ round.limit
+  pub at_limit : (s : State) (county : ℕ) (limit : Option ℕ) → NamesLimit round.language limit → limit_of round limit ≡ round.limit
   at_limit s county limit names = ap (limit_of round) (names_none round.language limit plain names)
 
-  one_county : (s : State) (c d : ℕ) (l k : Option ℕ) → NamesLimit round.language l → NamesLimit round.language k → CanBranch round s c (limit_of round l) → CanBranch round s d (limit_of round k) → c ≡ d
+  pub one_county : (s : State) (c d : ℕ) (l k : Option ℕ) → NamesLimit round.language l → NamesLimit round.language k → CanBranch round s c (limit_of round l) → CanBranch round s d (limit_of round k) → c ≡ d
   one_county s c d l k n m a b =
       one_first c d (filter (open_to s round.limit) round.order)
       (goes_first round.language round s c round.limit plain (subst (CanBranch round s c) (at_limit s c l n) a).in_turn)
       (goes_first round.language round s d round.limit plain (subst (CanBranch round s d) (at_limit s d k m) b).in_turn)
 
-  none_apart : (s : State) (c : ℕ) (l : Option ℕ) → NamesLimit round.language l → CanBranch round s c (limit_of round l) → open_to s round.limit c ≡ true
+  pub none_apart : (s : State) (c : ℕ) (l : Option ℕ) → NamesLimit round.language l → CanBranch round s c (limit_of round l) → open_to s round.limit c ≡ true
   none_apart s c l n a = (subst (CanBranch round s c) (at_limit s c l n) a).is_open
 
   mutual
