@@ -56,7 +56,8 @@ empty_fair language p s i (weigh quota ws) e none = (
   λ g fits size. absurd (none g fits size),
 )
 
-none_used : (i a : ℕ) → a ≡ 0 → 0 ≡ 0 + i * a
+-- lines that allow no group use no county up
+pub none_used : (i a : ℕ) → a ≡ 0 → 0 ≡ 0 + i * a
 none_used i a e = sym (ap (λ n. 0 + i * n) e ∙ times_none i)
   where
     times_none : (i : ℕ) → 0 + i * 0 ≡ 0

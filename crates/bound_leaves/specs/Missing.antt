@@ -33,6 +33,10 @@ pub record MayEndAt (wanted : ℕ → ℕ) (s : State) (limit size : ℕ) : Type
 abbrev pub TargetEndsAt : Round → State → ℕ → Type 0
 TargetEndsAt round s size = (t : Grouping) × (round.target ≡ Some t) × MayEndAt (counts (sets_of t)) s round.limit size
 
+-- the closed groups have the target's counts through the limit
+abbrev pub StandsLevel : Round → State → Type 0
+StandsLevel round s = (t : Grouping) × (round.target ≡ Some t) × IsLevel (counts (sets_of t)) s round.limit
+
 -- a line that allows fewer than k groups of i counties, where no smaller group uses a county up, and is fair; its numbers are in their ranges
 pub record AllowsFewer (language : Language) (p : Problem) (s : State) (i k : ℕ) (line : Allowance) : Type 0 where
   pub fair : IsFair language p s i (allowance_of line)

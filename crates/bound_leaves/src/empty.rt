@@ -1,12 +1,13 @@
-ghost use Rattle.std.specs.Prelude.{◌≡◌, ℕ, ◌≤◌, map, length, IfOk, MatchOption};
+ghost use Rattle.std.specs.Prelude.{◌≡◌, ℕ, ◌≤◌, map, length, ⊤, ◌⊎◌, IfOk, MatchOption};
 ghost use Rattle.grouping_problem.specs.ProblemValue.{problem_of};
 ghost use Rattle.proof_trees.specs.RoundValue.{round_of};
 ghost use Rattle.certificate_text.specs.Trees.{allowance_of, leaf_of};
 ghost use Rattle.line_verdicts.specs.Placed.{state_at, IsPlaced};
 ghost use Rattle.known_groups.specs.Standing.{StandsAhead, NoneUpTo};
+ghost use Rattle.complete_lists.specs.Complete.{IsCompleteLeaf};
 ghost use Rattle.bound_leaves.specs.GivenLeaf.{IsGiven};
 ghost use Rattle.bound_leaves.specs.EmptyLines.{IsEmptyLine, AreEmptyThrough, EndsWith};
-ghost use Rattle.bound_leaves.specs.Missing.{TargetEndsAt};
+ghost use Rattle.bound_leaves.specs.Missing.{StandsLevel, TargetEndsAt};
 
 use crate::standing::{first_difference, groups_of_size};
 use bound_verdicts::{closed_of_size, room_left};
@@ -129,12 +130,19 @@ pub fn empty_leaf<C: CountySet>(
     requires limit { round.now.limit ≤ 128 }
     requires small { size ≤ round.now.limit }
     requires none { NoneUpTo (problem_of ordered.now.problem) (round_of round.now) (state_at ordered.now.order C.test state.now) size }
-    ensures { IfOk
+    ensures leaf { IfOk
         result
         (λ found. MatchOption
         found
         (size ≡ round.now.limit → StandsAhead (round_of round.now) (state_at ordered.now.order C.test state.now))
         (λ leaf. IsGiven (problem_of ordered.now.problem) (round_of round.now) (state_at ordered.now.order C.test state.now) leaf)) }
+    ensures complete { IfOk
+        result
+        (λ found. MatchOption
+        found
+        ⊤
+        (λ leaf. IsCompleteLeaf (leaf_of leaf) (problem_of ordered.now.problem) (round_of round.now) (state_at ordered.now.order C.test state.now)
+        ⊎ StandsLevel (round_of round.now) (state_at ordered.now.order C.test state.now))) }
 {
     match last_size(ordered, round, state, size) {
         Some(last) => Ok(Some(Leaf::Bound(empty_lines(alloc, ordered, state, last)?))),

@@ -2,7 +2,9 @@ ghost use Rattle.std.specs.Prelude.{◌≡◌, ℕ, ◌<◌, ◌≤◌, List, le
 ghost use Rattle.grouping_problem.specs.ProblemValue.{problem_of};
 ghost use Rattle.proof_trees.specs.RoundValue.{round_of};
 ghost use Rattle.proof_trees.specs.Fitting.{Fits};
+ghost use Rattle.certificate_text.specs.Trees.{leaf_of};
 ghost use Rattle.line_verdicts.specs.Placed.{state_at, IsPlaced};
+ghost use Rattle.complete_lists.specs.Complete.{IsCompleteLeaf};
 ghost use Rattle.bound_leaves.specs.GivenLeaf.{IsGiven};
 
 use crate::empty::ending_leaf;
@@ -36,12 +38,18 @@ pub fn room_leaf<C: CountySet>(
         → Fits round.now.language (problem_of ordered.now.problem) (state_at ordered.now.order C.test state.now) g
         → length g < size
         → ⊥ }
-    ensures { IfOk
+    ensures leaf { IfOk
         result
         (λ found. MatchOption
         found
         ⊤
         (λ leaf. IsGiven (problem_of ordered.now.problem) (round_of round.now) (state_at ordered.now.order C.test state.now) leaf)) }
+    ensures complete { IfOk
+        result
+        (λ found. MatchOption
+        found
+        ⊤
+        (λ leaf. IsCompleteLeaf (leaf_of leaf) (problem_of ordered.now.problem) (round_of round.now) (state_at ordered.now.order C.test state.now))) }
 {
     let Some(wanted) = wanted_more(ordered, round, state, size) else {
         return Ok(None);

@@ -4,8 +4,10 @@ ghost use Rattle.place_lists.specs.PlaceSets.{places_of};
 ghost use Rattle.grouping_problem.specs.ProblemValue.{problem_of};
 ghost use Rattle.growing_sets.specs.Listing.{AreBelow};
 ghost use Rattle.proof_trees.specs.RoundValue.{round_of};
+ghost use Rattle.certificate_text.specs.Trees.{leaf_of};
 ghost use Rattle.line_verdicts.specs.Placed.{state_at, codes_of_sets, IsPlaced};
 ghost use Rattle.known_groups.specs.Known.{IsKnown};
+ghost use Rattle.complete_lists.specs.Complete.{IsCompleteLeaf};
 ghost use Rattle.bound_leaves.specs.GivenLeaf.{IsGiven};
 ghost use Rattle.bound_leaves.specs.Missing.{AllowsFewer};
 ghost use Rattle.bound_leaves.specs.PlacedWeights.{placed_weight, AreTableWeights};
@@ -180,12 +182,18 @@ pub fn weighed_leaf<C: CountySet>(
     requires below { AreBelow (length ordered.now.order) C.test groups.now }
     requires count { length weights.now ≡ length ordered.now.order }
     requires range { All (λ w. w ≤ 1000000) weights.now }
-    ensures { IfOk
+    ensures leaf { IfOk
         result
         (λ found. MatchOption
         found
         ⊤
         (λ leaf. IsGiven (problem_of ordered.now.problem) (round_of round.now) (state_at ordered.now.order C.test state.now) leaf)) }
+    ensures complete { IfOk
+        result
+        (λ found. MatchOption
+        found
+        ⊤
+        (λ leaf. IsCompleteLeaf (leaf_of leaf) (problem_of ordered.now.problem) (round_of round.now) (state_at ordered.now.order C.test state.now))) }
 {
     let Some(wanted) = wanted_more(ordered, round, state, size) else {
         return Ok(None);

@@ -1,10 +1,12 @@
-ghost use Rattle.std.specs.Prelude.{◌≡◌, ℕ, ◌≤◌, length, IfOk, MatchOption};
+ghost use Rattle.std.specs.Prelude.{◌≡◌, ℕ, ◌≤◌, length, ⊤, IfOk, MatchOption};
 ghost use Rattle.grouping_problem.specs.ProblemValue.{problem_of};
 ghost use Rattle.ordered_counties.specs.OrderedValue.{problem_at};
 ghost use Rattle.county_regions.specs.Rows.{AreRows};
 ghost use Rattle.proof_trees.specs.RoundValue.{round_of};
 ghost use Rattle.proof_trees.specs.Leaves.{IsStuck, IsOffSeats};
+ghost use Rattle.certificate_text.specs.Trees.{leaf_of};
 ghost use Rattle.line_verdicts.specs.Placed.{state_at, IsPlaced};
+ghost use Rattle.complete_lists.specs.Complete.{IsCompleteLeaf};
 ghost use Rattle.bound_leaves.specs.GivenLeaf.{IsGiven};
 
 use crate::stuck::stuck_county;
@@ -26,12 +28,18 @@ fn stuck_leaf<C: CountySet>(
     requires fits { length ordered.now.order ≤ C.PLACES }
     requires rows { AreRows C C.test (problem_at ordered.now) (length ordered.now.order) near.now }
     requires placed { IsPlaced (length ordered.now.order) C.test state.now }
-    ensures { IfOk
+    ensures leaf { IfOk
         result
         (λ found. MatchOption
         found
         ((c : ℕ) → ¬ IsStuck (problem_of ordered.now.problem) (state_at ordered.now.order C.test state.now) c)
         (λ leaf. IsGiven (problem_of ordered.now.problem) (round_of round.now) (state_at ordered.now.order C.test state.now) leaf)) }
+    ensures complete { IfOk
+        result
+        (λ found. MatchOption
+        found
+        ⊤
+        (λ leaf. IsCompleteLeaf (leaf_of leaf) (problem_of ordered.now.problem) (round_of round.now) (state_at ordered.now.order C.test state.now))) }
 {
     match stuck_county(alloc, ordered, near, state)? {
         Some(county) => {
@@ -58,13 +66,19 @@ pub fn whole_leaf<C: CountySet>(
     requires placed { IsPlaced (length ordered.now.order) C.test state.now }
     requires order { ordered.now.order ≡ round.now.order }
     requires limit { round.now.limit ≤ 128 }
-    ensures { IfOk
+    ensures leaf { IfOk
         result
         (λ found. MatchOption
         found
         (((c : ℕ) → ¬ IsStuck (problem_of ordered.now.problem) (state_at ordered.now.order C.test state.now) c)
         × ¬ IsOffSeats (problem_of ordered.now.problem) (state_at ordered.now.order C.test state.now))
         (λ leaf. IsGiven (problem_of ordered.now.problem) (round_of round.now) (state_at ordered.now.order C.test state.now) leaf)) }
+    ensures complete { IfOk
+        result
+        (λ found. MatchOption
+        found
+        ⊤
+        (λ leaf. IsCompleteLeaf (leaf_of leaf) (problem_of ordered.now.problem) (round_of round.now) (state_at ordered.now.order C.test state.now))) }
 {
     if let Some(leaf) = stuck_leaf(alloc, ordered, near, round, state)? {
         return Ok(Some(leaf));

@@ -1,4 +1,4 @@
--- Lines that fall short leave no completion with the counts that are wanted.
+-- If bound lines fall short, no completion has the counts that are wanted.
 use Rattle.std.proofs.Common.{◌≡◌, ℕ, ◌+◌, ◌*◌, ◌≤◌, ◌<◌, Bool, true, false, nat_lt, ◌||◌, List, [], ◌∷◌, refl, ap, arith, ◌⊎◌, inl, inr, add-one}
 use Rattle.std.proofs.lemmas.Bool.{ltb-true, lt-ltb, false≢true}
 use Rattle.grouping_laws.specs.Problem.{Problem}
