@@ -1,0 +1,4 @@
+pub mod PositionLemmas
+pub mod ShortfallLemmas
+pub mod SortingLemmas
+pub mod SeatingLemmas

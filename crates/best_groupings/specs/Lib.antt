@@ -1,0 +1,4 @@
+pub mod Gaps
+pub mod InOrder
+pub mod Positions
+pub mod Keys
