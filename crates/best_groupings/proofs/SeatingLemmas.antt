@@ -4,6 +4,7 @@ use Rattle.std.specs.Ordering.{is_lt}
 use Rattle.std.specs.List.{AllZip}
 use Rattle.std.specs.List.Sorted.{IsPermutation, IsSortedBy, IsStrictlyIncreasing}
 use Rattle.std.proofs.lemmas.Bool.{false≢true}
+use Rattle.std.proofs.lemmas.List.Sorted.{IsPermutation-sym}
 use Rattle.std.proofs.lemmas.List.Kept.{IsStrictlyIncreasing-filter}
 use Rattle.county_codes.specs.declared.group.Group.{Group}
 use Rattle.grouping_laws.specs.Sets.{digit, total, often, stands, member, SameSet}
@@ -79,6 +80,12 @@ module _ (p : Problem) (once_listed : (c : ℕ) → often c p.counties ≤ 1) wh
   suit_ascending (g ∷ closed) [] l h = absurd h
   suit_ascending (g ∷ closed) (k ∷ ks) l h = (rw (people_ascending g (l g (inl refl))) h.0, suit_ascending closed ks (λ x i. l x (inr i)) h.1)
 
+  suit_back : (closed : List (List ℕ)) (ks : List ℕ) → ((g : List ℕ) → Has closed g → LawfulGroup p g) → SuitAll p (map ascending closed) ks → SuitAll p closed ks
+  suit_back [] [] l h = tt
+  suit_back [] (k ∷ ks) l h = absurd h
+  suit_back (g ∷ closed) [] l h = absurd h
+  suit_back (g ∷ closed) (k ∷ ks) l h = (rw (people_ascending g (l g (inl refl))) at h.0, suit_back closed ks (λ x i. l x (inr i)) h.1)
+
   stands_ascending : (closed : List (List ℕ)) (c : ℕ) → ((g : List ℕ) → Has closed g → LawfulGroup p g) → stands c (map ascending closed) ≡ stands c closed
   stands_ascending [] c l = refl
   stands_ascending (g ∷ closed) c l = omega (arith, ascending_alike g (l g (inl refl)) c, stands_ascending closed c (λ x i. l x (inr i)))
@@ -104,6 +111,11 @@ module _ (p : Problem) (once_listed : (c : ℕ) → often c p.counties ≤ 1) wh
 
     pub seated_is_lawful : (ks : List ℕ) → SuitAll p sets ks → total (λ k. k) ks ≡ p.seats_left → Lawful p (seated sets ks)
     seated_is_lawful ks suit sum = seated_lawful p sets ks cover are_connected suit sum
+
+    pub can_seat : (ks : List ℕ) → SuitAll p sets ks → total (λ k. k) ks ≡ p.seats_left → CanSeat p closed
+    can_seat ks suit sum =
+        let r : CanSeat p (map ascending closed) = seats_moved p sets (map ascending closed) (IsPermutation-sym (map ascending closed) sets moved) ks suit (seated_is_lawful ks suit sum) in
+        (r.0, suit_back closed r.0 each r.1, r.2)
 
     pub same_sets : SameSets sets closed
     same_sets = record {

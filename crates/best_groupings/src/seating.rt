@@ -6,6 +6,7 @@ ghost use Rattle.grouping_laws.specs.Problem.{LawfulGroup, people_of};
 ghost use Rattle.grouping_laws.specs.Grouping.{Lawful, sets_of};
 ghost use Rattle.grouping_laws.specs.Ranges.{SuitAll, seated};
 ghost use Rattle.grouping_problem.specs.ProblemValue.{problem_of};
+ghost use Rattle.finished_groupings.specs.Finished.{CanSeat};
 ghost use Rattle.complete_lists.specs.AllBest.{SameSets};
 ghost use Rattle.best_groupings.specs.InOrder.{IsInOrder};
 
@@ -84,9 +85,11 @@ pub(crate) fn seated_grouping(
     requires once { (c : ℕ) → stands c closed.now ≡ digit (member (problem_of problem.now).counties c) }
     requires lawful { All (LawfulGroup (problem_of problem.now)) closed.now }
     ensures lawful { IfOk result (λ o. MatchOption o ((ks : List ℕ) → SuitAll (problem_of problem.now) closed.now ks → total (λ k. k) ks ≢ (problem_of problem.now).seats_left) (λ g. Lawful (problem_of problem.now) g.groups.items)) }
+    ensures filled { IfOk result (λ o. IfSome o (λ _. CanSeat (problem_of problem.now) closed.now)) }
     ensures sets { IfOk result (λ o. IfSome o (λ g. SameSets (sets_of g.groups.items) closed.now)) }
     ensures in_order { IfOk result (λ o. IfSome o (λ g. IsInOrder g.groups.items)) }
 {
+    let _counties = problem.counties();
     let sets = sorted_sets(ascending_sets(alloc, problem, closed)?)?;
     let people = people_of_sets(alloc, problem, &sets)?;
     match allot(alloc, problem, &people)? {
