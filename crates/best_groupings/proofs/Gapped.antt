@@ -62,11 +62,11 @@ module _ (p : Problem) (round : Round) where
     takes_one (take codes tree others) s line a b m n (inr f) (inl g) = absurd (tree_none tree (close codes s) (line + 1) b n f.0 g)
     takes_one (take codes tree others) s line a b m n (inr f) (inr g) = takes_one others s (line + 1 + tree_lines tree) a b m n f.1 g.1
 
-  -- what can't be otherwise: it can't be that a state is neither filled nor has a gap
+  -- it can't be that a state is neither filled nor has a gap
   leaf_some : (l : Leaf) (s : State) → ((gap : Gap) → IsLeafGap l p round s gap → ⊥) → (IsCompleteLeaf l p round s → ⊥) → ⊥
-  leaf_some (stuck county) s none no = no tt
-  leaf_some seats s none no = no tt
-  leaf_some (bound lines) s none no = go (falls_short p s (wanted round.target) 1 0 lines) refl
+  leaf_some (stuck county) s none refuse = refuse tt
+  leaf_some seats s none refuse = refuse tt
+  leaf_some (bound lines) s none refuse = go (falls_short p s (wanted round.target) 1 0 lines) refl
     where
       no_rest : falls_short p s (wanted round.target) 1 0 lines ≡ false → (c : ℕ) → s.rest c ≡ false
       no_rest e c = each (s.rest c) refl
@@ -76,18 +76,18 @@ module _ (p : Problem) (round : Round) where
           each true f = absurd (none CountiesLeft (e, (c, f)))
 
       go : (b : Bool) → falls_short p s (wanted round.target) 1 0 lines ≡ b → ⊥
-      go true e = no (λ f. absurd (false≢true (sym f ∙ e)))
-      go false e = none SeatsOff (e, (no_rest e, λ ks suit sum. no (λ f. record { none_left = no_rest e; seats_of_closed = ks; suit = suit; add_up = sum })))
+      go true e = refuse (λ f. absurd (false≢true (sym f ∙ e)))
+      go false e = none SeatsOff (e, (no_rest e, λ ks suit sum. refuse (λ f. record { none_left = no_rest e; seats_of_closed = ks; suit = suit; add_up = sum })))
 
   mutual
     pub tree_some : (tree : Tree) (s : State) (line : ℕ) → ((gap : Gap) (at : ℕ) → IsFirstGap tree p round s line gap at → ⊥) → (IsComplete tree p round s → ⊥) → ⊥
-    tree_some (leaf l) s line none no = leaf_some l s (λ gap g. none gap line (g, refl)) no
-    tree_some (branch county limit takes raised) s line none no =
+    tree_some (leaf l) s line none refuse = leaf_some l s (λ gap g. none gap line (g, refl)) refuse
+    tree_some (branch county limit takes raised) s line none refuse =
         takes_some takes s (line + 1) (λ gap at g. none gap at (inl g))
-        (λ c. tree_some raised (raise county (limit_of round limit) s) (line + 1 + takes_lines takes) (λ gap at g. none gap at (inr (c, g))) (λ d. no (c, d)))
+        (λ c. tree_some raised (raise county (limit_of round limit) s) (line + 1 + takes_lines takes) (λ gap at g. none gap at (inr (c, g))) (λ d. refuse (c, d)))
 
     takes_some : (takes : Takes) (s : State) (line : ℕ) → ((gap : Gap) (at : ℕ) → IsFirstGapIn takes p round s line gap at → ⊥) → (EachIsComplete takes p round s → ⊥) → ⊥
-    takes_some no_take s line none no = no tt
-    takes_some (take codes tree others) s line none no =
+    takes_some no_take s line none refuse = refuse tt
+    takes_some (take codes tree others) s line none refuse =
         tree_some tree (close codes s) (line + 1) (λ gap at g. none gap at (inl g))
-        (λ c. takes_some others s (line + 1 + tree_lines tree) (λ gap at g. none gap at (inr (c, g))) (λ d. no (c, d)))
+        (λ c. takes_some others s (line + 1 + tree_lines tree) (λ gap at g. none gap at (inr (c, g))) (λ d. refuse (c, d)))

@@ -8,3 +8,4 @@ pub mod Journeys
 pub mod Canonical
 pub mod Ordered
 pub mod Gapped
+pub mod Whole

@@ -15,7 +15,7 @@
 //! gap. `sorting` puts groups and groupings in order.
 #![tactic(auto)]
 
-mod all_best;
+mod answering;
 mod gap;
 mod laws;
 mod listing;
@@ -25,7 +25,7 @@ mod shortfall;
 mod sorting;
 mod walk;
 
-pub use all_best::all_best;
+pub use answering::all_best;
 pub use gap::Gap;
 pub use laws::{gaps_tell, lists_agree};
 pub use listing::Listing;

@@ -163,3 +163,10 @@ put_tree-returns t c = record {
       going_walked p _ _ _ _ _ _ _ _ c.args.found.now c.branching.found c.put_leaf.new.found c.put_leaf.result (subst (λ z. GoesOnTree p r s inv.0 whole z c.args.found.now c.branching.found) e inv.2)
       (c.put_leaf.ensures.walked inv.0 (inv.1.0, subst (IsProofAt p r inv.0) e inv.1.1));
 }
+
+pub put_takes-overflow_add-found : goal.put_takes-overflow_add-found
+put_takes-overflow_add-found t c =
+    let x = c.take-item.result in
+    let e : list_of_takes (drop c.taking.take-index c.args.takes.now) ≡ take (out-Take x).codes (tree_of (out-Take x).tree) (list_of_takes (drop (c.taking.take-index + 1) c.args.takes.now)) = left_takes c.args.takes.now c.taking.take-index x c.take-item.is c.taking-test.true in
+    let inv = c.taking.invariant c.requires.at.0 c.requires.at.1 in
+    omega (arith, inv.1.lines, c.requires.lines, ap takes_lines e)

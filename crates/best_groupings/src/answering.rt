@@ -1,7 +1,6 @@
 //! The list of all best groupings, by the text of a certificate.
 
-ghost use Rattle.std.specs.Prelude.{◌≡◌, ℕ, ◌≤◌, Some, IfOk};
-ghost use Rattle.grouping_laws.specs.Grouping.{Grouping as GroupsOf};
+ghost use Rattle.std.specs.Prelude.{ℕ, IfOk};
 ghost use Rattle.grouping_problem.specs.ProblemValue.{problem_of};
 ghost use Rattle.verdicts.specs.Verdict as said;
 ghost use Rattle.text_verdicts.specs.TextVerdict.{IsTextVerdict};
@@ -50,17 +49,19 @@ fn listing_of(
     }
 }
 
-/// The listing of a text that names a target as best.
-fn read_listing(alloc: Global, problem: &Problem, text: &[u8]) -> Result<Listing, AllocError>
-    requires best { (target : GroupsOf) × IsTextVerdict (problem_of problem.now) text.now (said.Best target) }
+/// The listing of a text that names this target as best.
+fn read_listing(
+    alloc: Global,
+    problem: &Problem,
+    text: &[u8],
+    target: &Grouping,
+) -> Result<Listing, AllocError>
+    requires best { IsTextVerdict (problem_of problem.now) text.now (said.Best target.now.groups.items) }
     ensures listing { IfOk result (λ listing. (budget : ℕ) → IsListing (problem_of problem.now) text.now budget listing) }
     ensures all { IfOk result (ListsAllBest (problem_of problem.now)) }
 {
     let Ok(certificate) = read(alloc, text) else {
         return Err(AllocError);
-    };
-    let Some(target) = &certificate.round.target else {
-        unreachable!();
     };
     let Ok(wanted) = judge(alloc, problem, target) else {
         return Err(AllocError);
@@ -90,7 +91,7 @@ pub fn all_best(
     ensures all { IfOk result (ListsAllBest (problem_of problem.now)) }
 {
     match check(alloc, problem, text, budget)? {
-        Verdict::Best(_) => read_listing(alloc, problem, text),
+        Verdict::Best(target) => read_listing(alloc, problem, text, &target),
         Verdict::Impossible => Ok(Listing::Impossible),
         Verdict::No(fault, line) => Ok(Listing::No(fault, line)),
         Verdict::Budget => Ok(Listing::Budget),
