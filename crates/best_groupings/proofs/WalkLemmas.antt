@@ -178,3 +178,7 @@ going_stops p W L P WG LG PG whole left part m n i old now mid new other stop.Me
 pub none_given : {X P : Type 0} (Q : X → Type 0) (o : Option X) → ((x : X) → o ≡ Some x → ⊥) → MatchOption o P Q → P
 none_given Q None none h = h
 none_given Q (Some x) none h = absurd (none x refl)
+
+-- a walk that stopped at a gap
+pub opened : (p : Problem) (C : Type 0) (G : Gap → ℕ → Type 0) (lists : List (List (List ℕ))) (lines : ℕ) (old new : Found) (found : Stop) (gap : Gap) (at : ℕ) → found ≡ stop.Open gap at → HasWalked p C G lists lines old (Err found) new → G gap at
+opened p C G lists lines old new found gap at e h = subst (λ z. HasWalked p C G lists lines old (Err z) new) e h

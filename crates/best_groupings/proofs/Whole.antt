@@ -77,6 +77,6 @@ module _ (p : Problem) (text : List ℕ) (c : CertificateHeld) (target : Groupin
 pub spells_of : (p : Problem) (text : List ℕ) (t : Grouping) (c : Certificate) → IsTextVerdict p text (said.Best t) → IsSpelling text c → SpellsTarget p text c × (c.round.target ≡ Some t)
 spells_of p text t c v spelling =
     let r = best p text t v in
-    let e = one_value text r.1 c r.2 spelling in
-    let named : c.round.target ≡ Some t = subst (λ (z : Certificate). z.round.target ≡ Some t) e r.4 in
-    (record { spelling = spelling; certificate = subst (λ (z : Certificate). IsCertificate p z.round z.tree) e r.3; target = (t, named) }, named)
+    let e = one_value text r.1.0 c r.1.1 spelling in
+    let named : c.round.target ≡ Some t = subst (λ (z : Certificate). z.round.target ≡ Some t) e r.1.3 in
+    (record { spelling = spelling; certificate = subst (λ (z : Certificate). IsCertificate p z.round z.tree) e r.1.2; target = (t, named) }, named)

@@ -4,6 +4,10 @@ use Rattle.proof_trees.specs.RoundValue.{round_of}
 use Rattle.proof_trees.specs.State.{empty_state}
 use Rattle.certificate_text.specs.Trees.{tree_of, certificate_of}
 use Rattle.best_groupings.specs.Gaps.{IsFirstGap, first_line}
+use Rattle.verdicts.specs.Lines.{tree_lines}
+use Rattle.complete_lists.specs.Complete.{IsComplete}
+use Rattle.complete_lists.specs.Ends.{ends}
+use Rattle.best_groupings.proofs.WalkLemmas.{opened}
 use Rattle.best_groupings.proofs.Whole.{wanted_is, small, begins, line_is, few_lines, listed}
 use Rattle.best_groupings.proofs.answering.listing_of.Goals as goal
 
@@ -35,6 +39,8 @@ pub returns-in-Err-Open-clause-listing : goal.returns-in-Err-Open-clause-listing
 returns-in-Err-Open-clause-listing c = λ budget.
     let p = problem_of c.args.problem.now in
     let r = round_of c.args.certificate.now.round in
-    let gap = c.in-Err-Open.ensures.walked (empty_state p) (c.in_ok-position.ensures, begins p c.args.text.now c.args.certificate.now c.args.target.now c.args.wanted.now c.requires.ready) in
+    let tree = tree_of c.args.certificate.now.tree in
+    let gap = opened p (IsComplete tree p r (empty_state p)) (IsFirstGap tree p r (empty_state p) (5 + c.len.result)) (ends tree p r (empty_state p)) (tree_lines tree) (record { line = 5 + c.len.result; list = c.new.result }) c.put_tree.new.found c.in-Err-Open.field-0 c.in-Err-Open.gap c.in-Err-Open.line c.in-Err-Open.field-0-is
+    (c.in-Err-Open.ensures.walked (empty_state p) (c.in_ok-position.ensures, begins p c.args.text.now c.args.certificate.now c.args.target.now c.args.wanted.now c.requires.ready)) in
     let line : 5 + c.len.result ≡ first_line r = omega (arith, line_is p c.args.text.now c.args.certificate.now c.args.target.now c.args.wanted.now c.requires.ready) in
     (certificate_of c.args.certificate.now, c.requires.ready.spells, subst (λ z. IsFirstGap (tree_of c.args.certificate.now.tree) p r (empty_state p) z c.in-Err-Open.gap c.in-Err-Open.line) line gap)
