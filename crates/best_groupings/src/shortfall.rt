@@ -103,10 +103,5 @@ pub(crate) fn falls_short(
     if lines.len() < usize::from(limit) {
         return true;
     }
-    gives_fewer(
-        position,
-        wanted,
-        &lines[usize::from(limit) - 1],
-        limit,
-    )
+    gives_fewer(position, wanted, &lines[usize::from(limit) - 1], limit)
 }

@@ -147,9 +147,11 @@ put_tree-branching-preserved t c = λ s h.
     let inv = c.branching.invariant s h in
     let at : IsProofAt p r inv.0 (branch county limit takes raised) = subst (IsProofAt p r inv.0) e inv.1.1 in
     let done = c.in-Ok.ensures.walked inv.0 (inv.1.0, takes_of_branch p r inv.0 county limit takes raised at) in
-    let now : IsPosition p (raise county (limit_of r limit) inv.0) c.in-Ok-raised.raised = subst (λ z. IsPosition p (raise county z inv.0) c.in-Ok-raised.raised) c.limit_for-limit.ensures (c.in-Ok-raised.ensures p inv.0 inv.1.0) in
-    (raise county (limit_of r limit) inv.0, (now, raised_tree p r inv.0 county limit takes raised at),
-    tree_going p r inv.0 s whole county limit takes raised c.args.found.now c.branching.found c.put_takes.new.found (subst (λ z. GoesOnTree p r s inv.0 whole z c.args.found.now c.branching.found) e inv.2) done.0 done.1 done.2)
+    let now : IsPosition p (raise county (limit_of r limit) inv.0) c.in-Ok-raised.raised = subst (λ z. IsPosition p (raise county z inv.0) c.in-Ok-raised.raised) c.limit_for-limit.ensures (c.in-Ok-raised.ensures p inv.0 inv.1.0) in (
+      raise county (limit_of r limit) inv.0,
+      (now, raised_tree p r inv.0 county limit takes raised at),
+      tree_going p r inv.0 s whole county limit takes raised c.args.found.now c.branching.found c.put_takes.new.found (subst (λ z. GoesOnTree p r s inv.0 whole z c.args.found.now c.branching.found) e inv.2) done.0 done.1 done.2,
+    )
 
 pub put_tree-returns : goal.put_tree-returns
 put_tree-returns t c = record {
