@@ -1,25 +1,16 @@
 -- Groupings in order: those with the same sets have the same list of sets, and lists of them with the same groupings are the same.
-use Rattle.std.proofs.Common.{◌≡◌, ◌≢◌, ℕ, suc, zero, ◌+◌, ◌≤◌, ◌<◌, Bool, true, false, List, [], ◌∷◌, map, length, get_or, refl, sym, ap, ◌∙◌, subst, arith, inl, inr, ⊎_elim, ◌⊎◌, All, AllPairs, Ordering, Less, Equal, Greater}
-use Rattle.std.specs.Cmp.Lexicographic.{slice_cmp}
-use Rattle.std.specs.Ordering.{nat_cmp, ordering_then, ordering_reverse, MatchOrdering, is_lt}
-use Rattle.std.specs.List.Sorted.{IsSortedBy, IsPermutation, IsStrictlyIncreasing}
-use Rattle.std.proofs.lemmas.Bool.{false≢true}
-use Rattle.std.proofs.lemmas.Cmp.{ranked, nat_list_cmp_total, lists_total, on_total}
-use Rattle.std.proofs.lemmas.List.Sorted.{sorted_far, ranks_by}
+use Rattle.std.proofs.Common.{◌≡◌, ℕ, ◌<◌, List, [], ◌∷◌, map, refl, sym, ap, ◌∙◌, subst, arith, inl, inr, ⊎_elim, ◌⊎◌, AllPairs}
+use Rattle.std.specs.List.Sorted.{IsStrictlyIncreasing}
 use Rattle.std.proofs.lemmas.List.Kept.{AllPairs-from_increasing}
-use Rattle.grouping_laws.specs.Sets.{member, SameSet}
+use Rattle.grouping_laws.specs.Sets.{SameSet}
 use Rattle.grouping_laws.specs.Problem.{Problem}
 use Rattle.grouping_laws.specs.Grouping.{Grouping, IsBest, sets_of}
 use Rattle.grouping_laws.specs.GroupsFrom.{IsLesser}
-use Rattle.grouping_laws.proofs.Elements.{Has, has_all, all_from_has, has_from_contains, contains_from_has}
+use Rattle.grouping_laws.proofs.Elements.{Has, has_all, has_from_contains}
 use Rattle.grouping_laws.proofs.Places.{has_member}
 use Rattle.grouping_laws.proofs.PlaceCodes.{member_has, mapped_has, has_mapped}
-use Rattle.growing_sets.specs.Growing.{sort_key}
-use Rattle.growing_sets.proofs.Distinct.{Distinct, distinct_pairs}
-use Rattle.growing_sets.proofs.Sorting.{sorted_before}
 use Rattle.proof_trees.proofs.Kept.{head_before, tail_pairs, cons_pairs}
 use Rattle.complete_lists.specs.AllBest.{HasSet, SameSets, AreAllBest}
-use Rattle.best_groupings.specs.Keys.{set_order}
 use Rattle.best_groupings.specs.InOrder.{IsLesserSet, IsLesserList, IsInOrder, AreInOrder}
 
 -- two lists in one strict order that have the same elements are the same

@@ -1,9 +1,7 @@
 -- First gaps: a complete tree has none, there is at most one, and a tree without one is complete.
-use Rattle.std.proofs.Common.{◌≡◌, ◌≢◌, ℕ, ◌+◌, Bool, true, false, List, refl, sym, ap, ◌∙◌, ⊎_elim, inl, inr, ◌⊎◌}
+use Rattle.std.proofs.Common.{◌≡◌, ℕ, ◌+◌, Bool, true, false, refl, sym, ◌∙◌, inl, inr}
 use Rattle.std.proofs.lemmas.Bool.{false≢true}
-use Rattle.grouping_laws.specs.Sets.{total}
 use Rattle.grouping_laws.specs.Problem.{Problem}
-use Rattle.grouping_laws.specs.Ranges.{SuitAll}
 use Rattle.proof_trees.specs.Round.{Round}
 use Rattle.proof_trees.specs.State.{State, close, raise}
 use Rattle.proof_trees.specs.Tree.{Leaf, stuck, seats, bound, Tree, leaf, branch, Takes, no_take, take}

@@ -1,20 +1,19 @@
 -- Groupings that are sorted by their lists of sets.
-use Rattle.std.proofs.Common.{◌≡◌, ◌≢◌, ℕ, suc, zero, ◌+◌, ◌≤◌, ◌<◌, Bool, true, false, List, [], ◌∷◌, map, length, get_or, refl, sym, ap, ◌∙◌, subst, arith, inl, inr, ⊎_elim, ◌⊎◌, All, AllPairs, Ordering, Less, Equal, Greater}
+use Rattle.std.proofs.Common.{◌≡◌, ℕ, suc, zero, ◌<◌, false, List, [], ◌∷◌, map, length, get_or, refl, sym, ap, ◌∙◌, subst, arith, inl, inr, ⊎_elim, ◌⊎◌, All, AllPairs, Ordering, Less, Equal, Greater}
 use Rattle.std.specs.Cmp.Lexicographic.{slice_cmp}
 use Rattle.std.specs.Ordering.{nat_cmp, ordering_then, ordering_reverse, MatchOrdering, is_lt}
 use Rattle.std.specs.List.Sorted.{IsSortedBy, IsPermutation}
 use Rattle.std.proofs.lemmas.Bool.{false≢true}
 use Rattle.std.proofs.lemmas.Cmp.{ranked, nat_list_cmp_total, lists_total, on_total}
 use Rattle.std.proofs.lemmas.List.{length-map, get_or-map}
-use Rattle.std.proofs.lemmas.List.Sorted.{sorted_far, ranks_by, IsPermutation-sym, length_permutation, All-permutation}
-use Rattle.std.proofs.lemmas.List.Elements.{Contains-get_or}
+use Rattle.std.proofs.lemmas.List.Sorted.{sorted_far, ranks_by, length_permutation}
 use Rattle.county_codes.specs.declared.group.Grouping.{Grouping as GroupingHeld}
 use Rattle.grouping_laws.specs.Problem.{Problem}
 use Rattle.grouping_laws.specs.Grouping.{Grouping, IsBest, sets_of}
 use Rattle.grouping_laws.proofs.Elements.{Has, has_all, all_from_has, has_from_contains, contains_from_has}
 use Rattle.grouping_laws.proofs.PlaceCodes.{mapped_has, has_mapped}
 use Rattle.growing_sets.specs.Growing.{sort_key}
-use Rattle.growing_sets.proofs.Distinct.{Distinct, distinct_pairs, distinct_from_pairs, distinct_moved}
+use Rattle.growing_sets.proofs.Distinct.{Distinct, distinct_pairs, distinct_moved}
 use Rattle.growing_sets.proofs.Sorting.{sorted_before}
 use Rattle.growing_sets.proofs.Keys.{map_twice}
 use Rattle.proof_trees.proofs.Kept.{head_before, tail_pairs, cons_pairs}

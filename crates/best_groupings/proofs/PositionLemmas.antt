@@ -1,5 +1,5 @@
 -- Positions: what closing a group and raising a county does to them, and what they say of open counties.
-use Rattle.std.proofs.Common.{◌≡◌, ℕ, ◌+◌, ◌*◌, ◌≤◌, ◌<◌, Bool, true, false, cond, not, ◌&&◌, ◌==◌, nat_le, List, [], ◌∷◌, ◌++◌, map, filter, take, length, get_or, refl, sym, ap, ◌∙◌, subst, arith, inl, inr}
+use Rattle.std.proofs.Common.{◌≡◌, ℕ, ◌+◌, ◌≤◌, ◌<◌, Bool, true, false, cond, not, ◌&&◌, ◌==◌, nat_le, List, [], ◌∷◌, ◌++◌, map, filter, take, length, get_or, refl, sym, ap, ◌∙◌, arith, inl, inr}
 use Rattle.std.proofs.lemmas.Bool.Decides.{nat_tests}
 use Rattle.std.proofs.lemmas.List.{length-map}
 use Rattle.grouping_laws.specs.Sets.{total, member}
@@ -7,7 +7,7 @@ use Rattle.grouping_laws.specs.Problem.{Problem}
 use Rattle.grouping_laws.proofs.Elements.{Has}
 use Rattle.grouping_laws.proofs.Places.{has_member}
 use Rattle.place_lists.proofs.Sums.{total-map, total-append, total_ones}
-use Rattle.proof_trees.specs.State.{State, empty_state, close, raise, open_to}
+use Rattle.proof_trees.specs.State.{State, close, raise, open_to}
 use Rattle.proof_trees.specs.Regions.{without, listed}
 use Rattle.certificate_text.proofs.WriteLaws.{taken_more}
 use Rattle.best_groupings.specs.declared.position.Waiting.{Waiting}

@@ -1,32 +1,28 @@
 -- Closed groups that have each county: their codes in the order of the problem, sorted, and seated.
-use Rattle.std.proofs.Common.{◌≡◌, ◌≢◌, ℕ, ◌+◌, ◌≤◌, ◌<◌, Bool, true, false, cond, List, [], ◌∷◌, ◌++◌, map, filter, take, drop, length, get_or, refl, sym, ap, ◌∙◌, subst, arith, inl, inr, ◌⊎◌, AllPairs, All}
+use Rattle.std.proofs.Common.{◌≡◌, ℕ, ◌≤◌, ◌<◌, Bool, true, false, cond, List, [], ◌∷◌, map, filter, length, refl, sym, ap, ◌∙◌, subst, arith, inl, inr, ◌⊎◌, AllPairs, All}
 use Rattle.std.specs.Ordering.{is_lt}
-use Rattle.std.specs.List.{AllZip}
 use Rattle.std.specs.List.Sorted.{IsPermutation, IsSortedBy, IsStrictlyIncreasing}
-use Rattle.std.proofs.lemmas.Bool.{false≢true}
 use Rattle.std.proofs.lemmas.List.Sorted.{IsPermutation-sym}
 use Rattle.std.proofs.lemmas.List.Kept.{IsStrictlyIncreasing-filter}
-use Rattle.county_codes.specs.declared.group.Group.{Group}
-use Rattle.grouping_laws.specs.Sets.{digit, total, often, stands, member, SameSet}
-use Rattle.grouping_laws.specs.Problem.{Problem, IsProblem, Connected, LawfulGroup, people_of}
+use Rattle.grouping_laws.specs.Sets.{total, often, stands, member, SameSet}
+use Rattle.grouping_laws.specs.Problem.{Problem, Connected, LawfulGroup, people_of}
 use Rattle.grouping_laws.specs.Grouping.{Grouping, Lawful, sets_of}
 use Rattle.grouping_laws.specs.GroupsFrom.{IsOrder, IsLesser}
 use Rattle.grouping_laws.specs.Ranges.{seated, SuitAll}
 use Rattle.grouping_laws.proofs.Alike.{Alike, connected_alike, in_order_alike}
 use Rattle.grouping_laws.proofs.Digits.{often_member}
-use Rattle.grouping_laws.proofs.Elements.{Has, has_all, all_from_has, has_from_contains, contains_from_has}
+use Rattle.grouping_laws.proofs.Elements.{Has, has_all, all_from_has, contains_from_has}
 use Rattle.grouping_laws.proofs.PlaceCodes.{mapped_has, has_mapped}
-use Rattle.grouping_laws.proofs.Seated.{seated_sets, seated_lawful}
-use Rattle.place_lists.proofs.Sums.{total-map, total_same, total_alike, digit_one, often_some, often_none, member_from_often}
+use Rattle.grouping_laws.proofs.Seated.{seated_lawful}
+use Rattle.place_lists.proofs.Sums.{total-map, total_alike, often_some, often_none}
 use Rattle.place_lists.proofs.PlaceSets.{often_tested}
-use Rattle.growing_sets.proofs.Distinct.{Distinct, distinct_from_pairs}
+use Rattle.growing_sets.proofs.Distinct.{distinct_from_pairs}
 use Rattle.growing_sets.proofs.Sorting.{sorted_before}
 use Rattle.ordered_counties.specs.Allot.{SuitEach}
 use Rattle.finished_groupings.specs.Finished.{CoverOnce, CanSeat}
 use Rattle.finished_groupings.proofs.Moving.{has_moved, has_back, total_moved}
 use Rattle.finished_groupings.proofs.Covering.{total_covered, all_differ}
 use Rattle.finished_groupings.proofs.Finishing.{seats_moved}
-use Rattle.finished_groupings.proofs.SeatLemmas.{as_many}
 use Rattle.complete_lists.specs.AllBest.{HasSet, SameSets}
 use Rattle.best_groupings.specs.Keys.{set_order}
 use Rattle.best_groupings.specs.InOrder.{IsInOrder}

@@ -1,5 +1,5 @@
 -- Whether a valid bound leaf falls short, by its last line.
-use Rattle.std.proofs.Common.{◌≡◌, ℕ, zero, suc, ◌+◌, ◌-◌, ◌*◌, ◌/◌, ◌≤◌, ◌<◌, Bool, true, false, min, cond, nat_lt, ◌==◌, List, [], ◌∷◌, ◌++◌, map, take, length, get_or, refl, sym, ap, ◌∙◌, subst, arith, mul-le-mul, inl, inr, ⊎_elim, ◌⊎◌, take_all}
+use Rattle.std.proofs.Common.{◌≡◌, ℕ, zero, suc, ◌+◌, ◌-◌, ◌*◌, ◌/◌, ◌≤◌, ◌<◌, Bool, true, false, min, nat_lt, ◌==◌, List, [], ◌∷◌, ◌++◌, map, take, length, get_or, refl, sym, ap, ◌∙◌, subst, arith, mul-le-mul, inl, inr, ◌⊎◌, take_all}
 use Rattle.std.proofs.lemmas.Bool.Decides.{nat_tests}
 use Rattle.std.proofs.lemmas.List.{length-map, map-append}
 use Rattle.grouping_laws.specs.Sets.{digit, total}
@@ -9,7 +9,7 @@ use Rattle.place_lists.proofs.Sums.{total-append}
 use Rattle.certificate_languages.specs.declared.language.Language.{Language}
 use Rattle.proof_trees.specs.State.{State, open_to}
 use Rattle.proof_trees.specs.Regions.{listed}
-use Rattle.proof_trees.specs.Tree.{Allowance, room, weigh}
+use Rattle.proof_trees.specs.Tree.{Allowance}
 use Rattle.proof_trees.specs.BoundLines.{allowance, room_at, Bounds}
 use Rattle.certificate_lines.specs.declared.weights.Weight.{Weight as WeightHeld}
 use Rattle.certificate_lines.specs.declared.item.Allowance.{Allowance as AllowanceHeld}
@@ -18,7 +18,7 @@ use Rattle.certificate_text.specs.Trees.{allowance_of}
 use Rattle.certificate_text.proofs.TreeViews.{allowance_again}
 use Rattle.certificate_text.proofs.WriteLaws.{taken_more}
 use Rattle.bound_verdicts.specs.Allowed.{IsSpelled}
-use Rattle.bound_verdicts.specs.Weights.{weights_of, county_weight}
+use Rattle.bound_verdicts.specs.Weights.{county_weight}
 use Rattle.certificate_checker.specs.Readable.{AreSpelled}
 use Rattle.complete_lists.specs.Ends.{falls_short}
 use Rattle.complete_lists.specs.Told.{still_wanted}

@@ -1,25 +1,22 @@
 -- Trees, branches and takes of the code's types, taken apart; and what stands at a state behind them.
 use Rattle.std.proofs.lemmas.List.{drop_more}
-use Rattle.std.proofs.Common.{◌≡◌, ℕ, ◌+◌, ◌≤◌, ◌<◌, List, [], ◌∷◌, ◌++◌, length, drop, get_or, Option, refl, sym, ap, ◌∙◌, subst, arith, inl, inr, ⊎_elim, Contains, Ok, Err}
+use Rattle.std.proofs.Common.{◌≡◌, ℕ, ◌+◌, ◌<◌, List, [], ◌∷◌, length, drop, get_or, Option, refl, sym, ap, ◌∙◌, subst, arith, inl, inr, Ok, Err}
 use Rattle.grouping_laws.specs.Problem.{Problem}
-use Rattle.grouping_laws.proofs.Elements.{Has, has_from_contains, contains_from_has}
+use Rattle.grouping_laws.proofs.Elements.{has_from_contains, contains_from_has}
 use Rattle.certificate_text.specs.declared.tree.Tree.{Tree as TreeHeld, out-Tree, roll-out-Tree}
 use Rattle.certificate_text.specs.declared.tree.Branch.{Branch, out-Branch, roll-out-Branch}
-use Rattle.certificate_text.specs.declared.tree.Take.{Take, Take', out-Take, roll-out-Take, roll-Take}
+use Rattle.certificate_text.specs.declared.tree.Take.{Take, out-Take, roll-out-Take, roll-Take}
 use Rattle.certificate_text.specs.Trees.{leaf_of, tree_of, branch_onto, take_onto, list_of_takes}
 use Rattle.certificate_text.proofs.TreeViews.{list_onto, made_tree, made_takes}
-use Rattle.proof_trees.specs.Round.{Language, Round}
-use Rattle.proof_trees.specs.State.{State, IsState, close, raise}
+use Rattle.proof_trees.specs.Round.{Round}
+use Rattle.proof_trees.specs.State.{State, close, raise}
 use Rattle.proof_trees.specs.Tree.{Tree, leaf, branch, Takes, no_take, take, groups_of}
-use Rattle.proof_trees.specs.Fitting.{Fits}
-use Rattle.proof_trees.specs.Proving.{Proves, EachProves, limit_of}
+use Rattle.proof_trees.specs.Proving.{limit_of}
 use Rattle.proof_trees.proofs.Branches.{branch_keeps_state}
-use Rattle.certificate_checker.specs.Readable.{IsReadable}
 use Rattle.verdicts.specs.Lines.{tree_lines, takes_lines}
 use Rattle.complete_lists.specs.Complete.{IsComplete, EachIsComplete}
 use Rattle.complete_lists.specs.Ends.{ends, ends_in}
 use Rattle.county_codes.specs.declared.group.Grouping.{Grouping as GroupingHeld}
-use Rattle.best_groupings.specs.declared.gap.Gap.{Gap}
 use Rattle.best_groupings.specs.declared.walk.Found.{Found}
 use Rattle.best_groupings.specs.Gaps.{IsFirstGap, IsFirstGapIn}
 use Rattle.best_groupings.specs.Walking.{HasAdded, HasWalked, IsProofAt, AreTakesAt}

@@ -1,31 +1,28 @@
 -- What goes through a part of a tree, and through the parts behind it.
-use Rattle.std.proofs.Common.{◌≡◌, ◌≢◌, ℕ, suc, ◌+◌, ◌≤◌, ◌<◌, Bool, true, false, cond, List, [], ◌∷◌, ◌++◌, append-nil, append_assoc, map, filter, length, get_or, refl, sym, ap, ◌∙◌, subst, arith, inl, inr, ⊎_elim, ◌⊎◌, All, Contains, Some, None, Option, MatchOption, Result, Ok, Err}
+use Rattle.std.proofs.Common.{◌≡◌, ℕ, suc, ◌+◌, ◌≤◌, Bool, true, false, cond, List, [], ◌∷◌, ◌++◌, append-nil, append_assoc, map, filter, length, refl, sym, ap, ◌∙◌, subst, arith, inl, ⊎_elim, Some, None, Option, MatchOption, Result, Ok, Err}
 use Rattle.std.proofs.Math.Path.{fun_ext}
 use Rattle.std.proofs.lemmas.Bool.{false≢true}
 use Rattle.std.proofs.lemmas.List.{length-map, map-append}
 use Rattle.std.proofs.lemmas.List.Elements.{All-append}
-use Rattle.std.proofs.lemmas.List.Filters.{length-filter_both}
 use Rattle.county_codes.specs.declared.group.Grouping.{Grouping as GroupingHeld}
-use Rattle.grouping_laws.specs.Sets.{digit, total, often, stands, member}
+use Rattle.grouping_laws.specs.Sets.{digit, often, stands, member}
 use Rattle.grouping_laws.specs.Problem.{Problem}
-use Rattle.grouping_laws.specs.Grouping.{Grouping, Lawful, counts, sets_of}
-use Rattle.grouping_laws.specs.Ranges.{SuitAll}
+use Rattle.grouping_laws.specs.Grouping.{Grouping, Lawful, sets_of}
 use Rattle.grouping_laws.proofs.Digits.{false_digit}
-use Rattle.grouping_laws.proofs.Elements.{Has, has_all, all_from_has}
+use Rattle.grouping_laws.proofs.Elements.{Has, all_from_has}
 use Rattle.grouping_laws.proofs.Parts.{has-filter}
 use Rattle.grouping_laws.proofs.Seated.{AllZip-append}
-use Rattle.place_lists.proofs.Sums.{often_none, often_some, digit_one}
+use Rattle.place_lists.proofs.Sums.{often_some}
 use Rattle.place_lists.proofs.PlaceSets.{often_tested}
-use Rattle.proof_trees.specs.Round.{Language, Round}
+use Rattle.proof_trees.specs.Round.{Round}
 use Rattle.proof_trees.specs.State.{State, IsState}
-use Rattle.proof_trees.specs.Tree.{Allowance, Tree, leaf, bound}
+use Rattle.proof_trees.specs.Tree.{Allowance, leaf, bound}
 use Rattle.proof_trees.specs.BoundLines.{Bounds, IsBound}
 use Rattle.complete_lists.specs.AllBest.{SameSets}
 use Rattle.complete_lists.specs.Ends.{wanted, falls_short, ends}
 use Rattle.complete_lists.specs.Complete.{IsFilled, IsComplete}
 use Rattle.complete_lists.specs.Listing.{HaveSets}
 use Rattle.best_groupings.specs.declared.gap.Gap.{Gap}
-use Rattle.best_groupings.specs.declared.gap.Gap.TheVariants.{CountiesLeft, SeatsOff}
 use Rattle.best_groupings.specs.declared.position.Waiting.{Waiting}
 use Rattle.best_groupings.specs.declared.position.Position.{Position}
 use Rattle.best_groupings.specs.declared.walk.Found.{Found}
@@ -33,7 +30,7 @@ use Rattle.best_groupings.specs.declared.walk.Stop.{Stop}
 use Rattle.best_groupings.specs.declared.walk.Stop.TheVariants as stop
 use Rattle.best_groupings.specs.Positions.{waiting, IsPosition}
 use Rattle.best_groupings.specs.InOrder.{IsInOrder}
-use Rattle.best_groupings.specs.Gaps.{IsGap, IsFirstGap}
+use Rattle.best_groupings.specs.Gaps.{IsFirstGap}
 use Rattle.best_groupings.specs.Walking.{groups_in, HasAdded, HasWalked}
 
 pub added_none : (p : Problem) (old : List GroupingHeld) → HasAdded p [] old old

@@ -1,5 +1,5 @@
 -- A certificate that was read and gone through.
-use Rattle.std.proofs.Common.{◌≡◌, ℕ, ◌+◌, ◌≤◌, ◌<◌, ◌^◌, List, [], ◌∷◌, ◌++◌, map, length, Option, Some, None, Ok, Err, Result, All, refl, sym, ap, ◌∙◌, subst, arith}
+use Rattle.std.proofs.Common.{◌≡◌, ℕ, ◌+◌, ◌≤◌, List, [], ◌++◌, map, length, Some, All, sym, ap, ◌∙◌, subst, arith}
 use Rattle.std.specs.Ordering.{is_lt}
 use Rattle.std.specs.Cmp.Lexicographic.{slice_cmp}
 use Rattle.std.specs.List.Sorted.{IsPermutation, IsSortedBy}
@@ -9,10 +9,8 @@ use Rattle.field_lines.specs.Raw.{is_lf}
 use Rattle.grouping_judge.specs.CountList.{count_at}
 use Rattle.grouping_laws.specs.Problem.{Problem}
 use Rattle.grouping_laws.specs.Grouping.{Grouping, sets_of}
-use Rattle.proof_trees.specs.Round.{Round}
 use Rattle.proof_trees.specs.RoundValue.{round_of, target_of}
 use Rattle.proof_trees.specs.State.{empty_state}
-use Rattle.proof_trees.specs.Tree.{Tree}
 use Rattle.proof_trees.specs.Certificate.{IsCertificate}
 use Rattle.proof_trees.proofs.Branches.{branch_keeps_state}
 use Rattle.certificate_text.specs.declared.certificate.Certificate.{Certificate as CertificateHeld}

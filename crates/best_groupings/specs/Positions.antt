@@ -1,5 +1,5 @@
 -- The state that a position of the walk stands for.
-use Rattle.std.specs.Prelude.{ℕ, ◌+◌, ◌≡◌, cond, ◌==◌, List, map, filter}
+use Rattle.std.specs.Prelude.{ℕ, ◌+◌, ◌≡◌, cond, ◌==◌, map, filter}
 use Rattle.grouping_laws.specs.Problem.{Problem}
 use Rattle.proof_trees.specs.State.{State}
 use Rattle.best_groupings.specs.declared.position.Waiting.{Waiting}

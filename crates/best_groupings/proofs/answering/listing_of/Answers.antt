@@ -1,4 +1,4 @@
-use Rattle.std.proofs.Common.{◌≡◌, ◌+◌, ℕ, sym, ap, ◌∙◌, subst, arith}
+use Rattle.std.proofs.Common.{◌≡◌, ◌+◌, subst, arith}
 use Rattle.grouping_problem.specs.ProblemValue.{problem_of}
 use Rattle.proof_trees.specs.RoundValue.{round_of}
 use Rattle.proof_trees.specs.State.{empty_state}
@@ -8,7 +8,7 @@ use Rattle.verdicts.specs.Lines.{tree_lines}
 use Rattle.complete_lists.specs.Complete.{IsComplete}
 use Rattle.complete_lists.specs.Ends.{ends}
 use Rattle.best_groupings.proofs.WalkLemmas.{opened}
-use Rattle.best_groupings.proofs.Whole.{wanted_is, small, begins, line_is, few_lines, listed}
+use Rattle.best_groupings.proofs.Whole.{begins, line_is, few_lines, listed}
 use Rattle.best_groupings.proofs.answering.listing_of.Goals as goal
 
 pub put_tree-requires-clause-at : goal.put_tree-requires-clause-at

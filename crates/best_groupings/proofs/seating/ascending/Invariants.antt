@@ -1,4 +1,4 @@
-use Rattle.std.proofs.Common.{◌≡◌, ℕ, List, filter, take, map}
+use Rattle.std.proofs.Common.{◌≡◌, filter, take}
 use Rattle.county_codes.specs.Counties.{codes_of}
 use Rattle.grouping_laws.specs.Sets.{member}
 use Rattle.best_groupings.proofs.seating.ascending.Given as goal

@@ -1,10 +1,10 @@
-use Rattle.std.proofs.Common.{◌≡◌, ◌≤◌, ◌<◌, ℕ, List, map, filter, length, All, Some, None, sym, ap, ◌∙◌, subst, arith}
+use Rattle.std.proofs.Common.{◌≡◌, ◌≤◌, ℕ, List, map, length, All, sym, ap, ◌∙◌, subst, arith}
 use Rattle.std.specs.List.Sorted.{IsPermutation, IsStrictlyIncreasing}
 use Rattle.county_codes.specs.declared.county.County.{County}
 use Rattle.county_codes.specs.Counties.{codes_of}
-use Rattle.grouping_laws.specs.Sets.{total, often, member}
+use Rattle.grouping_laws.specs.Sets.{total, often}
 use Rattle.grouping_laws.specs.Problem.{people_of}
-use Rattle.grouping_laws.specs.Grouping.{Grouping, Lawful, sets_of}
+use Rattle.grouping_laws.specs.Grouping.{Lawful, sets_of}
 use Rattle.grouping_laws.specs.Ranges.{seated, SuitAll}
 use Rattle.grouping_laws.proofs.Seated.{seated_sets}
 use Rattle.grouping_problem.specs.ProblemValue.{problem_of}

@@ -1,5 +1,4 @@
-use Rattle.std.proofs.Common.{◌≡◌, ◌++◌, ℕ, List, [], map, ap, refl}
-use Rattle.grouping_laws.specs.Grouping.{Grouping}
+use Rattle.std.proofs.Common.{◌≡◌, ℕ, List, [], ap}
 use Rattle.grouping_laws.specs.Ranges.{seated}
 use Rattle.best_groupings.proofs.SeatingLemmas.{mapped_same}
 use Rattle.best_groupings.proofs.seating.seated_groups.Goals as goal

@@ -1,4 +1,4 @@
-use Rattle.std.proofs.Common.{◌≡◌, ℕ, List, ◌/◌, min, length, ap, ◌∙◌, arith}
+use Rattle.std.proofs.Common.{◌≡◌, List, ◌/◌, min, length, ap, ◌∙◌, arith}
 use Rattle.grouping_laws.specs.Sets.{total}
 use Rattle.proof_trees.specs.State.{open_to}
 use Rattle.proof_trees.specs.Regions.{listed}

@@ -1,8 +1,5 @@
-use Rattle.std.proofs.Common.{◌≡◌, ◌-◌, ℕ, ap, subst, sym, ◌∙◌, get_or, arith}
+use Rattle.std.proofs.Common.{◌≡◌, ◌-◌, subst, ◌∙◌, get_or, arith}
 use Rattle.grouping_judge.specs.CountList.{count_at}
-use Rattle.proof_trees.specs.BoundLines.{Bounds}
-use Rattle.certificate_text.specs.Trees.{allowance_of}
-use Rattle.certificate_lines.specs.declared.item.Allowance.{Allowance}
 use Rattle.best_groupings.proofs.ShortfallLemmas.{no_line, fewer, last_tells, spelled_at}
 use Rattle.best_groupings.proofs.shortfall.falls_short.Goals as goal
 

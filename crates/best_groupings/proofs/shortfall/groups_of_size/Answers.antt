@@ -1,6 +1,4 @@
-use Rattle.std.proofs.Common.{◌≡◌, ◌+◌, List, ℕ, take, length, ◌==◌, sym, ap, ◌∙◌, arith}
-use Rattle.grouping_laws.specs.Sets.{digit}
-use Rattle.grouping_laws.specs.Grouping.{counts}
+use Rattle.std.proofs.Common.{◌≡◌, List, ℕ, length, ap, arith}
 use Rattle.best_groupings.proofs.ShortfallLemmas.{counts_more, is_size, no_size}
 use Rattle.best_groupings.proofs.shortfall.groups_of_size.Goals.{then-as_slice-from, else-as_slice-from}
 use Rattle.best_groupings.proofs.shortfall.groups_of_size.Goals as goal

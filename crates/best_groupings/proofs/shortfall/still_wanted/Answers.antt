@@ -1,4 +1,4 @@
-use Rattle.std.proofs.Common.{◌≡◌, ◌+◌, ◌-◌, ◌*◌, ◌≤◌, List, ℕ, ap, ◌∙◌, subst, arith}
+use Rattle.std.proofs.Common.{◌≡◌, ◌+◌, ◌-◌, ◌*◌, ◌≤◌, List, ℕ, ap, ◌∙◌, arith}
 use Rattle.grouping_laws.specs.Grouping.{counts}
 use Rattle.grouping_judge.specs.CountList.{count_at}
 use Rattle.complete_lists.specs.Told.{still_wanted}

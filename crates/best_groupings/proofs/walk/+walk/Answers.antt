@@ -1,21 +1,20 @@
-use Rattle.std.proofs.Common.{◌≡◌, ◌+◌, ◌<◌, ◌^◌, ℕ, List, [], ◌∷◌, drop, length, Ok, Err, refl, sym, ap, ◌∙◌, subst, arith, rules, inl, add-zero}
+use Rattle.std.proofs.Common.{◌≡◌, ◌+◌, List, drop, refl, sym, ap, ◌∙◌, subst, arith}
 use Rattle.std.proofs.lemmas.List.{drop_all}
 use Rattle.grouping_problem.specs.ProblemValue.{problem_of}
 use Rattle.certificate_text.specs.Trees.{tree_of, leaf_of, list_of_takes}
 use Rattle.certificate_text.specs.declared.tree.Tree.{out-Tree}
-use Rattle.certificate_text.specs.declared.tree.Take.{Take, out-Take}
+use Rattle.certificate_text.specs.declared.tree.Take.{out-Take}
 use Rattle.certificate_text.specs.declared.tree.Branch.{Branch, out-Branch}
 use Rattle.certificate_text.proofs.TreeViews.{list_onto}
 use Rattle.proof_trees.specs.Proving.{limit_of}
 use Rattle.proof_trees.specs.State.{close, raise}
 use Rattle.proof_trees.specs.RoundValue.{round_of}
-use Rattle.proof_trees.specs.Tree.{Takes, Tree, leaf, take, branch, no_take}
+use Rattle.proof_trees.specs.Tree.{leaf, take, branch, no_take}
 use Rattle.verdicts.specs.Lines.{tree_lines, takes_lines}
-use Rattle.best_groupings.specs.declared.walk.Found.{Found}
 use Rattle.best_groupings.specs.Positions.{IsPosition}
-use Rattle.best_groupings.specs.Walking.{IsTreeAt, AreAt, AreTakesAt, IsProofAt}
+use Rattle.best_groupings.specs.Walking.{AreTakesAt, IsProofAt}
 use Rattle.best_groupings.proofs.Journeys.{GoesOnTakes, GoesOnTree}
-use Rattle.best_groupings.proofs.WalkLemmas.{going_start, going_walked, going_stops}
+use Rattle.best_groupings.proofs.WalkLemmas.{going_start, going_walked}
 use Rattle.best_groupings.proofs.TreeParts.{tree_view, left_takes, left_tree, next_take, later_takes, takes_going, takes_stop, takes_of_branch, raised_tree, tree_going, tree_stop, takes_end}
 use Rattle.best_groupings.proofs.walk.+walk.Goals as goal
 

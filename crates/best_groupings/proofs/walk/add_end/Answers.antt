@@ -3,10 +3,9 @@ use Rattle.std.proofs.lemmas.Bool.Decides.{nat_tests}
 use Rattle.std.proofs.lemmas.List.{length-map}
 use Rattle.county_codes.specs.declared.county.County.{County}
 use Rattle.county_codes.specs.Counties.{codes_of}
-use Rattle.grouping_laws.specs.Sets.{digit, total, stands, member}
+use Rattle.grouping_laws.specs.Sets.{total, stands}
 use Rattle.grouping_judge.specs.CountList.{count_at}
 use Rattle.grouping_problem.specs.ProblemValue.{problem_of}
-use Rattle.certificate_lines.specs.declared.item.Allowance.{Allowance}
 use Rattle.certificate_text.specs.Trees.{allowance_of}
 use Rattle.proof_trees.specs.RoundValue.{round_of}
 use Rattle.complete_lists.specs.Ends.{wanted, falls_short}

@@ -1,7 +1,6 @@
-use Rattle.std.proofs.Common.{List, ℕ, map, filter, sym, ap, ◌∙◌}
+use Rattle.std.proofs.Common.{List, ℕ, map, sym, ap, ◌∙◌}
 use Rattle.county_codes.specs.declared.county.County.{County}
 use Rattle.county_codes.specs.Counties.{codes_of}
-use Rattle.grouping_laws.specs.Sets.{member}
 use Rattle.best_groupings.specs.Positions.{waiting}
 use Rattle.best_groupings.proofs.PositionLemmas.{kept_own, mapped_codes}
 use Rattle.best_groupings.proofs.position.Position.first.Goals as goal

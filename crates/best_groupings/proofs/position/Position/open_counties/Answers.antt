@@ -1,4 +1,4 @@
-use Rattle.std.proofs.Common.{◌≡◌, ◌+◌, ℕ, Bool, cond, List, filter, take, length, nat_le, ap, ◌∙◌, arith, take_all}
+use Rattle.std.proofs.Common.{◌≡◌, ◌+◌, cond, List, filter, take, nat_le, ap, ◌∙◌, arith, take_all}
 use Rattle.grouping_laws.specs.Sets.{total}
 use Rattle.best_groupings.specs.declared.position.Waiting.{Waiting}
 use Rattle.best_groupings.proofs.PositionLemmas.{within, beyond, kept_more, kept_number, open_number}

@@ -1,4 +1,4 @@
-use Rattle.std.proofs.Common.{◌≡◌, List, ℕ, ◌∷◌, ◌++◌, [], not, filter, sym, ap, ◌∙◌}
+use Rattle.std.proofs.Common.{List, ℕ, ◌∷◌, ◌++◌, [], not, filter, ap, ◌∙◌}
 use Rattle.grouping_laws.specs.Sets.{member}
 use Rattle.best_groupings.specs.declared.position.Waiting.{Waiting}
 use Rattle.best_groupings.proofs.PositionLemmas.{closed_position}
