@@ -1,0 +1,47 @@
+-- What is answered of a text that should list all best groupings.
+use Rattle.std.specs.Prelude.{ℕ, ◌≡◌, List, map, Some, ⊤}
+use Rattle.grouping_laws.specs.Problem.{Problem}
+use Rattle.county_codes.specs.declared.group.Grouping.{Grouping as GroupingHeld}
+use Rattle.grouping_judge.specs.CountList.{count_at}
+use Rattle.grouping_laws.specs.Grouping.{Grouping, counts, sets_of}
+use Rattle.proof_trees.specs.RoundValue.{target_of}
+use Rattle.proof_trees.specs.State.{empty_state}
+use Rattle.proof_trees.specs.Certificate.{IsCertificate}
+use Rattle.certificate_text.specs.declared.certificate.Certificate.{Certificate as CertificateHeld}
+use Rattle.certificate_text.specs.Trees.{Certificate, certificate_of}
+use Rattle.certificate_text.specs.Spelled.{IsSpelling}
+use Rattle.certificate_checker.specs.Answered.{IsAnswer}
+use Rattle.certificate_checker.specs.declared.verdict.Verdict.TheVariants as verdict
+use Rattle.complete_lists.specs.AllBest.{AreAllBest}
+use Rattle.complete_lists.specs.Complete.{IsComplete}
+use Rattle.best_groupings.specs.declared.listing.Listing.{Listing}
+use Rattle.best_groupings.specs.declared.listing.Listing.TheVariants.{All, Open, Impossible, No, Budget}
+use Rattle.best_groupings.specs.Gaps.{IsFirstGap, first_line}
+use Rattle.best_groupings.specs.InOrder.{AreInOrder}
+use Rattle.best_groupings.specs.Walking.{groups_in}
+
+-- the text spells this certificate of the problem, which has a target
+pub record SpellsTarget (p : Problem) (text : List ℕ) (c : Certificate) : Type 0 where
+  pub spelling : IsSpelling text c
+  pub certificate : IsCertificate p c.round c.tree
+  pub target : (t : Grouping) × (c.round.target ≡ Some t)
+
+-- the certificate that was read, with its target and the target's counts
+pub record IsReady (p : Problem) (text : List ℕ) (c : CertificateHeld) (target : GroupingHeld) (wanted : List ℕ) : Type 0 where
+  pub spells : SpellsTarget p text (certificate_of c)
+  pub target_is : target_of c.round.target ≡ Some (groups_in target)
+  pub counts_are : (i : ℕ) → count_at wanted i ≡ counts (sets_of (groups_in target)) i
+
+-- All comes of a certificate with a target and a complete tree, Open of one with a target whose tree has its first gap there. Any other
+-- answer is that of the checker.
+abbrev pub IsListing : Problem → List ℕ → ℕ → Listing → Type 0
+IsListing p text budget (All list) = (c : Certificate) × SpellsTarget p text c × IsComplete c.tree p c.round (empty_state p)
+IsListing p text budget (Open gap line) = (c : Certificate) × SpellsTarget p text c × IsFirstGap c.tree p c.round (empty_state p) (first_line c.round) gap line
+IsListing p text budget Impossible = IsAnswer p text budget verdict.Impossible
+IsListing p text budget (No fault line) = IsAnswer p text budget (verdict.No fault line)
+IsListing p text budget Budget = IsAnswer p text budget verdict.Budget
+
+-- the groupings are all best groupings, in order
+abbrev pub ListsAllBest : Problem → Listing → Type 0
+ListsAllBest p (All list) = AreAllBest p (map groups_in list.items) × AreInOrder (map groups_in list.items)
+ListsAllBest p _ = ⊤

@@ -1,0 +1,25 @@
+-- What listings and first gaps keep to.
+use Rattle.std.specs.Prelude.{ℕ, ◌≡◌, List, map}
+use Rattle.grouping_laws.specs.Problem.{Problem}
+use Rattle.grouping_laws.specs.Grouping.{Grouping, sets_of}
+use Rattle.proof_trees.specs.Round.{Round}
+use Rattle.proof_trees.specs.State.{State}
+use Rattle.proof_trees.specs.Tree.{Tree}
+use Rattle.complete_lists.specs.AllBest.{AreAllBest}
+use Rattle.complete_lists.specs.Complete.{IsComplete}
+use Rattle.best_groupings.specs.declared.gap.Gap.{Gap}
+use Rattle.best_groupings.specs.Gaps.{IsFirstGap}
+use Rattle.best_groupings.specs.InOrder.{AreInOrder}
+
+-- Two lists of all best groupings of a problem, both in order, have the same sets in the same order.
+abbrev pub ListsAgree : Type 0
+ListsAgree = (p : Problem) (xs ys : List Grouping) → AreAllBest p xs → AreAllBest p ys → AreInOrder xs → AreInOrder ys → map sets_of xs ≡ map sets_of ys
+
+-- A tree is complete, or it has one first gap.
+pub record GapsTell : Type 0 where
+  -- a complete tree has none
+  pub none : (tree : Tree) (p : Problem) (round : Round) (s : State) (line : ℕ) (gap : Gap) (at : ℕ) → IsComplete tree p round s → ¬ IsFirstGap tree p round s line gap at
+  -- two are the same
+  pub one : (tree : Tree) (p : Problem) (round : Round) (s : State) (line : ℕ) (gap other : Gap) (at there : ℕ) → IsFirstGap tree p round s line gap at → IsFirstGap tree p round s line other there → (gap ≡ other) × (at ≡ there)
+  -- it can't be that a tree has none and isn't complete
+  pub some : (tree : Tree) (p : Problem) (round : Round) (s : State) (line : ℕ) → ((gap : Gap) (at : ℕ) → ¬ IsFirstGap tree p round s line gap at) → (IsComplete tree p round s → ⊥) → ⊥
