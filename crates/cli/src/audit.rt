@@ -6,10 +6,11 @@ ghost use Rattle.shelves.specs.History.{History};
 ghost use Rattle.program_answers.specs.Answers.{answer_of, Comes};
 ghost use Rattle.command_runs.specs.JudgeCourse.{audit_step, audit_course};
 
+use crate::end::{End, Ending};
 use crate::files::load_grouping;
 use crate::plan_files::{load_assignments, load_blocks};
 use crate::problem::load_problem;
-use baf_auditor::{Assignment, audit as audit_plan};
+use baf_auditor::{Assignment, Findings, audit as audit_plan};
 use command_words::AuditWords;
 use county_codes::Grouping;
 use grouping_problem::Problem;
@@ -19,22 +20,33 @@ use program_answers::{Answer, Refusal};
 use shelves::Shelf;
 use std::alloc::Global;
 
+/// The end of an audit with these findings.
+fn audited(findings: Findings, problem: Problem, grouping: Grouping) -> Ending {
+    if findings.list.is_empty() {
+        Ending::Done
+    } else {
+        Ending::Found(findings, problem, grouping)
+    }
+}
+
 /// The text of all findings, with status 0 where there are none, else 1.
 fn all_findings(
     alloc: Global,
-    problem: &Problem,
-    grouping: &Grouping,
+    problem: Problem,
+    grouping: Grouping,
     blocks: &[Block],
     lines: &[Assignment],
+    end: &mut End,
 ) -> Result<Answer, Refusal>
     requires fits { All (λ block. block.code < 1000000000000000) blocks.now }
     requires ascending { IsStrictlyIncreasing (map (λ block. block.code) blocks.now) }
     requires few { length lines.now ≤ 4000000 }
-    ensures { (history : History) → Comes answer_of result (audit_step problem.now grouping.now.groups.items blocks.now lines.now history history) }
+    ensures { (history : History) → Comes answer_of result (audit_step problem grouping.groups.items blocks.now lines.now history history) }
 {
-    let findings = audit_plan(alloc, problem, grouping, blocks, lines)?;
+    let findings = audit_plan(alloc, &problem, &grouping, blocks, lines)?;
     let text = findings_text(alloc, &findings)?;
     let status = if findings.list.is_empty() { 0 } else { 1 };
+    end.note(audited(findings, problem, grouping));
     Ok(Answer { text, status })
 }
 
@@ -44,15 +56,16 @@ pub(crate) fn audit<H: Shelf>(
     alloc: Global,
     words: AuditWords<'_>,
     shelf: &mut H,
+    end: &mut End,
 ) -> Result<Answer, Refusal>
     requires { words.problem.common.state ≤ 99 }
     ensures course { Comes answer_of result (audit_course (H.contents shelf.old) words.entry (H.history shelf.old) (H.history shelf.new)) }
     ensures same { H.contents shelf.new ≡ H.contents shelf.old }
     ensures kept { H.stored shelf.new ≡ H.stored shelf.old }
 {
-    let problem = load_problem(alloc, words.problem, shelf)?;
-    let blocks = load_blocks(alloc, words.problem.common, shelf)?;
-    let grouping = load_grouping(alloc, words.grouping, shelf)?;
-    let lines = load_assignments(alloc, words.assignments, shelf)?;
-    all_findings(alloc, &problem, &grouping, &blocks, &lines)
+    let problem = load_problem(alloc, words.problem, shelf, end)?;
+    let blocks = load_blocks(alloc, words.problem.common, shelf, end)?;
+    let grouping = load_grouping(alloc, words.grouping, shelf, end)?;
+    let lines = load_assignments(alloc, words.assignments, shelf, end)?;
+    all_findings(alloc, problem, grouping, &blocks, &lines, end)
 }

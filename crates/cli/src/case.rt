@@ -13,6 +13,7 @@ ghost use Rattle.cli.specs.Delivery.{texts};
 ghost use Rattle.cli.specs.CaseRun.{stored_text, WordsOver, IsCaseAnswer, IsWhole, IsReadAnswer, DeliversCase};
 
 use crate::command::{deliver, words_answer};
+use crate::end::{End, Ending};
 use field_lines::{Piece, RawLines, Source};
 use program_answers::{Answer, MEMORY};
 use shelves::{MemoryFile, MemoryShelf, Sink, WholeFault, read_whole};
@@ -150,24 +151,56 @@ fn words_over_files(
     alloc: Global,
     line: &str,
     mut files: Vec<MemoryFile>,
+    end: &mut End,
 ) -> Result<Answer, AllocError>
     ensures { IfOk result (λ a. WordsOver (reverse (files_of files.items)) (slice_split (λ b. b == 32) line.now) (answer_of a)) }
 {
     files.reverse();
     let mut shelf = MemoryShelf::new(alloc, files);
     let words = words_in(alloc, line)?;
-    let mut answer = words_answer(alloc, &words, &mut shelf)?;
+    let mut answer = words_answer(alloc, &words, &mut shelf, end)?;
     push_stored(&mut answer.text, shelf.stored_files())?;
     Ok(answer)
 }
 
 /// The answer to the text of a case, if its first line and its files' names are text.
-fn case_answer(alloc: Global, text: &[u8]) -> Result<Option<Answer>, AllocError>
+fn case_answer(alloc: Global, text: &[u8], end: &mut End) -> Result<Option<Answer>, AllocError>
     ensures { IfOk result (λ a. IsCaseAnswer text.now (option_map answer_of a)) }
 {
     match parts_in(alloc, text)? {
-        Some((line, files)) => Ok(Some(words_over_files(alloc, line, files)?)),
-        None => Ok(None),
+        Some((line, files)) => Ok(Some(words_over_files(alloc, line, files, end)?)),
+        None => {
+            end.note(Ending::CaseNotText);
+            Ok(None)
+        }
+    }
+}
+
+/// Reads and runs a case, and answers the exit status and how the run ended. All that `run_case` promises holds of it and of its status.
+pub fn run_case_with_end<R: Source, W: Sink>(alloc: Global, input: &mut R, out: &mut W) -> (u8, End)
+    requires { R.is_failed input.old ≡ false }
+    ensures { (read : Result (List ℕ) WholeFault)
+        × IsWhole (R.content input.old) (R.is_failed input.new) read
+        × (a : Option Answered)
+        × IsReadAnswer read a
+        × DeliversCase out.old out.new W.is_failed W.contents a result.0 }
+{
+    let mut end = End::new();
+    match read_whole(alloc, input, MAX_CASE) {
+        Ok(text) => match case_answer(alloc, &text, &mut end) {
+            Ok(Some(answer)) => (deliver(out, &answer.text, answer.status), end),
+            Ok(None) => (2, end),
+            Err(AllocError) => (deliver(out, MEMORY, 5), end),
+        },
+        Err(WholeFault::TooLarge) => {
+            end.note(Ending::CaseTooLarge);
+            (deliver(out, b"refused case TooLarge line 0\n", 4), end)
+        }
+        Err(WholeFault::Failed) => {
+            end.note(Ending::CaseUnread);
+            (deliver(out, b"device case Device\n", 5), end)
+        }
+        Err(WholeFault::Memory) => (deliver(out, MEMORY, 5), end),
     }
 }
 
@@ -182,14 +215,5 @@ pub fn run_case<R: Source, W: Sink>(alloc: Global, input: &mut R, out: &mut W) -
         × IsReadAnswer read a
         × DeliversCase out.old out.new W.is_failed W.contents a result }
 {
-    match read_whole(alloc, input, MAX_CASE) {
-        Ok(text) => match case_answer(alloc, &text) {
-            Ok(Some(answer)) => deliver(out, &answer.text, answer.status),
-            Ok(None) => 2,
-            Err(AllocError) => deliver(out, MEMORY, 5),
-        },
-        Err(WholeFault::TooLarge) => deliver(out, b"refused case TooLarge line 0\n", 4),
-        Err(WholeFault::Failed) => deliver(out, b"device case Device\n", 5),
-        Err(WholeFault::Memory) => deliver(out, MEMORY, 5),
-    }
+    run_case_with_end(alloc, input, out).0
 }

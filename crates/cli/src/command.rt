@@ -9,6 +9,7 @@ ghost use Rattle.cli.specs.Ends.{said_of};
 
 use crate::audit::audit;
 use crate::check::check;
+use crate::end::{End, Ending};
 use crate::judge::judge;
 use crate::size::size;
 use crate::solve::solve;
@@ -22,6 +23,7 @@ fn command_end<H: Shelf>(
     alloc: Global,
     command: CommandWords<'_>,
     shelf: &mut H,
+    end: &mut End,
 ) -> Result<Answer, Refusal>
     requires { HasState command }
     ensures { (stored : List File)
@@ -29,11 +31,11 @@ fn command_end<H: Shelf>(
         × CommandRun (H.contents shelf.old) command.entry (H.history shelf.old) (H.history shelf.new) stored (said_by result) }
 {
     match command {
-        CommandWords::Size(words) => size(alloc, words, shelf),
-        CommandWords::Judge(words) => judge(alloc, words, shelf),
-        CommandWords::Solve(words) => solve(alloc, words, shelf),
-        CommandWords::Check(words) => check(alloc, words, shelf),
-        CommandWords::Audit(words) => audit(alloc, words, shelf),
+        CommandWords::Size(words) => size(alloc, words, shelf, end),
+        CommandWords::Judge(words) => judge(alloc, words, shelf, end),
+        CommandWords::Solve(words) => solve(alloc, words, shelf, end),
+        CommandWords::Check(words) => check(alloc, words, shelf, end),
+        CommandWords::Audit(words) => audit(alloc, words, shelf, end),
     }
 }
 
@@ -42,28 +44,41 @@ fn command_answer<H: Shelf>(
     alloc: Global,
     command: CommandWords<'_>,
     shelf: &mut H,
+    end: &mut End,
 ) -> Result<Answer, AllocError>
     requires { HasState command }
     ensures { (stored : List File)
         × HasStored (H.contents shelf.old) (H.contents shelf.new) (H.stored shelf.old) (H.stored shelf.new) stored
         × CommandRun (H.contents shelf.old) command.entry (H.history shelf.old) (H.history shelf.new) stored (said_of result) }
 {
-    match command_end(alloc, command, shelf) {
+    match command_end(alloc, command, shelf, end) {
         Ok(answer) => Ok(answer),
         Err(Refusal::Shown(answer)) => Ok(answer),
-        Err(Refusal::Memory) => Err(AllocError),
+        Err(Refusal::Memory) => {
+            end.note(Ending::Memory);
+            Err(AllocError)
+        }
     }
 }
 
 /// The answer to words that give no command.
-fn end_answer(alloc: Global, end: &WordsEnd) -> Result<Answer, AllocError>
-    ensures { IfOk result (λ a. IsEndAnswer end.now (answer_of a)) }
+fn end_answer(alloc: Global, words_end: &WordsEnd) -> Result<Answer, AllocError>
+    ensures { IfOk result (λ a. IsEndAnswer words_end.now (answer_of a)) }
 {
-    match end {
+    match words_end {
         WordsEnd::Help(text) | WordsEnd::Version(text) => Answer::new(alloc, text.as_bytes(), 0),
         WordsEnd::Usage(text) => Answer::new(alloc, text.as_bytes(), 2),
         WordsEnd::Memory => Answer::new(alloc, MEMORY, 5),
     }
+}
+
+/// The answer to words that give no command; they are noted as the end of the run.
+fn words_end_answer(alloc: Global, words_end: WordsEnd, end: &mut End) -> Result<Answer, AllocError>
+    ensures { IfOk result (λ a. IsEndAnswer words_end (answer_of a)) }
+{
+    let answer = end_answer(alloc, &words_end)?;
+    end.note(Ending::Words(words_end));
+    Ok(answer)
 }
 
 /// The answer to the words, or that a growth was refused.
@@ -71,14 +86,15 @@ pub(crate) fn words_answer<H: Shelf>(
     alloc: Global,
     words: &[&str],
     shelf: &mut H,
+    end: &mut End,
 ) -> Result<Answer, AllocError>
     ensures { (stored : List File)
         × HasStored (H.contents shelf.old) (H.contents shelf.new) (H.stored shelf.old) (H.stored shelf.new) stored
         × IsRunAnswer (H.contents shelf.old) (texts words.now) (H.history shelf.old) (H.history shelf.new) stored (said_of result) }
 {
     match parse(alloc, words) {
-        Ok(command) => command_answer(alloc, command, shelf),
-        Err(end) => end_answer(alloc, &end),
+        Ok(command) => command_answer(alloc, command, shelf, end),
+        Err(words_end) => words_end_answer(alloc, words_end, end),
     }
 }
 
@@ -89,6 +105,25 @@ pub(crate) fn deliver<W: Sink>(out: &mut W, text: &[u8], status: u8) -> u8
     match out.put(text) {
         Ok(()) => status,
         Err(_) => 5,
+    }
+}
+
+/// Runs one command, and answers the exit status and how the run ended. All that `run` promises holds of it and of its status.
+pub fn run_with_end<H: Shelf, W: Sink>(
+    alloc: Global,
+    words: &[&str],
+    shelf: &mut H,
+    out: &mut W,
+) -> (u8, End)
+    ensures { (a : Answered) × (stored : List File)
+        × HasStored (H.contents shelf.old) (H.contents shelf.new) (H.stored shelf.old) (H.stored shelf.new) stored
+        × IsRunAnswer (H.contents shelf.old) (texts words.now) (H.history shelf.old) (H.history shelf.new) stored a
+        × Delivers (W.is_failed out.new) (W.contents out.old) (W.contents out.new) a result.0 }
+{
+    let mut end = End::new();
+    match words_answer(alloc, words, shelf, &mut end) {
+        Ok(answer) => (deliver(out, &answer.text, answer.status), end),
+        Err(AllocError) => (deliver(out, MEMORY, 5), end),
     }
 }
 
@@ -107,8 +142,5 @@ pub fn run<H: Shelf, W: Sink>(alloc: Global, words: &[&str], shelf: &mut H, out:
         × IsRunAnswer (H.contents shelf.old) (texts words.now) (H.history shelf.old) (H.history shelf.new) stored a
         × Delivers (W.is_failed out.new) (W.contents out.old) (W.contents out.new) a result }
 {
-    match words_answer(alloc, words, shelf) {
-        Ok(answer) => deliver(out, &answer.text, answer.status),
-        Err(AllocError) => deliver(out, MEMORY, 5),
-    }
+    run_with_end(alloc, words, shelf, out).0
 }

@@ -5,6 +5,7 @@ mod audit;
 mod case;
 mod check;
 mod command;
+mod end;
 mod files;
 mod judge;
 mod plan_files;
@@ -14,8 +15,9 @@ mod size;
 mod solve;
 mod storing;
 
-pub use case::{MAX_CASE, run_case};
-pub use command::run;
+pub use case::{MAX_CASE, run_case, run_case_with_end};
+pub use command::{run, run_with_end};
+pub use end::{End, Ending, FileFault, FileOption};
 pub use program::run_program;
 pub use shelves::{
     FileShelf, LoadLog, MAX_FILE, MemoryFile, MemoryShelf, Shelf, ShelfFault, Sink, SinkFault,

@@ -6,7 +6,8 @@ ghost use Rattle.shelves.specs.History.{History};
 ghost use Rattle.program_answers.specs.Answers.{Comes};
 ghost use Rattle.command_runs.specs.PlanCourse.{blocks_in, blocks_of, assignments_in, assignments_of};
 
-use crate::files::load;
+use crate::end::{End, Ending, FileFault, FileOption};
+use crate::files::{census_refused, load};
 use baf_auditor::{Assignment, read_assignments};
 use command_words::CommonWords;
 use pl94_counties::{Block, read_blocks};
@@ -15,15 +16,24 @@ use shelves::Shelf;
 use std::alloc::Global;
 
 /// The census blocks that two files give.
-fn blocks_from(alloc: Global, geo: &[u8], segment: &[u8], state: u8) -> Result<Vec<Block>, Refusal>
+fn blocks_from(
+    alloc: Global,
+    geo: Vec<u8>,
+    segment: Vec<u8>,
+    state: u8,
+    end: &mut End,
+) -> Result<Vec<Block>, Refusal>
     requires { state ≤ 99 }
-    ensures course { (history : History) → Comes (λ v. v.items) result (blocks_in state geo.now segment.now history history) }
+    ensures course { (history : History) → Comes (λ v. v.items) result (blocks_in state geo.items segment.items history history) }
     ensures ascending { IfOk result (λ v. IsStrictlyIncreasing (map (λ b. b.code) v.items)) }
     ensures small { IfOk result (λ v. All (λ b. b.code < 1000000000000000) v.items) }
 {
-    match read_blocks(alloc, geo, segment, state) {
+    match read_blocks(alloc, &geo, &segment, state) {
         Ok(blocks) => Ok(blocks),
-        Err(fault) => Err(refuse_file(alloc, fault)),
+        Err(fault) => {
+            end.note(census_refused(fault, geo, segment));
+            Err(refuse_file(alloc, fault))
+        }
     }
 }
 
@@ -32,6 +42,7 @@ pub(crate) fn load_blocks<H: Shelf>(
     alloc: Global,
     words: CommonWords<'_>,
     shelf: &mut H,
+    end: &mut End,
 ) -> Result<Vec<Block>, Refusal>
     requires { words.state ≤ 99 }
     ensures course { Comes (λ v. v.items) result (blocks_of (H.contents shelf.old) words.entry (H.history shelf.old) (H.history shelf.new)) }
@@ -40,19 +51,22 @@ pub(crate) fn load_blocks<H: Shelf>(
     ensures same { H.contents shelf.new ≡ H.contents shelf.old }
     ensures kept { H.stored shelf.new ≡ H.stored shelf.old }
 {
-    let geo = load(alloc, words.geo, shelf)?;
-    let segment = load(alloc, words.segment, shelf)?;
-    blocks_from(alloc, &geo, &segment, words.state)
+    let geo = load(alloc, FileOption::Geo, words.geo, shelf, end)?;
+    let segment = load(alloc, FileOption::Segment, words.segment, shelf, end)?;
+    blocks_from(alloc, geo, segment, words.state, end)
 }
 
 /// The assignments that a file gives.
-fn assignments_from(alloc: Global, text: &[u8]) -> Result<Vec<Assignment>, Refusal>
-    ensures course { (history : History) → Comes (λ v. v.items) result (assignments_in text.now history history) }
+fn assignments_from(alloc: Global, text: Vec<u8>, end: &mut End) -> Result<Vec<Assignment>, Refusal>
+    ensures course { (history : History) → Comes (λ v. v.items) result (assignments_in text.items history history) }
     ensures few { IfOk result (λ v. vec_len v ≤ 4000000) }
 {
-    match read_assignments(alloc, text) {
+    match read_assignments(alloc, &text) {
         Ok(lines) => Ok(lines),
-        Err(fault) => Err(refuse_assignments(alloc, fault)),
+        Err(fault) => {
+            end.note(Ending::Refused(FileOption::Assignments, FileFault::Assignments(fault), text));
+            Err(refuse_assignments(alloc, fault))
+        }
     }
 }
 
@@ -61,12 +75,13 @@ pub(crate) fn load_assignments<H: Shelf>(
     alloc: Global,
     name: &str,
     shelf: &mut H,
+    end: &mut End,
 ) -> Result<Vec<Assignment>, Refusal>
     ensures course { Comes (λ v. v.items) result (assignments_of (H.contents shelf.old) name.now (H.history shelf.old) (H.history shelf.new)) }
     ensures few { IfOk result (λ v. vec_len v ≤ 4000000) }
     ensures same { H.contents shelf.new ≡ H.contents shelf.old }
     ensures kept { H.stored shelf.new ≡ H.stored shelf.old }
 {
-    let text = load(alloc, name, shelf)?;
-    assignments_from(alloc, &text)
+    let text = load(alloc, FileOption::Assignments, name, shelf, end)?;
+    assignments_from(alloc, text, end)
 }

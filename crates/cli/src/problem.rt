@@ -5,6 +5,7 @@ ghost use Rattle.shelves.specs.History.{History};
 ghost use Rattle.program_answers.specs.Answers.{Comes};
 ghost use Rattle.command_runs.specs.ProblemCourse.{build_step, problem_in};
 
+use crate::end::End;
 use crate::files::{load_adjacency, load_counties, load_withdrawn};
 use command_words::ProblemWords;
 use county_codes::{County, CountyCode, Withdrawn};
@@ -20,12 +21,16 @@ pub(crate) fn build(
     pairs: &[(CountyCode, CountyCode)],
     withdrawn: &[Withdrawn],
     chamber: u16,
+    end: &mut End,
 ) -> Result<Problem, Refusal>
     ensures { (history : History) → Comes (λ p. p) result (build_step chamber counties.now pairs.now withdrawn.now history history) }
 {
     match Problem::build(alloc, counties, pairs, withdrawn, chamber) {
         Ok(problem) => Ok(problem),
-        Err(fault) => Err(refuse_problem(alloc, fault)),
+        Err(fault) => {
+            end.note_problem(&fault);
+            Err(refuse_problem(alloc, fault))
+        }
     }
 }
 
@@ -34,14 +39,22 @@ pub(crate) fn load_problem<H: Shelf>(
     alloc: Global,
     words: ProblemWords<'_>,
     shelf: &mut H,
+    end: &mut End,
 ) -> Result<Problem, Refusal>
     requires { words.common.state ≤ 99 }
     ensures course { Comes (λ p. p) result (problem_in (H.contents shelf.old) words.entry (H.history shelf.old) (H.history shelf.new)) }
     ensures same { H.contents shelf.new ≡ H.contents shelf.old }
     ensures kept { H.stored shelf.new ≡ H.stored shelf.old }
 {
-    let counties = load_counties(alloc, words.common, shelf)?;
-    let pairs = load_adjacency(alloc, &counties, words, shelf)?;
-    let withdrawn = load_withdrawn(alloc, words.withdrawn, shelf)?;
-    build(alloc, &counties, &pairs, &withdrawn, words.common.chamber)
+    let counties = load_counties(alloc, words.common, shelf, end)?;
+    let pairs = load_adjacency(alloc, &counties, words, shelf, end)?;
+    let withdrawn = load_withdrawn(alloc, words.withdrawn, shelf, end)?;
+    build(
+        alloc,
+        &counties,
+        &pairs,
+        &withdrawn,
+        words.common.chamber,
+        end,
+    )
 }

@@ -7,42 +7,43 @@ ghost use Rattle.command_runs.specs.Run.{IsRunAnswer};
 ghost use Rattle.cli.specs.Delivery.{Delivers, texts};
 ghost use Rattle.cli.specs.CaseRun.{IsWhole, IsReadAnswer, DeliversCase};
 
-use crate::case::run_case;
-use crate::command::run;
+use crate::case::run_case_with_end;
+use crate::command::run_with_end;
+use crate::end::End;
 use field_lines::Source;
 use shelves::{Shelf, Sink};
 use std::alloc::Global;
 
-/// What the program does, and its exit status: with words it runs their command over the shelf's files (`run`); without any it runs the
-/// case that the input holds (`run_case`), and the shelf stays as it was.
+/// What the program does, its exit status, and how the run ended: with words it runs their command over the shelf's files (as `run`); without any it runs the
+/// case that the input holds (as `run_case`), and the shelf stays as it was.
 pub fn run_program<H: Shelf, R: Source, W: Sink>(
     alloc: Global,
     words: &[&str],
     shelf: &mut H,
     input: &mut R,
     out: &mut W,
-) -> u8
+) -> (u8, End)
     requires { R.is_failed input.old ≡ false }
 
     // With words, their command was run over the shelf's files.
     ensures words { words.now ≢ [] → (a : Answered) × (stored : List File)
         × HasStored (H.contents shelf.old) (H.contents shelf.new) (H.stored shelf.old) (H.stored shelf.new) stored
         × IsRunAnswer (H.contents shelf.old) (texts words.now) (H.history shelf.old) (H.history shelf.new) stored a
-        × Delivers (W.is_failed out.new) (W.contents out.old) (W.contents out.new) a result }
+        × Delivers (W.is_failed out.new) (W.contents out.old) (W.contents out.new) a result.0 }
 
     // Without any, the case was run that the input holds.
     ensures case { words.now ≡ [] → (read : Result (List ℕ) WholeFault)
         × IsWhole (R.content input.old) (R.is_failed input.new) read
         × (a : Option Answered)
         × IsReadAnswer read a
-        × DeliversCase out.old out.new W.is_failed W.contents a result }
+        × DeliversCase out.old out.new W.is_failed W.contents a result.0 }
     ensures same { words.now ≡ [] → H.contents shelf.new ≡ H.contents shelf.old }
     ensures kept { words.now ≡ [] → H.stored shelf.new ≡ H.stored shelf.old }
     ensures still { words.now ≡ [] → H.history shelf.new ≡ H.history shelf.old }
 {
     if words.is_empty() {
-        run_case(alloc, input, out)
+        run_case_with_end(alloc, input, out)
     } else {
-        run(alloc, words, shelf, out)
+        run_with_end(alloc, words, shelf, out)
     }
 }

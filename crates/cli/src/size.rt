@@ -4,6 +4,7 @@ ghost use Rattle.std.specs.Prelude.{◌≡◌, ◌≤◌};
 ghost use Rattle.program_answers.specs.Answers.{answer_of, Comes};
 ghost use Rattle.command_runs.specs.JudgeCourse.{size_course};
 
+use crate::end::{End, Ending};
 use crate::files::load_counties;
 use crate::problem::build;
 use command_words::CommonWords;
@@ -17,14 +18,16 @@ pub(crate) fn size<H: Shelf>(
     alloc: Global,
     words: CommonWords<'_>,
     shelf: &mut H,
+    end: &mut End,
 ) -> Result<Answer, Refusal>
     requires { words.state ≤ 99 }
     ensures course { Comes answer_of result (size_course (H.contents shelf.old) words.entry (H.history shelf.old) (H.history shelf.new)) }
     ensures same { H.contents shelf.new ≡ H.contents shelf.old }
     ensures kept { H.stored shelf.new ≡ H.stored shelf.old }
 {
-    let counties = load_counties(alloc, words, shelf)?;
-    let problem = build(alloc, &counties, &[], &[], words.chamber)?;
+    let counties = load_counties(alloc, words, shelf, end)?;
+    let problem = build(alloc, &counties, &[], &[], words.chamber, end)?;
     let text = size_table(alloc, &problem)?;
+    end.note(Ending::Done);
     Ok(Answer { text, status: 0 })
 }

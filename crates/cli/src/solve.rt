@@ -9,6 +9,7 @@ ghost use Rattle.command_runs.specs.Run.{CommandRun};
 ghost use Rattle.command_runs.specs.Texts.{solved_of};
 ghost use Rattle.cli.specs.Ends.{refusal_by};
 
+use crate::end::{End, Ending, FileOption};
 use crate::problem::load_problem;
 use crate::storing::store_named;
 use command_runs::{Solved, solve_and_say};
@@ -22,15 +23,25 @@ fn solve_files<H: Shelf>(
     alloc: Global,
     words: SolveWords<'_>,
     shelf: &mut H,
+    end: &mut End,
 ) -> Result<Solved, Refusal>
     requires { words.problem.common.state ≤ 99 }
     ensures course { Comes solved_of result (solve_course (H.contents shelf.old) words.entry (H.history shelf.old) (H.history shelf.new)) }
     ensures same { H.contents shelf.new ≡ H.contents shelf.old }
     ensures kept { H.stored shelf.new ≡ H.stored shelf.old }
 {
-    let problem = load_problem(alloc, words.problem, shelf)?;
+    let problem = load_problem(alloc, words.problem, shelf, end)?;
     let solved = solve_and_say(alloc, &problem, words.steps)?;
     Ok(solved)
+}
+
+/// The end of a search whose files are stored.
+fn searched(solved: &Solved) -> Ending {
+    match (&solved.certificate, &solved.grouping) {
+        (Some(_), Some(_)) => Ending::Done,
+        (Some(_), None) => Ending::Impossible,
+        (None, _) => Ending::Open,
+    }
 }
 
 /// Stores the certificate and then the grouping, each where there is one and its file is named.
@@ -39,13 +50,28 @@ fn store_solved<H: Shelf>(
     words: SolveWords<'_>,
     solved: &Solved,
     shelf: &mut H,
+    end: &mut End,
 ) -> Result<(), Refusal>
     ensures { (stored : List File)
         × HasStored (H.contents shelf.old) (H.contents shelf.new) (H.stored shelf.old) (H.stored shelf.new) stored
         × store_steps (files_to_store words.entry (solved_of solved.now)) (H.history shelf.old) (H.history shelf.new) stored (refusal_by result) }
 {
-    store_named(alloc, words.certificate, solved.certificate.as_ref(), shelf)?;
-    store_named(alloc, words.out, solved.grouping.as_ref(), shelf)
+    store_named(
+        alloc,
+        FileOption::CertificateOut,
+        words.certificate,
+        solved.certificate.as_ref(),
+        shelf,
+        end,
+    )?;
+    store_named(
+        alloc,
+        FileOption::Out,
+        words.out,
+        solved.grouping.as_ref(),
+        shelf,
+        end,
+    )
 }
 
 /// The best grouping of the problem with its certificate. The problem is built first; then the desk answers; then the
@@ -54,13 +80,22 @@ pub(crate) fn solve<H: Shelf>(
     alloc: Global,
     words: SolveWords<'_>,
     shelf: &mut H,
+    end: &mut End,
 ) -> Result<Answer, Refusal>
     requires { words.problem.common.state ≤ 99 }
     ensures { (stored : List File)
         × HasStored (H.contents shelf.old) (H.contents shelf.new) (H.stored shelf.old) (H.stored shelf.new) stored
         × CommandRun (H.contents shelf.old) (CommandWords.Solve words.entry) (H.history shelf.old) (H.history shelf.new) stored (said_by result) }
 {
-    let solved = solve_files(alloc, words, shelf)?;
-    store_solved(alloc, words, &solved, shelf)?;
-    Ok(solved.answer)
+    let solved = solve_files(alloc, words, shelf, end)?;
+    match store_solved(alloc, words, &solved, shelf, end) {
+        Ok(()) => {
+            end.note(searched(&solved));
+            Ok(solved.answer)
+        }
+        Err(refusal) => {
+            end.note_report(solved.answer.text);
+            Err(refusal)
+        }
+    }
 }

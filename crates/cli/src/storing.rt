@@ -6,35 +6,51 @@ ghost use Rattle.command_runs.specs.Storing.{HasStored, store_steps};
 ghost use Rattle.command_runs.specs.SolveCourse.{named_file};
 ghost use Rattle.cli.specs.Ends.{refusal_by};
 
+use crate::end::{End, FileOption};
 use program_answers::{Refusal, refuse_load};
 use shelves::Shelf;
 use std::alloc::Global;
 
 /// Stores a file, or refuses what the shelf says of it.
-fn store<H: Shelf>(alloc: Global, name: &str, bytes: &[u8], shelf: &mut H) -> Result<(), Refusal>
+fn store<H: Shelf>(
+    alloc: Global,
+    option: FileOption,
+    name: &str,
+    bytes: &[u8],
+    shelf: &mut H,
+    end: &mut End,
+) -> Result<(), Refusal>
     ensures { (stored : List File)
         × HasStored (H.contents shelf.old) (H.contents shelf.new) (H.stored shelf.old) (H.stored shelf.new) stored
         × store_steps (record { name = name.now; bytes = bytes.now } ∷ []) (H.history shelf.old) (H.history shelf.new) stored (refusal_by result) }
 {
     match shelf.store(alloc, name, bytes) {
-        Ok(()) => Ok(()),
-        Err(fault) => Err(refuse_load(alloc, name, fault)),
+        Ok(()) => {
+            end.note_stored(option);
+            Ok(())
+        }
+        Err(fault) => {
+            end.note_unstored(alloc, option, name, fault);
+            Err(refuse_load(alloc, name, fault))
+        }
     }
 }
 
 /// Stores a text, where there is one and its file is named.
 pub(crate) fn store_named<H: Shelf>(
     alloc: Global,
+    option: FileOption,
     name: Option<&str>,
     text: Option<&Vec<u8>>,
     shelf: &mut H,
+    end: &mut End,
 ) -> Result<(), Refusal>
     ensures { (stored : List File)
         × HasStored (H.contents shelf.old) (H.contents shelf.new) (H.stored shelf.old) (H.stored shelf.new) stored
         × store_steps (named_file name.entry (option_map (λ t. t.now.items) text.entry)) (H.history shelf.old) (H.history shelf.new) stored (refusal_by result) }
 {
     match (name, text) {
-        (Some(name), Some(text)) => store(alloc, name, text, shelf),
+        (Some(name), Some(text)) => store(alloc, option, name, text, shelf, end),
         _ => Ok(()),
     }
 }

@@ -6,28 +6,50 @@ ghost use Rattle.certificate_checker.specs.Answered.{NamesBest};
 ghost use Rattle.program_answers.specs.Answers.{answer_of};
 ghost use Rattle.command_runs.specs.CheckCourse.{IsChecked, verdict_said};
 
-use certificate_checker::{Verdict, check};
+use certificate_checker::{CheckFault, Verdict, check};
 use grouping_problem::Problem;
 use grouping_report::{Outcome, report};
 use program_answers::{Answer, budget_answer, no_answer};
 use std::alloc::{AllocError, Global};
 
+/// What `check` says, and the fault of a text that is no certificate.
+#[derive(Drop)]
+pub struct Checked {
+    /// The report with status 0 or 1, or the line that stands in its place, with status 1 or 3.
+    pub answer: Answer,
+    /// The first fault of a text that is no certificate, and its line, which counts from 1; none at every other verdict.
+    pub fault: Option<(CheckFault, u64)>,
+}
+
+/// What is said where a text isn't refuted.
+fn unrefuted(answer: Answer) -> Checked
+    ensures { result.answer ≡ answer }
+{
+    Checked {
+        answer,
+        fault: None,
+    }
+}
+
 /// What is said of a verdict.
-fn say(alloc: Global, problem: &Problem, verdict: Verdict) -> Result<Answer, AllocError>
+fn say(alloc: Global, problem: &Problem, verdict: Verdict) -> Result<Checked, AllocError>
     requires { NamesBest (problem_of problem.now) verdict }
-    ensures { IfOk result (λ a. answer_of a ≡ verdict_said problem.now verdict) }
+    ensures { IfOk result (λ c. answer_of c.answer ≡ verdict_said problem.now verdict) }
 {
     match verdict {
-        Verdict::Best(grouping) => Ok(Answer {
+        Verdict::Best(grouping) => Ok(unrefuted(Answer {
             text: report(alloc, problem, &Outcome::Best(grouping))?,
             status: 0,
-        }),
-        Verdict::Impossible => Ok(Answer {
+        })),
+        Verdict::Impossible => Ok(unrefuted(Answer {
             text: report(alloc, problem, &Outcome::Impossible)?,
             status: 1,
+        })),
+        Verdict::No(fault, line) => Ok(Checked {
+            answer: no_answer(alloc, fault, line)?,
+            fault: Some((fault, line)),
         }),
-        Verdict::No(fault, line) => no_answer(alloc, fault, line),
-        Verdict::Budget => budget_answer(alloc),
+        Verdict::Budget => Ok(unrefuted(budget_answer(alloc)?)),
     }
 }
 
@@ -41,8 +63,8 @@ pub fn check_and_say(
     problem: &Problem,
     text: &[u8],
     budget: u64,
-) -> Result<Answer, AllocError>
-    ensures { IfOk result (λ a. IsChecked problem.now budget text.now (answer_of a)) }
+) -> Result<Checked, AllocError>
+    ensures { IfOk result (λ c. IsChecked problem.now budget text.now (answer_of c.answer)) }
 {
     let verdict = check(alloc, problem, text, budget)?;
     say(alloc, problem, verdict)

@@ -9,6 +9,6 @@ mod checker_report;
 mod desk_report;
 mod laws;
 
-pub use checker_report::check_and_say;
+pub use checker_report::{Checked, check_and_say};
 pub use desk_report::{Solved, solve_and_say};
 pub use laws::{runs_agree, runs_are_of_their_loads};

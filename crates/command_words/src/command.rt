@@ -12,7 +12,7 @@ const ABOUT: &str =
 
 /// What `--version` says after the program's name.
 const VERSION: &str =
-    "0.1.0 (Rattle kit 13f, logic dac8208d650f15bf; rt keeps the program only where all of it is proved)";
+    "0.1.0 (Rattle kit 13f, logic dac8208d650f15bf; the program can't tell whether its build was proved: `rt run` proves it first, `rt try` doesn't)";
 
 /// What `--help` ends with.
 const AFTER_HELP: &str = "\
@@ -29,6 +29,75 @@ Exit status:
 
 A file's name is its path: `/dev/stdin` is standard input, and `-` a file of that name. The
 layouts are told in docs/formats.md, and how to read the answers in docs/guide.md.";
+
+/// What `size --help` ends with.
+const AFTER_SIZE: &str = "\
+Example:
+  countygroups size --geo nc2020geo.pl --segment nc000012020.pl --chamber 120
+
+Exit status:
+  0  the table
+  2  the words are no command
+  4  a file or the problem was refused
+  5  a file could not be read, memory was refused, or the answer could not be written";
+
+/// What `judge --help` ends with.
+const AFTER_JUDGE: &str = "\
+Example:
+  countygroups judge --geo nc2020geo.pl --segment nc000012020.pl --chamber 50 \\
+      --adjacency county_adjacency2023.txt --grouping senate2023.grouping
+
+Exit status:
+  0  the grouping is lawful
+  1  it isn't, and this is its first fault
+  2  the words are no command
+  4  a file or the problem was refused
+  5  a file could not be read, memory was refused, or the answer could not be written";
+
+/// What `solve --help` ends with.
+const AFTER_SOLVE: &str = "\
+Example:
+  countygroups solve --geo nc2020geo.pl --segment nc000012020.pl --chamber 50 \\
+      --adjacency county_adjacency2023.txt --certificate senate.certificate --out senate.grouping
+
+Exit status:
+  0  the grouping is the best one; it and its certificate are stored
+  1  no grouping is lawful; the certificate of it is stored
+  2  the words are no command
+  3  the steps ran out; a lawful grouping that was found is stored
+  4  a file or the problem was refused
+  5  a file could not be read or stored, memory was refused, or the answer could not be written";
+
+/// What `check --help` ends with.
+const AFTER_CHECK: &str = "\
+Example:
+  countygroups check --geo nc2020geo.pl --segment nc000012020.pl --chamber 50 \\
+      --adjacency county_adjacency2023.txt --certificate senate.certificate
+
+Exit status:
+  0  the certificate proves that its grouping is the best one
+  1  it proves that no grouping is lawful, or the text is no certificate of these files
+  2  the words are no command
+  3  the budget ran out
+  4  a file or the problem was refused
+  5  a file could not be read, memory was refused, or the answer could not be written";
+
+/// What `audit --help` ends with.
+const AFTER_AUDIT: &str = "\
+It tells each district that crosses two groups or has too many or too few people, each group with
+another number of districts than seats, and each block that is unknown, named twice or in no district.
+Whether districts are contiguous or compact, and the Voting Rights Act, are not looked at.
+
+Example:
+  countygroups audit --geo ncgeo2020.pl --segment nc000012020.pl --chamber 50 \\
+      --adjacency county_adjacency2023.txt --grouping senate.grouping --assignments plan.csv
+
+Exit status:
+  0  nothing was found
+  1  something was found, or the grouping isn't lawful
+  2  the words are no command
+  4  a file or the problem was refused
+  5  a file could not be read, memory was refused, or the answer could not be written";
 
 /// An option `--name VALUE`.
 fn text_option<'a>(alloc: Global, name: &'a str, value_name: &'a str, help: &'a str) -> Arg<'a>
@@ -120,7 +189,9 @@ fn with_problem_options<'a>(alloc: Global, command: Command<'a>) -> Result<Comma
 fn size_command<'a>(alloc: Global) -> Result<Command<'a>, AllocError>
     ensures { IfOk result (λ c. HasShape c (subcommand (codes "size") common_options)) }
 {
-    let size = Command::new(alloc, "size").about("Prints how many seats each county's people suit");
+    let size = Command::new(alloc, "size")
+        .about("Prints how many seats each county's people suit")
+        .after_help(AFTER_SIZE);
     with_common_options(alloc, size)
 }
 
@@ -128,7 +199,9 @@ fn size_command<'a>(alloc: Global) -> Result<Command<'a>, AllocError>
 fn judge_command<'a>(alloc: Global) -> Result<Command<'a>, AllocError>
     ensures { IfOk result (λ c. HasShape c (subcommand (codes "judge") judge_options)) }
 {
-    let judge = Command::new(alloc, "judge").about("Judges whether a grouping is lawful");
+    let judge = Command::new(alloc, "judge")
+        .about("Judges whether a grouping is lawful")
+        .after_help(AFTER_JUDGE);
     let made = with_problem_options(alloc, judge);
     let grouping = file_option(alloc, "grouping", "The groups, each with its seats");
     with_option(made, grouping)
@@ -138,7 +211,9 @@ fn judge_command<'a>(alloc: Global) -> Result<Command<'a>, AllocError>
 fn solve_command<'a>(alloc: Global) -> Result<Command<'a>, AllocError>
     ensures { IfOk result (λ c. HasShape c (subcommand (codes "solve") solve_options)) }
 {
-    let solve = Command::new(alloc, "solve").about("Finds the best grouping and its certificate");
+    let solve = Command::new(alloc, "solve")
+        .about("Finds the best grouping and its certificate")
+        .after_help(AFTER_SOLVE);
     let made = with_problem_options(alloc, solve);
     let steps = steps_option(alloc, "steps", "The most steps of the search");
     let made = with_option(made, steps);
@@ -157,7 +232,9 @@ fn solve_command<'a>(alloc: Global) -> Result<Command<'a>, AllocError>
 fn check_command<'a>(alloc: Global) -> Result<Command<'a>, AllocError>
     ensures { IfOk result (λ c. HasShape c (subcommand (codes "check") check_options)) }
 {
-    let check = Command::new(alloc, "check").about("Checks a certificate");
+    let check = Command::new(alloc, "check")
+        .about("Checks a certificate")
+        .after_help(AFTER_CHECK);
     let made = with_problem_options(alloc, check);
     let certificate = file_option(alloc, "certificate", "The certificate");
     let made = with_option(made, certificate);
@@ -169,9 +246,11 @@ fn check_command<'a>(alloc: Global) -> Result<Command<'a>, AllocError>
 fn audit_command<'a>(alloc: Global) -> Result<Command<'a>, AllocError>
     ensures { IfOk result (λ c. HasShape c (subcommand (codes "audit") audit_options)) }
 {
-    let audit = Command::new(alloc, "audit").about(
-        "Finds all that is wrong with a plan's districts",
-    );
+    let audit = Command::new(alloc, "audit")
+        .about(
+            "Compares a plan's districts with the groups, their seats and the size of a district",
+        )
+        .after_help(AFTER_AUDIT);
     let made = with_problem_options(alloc, audit);
     let grouping = file_option(alloc, "grouping", "The groups, each with its seats");
     let made = with_option(made, grouping);

@@ -2,11 +2,8 @@
 //! from standard input. What helps a person stands on standard error.
 #![tactic(auto)]
 
-mod kept;
-
-use crate::kept::Kept;
-use cli::{FileShelf, Sink, Writing, run_program};
-use explanations::{Ended, explain};
+use cli::{End, FileShelf, Sink, Writing, run_program};
+use explanations::{Ended, explain, explain_before};
 use field_lines::Reading;
 use std::alloc::AllocError;
 use std::io::{ErrorKind, IsTerminal};
@@ -22,43 +19,55 @@ fn announce(rt: &HostRuntime, words: &[&str]) {
     }
 }
 
-/// Tells on standard error how a run ended.
-fn tell(
-    rt: &HostRuntime,
-    words: &[&str],
-    out: &Kept<impl Sink>,
-    (status, reason): (u8, Option<ErrorKind>),
-) -> Result<(), AllocError> {
-    let ended = Ended {
-        start: out.start(),
-        status,
-        reason,
-        is_case: words.is_empty(),
-        is_unwritten: out.failed(),
-    };
-    let text = explain(rt, words, ended)?;
-    let _ = eprint!(rt; "{text}");
-    Ok(())
+/// Writes what a person is told on standard error.
+fn tell(rt: &HostRuntime, text: Result<String, AllocError>) {
+    match text {
+        Ok(text) => {
+            let _ = eprint!(rt; "{text}");
+        }
+        Err(AllocError) => {
+            let _ = eprintln!(rt; "countygroups: memory was refused, so that no more is told");
+        }
+    }
 }
 
-/// Runs the words over the machine's files, or a case from standard input where there is none. It answers the exit status, and
-/// what sort of error the system gave at the last file that failed.
-fn run(rt: &HostRuntime, words: &[&str], out: &mut impl Sink) -> (u8, Option<ErrorKind>) {
+/// A run over the machine's files that has ended.
+#[derive(Drop)]
+struct Ran {
+    /// The exit status.
+    status: u8,
+    /// How it ended.
+    end: End,
+    /// What sort of error the system gave at the last file that failed.
+    reason: Option<ErrorKind>,
+}
+
+/// Runs the words over the machine's files, or a case from standard input where there is none.
+fn run(rt: &HostRuntime, words: &[&str], out: &mut impl Sink) -> Ran {
     let mut shelf = FileShelf::new(rt);
     let mut input = Reading::new(rt.reader());
-    let status = run_program(rt.alloc(), words, &mut shelf, &mut input, out);
-    (status, shelf.reason())
+    let (status, end) = run_program(rt.alloc(), words, &mut shelf, &mut input, out);
+    Ran {
+        status,
+        end,
+        reason: shelf.reason(),
+    }
 }
 
-/// Runs the words, with the answer on standard output, and tells on standard error how that ended.
+/// Runs the words, with the answer on standard output; tells on standard error what is amiss before it, and how it ended.
 fn run_and_tell(rt: &HostRuntime, words: &[&str]) -> u8 {
     announce(rt, words);
-    let mut out = Kept::new(rt.alloc(), Writing::new(io::writer(rt)));
-    let ended = run(rt, words, &mut out);
-    if tell(rt, words, &out, ended).is_err() {
-        let _ = eprintln!(rt; "countygroups: memory was refused, so that no more is told");
-    }
-    ended.0
+    tell(rt, explain_before(rt, words));
+    let mut out = Writing::new(io::writer(rt));
+    let ran = run(rt, words, &mut out);
+    let ended = Ended {
+        words,
+        end: &ran.end,
+        reason: ran.reason,
+        is_unwritten: out.failed(),
+    };
+    tell(rt, explain(rt, ended));
+    ran.status
 }
 
 /// Runs the words after the program's name, or a case where there is none.

@@ -1,31 +1,42 @@
-//! Files that are looked at again once a run has ended.
+//! Files and folders of the machine that are looked at beside a run.
 
-use crate::options::NamedFile;
-use shelves::{FileShelf, Shelf};
 use std::fs;
 use std::io::ErrorKind;
 use std::rt::Files;
 
-/// The device that is an empty file, however often it is read.
-const EMPTY_DEVICE: &str = "/dev/null";
-
-/// The bytes of a file, where it is a plain one and can be read: no pipe is read twice.
-fn load_again(rt: &(impl Files + AllocGlobal), path: &str) -> Option<Vec<u8>> {
-    let is_plain = path == EMPTY_DEVICE || fs::metadata(rt, path).ok()?.is_file();
-    if !is_plain {
-        return None;
+/// Whether a path leads to a plain file. A pipe isn't one, and is never read twice.
+pub(crate) fn is_plain(rt: &impl Files, path: &str) -> bool {
+    match fs::metadata(rt, path) {
+        Ok(metadata) => metadata.is_file(),
+        Err(_) => false,
     }
-    FileShelf::new(rt).load(rt.alloc(), path).ok()
 }
 
-/// The bytes of the file of an option, as `load_again` gives them; none at all where it gives none.
-pub(crate) fn text_of(rt: &(impl Files + AllocGlobal), file: NamedFile<'_>) -> Vec<u8> {
-    load_file(rt, file).unwrap_or(Vec::new(rt.alloc()))
+/// Why no file can be put into the folder of a path, if the system says so.
+fn folder_reason(rt: &impl Files, path: &str) -> Option<&'static str> {
+    let folder = match path.rsplit_once('/') {
+        Some(("", _)) => "/",
+        Some((folder, _)) => folder,
+        None => ".",
+    };
+    match fs::metadata(rt, folder) {
+        Ok(metadata) if !metadata.is_dir() => Some("a part of the path is no folder"),
+        Ok(metadata) if metadata.permissions().readonly() => Some("its folder may not be written"),
+        Ok(_) => None,
+        Err(error) if error.kind() == ErrorKind::NotFound => Some("its folder is missing"),
+        Err(_) => Some("its folder can't be reached"),
+    }
 }
 
-/// The bytes of the file of an option, as `load_again` gives them.
-pub(crate) fn load_file(rt: &(impl Files + AllocGlobal), file: NamedFile<'_>) -> Option<Vec<u8>> {
-    load_again(rt, file.path?)
+/// Why no file can be stored under a path, if the system says so.
+pub(crate) fn closed_reason(rt: &impl Files, path: &str) -> Option<&'static str> {
+    match fs::metadata(rt, path) {
+        Ok(metadata) if metadata.is_dir() => Some("it is a folder"),
+        Ok(metadata) if !metadata.is_file() || metadata.permissions().readonly() => {
+            Some("it may not be written")
+        }
+        _ => folder_reason(rt, path),
+    }
 }
 
 /// An error of the system in plain words.

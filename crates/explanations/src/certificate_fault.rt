@@ -1,79 +1,108 @@
 //! Why a text is no certificate.
 
-use crate::again::text_of;
-use crate::line_of::line_of;
-use crate::options::{FileOption, Options};
+use crate::grouping_fault::explain_chamber;
+use crate::line_of::whole_line;
+use crate::options::{NamedFile, Options};
 use crate::shown::start_of;
+use certificate_checker::CheckFault;
+use certificate_lines::TextKind;
+use cli::FileOption;
+use field_lines::{Fields, field_at, number_in};
+use grouping_problem::Problem;
 use std::alloc::AllocError;
 use std::fmt::Write;
-use std::rt::Files;
 
-/// What is wrong with the spelling of a line.
-fn words_of_text(kind: &str) -> &'static str {
-    match kind {
-        "BadHead" => "it is no head of a certificate",
-        "BadWord" =>
-            "it is too long, a word may not stand there, or it has a wrong number of words",
-        "BadNumber" => "a word is no number in its range, no code or no pair",
-        "NotCanonical" => "it isn't in the one spelling of what it says",
-        "CutShort" => "it is missing, or no LF ends it",
-        "AfterEnd" => "bytes stand after the end",
-        "TooDeep" => "a branch stands too deep",
-        _ => "it can't be read",
-    }
-}
+const BYTE_ORDER_MARK: &[u8] = b"\xef\xbb\xbf";
 
-/// What is wrong with the line of a certificate that can be read.
-fn words_of_fault(fault: &str) -> &'static str {
-    match fault {
-        "WrongOrder" => "the order has not each county of the problem once",
-        "LimitTooSmall" => "a group of the target has more counties than the limit",
-        "WrongCounty" => "the county may not stand there",
-        "MissingGroup" => "a group that fits is left out",
-        "StrayGroup" => "the group is none of those that fit",
-        "LightGroup" => "a group that fits weighs less than the quota",
-        "BoundOver" => "it allows more groups than the target has",
-        "BoundLength" => "the leaf has too many lines or too few",
-        "NotStuck" => "the counties around the one it names can be grouped, as far as it tells",
-        "SeatsOpen" => "the seats may add up",
-        "BoundWithoutTarget" => "there is no target to bound",
-        "NoLeaf" => "a leaf has to stand there",
-        _ => "the target isn't a lawful grouping of these files",
-    }
-}
-
-/// Shows the line of the number, if the text has it.
-fn show_line(out: &mut String, text: &[u8], number: u32) -> Result<(), AllocError> {
-    match line_of(text, number) {
-        Some(line) => {
+/// Shows the line of the number, or says where a text that is cut short ends.
+fn show_line(
+    out: &mut String,
+    is_cut: bool,
+    (text, number): (&[u8], u64),
+) -> Result<(), AllocError> {
+    match whole_line(text, number) {
+        Some(line) if !is_cut => {
             let line = start_of(line);
             writeln!(out, "countygroups: line {number} is: {line}")
         }
-        None => Ok(()),
+        Some(line) if !line.is_empty() => writeln!(
+            out,
+            "countygroups: the file ends inside line {number}: it is not whole"
+        ),
+        _ => writeln!(
+            out,
+            "countygroups: the file ends before line {number}: it is not whole"
+        ),
     }
 }
 
-/// Explains why a text is no certificate: what is wrong with its line, the line, and what to do.
+/// The seats of a line `group SEATS CODE ..`.
+fn seats_in(line: &[u8]) -> Option<u32> {
+    match field_at(line, b' ', 0) {
+        Some(b"group") => number_in(field_at(line, b' ', 1)?, 0, 65_535),
+        _ => None,
+    }
+}
+
+/// The seats of the groups of a certificate's target.
+fn target_seats(text: &[u8]) -> u64 {
+    let mut seats: u64 = 0;
+    for line in Fields::new(text, b'\n') {
+        seats = seats.saturating_add(u64::from(seats_in(line).unwrap_or(0)));
+    }
+    seats
+}
+
+/// Says what was done to the text on its way, or what else helps.
+fn explain_help(
+    out: &mut String,
+    file: NamedFile<'_>,
+    fault: &CheckFault,
+    (text, problem): (&[u8], &Problem),
+) -> Result<(), AllocError> {
+    let first = whole_line(text, 1).unwrap_or(&[]);
+    if text.starts_with(BYTE_ORDER_MARK) {
+        return writeln!(
+            out,
+            "countygroups: a byte order mark stands first in {file}: the file was changed on its way, so get it again byte for byte"
+        );
+    }
+    if first.ends_with(b"\r") {
+        return writeln!(
+            out,
+            "countygroups: the lines of {file} end in CR LF: the file was changed on its way, so get it again byte for byte"
+        );
+    }
+    if let CheckFault::TargetFault(_) = fault {
+        explain_chamber(out, FileOption::Certificate, target_seats(text), problem)?;
+    }
+    out.push_str(
+        "countygroups: see that the other options are those that it was made with, or make it again with `countygroups solve --certificate FILE`\n",
+    )
+}
+
+/// Explains why a text is no certificate of the problem: what is wrong with its line, the line, and what to do.
 ///
 /// # Errors
 ///
 /// `AllocError` where memory was refused.
 pub(crate) fn explain_certificate(
-    rt: &(impl Files + AllocGlobal),
     out: &mut String,
-    options: &Options<'_>,
-    fault: &str,
-    number: u32,
+    options: Options<'_>,
+    (fault, number): (&CheckFault, u64),
+    (text, problem): (&[u8], &Problem),
 ) -> Result<(), AllocError> {
     let file = options.file(FileOption::Certificate);
-    let words = match fault.strip_prefix("Text ") {
-        Some(kind) => words_of_text(kind),
-        None => words_of_fault(fault),
+    let is_cut = match fault {
+        CheckFault::Text(cut) => {
+            writeln!(out, "countygroups: {file}, {cut}")?;
+            cut.kind == TextKind::CutShort
+        }
+        _ => {
+            writeln!(out, "countygroups: {file}, line {number}: {fault}")?;
+            false
+        }
     };
-    writeln!(out, "countygroups: {file}, line {number}: {words}")?;
-    show_line(out, &text_of(rt, file), number)?;
-    writeln!(
-        out,
-        "countygroups: see that the other options are those that it was made with, or make it again with `countygroups solve --certificate FILE`"
-    )
+    show_line(out, is_cut, (text, number))?;
+    explain_help(out, file, fault, (text, problem))
 }

@@ -1,14 +1,12 @@
 //! What a grouping's fault comes of, and what would help.
 
-use crate::figures::{
-    grouping_again, part_around, people_among, people_of, problem_again, seats_of,
-};
-use crate::options::{FileOption, Options};
-use county_codes::{CountyCode, Group, has_code};
+use crate::options::Options;
+use cli::FileOption;
+use county_codes::{CountyCode, Group, Grouping, has_code};
+use grouping_judge::GroupingFault;
 use grouping_problem::Problem;
-use std::alloc::AllocError;
+use std::alloc::{AllocError, Global};
 use std::fmt::Write;
-use std::rt::Files;
 
 /// Appends codes, each after a blank.
 fn push_codes(out: &mut String, codes: &[CountyCode]) -> Result<(), AllocError> {
@@ -16,6 +14,38 @@ fn push_codes(out: &mut String, codes: &[CountyCode]) -> Result<(), AllocError> 
         write!(out, " {code}")?;
     }
     Ok(())
+}
+
+/// Adds the group's counties that are adjacent to a county and not found yet.
+fn add_neighbours(
+    part: &mut Vec<CountyCode>,
+    problem: &Problem,
+    codes: &[CountyCode],
+    from: CountyCode,
+) -> Result<(), AllocError> {
+    for code in codes {
+        if !has_code(part, *code) && problem.adjacent(from, *code) {
+            part.push(*code)?;
+        }
+    }
+    Ok(())
+}
+
+/// The connected part of a group's counties around one of them.
+fn part_around(
+    alloc: Global,
+    problem: &Problem,
+    codes: &[CountyCode],
+    start: CountyCode,
+) -> Result<Vec<CountyCode>, AllocError> {
+    let mut part = Vec::new(alloc);
+    part.push(start)?;
+    for i in 0..codes.len() {
+        if let Some(from) = part.get(i).copied() {
+            add_neighbours(&mut part, problem, codes, from)?;
+        }
+    }
+    Ok(part)
 }
 
 /// Appends the connected parts of a group, with a bar between them.
@@ -33,135 +63,128 @@ fn push_parts(out: &mut String, problem: &Problem, codes: &[CountyCode]) -> Resu
     out.push_str("\n")
 }
 
+/// Explains a group that isn't connected, by its connected parts.
+fn explain_parts(out: &mut String, problem: &Problem, group: &Group) -> Result<(), AllocError> {
+    out.push_str("countygroups: its connected parts are")?;
+    push_parts(out, problem, group.codes.as_slice())?;
+    out.push_str("countygroups: regroup its counties, or add by --links a pair that joins them\n")
+}
+
+/// The people of the problem's counties among the codes.
+fn people_among(problem: &Problem, codes: &[CountyCode]) -> u64 {
+    let mut people: u64 = 0;
+    for county in problem.counties() {
+        if has_code(codes, county.code) {
+            people = people.saturating_add(u64::from(county.people));
+        }
+    }
+    people
+}
+
 /// Says which seats so many people suit.
 fn explain_seats(out: &mut String, problem: &Problem, people: u64) -> Result<(), AllocError> {
     out.push_str("countygroups: seats that its people suit: ")?;
-    match seats_of(problem, people) {
+    if people > problem.total_people() {
+        return out.push_str("none\n");
+    }
+    match problem.seats_range(people) {
         Some((least, greatest)) if least == greatest => writeln!(out, "{least}"),
         Some((least, greatest)) => writeln!(out, "{least} to {greatest}"),
         None => out.push_str("none, so that it needs other counties\n"),
     }
 }
 
-/// Says what the people of a group and its seats are, and which seats would suit.
-fn explain_window(out: &mut String, problem: &Problem, group: &Group) -> Result<(), AllocError> {
-    let seats = group.seats;
-    let people = people_among(problem, group.codes.as_slice());
+/// Explains a group whose people don't suit its seats, by its counties.
+fn explain_people(out: &mut String, problem: &Problem, group: &Group) -> Result<(), AllocError> {
+    let (seats, codes) = (group.seats, group.codes.as_slice());
+    let people = people_among(problem, codes);
+    out.push_str("countygroups: its counties are")?;
+    push_codes(out, codes)?;
     write!(
         out,
-        " has {people} people, and its seats ({seats}) ask for "
+        "; they have {people} people, and its seats ({seats}) ask for "
     )?;
-    match people_of(problem, seats) {
-        Some((least, most)) => writeln!(out, "{least} to {most}")?,
-        None => writeln!(out, "none: a group has at least one seat")?,
+    if seats == 0 || seats > 2_000 {
+        out.push_str("others: a group has 1 to 2000 seats\n")?;
+    } else {
+        let (least, most) = problem.district_bounds(seats);
+        writeln!(out, "{least} to {most}")?;
     }
     explain_seats(out, problem, people)
 }
 
-/// Explains a group whose people don't suit its seats, by its counties.
-fn explain_people(out: &mut String, problem: &Problem, group: &Group) -> Result<(), AllocError> {
-    out.push_str(" (counties")?;
-    push_codes(out, group.codes.as_slice())?;
-    out.push_str(")")?;
-    explain_window(out, problem, group)
+/// The seats of all groups.
+fn seats_in(grouping: &Grouping) -> u64 {
+    let mut seats: u64 = 0;
+    for group in &grouping.groups {
+        seats = seats.saturating_add(u64::from(group.seats));
+    }
+    seats
 }
 
-/// Explains a group that isn't connected, by its connected parts.
-fn explain_parts(out: &mut String, problem: &Problem, group: &Group) -> Result<(), AllocError> {
-    out.push_str(" isn't connected; its parts are")?;
-    push_parts(out, problem, group.codes.as_slice())?;
-    out.push_str("countygroups: regroup its counties, or add by --links a pair that joins them\n")
-}
-
-/// The group of a number in words, which counts from 1.
-fn group_of<'a>(groups: &'a [Group], number: &str) -> Option<&'a Group> {
-    let number: usize = number.parse().ok()?;
-    groups.get(number.checked_sub(1)?)
-}
-
-/// Explains a group whose people don't suit its seats, or that isn't connected.
-fn explain_group(
-    rt: &(impl Files + AllocGlobal),
+/// Says that groups have other seats in all than the chamber leaves for them, where it is so.
+///
+/// # Errors
+///
+/// `AllocError` where memory was refused.
+pub(crate) fn explain_chamber(
     out: &mut String,
-    options: &Options<'_>,
-    number: &str,
-    is_connected: bool,
+    option: FileOption,
+    seats: u64,
+    problem: &Problem,
 ) -> Result<(), AllocError> {
-    let file = options.file(FileOption::Grouping);
-    write!(out, "countygroups: group {number} of {file}")?;
-    let (Some(problem), Some(grouping)) = (problem_again(rt, options), grouping_again(rt, options))
-    else {
-        return out.push_str(if is_connected {
-            ": its people don't suit its seats\n"
-        } else {
-            ": its counties aren't connected\n"
-        });
-    };
-    match group_of(&grouping.groups, number) {
-        Some(group) if is_connected => explain_people(out, &problem, group),
-        Some(group) => explain_parts(out, &problem, group),
-        None => out.push_str("\n"),
+    let (chamber, left) = (problem.chamber(), problem.seats_left());
+    if seats == u64::from(left) {
+        return Ok(());
+    }
+    write!(
+        out,
+        "countygroups: the groups of {option} have {seats} seats in all, and --chamber is {chamber}"
+    )?;
+    if left == chamber {
+        return out.push_str("\n");
+    }
+    writeln!(out, ", of which the withdrawn sets leave {left}")
+}
+
+/// Says what a fault comes of and what would help.
+fn explain_help(
+    out: &mut String,
+    fault: &GroupingFault,
+    problem: &Problem,
+    groups: &[Group],
+) -> Result<(), AllocError> {
+    match fault {
+        GroupingFault::OutOfWindow(number) => match groups.get(number.saturating_sub(1)) {
+            Some(group) => explain_people(out, problem, group),
+            None => Ok(()),
+        },
+        GroupingFault::NotConnected(number) => match groups.get(number.saturating_sub(1)) {
+            Some(group) => explain_parts(out, problem, group),
+            None => Ok(()),
+        },
+        GroupingFault::SeatsTotal(_, _) => {
+            out.push_str("countygroups: change the seats of a group, or --chamber\n")
+        }
+        _ => out.push_str(
+            "countygroups: each county of --geo that isn't withdrawn stands in one group, once\n",
+        ),
     }
 }
 
-/// Explains seats that don't add up: `s left l`.
-fn explain_total(out: &mut String, options: &Options<'_>, words: &str) -> Result<(), AllocError> {
-    let file = options.file(FileOption::Grouping);
-    let (seats, left) = words.split_once(" left ").unwrap_or((words, "others"));
-    let taken = match left.parse::<u16>() {
-        Ok(left) => options.chamber.saturating_sub(left),
-        Err(_) => 0,
-    };
-    writeln!(
-        out,
-        "countygroups: the groups of {file} have {seats} seats in all, and {left} are left for them"
-    )?;
-    writeln!(
-        out,
-        "countygroups: those are the seats of --chamber less the {taken} of the withdrawn sets: change the seats of a group, or --chamber"
-    )
-}
-
-/// Explains a fault of the groups' counties.
-fn explain_counties(
-    out: &mut String,
-    options: &Options<'_>,
-    words: &str,
-) -> Result<(), AllocError> {
-    let file = options.file(FileOption::Grouping);
-    let (kind, place) = words.split_once(' ').unwrap_or((words, ""));
-    let what = match kind {
-        "EmptyGroup" => "has no county",
-        "UnknownCounty" => "is no county of --geo, or is withdrawn",
-        "Twice" => "stands twice in the groups",
-        "Missing" => "stands in no group",
-        _ => "is at fault",
-    };
-    writeln!(out, "countygroups: {file}: {place} {what}")?;
-    writeln!(
-        out,
-        "countygroups: each county of --geo that isn't withdrawn stands in one group, once"
-    )
-}
-
-/// Explains the fault of a grouping that these words name.
+/// Explains the fault of a grouping.
 ///
 /// # Errors
 ///
 /// `AllocError` where memory was refused.
 pub(crate) fn explain_fault(
-    rt: &(impl Files + AllocGlobal),
     out: &mut String,
-    options: &Options<'_>,
-    words: &str,
+    options: Options<'_>,
+    fault: &GroupingFault,
+    (problem, grouping): (&Problem, &Grouping),
 ) -> Result<(), AllocError> {
-    if let Some(group) = words.strip_prefix("OutOfWindow group ") {
-        explain_group(rt, out, options, group, true)
-    } else if let Some(group) = words.strip_prefix("NotConnected group ") {
-        explain_group(rt, out, options, group, false)
-    } else if let Some(seats) = words.strip_prefix("SeatsTotal seats ") {
-        explain_total(out, options, seats)
-    } else {
-        explain_counties(out, options, words)
-    }
+    let file = options.file(FileOption::Grouping);
+    writeln!(out, "countygroups: {file}: {fault}")?;
+    explain_chamber(out, FileOption::Grouping, seats_in(grouping), problem)?;
+    explain_help(out, fault, problem, &grouping.groups)
 }

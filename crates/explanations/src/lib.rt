@@ -1,18 +1,19 @@
-//! What a person is told on standard error once a run has ended: what is wrong, where it stands, and what helps. It is
+//! What a person is told on standard error, before a run and once it has ended: what is wrong, where it stands, and what helps. It is
 //! no part of an answer, and no promise but that it is composed safely and returns speaks of it.
 #![tactic(auto)]
 
 mod again;
-mod answer_line;
 mod certificate_fault;
+mod device;
 mod ended;
-mod fields;
-mod figures;
+mod findings;
 mod grouping_fault;
 mod line_of;
 mod options;
+mod outputs;
 mod refused;
-mod refused_problem;
 mod shown;
+mod state_line;
+mod usage;
 
-pub use ended::{Ended, explain};
+pub use ended::{Ended, explain, explain_before};

@@ -1,64 +1,39 @@
-//! Lines of files that are looked at again.
+//! Lines of a file at fault, and what a file looks like.
 
-use crate::fields::{is_geo_line, is_segment_line};
-use crate::options::FileOption;
-use field_lines::{Lines, field_at};
+use cli::FileOption;
+use field_lines::{Fields, field_at};
 
-/// A piece without a CR at its end.
-fn trimmed(piece: &[u8]) -> &[u8] {
-    match piece.split_last() {
-        Some((b'\r', rest)) => rest,
-        _ => piece,
-    }
+/// The line of a number, which counts from 1, with every byte but its LF.
+pub(crate) fn whole_line(text: &[u8], number: u64) -> Option<&[u8]> {
+    let before = usize::try_from(number.checked_sub(1)?).ok()?;
+    Fields::new(text, b'\n').nth(before)
 }
 
-/// A text without a byte order mark at its front.
-fn unmarked(text: &[u8]) -> &[u8] {
-    text.strip_prefix(b"\xef\xbb\xbf").unwrap_or(text)
+/// The line of a number as a cut text has it: without a byte order mark at the front of the text, and without a CR at its end.
+pub(crate) fn cut_line(text: &[u8], number: u64) -> Option<&[u8]> {
+    let text = text.strip_prefix(b"\xef\xbb\xbf").unwrap_or(text);
+    let line = whole_line(text, number)?;
+    Some(line.strip_suffix(b"\r").unwrap_or(line))
 }
 
-/// The line of a number, which counts from 1.
-pub(crate) fn line_of(text: &[u8], number: u32) -> Option<&[u8]> {
-    let before = number.checked_sub(1)?;
-    let piece = unmarked(text).split(|b| *b == b'\n').nth(before as usize)?;
-    Some(trimmed(piece))
-}
-
-/// The first line that isn't blank.
-fn first_line(text: &[u8]) -> Option<&[u8]> {
-    match Lines::new(text).next_line() {
-        Ok(Some((_, line))) => Some(line),
+/// The option of the census file that a text begins like: of the geographic header, whose GEOID has `US` behind seven characters, or of
+/// segment 1, whose CIFSN is `01` and whose LOGRECNO has seven.
+pub(crate) fn looks_like(text: &[u8]) -> Option<FileOption> {
+    let line = cut_line(text, 1)?;
+    match (
+        field_at(line, b'|', 3),
+        field_at(line, b'|', 4),
+        field_at(line, b'|', 8),
+    ) {
+        (_, _, Some([_, _, _, _, _, _, _, b'U', b'S', ..])) => Some(FileOption::Geo),
+        (Some([b'0', b'1']), Some([_, _, _, _, _, _, _]), _) => Some(FileOption::Segment),
         _ => None,
-    }
-}
-
-/// The byte between the fields of a file.
-pub(crate) fn delimiter_of(file: FileOption, text: &[u8]) -> u8 {
-    match (file, first_line(text)) {
-        (FileOption::Assignments, Some(line)) if !line.contains(&b'|') => b',',
-        _ => b'|',
-    }
-}
-
-/// Whether a file begins like a segment 1.
-pub(crate) fn begins_as_segment(text: &[u8]) -> bool {
-    match first_line(text) {
-        Some(line) => is_segment_line(line),
-        None => false,
-    }
-}
-
-/// Whether a file begins like a geographic header.
-pub(crate) fn begins_as_geo(text: &[u8]) -> bool {
-    match first_line(text) {
-        Some(line) => is_geo_line(line),
-        None => false,
     }
 }
 
 /// The STATE of the first county line of a geographic header.
 pub(crate) fn county_state(text: &[u8]) -> Option<&[u8]> {
-    for line in text.split(|b| *b == b'\n') {
+    for line in Fields::new(text, b'\n') {
         if let Some(b"050") = field_at(line, b'|', 2) {
             return field_at(line, b'|', 12);
         }

@@ -1,35 +1,16 @@
-//! Why a line of an input file is refused.
+//! Why an input file or the problem is refused.
 
-use crate::again::text_of;
-use crate::answer_line::LineKind;
-use crate::fields::{count_fields, field_at_fault, least_fields};
-use crate::line_of::{begins_as_geo, begins_as_segment, county_state, delimiter_of, line_of};
-use crate::options::{FileOption, NamedFile, Options};
+use crate::again::is_plain;
+use crate::line_of::{county_state, cut_line, looks_like};
+use crate::options::{NamedFile, Options};
 use crate::shown::start_of;
+use cli::{FileFault, FileOption};
+use command_words::CommandWords;
+use grouping_problem::ProblemFault;
+use pl94_counties::Pl94Kind;
 use std::alloc::AllocError;
 use std::fmt::Write;
 use std::rt::Files;
-
-/// What is wrong with a line, without its fields.
-fn words_of_kind(kind: LineKind) -> &'static str {
-    match kind {
-        LineKind::TooFewFields => "it has too few fields",
-        LineKind::BadCode => "a code has a wrong number of digits, or another byte",
-        LineKind::BadNumber => "a field is no number from 0 to 4294967295",
-        LineKind::BadSeats => "the number of seats is out of range",
-        LineKind::BadSign => "the sign of a link is + or -",
-        LineKind::BadLabel => "a district's label has at most 32 printed ASCII characters",
-        LineKind::DoubleRecord => "its record number stands on a line before",
-        LineKind::NoRecord => "its record number stands on no line of segment 1",
-        LineKind::DoubleCounty => "its county stands on a line before",
-        LineKind::DoubleBlock => "its block stands on a line before",
-        LineKind::NoCounties => "no line is a county line of the state",
-        LineKind::NoBlocks => "no line is a block line of the state",
-        LineKind::TooMany => "more than 2000000 blocks or 4000000 assignments stand before it",
-        LineKind::LineTooLong => "it has more than 65536 bytes",
-        LineKind::TooManyLines => "the file has more than 16777216 lines",
-    }
-}
 
 /// What a file has to be.
 fn remedy(option: FileOption) -> &'static str {
@@ -47,185 +28,160 @@ fn remedy(option: FileOption) -> &'static str {
         FileOption::Withdrawn => {
             "a line of --withdrawn is seats and the codes of the set's counties, as 1|37119"
         }
-        FileOption::Grouping | FileOption::Out => {
-            "a line of --grouping is seats and the codes of the group's counties, as 2|37063|37183"
-        }
         FileOption::Assignments => {
             "a line of --assignments is a block's fifteen digits and its district, as 370010201001000,1"
         }
-        FileOption::Certificate | FileOption::CertificateOut => {
-            "`countygroups solve --certificate FILE` stores a certificate"
-        }
+        _ =>
+            "a line of --grouping is seats and the codes of the group's counties, as 2|37063|37183",
     }
 }
 
-/// A refused line, and where it stands.
-#[derive(Clone, Copy)]
-pub(crate) struct RefusedLine<'a> {
-    /// The file.
-    pub(crate) file: NamedFile<'a>,
-    /// What is wrong.
-    pub(crate) kind: LineKind,
-    /// The line, from 1.
-    pub(crate) number: u32,
-}
-
-/// Says which field of the line is at fault and why.
-fn explain_field(
-    out: &mut String,
-    option: FileOption,
-    kind: LineKind,
-    delimiter: u8,
-    line: &[u8],
-) -> Result<(), AllocError> {
-    if let LineKind::TooFewFields = kind {
-        let count = count_fields(line, delimiter);
-        let least = least_fields(option);
-        return writeln!(out, "fields: {count}; asked for: at least {least}");
-    }
-    match field_at_fault(option, kind, line, delimiter) {
-        Some((place, rule, field)) => {
-            let (name, asked, field) = (rule.name, rule.asked, start_of(field));
-            writeln!(
-                out,
-                "field {place} ({name}) is \"{field}\"; asked for: {asked}"
-            )
-        }
-        None => {
-            let words = words_of_kind(kind);
-            writeln!(out, "{words}")
-        }
-    }
-}
-
-/// Says which field of the line is at fault and why, and shows the line.
+/// Says what is wrong and where, and shows the line.
 fn explain_line(
     out: &mut String,
-    refused: RefusedLine<'_>,
+    file: NamedFile<'_>,
+    fault: &FileFault,
     text: &[u8],
-    line: &[u8],
 ) -> Result<(), AllocError> {
-    let RefusedLine { file, kind, number } = refused;
-    let delimiter = delimiter_of(file.option, text);
-    write!(out, "countygroups: {file}, line {number}: ")?;
-    explain_field(out, file.option, kind, delimiter, line)?;
-    let line = start_of(line);
-    writeln!(out, "countygroups: line {number} is: {line}")
+    let number = fault.line();
+    match cut_line(text, u64::from(number)) {
+        Some(line) => {
+            let line = start_of(line);
+            writeln!(
+                out,
+                "countygroups: {file}, line {number}: {fault}\ncountygroups: line {number} is: {line}"
+            )
+        }
+        None => writeln!(out, "countygroups: {file}: {fault}"),
+    }
 }
 
-/// Says which state the file has, if it has a county line.
+/// Says of which state a geographic header is, where another one was asked for.
 fn explain_state(out: &mut String, text: &[u8]) -> Result<(), AllocError> {
     match county_state(text) {
         Some(other) => {
             let other = start_of(other);
             writeln!(
                 out,
-                "countygroups: its first county line has STATE {other}; --state CODE names the state, 37 where it is left out"
+                "countygroups: its first county line has STATE {other}: --state names the state, and is 37 where it is left out"
             )
         }
-        None => Ok(()),
+        None => {
+            let words = remedy(FileOption::Geo);
+            writeln!(out, "countygroups: {words}")
+        }
     }
 }
 
-/// Says that no line is a county or block line of the state, and of counties which state the file has.
-fn explain_no_areas(
-    out: &mut String,
-    refused: RefusedLine<'_>,
-    options: &Options<'_>,
-    text: &[u8],
-) -> Result<(), AllocError> {
-    let RefusedLine { file, kind, .. } = refused;
-    let state = options.state;
-    let (area, level) = match kind {
-        LineKind::NoBlocks => ("block", "750"),
-        _ => ("county", "050"),
+/// The census file that an `audit` could not read a second time, because it is a pipe.
+fn spent_file<'a>(
+    rt: &impl Files,
+    options: Options<'a>,
+    (kind, text): (Pl94Kind, &[u8]),
+) -> Option<NamedFile<'a>> {
+    let file = match kind {
+        Pl94Kind::NoBlocks if text.is_empty() => options.file(FileOption::Geo),
+        Pl94Kind::NoRecord => options.file(FileOption::Segment),
+        _ => return None,
     };
-    writeln!(
-        out,
-        "countygroups: {file}: no line is a {area} line of state {state:02} (SUMLEV {level}, GEOCOMP 00, STATE {state:02})"
-    )?;
-    match kind {
-        LineKind::NoCounties => explain_state(out, text),
-        _ => Ok(()),
+    match (options.command, file.path) {
+        (Some(CommandWords::Audit(_)), Some(path)) if !is_plain(rt, path) => Some(file),
+        _ => None,
     }
 }
 
-/// Says that geographic header and segment 1 look like each other, where they do.
-fn explain_swapped(
-    rt: &(impl Files + AllocGlobal),
+/// Says what helps against a fault of geographic header or segment 1.
+fn explain_census(
+    rt: &impl Files,
     out: &mut String,
-    options: &Options<'_>,
-) -> Result<bool, AllocError> {
-    let geo = options.file(FileOption::Geo);
-    let segment = options.file(FileOption::Segment);
-    let is_geo_segment = begins_as_segment(&text_of(rt, geo));
-    let is_segment_geo = begins_as_geo(&text_of(rt, segment));
-    match (is_geo_segment, is_segment_geo) {
-        (true, true) => writeln!(
-            out,
-            "countygroups: {geo} looks like a segment 1 and {segment} like a geographic header: swap the two"
-        )?,
-        (true, false) => writeln!(
-            out,
-            "countygroups: {geo} looks like a segment 1, not like a geographic header"
-        )?,
-        (false, true) => writeln!(
-            out,
-            "countygroups: {segment} looks like a geographic header, not like a segment 1"
-        )?,
-        (false, false) => return Ok(false),
-    }
-    Ok(true)
-}
-
-/// What helps: to swap two files, or to give the file that is asked for.
-fn explain_remedy(
-    rt: &(impl Files + AllocGlobal),
-    out: &mut String,
-    options: &Options<'_>,
+    options: Options<'_>,
     option: FileOption,
+    (kind, text): (Pl94Kind, &[u8]),
 ) -> Result<(), AllocError> {
-    let is_census = option == FileOption::Geo || option == FileOption::Segment;
-    if is_census && explain_swapped(rt, out, options)? {
-        return Ok(());
+    if let Some(file) = spent_file(rt, options, (kind, text)) {
+        return writeln!(
+            out,
+            "countygroups: `audit` reads {file} twice, and a pipe can be read once: give it a plain file"
+        );
     }
-    let words = remedy(option);
-    writeln!(out, "countygroups: {words}")
+    let (file, segment) = (options.file(option), options.file(FileOption::Segment));
+    match (kind, option, looks_like(text)) {
+        (_, FileOption::Geo, Some(FileOption::Segment)) => writeln!(
+            out,
+            "countygroups: {file} looks like a segment 1: see whether --geo and --segment are swapped"
+        ),
+        (_, FileOption::Segment, Some(FileOption::Geo)) => writeln!(
+            out,
+            "countygroups: {file} looks like a geographic header: see whether --geo and --segment are swapped"
+        ),
+        (Pl94Kind::NoCounties, _, _) => explain_state(out, text),
+        (Pl94Kind::NoBlocks, _, _) => out.push_str(
+            "countygroups: give --geo the state's whole geographic header, which has its blocks; that in data/nc2020 has none\n",
+        ),
+        (Pl94Kind::NoRecord, _, _) => writeln!(
+            out,
+            "countygroups: see that {segment} is whole, and of the same state as --geo"
+        ),
+        _ => {
+            let words = remedy(option);
+            writeln!(out, "countygroups: {words}")
+        }
+    }
 }
 
-/// Explains why a line is refused: its field and what is asked for, and the line itself.
-fn explain_place(
+/// Says what helps against a fault.
+fn explain_help(
+    rt: &impl Files,
     out: &mut String,
-    options: &Options<'_>,
-    refused: RefusedLine<'_>,
-    text: &[u8],
+    options: Options<'_>,
+    option: FileOption,
+    (fault, text): (&FileFault, &[u8]),
 ) -> Result<(), AllocError> {
-    let RefusedLine { file, kind, number } = refused;
-    let words = words_of_kind(kind);
-    if number > 0 {
-        return match line_of(text, number) {
-            Some(line) => explain_line(out, refused, text, line),
-            None => writeln!(out, "countygroups: {file}, line {number}: {words}"),
-        };
+    if let [0xff, 0xfe, ..] | [0xfe, 0xff, ..] = text {
+        return out.push_str("countygroups: the file is UTF-16: store it as UTF-8\n");
     }
-    if file.path.is_some() && !matches!(kind, LineKind::TooManyLines) {
-        explain_no_areas(out, refused, options, text)
-    } else {
-        writeln!(out, "countygroups: {file}: {words}")
+    match fault {
+        FileFault::Census(fault) => explain_census(rt, out, options, option, (fault.kind, text)),
+        _ => {
+            let words = remedy(option);
+            writeln!(out, "countygroups: {words}")
+        }
     }
 }
 
-/// Explains why a line is refused: its field and what is asked for, the line itself, and what to do.
+/// Explains why a file is refused: what is wrong, the line at fault, and what to do.
 ///
 /// # Errors
 ///
 /// `AllocError` where memory was refused.
 pub(crate) fn explain_refused(
-    rt: &(impl Files + AllocGlobal),
+    rt: &impl Files,
     out: &mut String,
-    options: &Options<'_>,
-    refused: RefusedLine<'_>,
+    options: Options<'_>,
+    option: FileOption,
+    (fault, text): (&FileFault, &[u8]),
 ) -> Result<(), AllocError> {
-    explain_place(out, options, refused, &text_of(rt, refused.file))?;
-    explain_remedy(rt, out, options, refused.file.option)
+    explain_line(out, options.file(option), fault, text)?;
+    explain_help(rt, out, options, option, (fault, text))
+}
+
+/// Explains why the problem is refused.
+///
+/// # Errors
+///
+/// `AllocError` where memory was refused.
+pub(crate) fn explain_problem(
+    out: &mut String,
+    options: Options<'_>,
+    fault: &ProblemFault,
+) -> Result<(), AllocError> {
+    let file = options.file(match fault {
+        ProblemFault::EmptyWithdrawn(_)
+        | ProblemFault::UnknownWithdrawn(_)
+        | ProblemFault::WithdrawnTwice(_)
+        | ProblemFault::WithdrawnSeats => FileOption::Withdrawn,
+        ProblemFault::UnknownPair(_, _) => FileOption::Links,
+        _ => FileOption::Geo,
+    });
+    writeln!(out, "countygroups: {file}: {fault}")
 }

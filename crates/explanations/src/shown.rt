@@ -5,7 +5,7 @@ use std::fmt;
 /// How many characters of a line or a field are shown.
 const MOST: usize = 120;
 
-/// Bytes as text: control characters and bytes that aren't UTF-8 are escaped, as `\n` and `\x1b`.
+/// Bytes as text: control characters, byte order marks and bytes that aren't UTF-8 are escaped, as `\n` and `\x1b`.
 #[derive(Clone, Copy)]
 pub(crate) struct Shown<'a> {
     bytes: &'a [u8],
@@ -25,12 +25,13 @@ pub(crate) fn name_of(name: &str) -> Shown<'_> {
     }
 }
 
-/// Writes a character, or its escape where it is a control character.
+/// Writes a character, or its escape where it is a control character or a byte order mark.
 fn write_character<W: fmt::Write>(f: &mut fmt::Formatter<W>, character: char) -> fmt::Result {
     match character {
         '\n' => f.write_str("\\n"),
         '\r' => f.write_str("\\r"),
         '\t' => f.write_str("\\t"),
+        '\u{feff}' => f.write_str("\\ufeff"),
         _ if character.is_control() => write!(f, "\\x{:02x}", u32::from(character)),
         _ => f.write_char(character),
     }

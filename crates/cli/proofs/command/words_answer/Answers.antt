@@ -11,7 +11,7 @@ returns-in-Err g c =
     let listed = g.H.Shelf.stored c.args.shelf.now in (
       [],
       none_stored files files listed listed refl refl,
-      ended_words files (texts c.args.words.now) (g.H.Shelf.history c.args.shelf.now) c.in-Err.end c.end_answer.result c.in-Err.ensures.ends c.in-Err.ensures.taken c.end_answer.ensures,
+      ended_words files (texts c.args.words.now) (g.H.Shelf.history c.args.shelf.now) c.in-Err.words_end c.words_end_answer.result c.in-Err.ensures.ends c.in-Err.ensures.taken c.words_end_answer.ensures,
     )
 
 pub returns-in-Ok : goal.returns-in-Ok

@@ -34,8 +34,8 @@ returns-in-Ok-clause-course g c =
     went_on (λ v. v.items) (Ok c.in-Ok.counties) (load_step files c.args.words.geo.now) (λ geo. load_step files c.args.words.segment.now >>= counties_in c.args.words.state geo) geo before between after c.in_ok-geo.ensures.course
     (went_on (λ v. v.items) (Ok c.in-Ok.counties) (load_step files c.args.words.segment.now) (counties_in c.args.words.state geo) segment between after after loaded (refl, read))
 
-pub returns-clause-course : goal.returns-clause-course
-returns-clause-course g c =
+pub returns-in-Err-clause-course : goal.returns-in-Err-clause-course
+returns-in-Err-clause-course g c =
     let files = g.H.Shelf.contents c.args.shelf.now in
     let before = g.H.Shelf.history c.args.shelf.now in
     let between = g.H.Shelf.history c.load.new.shelf in

@@ -1,4 +1,4 @@
-use Rattle.std.proofs.Common.{ℕ, List, Option, Bor, subst, sym}
+use Rattle.std.proofs.Common.{refl, ℕ, List, Option, Bor, subst, sym}
 use Rattle.program_answers.specs.Answers.{Comes}
 use Rattle.command_runs.specs.ProblemCourse.{links_in, links_of}
 use Rattle.command_runs.proofs.RunLemmas.{read_file}
@@ -10,4 +10,4 @@ returns-in_ok-text-in-Some-clause-course g c =
     let before = g.H.Shelf.history c.args.shelf.now in
     let after = g.H.Shelf.history c.load.new.shelf in
     subst (λ (name : Option (Bor (List ℕ))). Comes (λ v. v.items) c.links_from.result (links_of files name before after)) (sym c.in-Some.is)
-    (read_file (λ v. v.items) c.links_from.result files c.in-Some.name.now c.in_ok-text-in-Some.text.items c.deref.result.now links_in before after c.in_ok-text-in-Some.ensures.course c.deref.ensures.value (c.links_from.ensures after))
+    (read_file (λ v. v.items) c.links_from.result files c.in-Some.name.now c.in_ok-text-in-Some.text.items c.in_ok-text-in-Some.text.items links_in before after c.in_ok-text-in-Some.ensures.course refl (c.links_from.ensures after))

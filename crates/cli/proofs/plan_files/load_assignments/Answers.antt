@@ -1,3 +1,4 @@
+use Rattle.std.proofs.Common.{refl}
 use Rattle.command_runs.specs.PlanCourse.{assignments_in}
 use Rattle.command_runs.proofs.RunLemmas.{read_file}
 use Rattle.cli.proofs.plan_files.load_assignments.Goals as goal
@@ -7,4 +8,4 @@ returns-clause-course g c =
     let files = g.H.Shelf.contents c.args.shelf.now in
     let before = g.H.Shelf.history c.args.shelf.now in
     let after = g.H.Shelf.history c.load.new.shelf in
-    read_file (λ v. v.items) c.assignments_from.result files c.args.name.now c.in_ok-text.text.items c.deref.result.now assignments_in before after c.in_ok-text.ensures.course c.deref.ensures.value (c.assignments_from.ensures.course after)
+    read_file (λ v. v.items) c.assignments_from.result files c.args.name.now c.in_ok-text.text.items c.in_ok-text.text.items assignments_in before after c.in_ok-text.ensures.course refl (c.assignments_from.ensures.course after)

@@ -1,7 +1,7 @@
-use Rattle.std.proofs.Common.{ℕ, List, Option, subst}
+use Rattle.std.proofs.Common.{Option, refl, subst}
 use Rattle.std.specs.Prelude.{Ok, Err}
 use Rattle.shelves.specs.Files.{Files}
-use Rattle.program_answers.specs.Answers.{Comes, Meets}
+use Rattle.program_answers.specs.Answers.{Meets}
 use Rattle.command_runs.specs.Course.{◌>>=◌, load_step}
 use Rattle.command_runs.specs.PlanCourse.{blocks_in}
 use Rattle.command_runs.proofs.RunLemmas.{handed_on, went_on, read_file}
@@ -26,6 +26,5 @@ returns-clause-course g c =
     let geo = c.in_ok-geo.geo.items in
     let segment = c.in_ok-segment.segment.items in
     let loaded = subst (λ (known : Option Files). load_step known c.args.words.segment.now between after (Ok segment)) c.load.ensures.same c.in_ok-segment.ensures.course in
-    let read = subst (λ (bytes : List ℕ). Comes (λ v. v.items) c.blocks_from.result (blocks_in c.args.words.state bytes c.deref-2.result.now after after)) c.deref.ensures.value (c.blocks_from.ensures.course after) in
     went_on (λ v. v.items) c.blocks_from.result (load_step files c.args.words.geo.now) (λ geo. load_step files c.args.words.segment.now >>= blocks_in c.args.words.state geo) geo before between after c.in_ok-geo.ensures.course
-    (read_file (λ v. v.items) c.blocks_from.result files c.args.words.segment.now segment c.deref-2.result.now (blocks_in c.args.words.state geo) between after loaded c.deref-2.ensures.value read)
+    (read_file (λ v. v.items) c.blocks_from.result files c.args.words.segment.now segment segment (blocks_in c.args.words.state geo) between after loaded refl (c.blocks_from.ensures.course after))

@@ -1,4 +1,5 @@
-use Rattle.std.proofs.Common.{◌≡◌, List, [], Option, subst}
+use Rattle.std.proofs.Common.{◌≡◌, refl, List, [], Option, subst}
+use Rattle.std.specs.Prelude.{Err}
 use Rattle.shelves.specs.Files.{File, Files}
 use Rattle.command_runs.specs.Storing.{HasStored}
 use Rattle.command_runs.proofs.StoreLemmas.{none_stored}
@@ -19,25 +20,25 @@ from_start : (files files_then after : Option Files) (listed listed_then last : 
 from_start files files_then after listed listed_then last stored same kept h =
     subst (λ (f : Option Files). HasStored f after listed last stored) same (subst (λ (l : Option (List File)). HasStored files_then after l last stored) kept h)
 
-pub returns-in_err-store_solved : goal.returns-in_err-store_solved
-returns-in_err-store_solved g c =
-    let files = g.H.Shelf.contents c.args.shelf.now in
-    let before = g.H.Shelf.history c.args.shelf.now in
-    let between = g.H.Shelf.history c.solve_files.new.shelf in
-    let after = g.H.Shelf.history c.store_solved.new.shelf in
-    let end = c.in_err-store_solved.ensures in (
-      end.0,
-      from_start files (g.H.Shelf.contents c.solve_files.new.shelf) (g.H.Shelf.contents c.store_solved.new.shelf) (g.H.Shelf.stored c.args.shelf.now) (g.H.Shelf.stored c.solve_files.new.shelf) (g.H.Shelf.stored c.store_solved.new.shelf) end.0 c.solve_files.ensures.same c.solve_files.ensures.kept end.1,
-      stopped_run files c.args.words (solved_of c.in_ok-solved.solved) before between after end.0 c.in_err-store_solved.field-0.0 c.from_residual-in_err-store_solved.result c.from_residual-in_err-store_solved.ensures.1 c.in_ok-solved.ensures.course end.2,
-    )
-
 pub returns : goal.returns
 returns g c =
     let files = g.H.Shelf.contents c.args.shelf.now in
     let before = g.H.Shelf.history c.args.shelf.now in
     let between = g.H.Shelf.history c.solve_files.new.shelf in
     let after = g.H.Shelf.history c.store_solved.new.shelf in
-    let end = c.in_ok-store_solved.ensures in (
+    let end = c.in-Err.ensures in (
+      end.0,
+      from_start files (g.H.Shelf.contents c.solve_files.new.shelf) (g.H.Shelf.contents c.store_solved.new.shelf) (g.H.Shelf.stored c.args.shelf.now) (g.H.Shelf.stored c.solve_files.new.shelf) (g.H.Shelf.stored c.store_solved.new.shelf) end.0 c.solve_files.ensures.same c.solve_files.ensures.kept end.1,
+      stopped_run files c.args.words (solved_of c.in_ok-solved.solved) before between after end.0 c.in-Err.refusal (Err c.in-Err.refusal) refl c.in_ok-solved.ensures.course end.2,
+    )
+
+pub returns-in-Ok : goal.returns-in-Ok
+returns-in-Ok g c =
+    let files = g.H.Shelf.contents c.args.shelf.now in
+    let before = g.H.Shelf.history c.args.shelf.now in
+    let between = g.H.Shelf.history c.solve_files.new.shelf in
+    let after = g.H.Shelf.history c.store_solved.new.shelf in
+    let end = c.in-Ok.ensures in (
       end.0,
       from_start files (g.H.Shelf.contents c.solve_files.new.shelf) (g.H.Shelf.contents c.store_solved.new.shelf) (g.H.Shelf.stored c.args.shelf.now) (g.H.Shelf.stored c.solve_files.new.shelf) (g.H.Shelf.stored c.store_solved.new.shelf) end.0 c.solve_files.ensures.same c.solve_files.ensures.kept end.1,
       ended_run files c.args.words (solved_of c.in_ok-solved.solved) before between after end.0 c.in_ok-solved.ensures.course end.2,

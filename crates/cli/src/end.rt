@@ -1,0 +1,236 @@
+//! How a run ended, as a value beside its exit status. It is for whoever explains the run to a person; no clause speaks of it.
+
+use baf_auditor::{AssignmentFault, Findings};
+use certificate_checker::CheckFault;
+use command_words::WordsEnd;
+use county_codes::{County, Grouping};
+use grouping_judge::GroupingFault;
+use grouping_problem::{Problem, ProblemFault};
+use pl94_counties::Pl94Fault;
+use seat_lines::CodeLineFault;
+use shelves::ShelfFault;
+use std::alloc::Global;
+use std::fmt;
+
+/// An option that names a file.
+#[derive(Clone, Copy, Debug, PartialEq, Eq)]
+pub enum FileOption {
+    /// The PL 94-171 geographic header.
+    Geo,
+    /// The PL 94-171 data segment 1.
+    Segment,
+    /// The county adjacency file.
+    Adjacency,
+    /// Links over the adjacent pairs.
+    Links,
+    /// The withdrawn sets.
+    Withdrawn,
+    /// A grouping that is read.
+    Grouping,
+    /// A certificate that is read.
+    Certificate,
+    /// A block assignment file.
+    Assignments,
+    /// The certificate that is stored.
+    CertificateOut,
+    /// The grouping that is stored.
+    Out,
+}
+
+/// The option as it is written among the words.
+impl fmt::Display for FileOption {
+    fn fmt<W: fmt::Write>(&self, f: &mut fmt::Formatter<W>) -> fmt::Result {
+        f.write_str(match self {
+            FileOption::Geo => "--geo",
+            FileOption::Segment => "--segment",
+            FileOption::Adjacency => "--adjacency",
+            FileOption::Links => "--links",
+            FileOption::Withdrawn => "--withdrawn",
+            FileOption::Grouping => "--grouping",
+            FileOption::Certificate | FileOption::CertificateOut => "--certificate",
+            FileOption::Assignments => "--assignments",
+            FileOption::Out => "--out",
+        })
+    }
+}
+
+/// Why a file is refused: the fault of its reader, with its line.
+#[derive(Clone, Copy, Debug, PartialEq, Eq)]
+pub enum FileFault {
+    /// A fault of the geographic header or of segment 1.
+    Census(Pl94Fault),
+    /// A fault of a file whose lines have county codes.
+    Codes(CodeLineFault),
+    /// A fault of a block assignment file.
+    Assignments(AssignmentFault),
+}
+
+impl FileFault {
+    /// The line of the fault, which counts from 1; 0 where it is the whole file's.
+    pub fn line(&self) -> u32 {
+        match self {
+            FileFault::Census(fault) => fault.line,
+            FileFault::Codes(fault) => fault.line,
+            FileFault::Assignments(fault) => fault.line,
+        }
+    }
+}
+
+/// The fault as its reader tells it, without its line.
+impl fmt::Display for FileFault {
+    fn fmt<W: fmt::Write>(&self, f: &mut fmt::Formatter<W>) -> fmt::Result {
+        match self {
+            FileFault::Census(fault) => write!(f, "{}", fault.kind),
+            FileFault::Codes(fault) => write!(f, "{}", fault.kind),
+            FileFault::Assignments(fault) => write!(f, "{}", fault.kind),
+        }
+    }
+}
+
+/// What a run came to.
+#[derive(Drop)]
+pub enum Ending {
+    /// The words are no command, or they ask for help or the version.
+    Words(WordsEnd),
+    /// The case has more bytes than a case may have.
+    CaseTooLarge,
+    /// The case could not be read.
+    CaseUnread,
+    /// Line 1 of the case or the name of a file in it isn't UTF-8.
+    CaseNotText,
+    /// The file of an option is refused. The text is the whole file.
+    Refused(FileOption, FileFault, Vec<u8>),
+    /// The problem is refused.
+    Problem(ProblemFault),
+    /// The grouping of this problem isn't lawful.
+    Unlawful(GroupingFault, Problem, Grouping),
+    /// The audit of this grouping of the problem found something.
+    Found(Findings, Problem, Grouping),
+    /// This text is no certificate of the problem: its first fault, and the line, which counts from 1.
+    NoCertificate(CheckFault, u64, Vec<u8>, Problem),
+    /// The budget of a check was too small.
+    Budget,
+    /// The file of an option could not be had. The path is that of the words; none where memory for it was refused.
+    NotLoaded(FileOption, ShelfFault, Option<String>),
+    /// The file of an option could not be stored. The path is as at `NotLoaded`.
+    NotStored(FileOption, ShelfFault, Option<String>),
+    /// Memory was refused.
+    Memory,
+    /// No grouping of the problem is lawful.
+    Impossible,
+    /// The steps of the search ran out.
+    Open,
+    /// The answer is the table, a lawful grouping, the best grouping, or that an audit found nothing.
+    Done,
+}
+
+/// How a run ended, and what it met on its way.
+#[derive(Drop)]
+pub struct End {
+    /// What it came to.
+    pub ending: Ending,
+    /// How many counties the census files list for the state, and their people; none where they were not read.
+    pub counties: Option<(usize, u64)>,
+    /// Whether the adjacency file has a pair of listed counties; none where it was not read.
+    pub has_pairs: Option<bool>,
+    /// Whether the file of `--certificate` was stored.
+    pub has_stored_certificate: bool,
+    /// Whether the file of `--out` was stored.
+    pub has_stored_out: bool,
+    /// The report of a search whose files could not all be stored.
+    pub report: Option<Vec<u8>>,
+}
+
+/// The people of the counties.
+fn people_of(counties: &[County]) -> u64 {
+    let mut people: u64 = 0;
+    for county in counties {
+        people = people.saturating_add(u64::from(county.people));
+    }
+    people
+}
+
+/// A copy of a path; none where memory for it was refused.
+fn copied(alloc: Global, path: &str) -> Option<String> {
+    String::from_str(alloc, path).ok()
+}
+
+impl End {
+    /// The end of a run that has not met anything yet: where nothing more is noted, memory was refused.
+    pub(crate) fn new() -> Self {
+        End {
+            ending: Ending::Memory,
+            counties: None,
+            has_pairs: None,
+            has_stored_certificate: false,
+            has_stored_out: false,
+            report: None,
+        }
+    }
+
+    /// Notes what the run came to.
+    pub(crate) fn note(&mut self, ending: Ending) {
+        self.ending = ending;
+    }
+
+    /// Notes that the problem is refused.
+    pub(crate) fn note_problem(&mut self, fault: &ProblemFault) {
+        self.ending = Ending::Problem(*fault);
+    }
+
+    /// Notes that the grouping of the problem isn't lawful.
+    pub(crate) fn note_unlawful(
+        &mut self,
+        fault: &GroupingFault,
+        problem: Problem,
+        grouping: Grouping,
+    ) {
+        self.ending = Ending::Unlawful(*fault, problem, grouping);
+    }
+
+    /// Notes the counties that were read.
+    pub(crate) fn note_counties(&mut self, counties: &[County]) {
+        self.counties = Some((counties.len(), people_of(counties)));
+    }
+
+    /// Notes whether there is a pair of listed counties.
+    pub(crate) fn note_pairs(&mut self, has_pairs: bool) {
+        self.has_pairs = Some(has_pairs);
+    }
+
+    /// Notes that the file of an option could not be had.
+    pub(crate) fn note_unloaded(
+        &mut self,
+        alloc: Global,
+        option: FileOption,
+        name: &str,
+        fault: ShelfFault,
+    ) {
+        self.ending = Ending::NotLoaded(option, fault, copied(alloc, name));
+    }
+
+    /// Notes that the file of an option could not be stored.
+    pub(crate) fn note_unstored(
+        &mut self,
+        alloc: Global,
+        option: FileOption,
+        name: &str,
+        fault: ShelfFault,
+    ) {
+        self.ending = Ending::NotStored(option, fault, copied(alloc, name));
+    }
+
+    /// Notes that the file of an option was stored.
+    pub(crate) fn note_stored(&mut self, option: FileOption) {
+        match option {
+            FileOption::CertificateOut => self.has_stored_certificate = true,
+            FileOption::Out => self.has_stored_out = true,
+            _ => {}
+        }
+    }
+
+    /// Notes the report of a search whose files could not all be stored.
+    pub(crate) fn note_report(&mut self, report: Vec<u8>) {
+        self.report = Some(report);
+    }
+}
