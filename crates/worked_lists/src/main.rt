@@ -1,0 +1,75 @@
+//! Worked lists: all best groupings of small problems and of North Carolina 2020, by the certificates that the desk writes.
+//! The gate runs it and compares what it prints with `stdout`: of the small problems it was written by hand from the rules, and of
+//! North Carolina by `bench/best_list.py`.
+#![tactic(auto)]
+
+mod carolina;
+mod small;
+
+use anyhow::Result;
+use best_groupings::{Listing, all_best};
+use branch_bound::{Answer, solve};
+use certificate_text::write;
+use county_codes::Grouping;
+use grouping_problem::Problem;
+use list_report::listing;
+
+/// More steps than the desk takes here, and a greater budget than its certificates cost.
+const ENOUGH: u64 = 10_000_000;
+
+/// Prints the text of a list of groupings.
+fn show_list(rt: &HostRuntime, problem: &Problem, list: &[Grouping]) -> Result<()> {
+    if list.is_empty() {
+        println!(rt; "an empty list")?;
+        return Ok(());
+    }
+    let text = listing(rt.alloc(), problem, list)?;
+    print!(rt; "{}", str::from_utf8(&text)?)?;
+    Ok(())
+}
+
+/// Prints all best groupings by the text of a certificate, or what else is answered.
+pub(crate) fn show_listed(rt: &HostRuntime, problem: &Problem, text: &[u8]) -> Result<()> {
+    match all_best(rt.alloc(), problem, text, ENOUGH)? {
+        Listing::All(list) => show_list(rt, problem, &list),
+        Listing::Open(gap, line) => {
+            println!(rt; "open {gap:?} line {line}")?;
+            Ok(())
+        }
+        Listing::Impossible => {
+            println!(rt; "impossible")?;
+            Ok(())
+        }
+        Listing::No(_, line) => {
+            println!(rt; "no, line {line}")?;
+            Ok(())
+        }
+        Listing::Budget => {
+            println!(rt; "budget")?;
+            Ok(())
+        }
+    }
+}
+
+/// Prints all best groupings by the desk's certificate.
+pub(crate) fn show_solved(rt: &HostRuntime, problem: &Problem) -> Result<()> {
+    match solve(rt.alloc(), problem, ENOUGH)? {
+        Answer::Best(_, certificate) => {
+            let text = write(rt.alloc(), &certificate)?;
+            show_listed(rt, problem, &text)
+        }
+        Answer::Impossible(certificate) => {
+            let text = write(rt.alloc(), &certificate)?;
+            show_listed(rt, problem, &text)
+        }
+        Answer::Open { .. } => {
+            println!(rt; "open")?;
+            Ok(())
+        }
+    }
+}
+
+fn main(rt: HostRuntime) -> Result<()> {
+    small::show(&rt)?;
+    carolina::show(&rt)
+}
