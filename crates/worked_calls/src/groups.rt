@@ -51,7 +51,6 @@ fn show_found<C: CountySet>(rt: &HostRuntime, found: Result<GroupList<C>, Stop>)
 {
     match found {
         Ok(list) => show_each(rt, &list.groups),
-        Err(Stop::Memory) => Err(Error::from(Stop::Memory)),
         Err(stop) => {
             println!(rt; "{stop}")?;
             Ok(())
@@ -79,6 +78,9 @@ fn show_groups<C: CountySet>(rt: &HostRuntime, ordered: &Ordered, search: Search
     }
     let mut steps = Steps::new(most);
     let found = groups_from::<C>(rt.alloc(), ordered, place, limit, &mut steps);
+    if let Err(Stop::Memory) = found {
+        return Err(Error::from(Stop::Memory));
+    }
     show_search(rt, search, steps.used())?;
     show_found(rt, found)
 }
