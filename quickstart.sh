@@ -1,14 +1,14 @@
 #!/usr/bin/env bash
 # Finds the best county groups of North Carolina's House (120 seats) and Senate (50 seats) by the 2020 census, with their
-# certificates, and checks both. See `./quickstart.sh --help`.
+# certificates, checks both, and lists every best grouping of the Senate. See `./quickstart.sh --help`.
 set -euo pipefail
 
 usage() {
     cat <<'TEXT'
 usage: ./quickstart.sh [--proved]
 
-Without a word: builds the program without proof (some two minutes), solves House and Senate by the files in data/nc2020, and checks both
-certificates.
+Without a word: builds the program without proof (some two minutes), solves House and Senate by the files in data/nc2020, checks both
+certificates, and lists every best grouping of the Senate.
 --proved: proves the program and all that it stands on first, as many crates side by side as there are processors (half an hour to an
 hour on four), and solves and checks both by the proved program. The second time that takes seconds.
 Programs, certificates, groupings and the log are stored in results/.
@@ -128,6 +128,10 @@ for chamber in house:120 senate:50; do
     heading "the certificate of the $name, checked ($what)"
     "$program" check "${words[@]}" --certificate "$stored/$name.certificate"
 done
+
+problem 50
+heading "every best grouping of the senate, by its certificate ($what)"
+"$program" list "${words[@]}" --certificate "$stored/senate.certificate"
 
 heading "certificates and groupings are in $stored, and the program is $program"
 if [ "$is_proved" = no ]; then

@@ -1,5 +1,5 @@
 -- The positions of a search: what is known at one goes with it.
-use Rattle.std.proofs.Common.{◌≡◌, ℕ, ◌<◌, Bool, true, List, length, refl, sym, ap, ◌∙◌, subst, arith}
+use Rattle.std.proofs.Common.{◌≡◌, ℕ, ◌<◌, ◌≤◌, Bool, true, List, length, refl, sym, ap, ◌∙◌, subst, arith}
 use Rattle.grouping_laws.specs.Problem.{IsProblem}
 use Rattle.grouping_laws.specs.GroupsFrom.{IsOrder}
 use Rattle.growing_sets.specs.Listing.{AreBelow}
@@ -71,3 +71,7 @@ module _ (C : Type 0) (test : C → ℕ → Bool) (places : ℕ) (g : Ground C) 
   pub choice_can : (s : State) (at : Position C) (place : ℕ) → IsAt test g s at → IsChoice test g.ordered.now.order at.groups.items place → CanBranch (round_in g) s (code_at g.ordered.now.order place) at.size
   choice_can s at place is choice =
       known_serves.can (problem_in g) (round_in g) s at.size (code_at g.ordered.now.order place) choice.group ground.wide is.small (is.known.each choice.group choice.known) choice.has
+
+  -- and such a group has a county
+  pub choice_some : (s : State) (at : Position C) (place : ℕ) → IsAt test g s at → IsChoice test g.ordered.now.order at.groups.items place → 1 ≤ at.size
+  choice_some s at place is choice = let candidate = is.known.each choice.group choice.known in omega (arith, candidate.size, candidate.lawful.connected.some_county)

@@ -1,13 +1,13 @@
 -- What a desk answers of a piece of a round: a state.
-use Rattle.std.specs.Prelude.{ℕ, ◌≤◌, length, All, Option, Some, None, ⊤}
+use Rattle.std.specs.Prelude.{ℕ, ◌≡◌, ◌≤◌, length, All, Option, Some, None, ⊤}
 use Rattle.grouping_laws.specs.Problem.{Problem}
 use Rattle.grouping_laws.specs.Grouping.{Grouping}
 use Rattle.certificate_text.specs.Trees.{tree_of}
-use Rattle.proof_trees.specs.Round.{Round}
+use Rattle.proof_trees.specs.Round.{Wide, Round}
 use Rattle.proof_trees.specs.State.{State}
 use Rattle.proof_trees.specs.Proving.{Proves, CanBranch}
 use Rattle.proof_trees.specs.Search.{IsFound}
-use Rattle.tree_spelling.specs.TreeItems.{HasLines}
+use Rattle.tree_spelling.specs.TreeItems.{HasLines, HasTargetLines}
 use Rattle.branch_bound.specs.declared.piece.Piece.{Piece}
 use Rattle.branch_bound.specs.declared.piece.Piece.TheVariants.{Proved, Better, Wider, Open}
 use Rattle.branch_bound.specs.declared.piece.Split.{Split}
@@ -16,16 +16,16 @@ use Rattle.branch_bound.specs.declared.piece.Split.{Split}
 abbrev pub IsWithin : ℕ → Grouping → Type 0
 IsWithin limit g = All (λ m. length m.codes ≤ limit) g
 
--- one may branch there
+-- in a wide round one may branch there, by groups of one county at least
 abbrev pub IsSplit : Round → State → Option Split → Type 0
 IsSplit round s None = ⊤
-IsSplit round s (Some split) = CanBranch round s split.county split.limit
+IsSplit round s (Some split) = (round.language ≡ Wide) × (1 ≤ split.limit) × CanBranch round s split.county split.limit
 
--- A proof tree of the state that a text spells, a lawful grouping that agrees with the state and is greater than the target, within the
--- limit or not, or a branch that the state may be split at.
+-- A proof tree of the state that a text spells, a lawful grouping that agrees with the state and is greater than the target, or a branch
+-- that the state may be split at. A grouping that is within the limit is one that a text spells.
 abbrev pub IsPiece : Problem → Round → State → Piece → Type 0
 IsPiece p round s (Proved tree) = Proves (tree_of tree) p round s × HasLines round.language (tree_of tree)
-IsPiece p round s (Better g) = IsFound p round s g.groups.items × IsWithin round.limit g.groups.items
+IsPiece p round s (Better g) = IsFound p round s g.groups.items × IsWithin round.limit g.groups.items × HasTargetLines g.groups.items
 IsPiece p round s (Wider g) = IsFound p round s g.groups.items × ¬ IsWithin round.limit g.groups.items
 IsPiece p round s (Open split) = IsSplit round s split
 

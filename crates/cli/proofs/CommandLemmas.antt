@@ -4,10 +4,9 @@ use Rattle.std.specs.Prelude.{Result, Ok, Err, IfOk}
 use Rattle.std.specs.declared.alloc.AllocError.{AllocError}
 use Rattle.shelves.specs.Files.{File, Files}
 use Rattle.shelves.specs.History.{History}
-use Rattle.command_words.specs.Words.{EndsBy, Means, faults_of, takes_words}
+use Rattle.command_words.specs.Words.{EndsFor, EndsTaken, Means, faults_of, takes_words}
 use Rattle.command_words.specs.declared.words.CommandWords.{CommandWords}
 use Rattle.command_words.specs.declared.end.WordsEnd.{WordsEnd}
-use Rattle.command_words.specs.declared.end.WordsEnd.TheVariants as words
 use Rattle.program_answers.specs.declared.answer.Answer.{Answer}
 use Rattle.program_answers.specs.declared.answer.Refusal.{Refusal}
 use Rattle.program_answers.specs.declared.answer.Refusal.TheVariants.{Shown, Memory}
@@ -27,7 +26,7 @@ quiet_run files command steps before after (Err Memory) k h = inl (refl, refl)
 
 -- words that give no command
 pub ended_words : (files : Option Files) (list : List (List ℕ)) (n : History) (end : WordsEnd) (answer : Result Answer AllocError)
-    → EndsBy (faults_of list) end → (takes_words list ≡ true → end ≡ words.Memory) → IfOk answer (λ a. IsEndAnswer end (answer_of a))
+    → EndsFor list end → (takes_words list ≡ true → EndsTaken list end) → IfOk answer (λ a. IsEndAnswer end (answer_of a))
     → IsRunAnswer files list n n [] (said_of answer)
 ended_words files list n end (Ok a) by taken h = inr (inl (record { end = end; by = by; taken = taken; answer = h; none_stored = refl; none_loaded = refl }))
 ended_words files list n end (Err e) by taken h = inl (refl, refl)

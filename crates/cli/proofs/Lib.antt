@@ -1,3 +1,3 @@
 pub mod CaseLemmas
-pub mod SolveLemmas
+pub mod StoringLemmas
 pub mod CommandLemmas

@@ -11,6 +11,9 @@ use crate::audit::audit;
 use crate::check::check;
 use crate::end::{End, Ending};
 use crate::judge::judge;
+use crate::list::list;
+use crate::piece::piece;
+use crate::share::share;
 use crate::size::size;
 use crate::solve::solve;
 use command_words::{CommandWords, WordsEnd, parse};
@@ -36,6 +39,9 @@ fn command_end<H: Shelf>(
         CommandWords::Solve(words) => solve(alloc, words, shelf, end),
         CommandWords::Check(words) => check(alloc, words, shelf, end),
         CommandWords::Audit(words) => audit(alloc, words, shelf, end),
+        CommandWords::List(words) => list(alloc, words, shelf, end),
+        CommandWords::Share(words) => share(alloc, words, shelf, end),
+        CommandWords::Piece(words) => piece(alloc, words, shelf, end),
     }
 }
 
@@ -131,11 +137,12 @@ pub fn run_with_end<H: Shelf, W: Sink>(
 /// is composed whole, files are stored, and then the answer is written.
 ///
 /// The status is 0 for an answer, for help and for the version, 1 where `judge` finds a fault of the grouping, `audit` finds anything,
-/// `solve` or `check` that no grouping is lawful, or `check` that the text is no certificate, 2 for usage, 3 where
-/// the steps of `solve` or the budget of `check` ran out, 4 where the input was refused, 5 where a file could not be had
-/// or stored or memory was refused (the line is then `memory`), and 5 where the writing failed: how much went out is
-/// then not said. Only `solve` stores files: the certificate, and then the grouping. What was stored before a fault stays
-/// stored.
+/// `solve`, `check` or `list` that no grouping is lawful, or `check` or `list` that the text is no certificate, 2 for usage, 3 where
+/// the steps of `solve` or `piece` or the budget of `check`, `list` or `share` ran out, the certificate of `list` doesn't show which
+/// other groupings are best, or pieces are left to `share`, 4 where the input was refused, no grouping has the number that `list`
+/// should store or no piece that of `piece`, 5 where a file could not be had or stored or memory was refused (the line is then
+/// `memory`), and 5 where the writing failed: how much went out is then not said. Only `solve`, `list` and `share` store files: `solve`
+/// the certificate, and then the grouping, `list` a grouping, `share` a certificate. What was stored before a fault stays stored.
 pub fn run<H: Shelf, W: Sink>(alloc: Global, words: &[&str], shelf: &mut H, out: &mut W) -> u8
     ensures { (a : Answered) × (stored : List File)
         × HasStored (H.contents shelf.old) (H.contents shelf.new) (H.stored shelf.old) (H.stored shelf.new) stored

@@ -2,12 +2,14 @@
 
 use baf_auditor::{AssignmentFault, Findings};
 use certificate_checker::CheckFault;
+use certificate_lines::TextFault;
 use command_words::WordsEnd;
 use county_codes::{County, Grouping};
 use grouping_judge::GroupingFault;
 use grouping_problem::{Problem, ProblemFault};
 use pl94_counties::Pl94Fault;
 use seat_lines::CodeLineFault;
+use share_board::BoardFault;
 use shelves::ShelfFault;
 use std::alloc::Global;
 use std::fmt;
@@ -31,6 +33,8 @@ pub enum FileOption {
     Certificate,
     /// A block assignment file.
     Assignments,
+    /// The events of a board.
+    Events,
     /// The certificate that is stored.
     CertificateOut,
     /// The grouping that is stored.
@@ -49,6 +53,7 @@ impl fmt::Display for FileOption {
             FileOption::Grouping => "--grouping",
             FileOption::Certificate | FileOption::CertificateOut => "--certificate",
             FileOption::Assignments => "--assignments",
+            FileOption::Events => "--events",
             FileOption::Out => "--out",
         })
     }
@@ -63,15 +68,18 @@ pub enum FileFault {
     Codes(CodeLineFault),
     /// A fault of a block assignment file.
     Assignments(AssignmentFault),
+    /// A fault of the events of a board.
+    Events(TextFault),
 }
 
 impl FileFault {
     /// The line of the fault, which counts from 1; 0 where it is the whole file's.
-    pub fn line(&self) -> u32 {
+    pub fn line(&self) -> u64 {
         match self {
-            FileFault::Census(fault) => fault.line,
-            FileFault::Codes(fault) => fault.line,
-            FileFault::Assignments(fault) => fault.line,
+            FileFault::Census(fault) => u64::from(fault.line),
+            FileFault::Codes(fault) => u64::from(fault.line),
+            FileFault::Assignments(fault) => u64::from(fault.line),
+            FileFault::Events(fault) => fault.line,
         }
     }
 }
@@ -83,6 +91,7 @@ impl fmt::Display for FileFault {
             FileFault::Census(fault) => write!(f, "{}", fault.kind),
             FileFault::Codes(fault) => write!(f, "{}", fault.kind),
             FileFault::Assignments(fault) => write!(f, "{}", fault.kind),
+            FileFault::Events(fault) => write!(f, "{}", fault.kind),
         }
     }
 }
@@ -120,7 +129,21 @@ pub enum Ending {
     Impossible,
     /// The steps of the search ran out.
     Open,
-    /// The answer is the table, a lawful grouping, the best grouping, or that an audit found nothing.
+    /// The target of a certificate is best, but the certificate doesn't show which other groupings are: the line of the first leaf at
+    /// which it doesn't, from 1.
+    ListOpen(u64),
+    /// So many groupings are best, and none of them has the number that was to be stored.
+    NoSuchGrouping(usize),
+    /// There is no board for the grouping and its round.
+    Board(BoardFault),
+    /// So many pieces of the board wait.
+    PiecesLeft(usize),
+    /// The steps of a piece ran out; whether the answer proposes a split.
+    PieceOpen(bool),
+    /// No piece of the number waits on the board.
+    NoSuchPiece,
+    /// The answer is the table, a lawful grouping, the best grouping, all best groupings, that a board joined its certificate, an event
+    /// that a piece gave, or that an audit found nothing.
     Done,
 }
 
@@ -137,7 +160,7 @@ pub struct End {
     pub has_stored_certificate: bool,
     /// Whether the file of `--out` was stored.
     pub has_stored_out: bool,
-    /// The report of a search whose files could not all be stored.
+    /// The report of a search, or the text of a list or of a board, whose files could not all be stored.
     pub report: Option<Vec<u8>>,
 }
 
@@ -176,6 +199,11 @@ impl End {
     /// Notes that the problem is refused.
     pub(crate) fn note_problem(&mut self, fault: &ProblemFault) {
         self.ending = Ending::Problem(*fault);
+    }
+
+    /// Notes that there is no board.
+    pub(crate) fn note_board(&mut self, fault: &BoardFault) {
+        self.ending = Ending::Board(*fault);
     }
 
     /// Notes that the grouping of the problem isn't lawful.
@@ -229,7 +257,7 @@ impl End {
         }
     }
 
-    /// Notes the report of a search whose files could not all be stored.
+    /// Notes the report of a search, or the text of a list or of a board, whose files could not all be stored.
     pub(crate) fn note_report(&mut self, report: Vec<u8>) {
         self.report = Some(report);
     }

@@ -2,15 +2,19 @@
 #![tactic(auto)]
 
 mod audit;
+mod board_files;
 mod case;
 mod check;
 mod command;
 mod end;
 mod files;
 mod judge;
+mod list;
+mod piece;
 mod plan_files;
 mod problem;
 mod program;
+mod share;
 mod size;
 mod solve;
 mod storing;

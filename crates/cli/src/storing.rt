@@ -2,8 +2,7 @@
 
 ghost use Rattle.std.specs.Prelude.{◌≡◌, List, [], ◌∷◌, Option, option_map};
 ghost use Rattle.shelves.specs.Files.{File};
-ghost use Rattle.command_runs.specs.Storing.{HasStored, store_steps};
-ghost use Rattle.command_runs.specs.SolveCourse.{named_file};
+ghost use Rattle.command_runs.specs.Storing.{HasStored, named_file, store_steps};
 ghost use Rattle.cli.specs.Ends.{refusal_by};
 
 use crate::end::{End, FileOption};

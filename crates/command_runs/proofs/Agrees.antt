@@ -14,18 +14,18 @@ use Rattle.shelves.specs.Files.{File, Files}
 use Rattle.shelves.specs.History.{History}
 use Rattle.program_answers.specs.Answer.{Answered, memory_answer}
 use Rattle.command_runs.specs.ProblemCourse.{problem_in}
-use Rattle.command_runs.specs.SolveCourse.{Solved, Says, IsSolved, solve_course, named_file, files_to_store}
+use Rattle.command_runs.specs.SolveCourse.{Solved, Says, IsSolved, solve_course, files_to_store}
 use Rattle.command_runs.specs.CheckCourse.{IsChecked}
-use Rattle.command_runs.specs.Storing.{store_steps, said_after}
+use Rattle.command_runs.specs.Storing.{named_file}
 use Rattle.command_runs.specs.Run.{CommandRun}
 use Rattle.command_runs.specs.Headline.{ChecksAs, IsStoredProof, ShowsBest, ShowsImpossible, RunsAgree}
-use Rattle.command_runs.proofs.Refusing.{IsRefusal, Refuses, bind_refuses, problem_refuses, value_refuses}
-use Rattle.command_runs.proofs.StoreLemmas.{refusal_status, all_stored}
+use Rattle.command_runs.proofs.Refusing.{Refuses, bind_refuses, problem_refuses, value_refuses}
+use Rattle.command_runs.proofs.Ending.{same_status, not_refused, has_ended}
 use Rattle.command_runs.proofs.SameProblem.{problem_repeats}
 use Rattle.command_runs.proofs.Checking.{IsAgreed, best_answer, impossible_answer, checked_best, checked_impossible, check_agrees}
 
 -- what a run said, after it stored all its files
-record HasSaid (files : Files) (words : SolveWords) (before : History) (stored : List File) (a : Answered) : Type 0 where
+pub record HasSaid (files : Files) (words : SolveWords) (before : History) (stored : List File) (a : Answered) : Type 0 where
   pub v : ProblemValue
   pub between : History
   pub problem : problem_in (Some files) words.problem before between (Ok v)
@@ -34,40 +34,23 @@ record HasSaid (files : Files) (words : SolveWords) (before : History) (stored :
   pub all : stored ≡ files_to_store words s
   pub said : a ≡ s.answer
 
-same_status : (a b : Answered) → a ≡ b → a.status ≡ b.status
-same_status a b e = ap (λ (x : Answered). x.status) e
-
 module _ (files : Files) (words : SolveWords) (before after : History) (stored : List File) (a : Answered) where
-  -- no refusal has status 0 or 1
-  not_refused : a.status ≤ 1 → IsRefusal a → ⊥
-  not_refused low (inl s) = omega arith
-  not_refused low (inr s) = omega arith
-
   solve_refuses : Refuses (solve_course (Some files) words)
   solve_refuses = bind_refuses _ _ (problem_refuses (Some files) words.problem) (λ v. value_refuses (IsSolved v words.steps))
 
-  said_of : (s : Solved) (between : History) (refusal : Option Answered) → a.status ≤ 1 → solve_course (Some files) words before between (Ok s)
-      → store_steps (files_to_store words s) between after stored refusal → a ≡ said_after refusal s.answer → HasSaid files words before stored a
-  said_of s between refusal low (inl stop) steps said = absurd stop
-  said_of s between None low (inr g) steps said = record {
-    v = g.value;
-    between = g.between;
-    problem = g.given;
-    s = s;
-    solved = g.goes_on.1;
-    all = all_stored (files_to_store words s) between after stored steps;
-    said = said;
-  }
-  said_of s between (Some refusal) low (inr g) steps said =
-      absurd (not_refused low (inr (same_status a refusal said ∙ refusal_status (files_to_store words s) between after stored refusal steps)))
+  said_of : (s : Solved) (between : History) → solve_course (Some files) words before between (Ok s) → stored ≡ files_to_store words s → a ≡ s.answer
+      → HasSaid files words before stored a
+  said_of s between (inl stop) all said = absurd stop
+  said_of s between (inr g) all said = record { v = g.value; between = g.between; problem = g.given; s = s; solved = g.goes_on.1; all = all; said = said }
 
-  has_said : CommandRun (Some files) (Solve words) before after stored a → a.status ≤ 1 → HasSaid files words before stored a
-  has_said (inl none) low = absurd (not_refused low (inr (same_status a memory_answer none.0)))
-  has_said (inr (inl stop)) low = absurd (not_refused low (solve_refuses before after a stop.0))
-  has_said (inr (inr h)) low = said_of h.0 h.1 h.2 low h.3 h.4 h.5
+  pub has_said : CommandRun (Some files) (Solve words) before after stored a → a.status ≤ 1 → HasSaid files words before stored a
+  has_said (inl none) low = absurd (not_refused a low (inr (inl (same_status a memory_answer none.0))))
+  has_said (inr run) low =
+      let end = has_ended (solve_course (Some files) words) (files_to_store words) (λ s. s.answer) before after stored a solve_refuses low run in
+      said_of end.s end.between end.given end.all end.said
 
 -- the certificate is the first file that is stored
-stored_first : (words : SolveWords) (s : Solved) (name : Bor (List ℕ)) (text : List ℕ) → words.certificate ≡ Some name → s.certificate ≡ Some text
+pub stored_first : (words : SolveWords) (s : Solved) (name : Bor (List ℕ)) (text : List ℕ) → words.certificate ≡ Some name → s.certificate ≡ Some text
     → files_to_store words s ≡ record { name = name.now; bytes = text } ∷ named_file words.out s.grouping
 stored_first words s name text named spelled =
     ap₂ (λ (n : Option (Bor (List ℕ))) (t : Option (List ℕ)). named_file n t ++ named_file words.out s.grouping) named spelled
@@ -75,7 +58,7 @@ stored_first words s name text named spelled =
 -- what every check of a text says, every check of the stored certificate says
 module _ (files : Files) (words : SolveWords) (before : History) (stored : List File) (a : Answered) (h : HasSaid files words before stored a) (text : List ℕ)
     (checked : (budget : ℕ) (b : Answered) → IsChecked h.v budget text b → IsAgreed a b) where
-  checks_as : ChecksAs files words text a
+  checks_as : ChecksAs files words.problem text a
   checks_as others check start end none b same certificate (inl memory) = inr (inr (same_status b memory_answer memory.0))
   checks_as others check start end none b same certificate (inr run) =
       check_agrees others check h.v text a
@@ -90,12 +73,12 @@ module _ (files : Files) (words : SolveWords) (before : History) (stored : List 
   answer_is s e = h.said ∙ ap (λ (x : Solved). x.answer) e
 
   -- the answer to what was found has another status
-  other_status : (s : Solved) (n m : ℕ) → h.s ≡ s → a.status ≡ n → s.answer.status ≡ m → n ≢ m → ⊥
+  pub other_status : (s : Solved) (n m : ℕ) → h.s ≡ s → a.status ≡ n → s.answer.status ≡ m → n ≢ m → ⊥
   other_status s n m e is other apart = apart (sym is ∙ same_status a s.answer (answer_is s e) ∙ other)
 
   shows_best : (found : desk.Answer) → IsAnswer (problem_of h.v) words.steps found → NamesBest (problem_of h.v) found → Says h.v found h.s → a.status ≡ 0 → ShowsBest files words before stored a
   shows_best (Best g c) is best said zero =
-      let report : a ≡ best_answer h.v g = answer_is _ said.2 in
+      let report : a ≡ best_answer h.v g.groups.items = answer_is _ said.2 in
       record {
         v = h.v;
         between = h.between;
@@ -104,7 +87,7 @@ module _ (files : Files) (words : SolveWords) (before : History) (stored : List 
         best = best;
         report = report;
         proof = stored_proof files words before stored a h said.0
-            (λ budget b checked. subst (λ (x : Answered). IsAgreed x b) (sym report) (checked_best h.v said.0 budget b checked g
+            (λ budget b checked. subst (λ (x : Answered). IsAgreed x b) (sym report) (checked_best h.v said.0 budget b checked g.groups.items
             (λ verdict. texts.agrees.best (problem_of h.v) said.0 (certificate_of c) g.groups.items budget verdict said.1 is.1.proves is.1.target_is)))
             (ap (λ (x : Solved). x.certificate) said.2);
       }

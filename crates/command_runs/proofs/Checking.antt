@@ -1,12 +1,11 @@
 -- A check of a certificate answers what the certificate shows, unless it is cut off.
-use Rattle.std.proofs.Common.{◌≡◌, ◌⊎◌, ℕ, List, Some, inl, inr, refl, sym, ap, subst, subst₂, ◌∙◌}
-use Rattle.std.specs.Prelude.{Result, Ok, Err, codes}
+use Rattle.std.proofs.Common.{◌≡◌, ◌⊎◌, ℕ, List, Some, inl, inr, refl, sym, ap, subst}
+use Rattle.std.specs.Prelude.{Result, codes}
 use Rattle.grouping_problem.specs.ProblemValue.{ProblemValue, problem_of}
-use Rattle.grouping_laws.specs.Grouping as groups
+use Rattle.grouping_laws.specs.Grouping.{Grouping}
 use Rattle.grouping_report.specs.Outcomes.{outcome_text}
 use Rattle.grouping_report.specs.Report.{report_text}
 use Rattle.grouping_report.specs.declared.outcome.Outcome.TheVariants as outcome
-use Rattle.county_codes.specs.declared.group.Grouping.{Grouping}
 use Rattle.certificate_checker.specs.Answered.{IsAnswer}
 use Rattle.certificate_checker.specs.declared.verdict.Verdict.{Verdict}
 use Rattle.certificate_checker.specs.declared.verdict.Verdict.TheVariants.{Best, Impossible, No, Budget}
@@ -15,12 +14,12 @@ use Rattle.command_words.specs.declared.words.CheckWords.{CheckWords}
 use Rattle.shelves.specs.Files.{Files}
 use Rattle.shelves.specs.History.{History}
 use Rattle.program_answers.specs.Answer.{Answered, success}
-use Rattle.command_runs.specs.Course.{Course, ◌>>=◌, EndsIn, load_step, value_step}
+use Rattle.command_runs.specs.Course.{EndsIn}
 use Rattle.command_runs.specs.ProblemCourse.{problem_in}
 use Rattle.command_runs.specs.CheckCourse.{IsChecked, check_course, verdict_said}
 use Rattle.command_runs.specs.Headline.{IsCutOff}
-use Rattle.command_runs.proofs.Refusing.{shelf_status}
 use Rattle.command_runs.proofs.Repeating.{IsSame}
+use Rattle.command_runs.proofs.TextAgain.{given_again, cut_again}
 
 -- the answer of a run and that of a check are one, unless the check is cut off
 abbrev pub IsAgreed : Answered → Answered → Type 0
@@ -28,14 +27,14 @@ IsAgreed a b = (b ≡ a) ⊎ IsCutOff b
 
 -- what is said where a grouping is best, and where none is lawful
 abbrev pub best_answer : ProblemValue → Grouping → Answered
-best_answer v g = success (outcome_text v (outcome.Best g))
+best_answer v g = success (report_text v (codes "best") g)
 
 abbrev pub impossible_answer : ProblemValue → Answered
 impossible_answer v = record { text = outcome_text v outcome.Impossible; status = 1 }
 
 -- what is said of a verdict that says so
-said_best : (v : ProblemValue) (g : Grouping) (verdict : Verdict) → SaysBest g.groups.items verdict → IsAgreed (best_answer v g) (verdict_said v verdict)
-said_best v g (Best target) same = inl (ap (λ (items : groups.Grouping). success (report_text v (codes "best") items)) same)
+said_best : (v : ProblemValue) (g : Grouping) (verdict : Verdict) → SaysBest g verdict → IsAgreed (best_answer v g) (verdict_said v verdict)
+said_best v g (Best target) same = inl (ap (λ (items : Grouping). success (report_text v (codes "best") items)) same)
 said_best v g Impossible same = absurd same
 said_best v g (No fault line) same = absurd same
 said_best v g Budget same = inr (inl refl)
@@ -48,7 +47,7 @@ said_impossible v Budget says = inr (inl refl)
 
 -- what is said of a text whose every verdict says so
 module _ (v : ProblemValue) (text : List ℕ) (budget : ℕ) (b : Answered) (h : IsChecked v budget text b) where
-  pub checked_best : (g : Grouping) → ((verdict : Verdict) → IsAnswer (problem_of v) text budget verdict → SaysBest g.groups.items verdict) → IsAgreed (best_answer v g) b
+  pub checked_best : (g : Grouping) → ((verdict : Verdict) → IsAnswer (problem_of v) text budget verdict → SaysBest g verdict) → IsAgreed (best_answer v g) b
   checked_best g says = subst (λ (x : Answered). IsAgreed (best_answer v g) x) (sym h.said) (said_best v g h.verdict (says h.verdict h.is))
 
   pub checked_impossible : ((verdict : Verdict) → IsAnswer (problem_of v) text budget verdict → SaysImpossible verdict) → IsAgreed (impossible_answer v) b
@@ -59,22 +58,8 @@ module _ (others : Files) (check : CheckWords) (v : ProblemValue) (text : List �
     (again : (start end : History) (r : Result ProblemValue Answered) → problem_in (Some others) check.problem start end r → IsSame v r)
     (certificate : others check.certificate.now ≡ Some text)
     (checked : (b : Answered) → IsChecked v check.budget text b → IsAgreed a b) where
-  same_text : (bytes : List ℕ) → others check.certificate.now ≡ Some bytes → bytes ≡ text
-  same_text bytes e = cc
-
-  -- the steps behind the problem
-  abbrev checking : ProblemValue → Course Answered
-  checking w = load_step (Some others) check.certificate.now >>= λ bytes. value_step (IsChecked w check.budget bytes)
-
-  checking_agrees : (w : ProblemValue) → w ≡ v → (before after : History) (b : Answered) → EndsIn (checking w) before after b → IsAgreed a b
-  checking_agrees w same before after b (inl (inl stop)) = absurd stop
-  checking_agrees w same before after b (inl (inr g)) =
-      checked b (subst₂ (λ (u : ProblemValue) (bytes : List ℕ). IsChecked u check.budget bytes b) same (same_text g.value g.given.0) g.goes_on.1)
-  checking_agrees w same before after b (inr (inl stop)) = inr (inr (ap (λ (x : Answered). x.status) stop.3 ∙ shelf_status check.certificate.now stop.0))
-  checking_agrees w same before after b (inr (inr g)) = absurd g.goes_on
-
   pub check_agrees : (before after : History) (b : Answered) → EndsIn (check_course (Some others) check) before after b → IsAgreed a b
-  check_agrees before after b (inl (inl stop)) = absurd stop
-  check_agrees before after b (inl (inr g)) = checking_agrees g.value (again before g.between (Ok g.value) g.given) g.between after b (inl g.goes_on)
-  check_agrees before after b (inr (inl stop)) = inr (inr (again before after (Err b) stop))
-  check_agrees before after b (inr (inr g)) = checking_agrees g.value (again before g.between (Ok g.value) g.given) g.between after b (inr g.goes_on)
+  check_agrees before after b (inl given) =
+      checked b (given_again others check.problem check.certificate.now (λ w bytes. IsChecked w check.budget bytes) v text again certificate before after b given)
+  check_agrees before after b (inr stop) =
+      inr (inr (cut_again others check.problem check.certificate.now (λ w bytes. IsChecked w check.budget bytes) v text again certificate before after b stop))

@@ -8,3 +8,9 @@ pub mod Checking
 pub mod Agrees
 pub mod Lifting
 pub mod OfTheirLoads
+mod Ending
+mod TextAgain
+mod Listings
+mod Lists
+mod Boards
+mod Joined

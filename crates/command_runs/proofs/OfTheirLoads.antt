@@ -1,10 +1,9 @@
 -- Runs over files that aren't told are runs over the files that their loads answered by.
-use Rattle.std.proofs.Common.{◌≡◌, ℕ, List, [], ◌∷◌, Option, Some, None, inl, inr, sym, ap, ◌∙◌}
+use Rattle.std.proofs.Common.{◌≡◌, ℕ, length, List, [], ◌∷◌, Option, Some, None, inl, inr, sym, ap, ◌∙◌}
 use Rattle.std.specs.Borrow.{Bor}
-use Rattle.std.specs.Prelude.{Ok, Err}
+use Rattle.std.specs.Prelude.{Ok, Err, option_map}
 use Rattle.pl94_counties.specs.Counties.{county_list, block_list}
 use Rattle.assignment_file.specs.Assignments.{assignment_list}
-use Rattle.grouping_problem.specs.ProblemValue.{codes_of}
 use Rattle.adjacency_reader.specs.Pairs.{IsPairsAnswer}
 use Rattle.adjacency_reader.specs.Links.{link_list}
 use Rattle.adjacency_reader.specs.Withdrawn.{withdrawn_list}
@@ -17,19 +16,31 @@ use Rattle.command_words.specs.declared.words.JudgeWords.{JudgeWords}
 use Rattle.command_words.specs.declared.words.AuditWords.{AuditWords}
 use Rattle.command_words.specs.declared.words.SolveWords.{SolveWords}
 use Rattle.command_words.specs.declared.words.CheckWords.{CheckWords}
+use Rattle.command_words.specs.declared.words.ListWords.{ListWords}
+use Rattle.command_words.specs.declared.words.ShareWords.{ShareWords}
+use Rattle.command_words.specs.declared.words.PieceWords.{PieceWords}
 use Rattle.command_words.specs.declared.words.CommandWords.{CommandWords}
-use Rattle.command_words.specs.declared.words.CommandWords.TheVariants.{Size, Judge, Solve, Check, Audit}
+use Rattle.command_words.specs.declared.words.CommandWords.TheVariants.{Size, Judge, Solve, Check, Audit, List as ListAll, Share, Piece}
 use Rattle.shelves.specs.Files.{File, Files}
 use Rattle.shelves.specs.History.{History}
 use Rattle.program_answers.specs.declared.refusal.InputFile.TheVariants as input
 use Rattle.program_answers.specs.Answer.{Answered, success}
-use Rattle.program_answers.specs.Refusals.{pl94_answer, code_file_answer, problem_answer, assignment_answer, verdict_answer}
+use Rattle.program_answers.specs.Refusals.{pl94_answer, code_file_answer, problem_answer, assignment_answer, verdict_answer, events_answer, board_answer}
 use Rattle.command_runs.specs.ProblemCourse.{counties_of, pairs_of, links_of, withdrawn_of, adjacency_of, IsBuilt, problem_in, grouping_of}
 use Rattle.command_runs.specs.PlanCourse.{blocks_of, assignments_of}
 use Rattle.command_runs.specs.JudgeCourse.{size_course, IsJudged, judge_course, IsAudited, audit_course}
-use Rattle.command_runs.specs.SolveCourse.{IsSolved, solve_course, SolveEnds}
+use Rattle.command_runs.specs.SolveCourse.{IsSolved, solve_course, files_to_store}
 use Rattle.command_runs.specs.CheckCourse.{IsChecked, check_course}
-use Rattle.command_runs.specs.Storing.{store_steps}
+use Rattle.command_runs.specs.ListCourse.{IsListed, list_course, listed_file}
+use Rattle.grouping_problem.specs.ProblemValue.{codes_of, problem_of}
+use Rattle.proof_trees.specs.Round as rounds
+use Rattle.board_report.specs.Shared.{IsShared}
+use Rattle.board_report.specs.Proved.{IsAnswered, piece_budget}
+use Rattle.command_runs.specs.BoardCourse.{language_of, depth_of, AreEvents, events_of, named_events_of, AnswersOnBoard}
+use Rattle.command_runs.specs.ShareCourse.{share_answer, share_course, joined_file}
+use Rattle.command_runs.specs.PieceCourse.{piece_said, piece_course}
+use Rattle.command_runs.specs.Course.{Course}
+use Rattle.command_runs.specs.Storing.{EndsStoring, store_steps}
 use Rattle.command_runs.specs.Run.{CommandEnds, CommandRun, IsRunAnswer}
 use Rattle.command_runs.specs.Loads.{AnsweredBy, RunsAreOfTheirLoads}
 use Rattle.command_runs.proofs.Lifting.{Lifts, lifts_load, lifts_call, lifts_value, lifts_bind, lifts_optional, ends_lift}
@@ -89,20 +100,48 @@ module _ (files : Files) where
   solve_lifts : (words : SolveWords) → Lifts files (solve_course None words) (solve_course (Some files) words)
   solve_lifts words = lifts_bind files (problem_lifts words.problem) (λ v. lifts_value files (IsSolved v words.steps))
 
-  solve_ends : (words : SolveWords) (before after : History) (stored : List File) (a : Answered) → SolveEnds None words before after stored a → AnsweredBy files before after
-      → SolveEnds (Some files) words before after stored a
-  solve_ends words before after stored a (inl h) by = inl ((solve_lifts words).lifts before after (Err a) h.0 by, h.1)
-  solve_ends words before after stored a (inr h) by =
-      let solved = (solve_lifts words).lifts before h.1 (Ok h.0) h.3 (by.0, sym (stores_keep _ h.1 after stored h.2 h.4) ∙ by.1, by.2) in
-      inr (h.0, h.1, h.2, solved, h.4, h.5)
+  list_lifts : (words : ListWords) → Lifts files (list_course None words) (list_course (Some files) words)
+  list_lifts words = lifts_bind files (problem_lifts words.check.problem) (λ v. lifts_bind files (lifts_load files words.check.certificate.now) (λ text.
+      lifts_value files (IsListed v words.check.budget (option_map (λ w. w.number) words.stored) text)))
+
+  events_lift : (language : rounds.Language) (counties : ℕ) (name : List ℕ) → Lifts files (events_of None language counties name) (events_of (Some files) language counties name)
+  events_lift language counties name = lifts_bind files (lifts_load files name) (λ text. lifts_call files events_answer (AreEvents language counties text))
+
+  named_events_lift : (language : rounds.Language) (counties : ℕ) (name : Option (Bor (List ℕ)))
+      → Lifts files (named_events_of None language counties name) (named_events_of (Some files) language counties name)
+  named_events_lift language counties name = lifts_optional files [] name (λ file. events_lift language counties file)
+
+  share_lifts : (words : ShareWords) → Lifts files (share_course None words) (share_course (Some files) words)
+  share_lifts words =
+      lifts_bind files (problem_lifts words.board.problem) (λ v. lifts_bind files (grouping_lifts words.board.grouping.now) (λ g.
+      lifts_bind files (events_lift (language_of words.board.round) (length v.counties) words.events.now) (λ events.
+      lifts_call files board_answer (AnswersOnBoard v g words.board.round words.budget (λ round. IsShared (problem_of v) (depth_of words.board.round) words.budget round events)))))
+
+  piece_lifts : (words : PieceWords) → Lifts files (piece_course None words) (piece_course (Some files) words)
+  piece_lifts words =
+      lifts_bind files (problem_lifts words.board.problem) (λ v. lifts_bind files (grouping_lifts words.board.grouping.now) (λ g.
+      lifts_bind files (named_events_lift (language_of words.board.round) (length v.counties) words.events) (λ events.
+      lifts_bind files (lifts_call files board_answer (AnswersOnBoard v g words.board.round piece_budget (λ round. IsAnswered (problem_of v) (depth_of words.board.round) round events words.number))) (λ piece.
+      lifts_value files (λ a. a ≡ piece_said words.round words.number piece)))))
+
+  storing_ends : {S : Type 0} (steps told : Course S) (files_of : S → List File) (answer : S → Answered) → Lifts files steps told
+      → (before after : History) (stored : List File) (a : Answered) → EndsStoring steps files_of answer before after stored a → AnsweredBy files before after
+      → EndsStoring told files_of answer before after stored a
+  storing_ends steps told files_of answer lift before after stored a (inl h) by = inl (lift.lifts before after (Err a) h.0 by, h.1)
+  storing_ends steps told files_of answer lift before after stored a (inr h) by =
+      let given = lift.lifts before h.1 (Ok h.0) h.3 (by.0, sym (stores_keep _ h.1 after stored h.2 h.4) ∙ by.1, by.2) in
+      inr (h.0, h.1, h.2, given, h.4, h.5)
 
   command_ends : (command : CommandWords) (before after : History) (stored : List File) (a : Answered) → CommandEnds None command before after stored a → AnsweredBy files before after
       → CommandEnds (Some files) command before after stored a
   command_ends (Size words) before after stored a h by = (ends_lift files (size_lifts words) before after a h.0 by, h.1)
   command_ends (Judge words) before after stored a h by = (ends_lift files (judge_lifts words) before after a h.0 by, h.1)
-  command_ends (Solve words) before after stored a h by = solve_ends words before after stored a h by
+  command_ends (Solve words) before after stored a h by = storing_ends _ _ (files_to_store words) (λ s. s.answer) (solve_lifts words) before after stored a h by
   command_ends (Check words) before after stored a h by = (ends_lift files (check_lifts words) before after a h.0 by, h.1)
   command_ends (Audit words) before after stored a h by = (ends_lift files (audit_lifts words) before after a h.0 by, h.1)
+  command_ends (ListAll words) before after stored a h by = storing_ends _ _ (listed_file words) (λ s. s.answer) (list_lifts words) before after stored a h by
+  command_ends (Share words) before after stored a h by = storing_ends _ _ (joined_file words) share_answer (share_lifts words) before after stored a h by
+  command_ends (Piece words) before after stored a h by = (ends_lift files (piece_lifts words) before after a h.0 by, h.1)
 
   command_run : (command : CommandWords) (before after : History) (stored : List File) (a : Answered) → CommandRun None command before after stored a → AnsweredBy files before after
       → CommandRun (Some files) command before after stored a

@@ -11,6 +11,11 @@ use Rattle.pl94_counties.specs.declared.fault.Pl94Kind.TheVariants as kinds
 use Rattle.seat_lines.specs.declared.fault.CodeLineKind.{CodeLineKind}
 use Rattle.seat_lines.specs.declared.fault.CodeLineKind.TheVariants as lines
 use Rattle.seat_lines.specs.declared.fault.CodeLineFault.{CodeLineFault}
+use Rattle.certificate_lines.specs.declared.fault.TextFault.{TextFault}
+use Rattle.certificate_lines.specs.declared.fault.TextKind.{TextKind}
+use Rattle.certificate_lines.specs.declared.fault.TextKind.TheVariants as text
+use Rattle.share_board.specs.declared.fault.BoardFault.{BoardFault}
+use Rattle.share_board.specs.declared.fault.BoardFault.TheVariants as board
 use Rattle.grouping_problem.specs.declared.fault.ProblemFault.{ProblemFault}
 use Rattle.grouping_problem.specs.declared.fault.ProblemFault.TheVariants as problem
 use Rattle.grouping_problem.specs.ProblemValue.{codes_of}
@@ -19,18 +24,19 @@ use Rattle.adjacency_reader.specs.Pairs.{IsPairsAnswer}
 use Rattle.adjacency_reader.specs.Links.{link_list}
 use Rattle.adjacency_reader.specs.Withdrawn.{withdrawn_list}
 use Rattle.adjacency_reader.specs.Adjacent.{AreLinked}
+use Rattle.seat_lines.specs.GroupingLines.{grouping_list}
 use Rattle.program_answers.specs.declared.refusal.InputFile.{InputFile}
-use Rattle.program_answers.specs.declared.refusal.InputFile.TheVariants.{Adjacency, Links, Withdrawn}
+use Rattle.program_answers.specs.declared.refusal.InputFile.TheVariants.{Adjacency, Links, Withdrawn, Grouping}
 use Rattle.program_answers.specs.Answer.{Answered}
-use Rattle.program_answers.specs.Refusals.{shelf_answer, file_answer, pl94_answer, code_line_answer, code_file_answer, problem_answer}
+use Rattle.program_answers.specs.Refusals.{shelf_answer, file_answer, pl94_answer, code_line_answer, code_file_answer, problem_answer, events_line_answer, events_answer, board_answer}
 use Rattle.command_words.specs.declared.words.CommonWords.{CommonWords}
 use Rattle.command_words.specs.declared.words.ProblemWords.{ProblemWords}
 use Rattle.command_runs.specs.Course.{Course, ◌>>=◌, load_step, call_step, value_step, optional_step}
-use Rattle.command_runs.specs.ProblemCourse.{counties_of, pairs_of, pairs_in, links_of, links_in, withdrawn_of, withdrawn_in, adjacency_of, IsBuilt, problem_in}
+use Rattle.command_runs.specs.ProblemCourse.{counties_of, pairs_of, pairs_in, links_of, links_in, withdrawn_of, withdrawn_in, adjacency_of, IsBuilt, problem_in, grouping_in, grouping_of}
 
--- the status of a refusal: 4 for a file or a problem, 5 for a shelf or for memory
+-- the status of a refusal: 4 for a file, a problem or a board, 5 for a shelf or for memory, and 3 for a budget that is too small
 abbrev pub IsRefusal : Answered → Type 0
-IsRefusal a = (a.status ≡ 4) ⊎ (a.status ≡ 5)
+IsRefusal a = (a.status ≡ 4) ⊎ ((a.status ≡ 5) ⊎ (a.status ≡ 3))
 
 pub shelf_status : (name : List ℕ) (fault : ShelfFault) → (shelf_answer name fault).status ≡ 5
 shelf_status name shelf.Missing = refl
@@ -50,7 +56,7 @@ file_status file kinds.NoCounties line = inl refl
 file_status file kinds.NoBlocks line = inl refl
 file_status file kinds.TooMany line = inl refl
 file_status file (kinds.Lower fault) line = inl refl
-file_status file kinds.Memory line = inr refl
+file_status file kinds.Memory line = inr (inl refl)
 
 code_line_status : (file : InputFile) (kind : CodeLineKind) (line : ℕ) → IsRefusal (code_line_answer file kind line)
 code_line_status file lines.TooFewFields line = inl refl
@@ -58,7 +64,7 @@ code_line_status file lines.BadSign line = inl refl
 code_line_status file lines.BadSeats line = inl refl
 code_line_status file lines.BadCode line = inl refl
 code_line_status file (lines.Lower fault) line = inl refl
-code_line_status file lines.Memory line = inr refl
+code_line_status file lines.Memory line = inr (inl refl)
 
 problem_status : (fault : ProblemFault) → IsRefusal (problem_answer fault)
 problem_status problem.SeatsOutOfRange = inl refl
@@ -70,12 +76,37 @@ problem_status (problem.UnknownWithdrawn code) = inl refl
 problem_status (problem.WithdrawnTwice code) = inl refl
 problem_status problem.WithdrawnSeats = inl refl
 problem_status (problem.UnknownPair a b) = inl refl
-problem_status problem.Memory = inr refl
+problem_status problem.Memory = inr (inl refl)
+
+events_line_status : (kind : TextKind) (line : ℕ) → IsRefusal (events_line_answer kind line)
+events_line_status text.BadHead line = inl refl
+events_line_status text.BadWord line = inl refl
+events_line_status text.BadNumber line = inl refl
+events_line_status text.NotCanonical line = inl refl
+events_line_status text.CutShort line = inl refl
+events_line_status text.AfterEnd line = inl refl
+events_line_status text.TooDeep line = inl refl
+events_line_status text.ReadFault line = inl refl
+events_line_status text.Memory line = inr (inl refl)
+
+pub events_status : (fault : TextFault) → IsRefusal (events_answer fault)
+events_status fault = events_line_status fault.kind fault.line
+
+pub board_status : (fault : BoardFault) → IsRefusal (board_answer fault)
+board_status board.DepthOutOfRange = inl refl
+board_status board.WrongOrder = inl refl
+board_status (board.Target fault) = inl refl
+board_status board.LimitTooSmall = inl refl
+board_status board.LimitTooLarge = inl refl
+board_status board.TooManyPieces = inl refl
+board_status board.Budget = inr (inr refl)
+board_status board.Memory = inr (inl refl)
 
 -- an answer that is a refusal's
 as_refused : (a b : Answered) → a ≡ b → IsRefusal b → IsRefusal a
 as_refused a b e (inl s) = inl (ap (λ (x : Answered). x.status) e ∙ s)
-as_refused a b e (inr s) = inr (ap (λ (x : Answered). x.status) e ∙ s)
+as_refused a b e (inr (inl s)) = inr (inl (ap (λ (x : Answered). x.status) e ∙ s))
+as_refused a b e (inr (inr s)) = inr (inr (ap (λ (x : Answered). x.status) e ∙ s))
 
 -- the steps end in no other answers
 abbrev pub Refuses : {X : Type 0} → Course X → Type 0
@@ -85,10 +116,10 @@ pub bind_refuses : {X Y : Type 0} (first : Course X) (next : X → Course Y) →
 bind_refuses first next f n before after a (inl stop) = f before after a stop
 bind_refuses first next f n before after a (inr on) = n on.value on.between after a on.goes_on
 
-load_refuses : (files : Option Files) (name : List ℕ) → Refuses (load_step files name)
-load_refuses files name before after a h = as_refused a (shelf_answer name h.0) h.3 (inr (shelf_status name h.0))
+pub load_refuses : (files : Option Files) (name : List ℕ) → Refuses (load_step files name)
+load_refuses files name before after a h = as_refused a (shelf_answer name h.0) h.3 (inr (inl (shelf_status name h.0)))
 
-call_refuses : {X F : Type 0} (refuse : F → Answered) (R : Result X F → Type 0) → ((fault : F) → IsRefusal (refuse fault)) → Refuses (call_step refuse R)
+pub call_refuses : {X F : Type 0} (refuse : F → Answered) (R : Result X F → Type 0) → ((fault : F) → IsRefusal (refuse fault)) → Refuses (call_step refuse R)
 call_refuses refuse R all before after a h = as_refused a (refuse h.1.0) h.1.2 (all h.1.0)
 
 pub value_refuses : {X : Type 0} (P : X → Type 0) → Refuses (value_step P)
@@ -117,6 +148,10 @@ adjacency_refuses files listed words =
 
 withdrawn_refuses : (files : Option Files) (name : Option (Bor (List ℕ))) → Refuses (withdrawn_of files name)
 withdrawn_refuses files name = optional_refuses [] _ name (λ file. bind_refuses (load_step files file) withdrawn_in (load_refuses files file) (λ text. code_file_refuses Withdrawn (λ sets. withdrawn_list text ≡ sets)))
+
+-- a grouping that isn't had
+pub grouping_refuses : (files : Option Files) (name : List ℕ) → Refuses (grouping_of files name)
+grouping_refuses files name = bind_refuses (load_step files name) grouping_in (load_refuses files name) (λ text. code_file_refuses Grouping (λ grouping. grouping_list text ≡ grouping))
 
 -- a problem that isn't had
 pub problem_refuses : (files : Option Files) (words : ProblemWords) → Refuses (problem_in files words)

@@ -43,17 +43,17 @@ abbrev pub IsCutOff : Answered → Type 0
 IsCutOff a = (a ≡ budget_answer) ⊎ (a.status ≡ 5)
 
 -- Every check of this text with the same problem gives this answer, unless it was cut off.
-abbrev pub ChecksAs : Files → SolveWords → List ℕ → Answered → Type 0
+abbrev pub ChecksAs : Files → ProblemWords → List ℕ → Answered → Type 0
 ChecksAs files words text a =
     (others : Files) (check : CheckWords) (before after : History) (stored : List File) (b : Answered)
-    → HasSameProblem files others words.problem check.problem → others check.certificate.now ≡ Some text
+    → HasSameProblem files others words check.problem → others check.certificate.now ≡ Some text
     → CommandRun (Some others) (Check check) before after stored b → (b ≡ a) ⊎ IsCutOff b
 
 -- where a certificate is named, it was stored first, and every check of it gives the same answer
 abbrev pub IsStoredProof : Files → SolveWords → List File → Answered → Type 0
 IsStoredProof files words stored a =
     (name : Bor (List ℕ)) → words.certificate ≡ Some name
-    → (text : List ℕ) × (more : List File) × (stored ≡ record { name = name.now; bytes = text } ∷ more) × ChecksAs files words text a
+    → (text : List ℕ) × (more : List File) × (stored ≡ record { name = name.now; bytes = text } ∷ more) × ChecksAs files words.problem text a
 
 -- What a run of `solve` that ends with status 0 shows: its report is that of a grouping which is best for the problem of the files, and
 -- its certificate says so to whoever checks it.

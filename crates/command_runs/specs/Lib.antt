@@ -4,8 +4,14 @@ pub mod PlanCourse
 pub mod JudgeCourse
 pub mod SolveCourse
 pub mod CheckCourse
+pub mod ListCourse
+pub mod BoardCourse
+pub mod ShareCourse
+pub mod PieceCourse
 pub mod Storing
 pub mod Run
 pub mod Loads
 pub mod Headline
+pub mod ListHeadline
+pub mod ShareHeadline
 pub mod Texts

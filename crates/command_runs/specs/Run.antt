@@ -1,8 +1,8 @@
 -- What a run answers, and which files it stores.
 use Rattle.std.specs.Prelude.{◌≡◌, ◌⊎◌, ◌≤◌, ℕ, true, List, [], Option, string_bytes}
-use Rattle.command_words.specs.Words.{Means, EndsBy, faults_of, takes_words}
+use Rattle.command_words.specs.Words.{Means, EndsFor, EndsTaken, faults_of, takes_words}
 use Rattle.command_words.specs.declared.words.CommandWords.{CommandWords}
-use Rattle.command_words.specs.declared.words.CommandWords.TheVariants.{Size, Judge, Solve, Check, Audit}
+use Rattle.command_words.specs.declared.words.CommandWords.TheVariants.{Size, Judge, Solve, Check, Audit, List as ListAll, Share, Piece}
 use Rattle.command_words.specs.declared.end.WordsEnd.{WordsEnd}
 use Rattle.command_words.specs.declared.end.WordsEnd.TheVariants.{Help, Version, Usage, Memory}
 use Rattle.shelves.specs.Files.{File, Files}
@@ -12,14 +12,21 @@ use Rattle.command_runs.specs.Course.{EndsIn}
 use Rattle.command_runs.specs.JudgeCourse.{size_course, judge_course, audit_course}
 use Rattle.command_runs.specs.SolveCourse.{SolveEnds}
 use Rattle.command_runs.specs.CheckCourse.{check_course}
+use Rattle.command_runs.specs.ListCourse.{ListEnds}
+use Rattle.command_runs.specs.ShareCourse.{ShareEnds}
+use Rattle.command_runs.specs.PieceCourse.{piece_course}
 
--- A command ends with its answer, over a shelf of these histories before and after it, with these files stored: only `solve` stores any.
+-- A command ends with its answer, over a shelf of these histories before and after it, with these files stored: only `solve`, `list` and `share`
+-- store any.
 abbrev pub CommandEnds : Option Files → CommandWords → History → History → List File → Answered → Type 0
 CommandEnds files (Size words) before after stored a = EndsIn (size_course files words) before after a × (stored ≡ [])
 CommandEnds files (Judge words) before after stored a = EndsIn (judge_course files words) before after a × (stored ≡ [])
 CommandEnds files (Solve words) before after stored a = SolveEnds files words before after stored a
 CommandEnds files (Check words) before after stored a = EndsIn (check_course files words) before after a × (stored ≡ [])
 CommandEnds files (Audit words) before after stored a = EndsIn (audit_course files words) before after a × (stored ≡ [])
+CommandEnds files (ListAll words) before after stored a = ListEnds files words before after stored a
+CommandEnds files (Share words) before after stored a = ShareEnds files words before after stored a
+CommandEnds files (Piece words) before after stored a = EndsIn (piece_course files words) before after a × (stored ≡ [])
 
 -- nothing was stored, since a growth was refused
 abbrev pub IsOutOfMemory : List File → Answered → Type 0
@@ -39,8 +46,8 @@ IsEndAnswer Memory a = a ≡ memory_answer
 -- the words end before any command, and nothing is loaded or stored
 pub record EndsAtWords (words : List (List ℕ)) (before after : History) (stored : List File) (a : Answered) : Type 0 where
   pub end : WordsEnd
-  pub by : EndsBy (faults_of words) end
-  pub taken : takes_words words ≡ true → end ≡ Memory
+  pub by : EndsFor words end
+  pub taken : takes_words words ≡ true → EndsTaken words end
   pub answer : IsEndAnswer end a
   pub none_stored : stored ≡ []
   pub none_loaded : after ≡ before
@@ -53,7 +60,8 @@ pub record RunsCommand (files : Option Files) (words : List (List ℕ)) (before 
   pub run : CommandRun files command before after stored a
 
 -- The answer to words, and the files that were stored: that of the command that they mean, or the end that they come to. Words that clap
--- takes mean a command, so they end neither in help, nor in the version, nor in usage. A growth may be refused before anything is stored.
+-- takes mean a command, so they end neither in help, nor in the version, nor in usage; but words that give an option without its
+-- partner end in usage. A growth may be refused before anything is stored.
 abbrev pub IsRunAnswer : Option Files → List (List ℕ) → History → History → List File → Answered → Type 0
 IsRunAnswer files words before after stored a =
     IsOutOfMemory stored a ⊎ (EndsAtWords words before after stored a ⊎ RunsCommand files words before after stored a)
@@ -65,3 +73,6 @@ HasState (Judge words) = words.problem.common.state ≤ 99
 HasState (Solve words) = words.problem.common.state ≤ 99
 HasState (Check words) = words.problem.common.state ≤ 99
 HasState (Audit words) = words.problem.common.state ≤ 99
+HasState (ListAll words) = words.check.problem.common.state ≤ 99
+HasState (Share words) = words.board.problem.common.state ≤ 99
+HasState (Piece words) = words.board.problem.common.state ≤ 99

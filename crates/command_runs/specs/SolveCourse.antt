@@ -1,6 +1,5 @@
 -- The steps of `solve`: the problem is built, a desk looks for its best grouping, and what it found is stored and reported.
-use Rattle.std.specs.Prelude.{◌≡◌, ◌⊎◌, ℕ, List, [], ◌∷◌, ◌++◌, Option, Some, None, Ok, Err}
-use Rattle.std.specs.Borrow.{Bor}
+use Rattle.std.specs.Prelude.{◌≡◌, ℕ, List, ◌++◌, Option, Some, None}
 use Rattle.grouping_problem.specs.ProblemValue.{ProblemValue, problem_of}
 use Rattle.grouping_report.specs.Outcomes.{outcome_text}
 use Rattle.grouping_report.specs.GroupingText.{grouping_text}
@@ -9,14 +8,14 @@ use Rattle.certificate_text.specs.Trees.{certificate_of}
 use Rattle.certificate_text.specs.Spelled.{IsSpelling}
 use Rattle.branch_bound.specs.declared.answer.Answer as desk
 use Rattle.branch_bound.specs.declared.answer.Answer.TheVariants.{Best, Impossible, Open}
-use Rattle.branch_bound.specs.Answered.{IsAnswer, NamesBest, SaysWhether}
+use Rattle.branch_bound.specs.Answered.{IsAnswer, NamesBest, HasCompleteTree, SaysWhether}
 use Rattle.command_words.specs.declared.words.SolveWords.{SolveWords}
 use Rattle.shelves.specs.Files.{File, Files}
 use Rattle.shelves.specs.History.{History}
 use Rattle.program_answers.specs.Answer.{Answered, success}
 use Rattle.command_runs.specs.Course.{Course, ◌>>=◌, value_step}
 use Rattle.command_runs.specs.ProblemCourse.{problem_in}
-use Rattle.command_runs.specs.Storing.{store_steps, said_after}
+use Rattle.command_runs.specs.Storing.{EndsStoring, named_file}
 
 -- what `solve` says, and the texts for its files: that of the certificate, and that of the grouping
 pub record Solved : Type 0 where
@@ -40,6 +39,7 @@ pub record IsSolved (v : ProblemValue) (limit : ℕ) (s : Solved) : Type 0 where
   pub found : desk.Answer
   pub is : IsAnswer (problem_of v) limit found
   pub best : NamesBest (problem_of v) found
+  pub complete : HasCompleteTree (problem_of v) found
   pub whether : SaysWhether (problem_of v) limit found
   pub said : Says v found s
 
@@ -47,19 +47,10 @@ pub record IsSolved (v : ProblemValue) (limit : ℕ) (s : Solved) : Type 0 where
 abbrev pub solve_course : Option Files → SolveWords → Course Solved
 solve_course files words = problem_in files words.problem >>= λ v. value_step (IsSolved v words.steps)
 
--- the file of a text, where there is one and its file is named
-abbrev pub named_file : Option (Bor (List ℕ)) → Option (List ℕ) → List File
-named_file None text = []
-named_file (Some name) None = []
-named_file (Some name) (Some text) = record { name = name.now; bytes = text } ∷ []
-
 -- the files that are stored: the certificate first
 abbrev pub files_to_store : SolveWords → Solved → List File
 files_to_store words s = named_file words.certificate s.certificate ++ named_file words.out s.grouping
 
 -- `solve` ends: at a fault that it met before anything was stored, or with its files stored and its answer, unless a file was refused
 abbrev pub SolveEnds : Option Files → SolveWords → History → History → List File → Answered → Type 0
-SolveEnds files words before after stored a =
-    (solve_course files words before after (Err a) × (stored ≡ []))
-    ⊎ ((s : Solved) × (between : History) × (refusal : Option Answered) × solve_course files words before between (Ok s)
-    × store_steps (files_to_store words s) between after stored refusal × (a ≡ said_after refusal s.answer))
+SolveEnds files words = EndsStoring (solve_course files words) (files_to_store words) (λ s. s.answer)

@@ -1,11 +1,13 @@
 -- Files that a command stores, in turn, before it says its answer.
-use Rattle.std.specs.Prelude.{◌≡◌, ◌⊎◌, List, [], ◌∷◌, Option, Some, None, Ok, Err, option_map}
+use Rattle.std.specs.Prelude.{◌≡◌, ◌⊎◌, ℕ, List, [], ◌∷◌, Option, Some, None, Ok, Err, option_map}
+use Rattle.std.specs.Borrow.{Bor}
 use Rattle.shelves.specs.declared.shelf.ShelfFault.{ShelfFault}
 use Rattle.shelves.specs.Files.{File, Files, with_files, with_all}
 use Rattle.shelves.specs.Shelf.{IsStore}
 use Rattle.shelves.specs.History.{History, HasCounted}
 use Rattle.program_answers.specs.Answer.{Answered, memory_answer}
 use Rattle.program_answers.specs.Refusals.{shelf_answer}
+use Rattle.command_runs.specs.Course.{Course}
 
 -- what was refused has this answer, unless a growth was refused in composing it
 abbrev pub IsAnsweredBy : Option Answered → Answered → Type 0
@@ -31,6 +33,20 @@ store_steps (f ∷ fs) before after stored refusal =
 abbrev pub said_after : Option Answered → Answered → Answered
 said_after None a = a
 said_after (Some refusal) a = refusal
+
+-- Steps come to what is to be said and stored, and its files are then stored. They end at a fault that they met before anything was stored,
+-- or with the files stored and the answer, unless a file was refused.
+abbrev pub EndsStoring : {S : Type 0} → Course S → (S → List File) → (S → Answered) → History → History → List File → Answered → Type 0
+EndsStoring {S} steps files_of answer before after stored a =
+    (steps before after (Err a) × (stored ≡ []))
+    ⊎ ((s : S) × (between : History) × (refusal : Option Answered) × steps before between (Ok s)
+    × store_steps (files_of s) between after stored refusal × (a ≡ said_after refusal (answer s)))
+
+-- the file of a text, where there is one and its file is named
+abbrev pub named_file : Option (Bor (List ℕ)) → Option (List ℕ) → List File
+named_file None text = []
+named_file (Some name) None = []
+named_file (Some name) (Some text) = record { name = name.now; bytes = text } ∷ []
 
 -- a shelf holds the files of before and those that were stored in turn, where it tells them
 pub record HasStored (files files_after : Option Files) (listed listed_after : Option (List File)) (stored : List File) : Type 0 where

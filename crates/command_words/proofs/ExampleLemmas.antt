@@ -87,3 +87,29 @@ too_many_steps = refl
 no_certificate : faults_of (codes "check" ∷ codes "--geo=a" ∷ codes "--segment=b" ∷ codes "--chamber=50" ∷ codes "--adjacency=c" ∷ []) ≡ kind.MissingRequiredArgument ∷ []
 unfolding clap_on_literals countygroups faults_of
 no_certificate = refl
+
+-- `share` without a depth, and with one
+abbrev shared : List Text
+shared = codes "share" ∷ codes "--geo=a" ∷ codes "--segment=b" ∷ codes "--chamber=50" ∷ codes "--adjacency=c" ∷ codes "--grouping=d" ∷ []
+
+no_events : faults_of shared ≡ kind.MissingRequiredArgument ∷ []
+unfolding clap_on_literals countygroups faults_of
+no_events = refl
+
+wide : option_map (λ p. is_given (codes "depth") p.1) (subcommand_in (shared ++ codes "--events=e" ∷ [])) ≡ Some false
+unfolding clap_on_literals countygroups subcommand_in
+wide = refl
+
+greatest_depth : takes_words (shared ++ codes "--events=e" ∷ codes "--limit=65535" ∷ codes "--depth=255" ∷ []) ≡ true
+unfolding clap_on_literals countygroups takes_words
+greatest_depth = refl
+
+too_deep : faults_of (shared ++ codes "--events=e" ∷ codes "--depth=256" ∷ []) ≡ kind.ValueValidation ∷ []
+unfolding clap_on_literals countygroups faults_of
+too_deep = refl
+
+-- `piece` without the number of the piece
+no_number : faults_of (codes "piece" ∷ codes "--geo=a" ∷ codes "--segment=b" ∷ codes "--chamber=50" ∷ codes "--adjacency=c" ∷ codes "--grouping=d" ∷ codes "--round=1" ∷ [])
+    ≡ kind.MissingRequiredArgument ∷ []
+unfolding clap_on_literals countygroups faults_of
+no_number = refl

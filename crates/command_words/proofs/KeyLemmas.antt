@@ -1,6 +1,7 @@
 -- Lists whose elements have keys of their own.
-use Rattle.std.proofs.Common.{◌≡◌, ◌∙◌, ◌&&◌, ◌||◌, not, ℕ, Bool, cond, true, false, zero, suc, refl, sym, ap, subst, arith, List, [], ◌∷◌, Option, Some, true≢false}
+use Rattle.std.proofs.Common.{◌≡◌, ◌≢◌, ◌∙◌, ◌&&◌, ◌||◌, not, ℕ, Bool, cond, true, false, zero, suc, refl, sym, ap, subst, arith, List, [], ◌∷◌, Option, Some, true≢false}
 use Rattle.std.specs.List.{All, AllByRecursion, find, list_all, list_any}
+use Rattle.std.specs.Option.{IsSomeAnd}
 use Rattle.std.specs.Str.{bytes_eq}
 use Rattle.std.proofs.lemmas.List.Elements.{All-cons, All-head, All-nil, All-tail}
 use Rattle.std.proofs.lemmas.Slice.Eq.{bytes_eq-Decides}
@@ -54,6 +55,15 @@ module _ {X : Type 0} (key : X → Text) where
           found_passes (λ (b : X). bytes_eq (key b) (key x)) xs a (ap (λ (t : Text). by_key key xs t) (sym same) ∙ own) in
           let bad : false ≡ true = ap not (sym again) ∙ (both _ _ differ).0 in
           absurd (true≢false (sym bad))
+
+  -- where no element has the key, none is found by it
+  pub no_key : (P : X → Type 0) (xs : List X) (t : Text) → AllByRecursion (λ x. t ≢ key x) xs → IsSomeAnd (by_key key xs t) P → ⊥
+  no_key P [] t none h = h
+  no_key P (x ∷ xs) t none h = go (bytes_eq (key x) t) refl h (no_key P xs t none.1)
+    where
+      go : (b : Bool) → bytes_eq (key x) t ≡ b → IsSomeAnd (cond b (Some x) (by_key key xs t)) P → (IsSomeAnd (by_key key xs t) P → ⊥) → ⊥
+      go true is found rest = none.0 (sym ((bytes_eq-Decides (key x) t).0 is))
+      go false is found rest = rest found
 
   first_found : (x : X) (xs : List X) → by_key key (x ∷ xs) (key x) ≡ Some x
   first_found x xs = ap (λ (t : Bool). cond t (Some x) (by_key key xs (key x))) (same_bytes (key x))

@@ -1,6 +1,7 @@
 -- What the getters read of the options that have a value.
 use Rattle.std.proofs.Common.{◌++◌, ◌∷◌, [], ◌≡◌, ◌⊎◌, ◌∙◌, ◌<◌, ◌≤◌, ◌^◌, ℕ, Bool, true, false, true≢false, refl, sym, ap, subst, inl, inr, List, Option, Some, None, Result, codes, is_some}
-use Rattle.std.specs.Prelude.{option_map, pos, slice_get}
+use Rattle.std.specs.Prelude.{find, option_and_then, option_map, pos, slice_get}
+use Rattle.std.specs.Str.{bytes_eq}
 use Rattle.std.proofs.lemmas.List.Elements.{All-cons, All-head, All-nil, All-tail}
 use Rattle.std.specs.Borrow.{Bor}
 use Rattle.std.specs.Option.{IsSomeAnd}
@@ -11,14 +12,14 @@ use Rattle.clap.specs.Matches.{ReadsOne, first_value, one_text}
 use Rattle.clap.specs.Facts.{parser_of_value}
 use Rattle.clap.specs.Values.{Accepts, read_as, reading_of}
 use Rattle.clap.specs.Takes.{is_given}
-use Rattle.clap.specs.Walk.{Row, Rule, Text, first_of, rows_of}
+use Rattle.clap.specs.Walk.{Row, Rule, Text, first_of, row_text, rows_of}
 use Rattle.clap.specs.declared.builder.value_parser.ValueParser.{ValueParser}
 use Rattle.clap.specs.declared.builder.value_parser.ValueParser.TheVariants.{Signed, Unsigned}
 use Rattle.clap.specs.declared.parser.matches.Found.{Found}
 use Rattle.clap.proofs.CallerLemmas.{some_of_text}
 use Rattle.clap.proofs.WalkLemmas.{first_value-rows, one_text-rows}
 use Rattle.command_words.specs.Options.{HasItsValue, HasNone, HasValue, HasValues, Spells, always_has_value}
-use Rattle.command_words.specs.Words.{GivesNumber, GivesText}
+use Rattle.command_words.specs.Words.{GivesItsNumber, GivesNumber, GivesText}
 use Rattle.command_words.proofs.NumberLemmas.{signed_spells, unsigned_spells}
 
 -- what `from_str` gives at an unsigned type of k bits
@@ -88,6 +89,22 @@ module _ (f : Found) (a : Rule) (h : HasValue (rows_of f) a) where
   default_spells text n none is spells =
       let same : h.text ≡ text = let one : Some h.text ≡ Some text = sym (h.default none) ∙ is in cc in
       subst (λ (t : Text). Spells t n) same spells
+
+-- where there is no first value, no getter reads one
+one_of_none : (id : Text) (o : Option Row) → option_and_then (λ (r : Row). slice_get r.values 0) o ≡ None → option_and_then row_text o ≡ None
+one_of_none id None e = refl
+one_of_none id (Some r) e = ap (option_map (read_as r.reading)) e
+
+module _ (f : Found) (a : Rule) (bare : slice_get a.defaults 0 ≡ None) (k low high : ℕ) (r : Option ℕ)
+    (none : one_text f a.id ≡ None → r ≡ None) (reads : (t : List ℕ) → one_text f a.id ≡ Some t → ReadsOne (Parses k) t r) (fits : high < 2 ^ k)
+    (parser : a.parser ≡ Some (Signed (pos low) (pos high))) where
+  -- `get_one` gives what the words give of it
+  pub its_number_given : HasValue (rows_of f) a ⊎ HasNone (rows_of f) a → GivesItsNumber a.id (rows_of f) r
+  its_number_given (inl h) =
+      let read = signed_read f a h k low high r reads fits parser in
+      subst (GivesItsNumber a.id (rows_of f)) (sym read.1) (given_value f a bare h, number_given f a h read.0 read.4)
+  its_number_given (inr h) =
+      subst (GivesItsNumber a.id (rows_of f)) (sym (none (one_text-rows f a.id ∙ one_of_none a.id (find (λ (x : Row). bytes_eq x.id a.id) (rows_of f)) h.none))) h.absent
 
 -- the default of the options of steps
 pub is_ten_million : (n : ℕ) → Spells (codes "10000000") n → n ≡ 10000000

@@ -57,6 +57,26 @@ check_options = problem_options ++ required (text_option (codes "certificate")) 
 abbrev pub audit_options : List Rule
 audit_options = judge_options ++ required (text_option (codes "assignments")) ∷ []
 
+-- the options of `list`: those of `check`, the number of a listed grouping, and the file that it is written to; these two need not be given
+abbrev pub list_options : List Rule
+list_options = check_options ++ of_number 0 4294967295 (text_option (codes "number")) ∷ text_option (codes "out") ∷ []
+
+-- the options that give a board: those of `judge`, the limit of its first round in counties, and how many branchings stand above
+-- its pieces at most; these two need not be given
+abbrev pub board_options : List Rule
+board_options = judge_options ++ of_number 0 65535 (text_option (codes "limit")) ∷ of_number 0 255 (text_option (codes "depth")) ∷ []
+
+-- the options of `share`: those that give a board, the file of the events, the most steps of a test, and the file of the
+-- certificate, which need not be given
+abbrev pub share_options : List Rule
+share_options = board_options ++ required (text_option (codes "events")) ∷ of_steps (text_option (codes "budget")) ∷ text_option (codes "certificate") ∷ []
+
+-- the options of `piece`: those that give a board, the file of the events, which need not be given, the round and the number of a
+-- piece, and the most steps of the search
+abbrev pub piece_options : List Rule
+piece_options = board_options ++ text_option (codes "events") ∷ of_number 0 4294967295 (required (text_option (codes "round")))
+    ∷ of_number 0 4294967295 (required (text_option (codes "number"))) ∷ of_steps (text_option (codes "steps")) ∷ []
+
 -- a subcommand with these options
 abbrev pub subcommand : Text → List Rule → Shape
 subcommand name options = record (new_shape name) { rules = options }
@@ -65,7 +85,8 @@ subcommand name options = record (new_shape name) { rules = options }
 abbrev pub subcommands : List Shape
 subcommands = subcommand (codes "size") common_options ∷ subcommand (codes "judge") judge_options
     ∷ subcommand (codes "solve") solve_options ∷ subcommand (codes "check") check_options
-    ∷ subcommand (codes "audit") audit_options ∷ []
+    ∷ subcommand (codes "audit") audit_options ∷ subcommand (codes "list") list_options
+    ∷ subcommand (codes "share") share_options ∷ subcommand (codes "piece") piece_options ∷ []
 
 -- the program without its subcommands: it has no option of its own but help and the version, and requires a subcommand
 abbrev pub countygroups_alone : App

@@ -1,5 +1,5 @@
 -- What the words of the command line say.
-use Rattle.std.specs.Prelude.{◌≡◌, ◌≢◌, ◌≤◌, ⊤, ℕ, Bool, true, false, [], ◌∷◌, List, Option, Some, None, codes}
+use Rattle.std.specs.Prelude.{◌≡◌, ◌≢◌, ◌≤◌, ◌⊎◌, ⊤, ℕ, Bool, true, false, [], ◌∷◌, List, Option, Some, None, codes}
 use Rattle.std.specs.Borrow.{Bor}
 use Rattle.std.specs.Option.{IsSomeAnd}
 use Rattle.clap.specs.Words.{Kinds, Row, Text, fault_of, first_of, subcommand_of, takes}
@@ -9,13 +9,22 @@ use Rattle.clap.specs.declared.error.kind.ErrorKind.TheVariants.{DisplayHelp, Di
 use Rattle.command_words.specs.Command.{countygroups}
 use Rattle.command_words.specs.Options.{Spells}
 use Rattle.command_words.specs.declared.words.CommandWords.{CommandWords}
-use Rattle.command_words.specs.declared.words.CommandWords.TheVariants.{Audit, Check, Judge, Size, Solve}
+use Rattle.command_words.specs.declared.words.CommandWords.TheVariants.{Audit, Check, Judge, List as ListCommand, Piece, Share, Size, Solve}
 use Rattle.command_words.specs.declared.words.AuditWords.{AuditWords}
+use Rattle.command_words.specs.declared.words.BoardWords.{BoardWords}
 use Rattle.command_words.specs.declared.words.CheckWords.{CheckWords}
 use Rattle.command_words.specs.declared.words.CommonWords.{CommonWords}
 use Rattle.command_words.specs.declared.words.JudgeWords.{JudgeWords}
+use Rattle.command_words.specs.declared.words.ListWords.{ListWords}
+use Rattle.command_words.specs.declared.words.PieceWords.{PieceWords}
 use Rattle.command_words.specs.declared.words.ProblemWords.{ProblemWords}
+use Rattle.command_words.specs.declared.words.RoundWords.{RoundWords}
+use Rattle.command_words.specs.declared.words.RoundWords.TheVariants.{Plain, Wide}
+use Rattle.command_words.specs.declared.words.ShareWords.{ShareWords}
 use Rattle.command_words.specs.declared.words.SolveWords.{SolveWords}
+use Rattle.command_words.specs.declared.words.StoredWords.{StoredWords}
+use Rattle.command_words.specs.declared.end.LoneOption.{LoneOption}
+use Rattle.command_words.specs.declared.end.LoneOption.TheVariants.{Depth, NumberOrOut}
 use Rattle.command_words.specs.declared.end.WordsEnd.{WordsEnd}
 use Rattle.command_words.specs.declared.end.WordsEnd.TheVariants.{Help, Version, Usage, Memory}
 
@@ -85,6 +94,57 @@ pub record SaysAudit (rows : List Row) (words : AuditWords) : Type 0 where
   pub grouping : first_of (codes "grouping") rows ≡ Some words.grouping.now
   pub assignments : first_of (codes "assignments") rows ≡ Some words.assignments.now
 
+-- what the words give of a listed grouping that is to be stored: its number and the file, or neither
+abbrev pub GivesStored : List Row → Option StoredWords → Type 0
+GivesStored rows None = (is_given (codes "number") rows ≡ false) × (is_given (codes "out") rows ≡ false)
+GivesStored rows (Some words) =
+    (is_given (codes "number") rows ≡ true) × GivesNumber (codes "number") rows words.number
+    × (is_given (codes "out") rows ≡ true) × (first_of (codes "out") rows ≡ Some words.out.now)
+
+-- the values of the options of `list` say which problem and which certificate are meant, how many steps the checker may
+-- take, and which listed grouping is stored
+pub record SaysList (rows : List Row) (words : ListWords) : Type 0 where
+  pub check : SaysCheck rows words.check
+  pub stored : GivesStored rows words.stored
+
+-- what the words give of a number that need not be given: the number, or nothing exactly where they don't give it
+abbrev pub GivesItsNumber : Text → List Row → Option ℕ → Type 0
+GivesItsNumber name rows None = is_given name rows ≡ false
+GivesItsNumber name rows (Some n) = (is_given name rows ≡ true) × GivesNumber name rows n
+
+-- what the words give of the rounds of a board: plain ones exactly where they give a depth, with a limit beside it, and else wide
+-- ones, with a limit or none
+abbrev pub GivesRound : List Row → RoundWords → Type 0
+GivesRound rows (Plain limit depth) =
+    (is_given (codes "limit") rows ≡ true) × GivesNumber (codes "limit") rows limit
+    × (is_given (codes "depth") rows ≡ true) × GivesNumber (codes "depth") rows depth
+GivesRound rows (Wide limit) = GivesItsNumber (codes "limit") rows limit × (is_given (codes "depth") rows ≡ false)
+
+-- the values of the options that give a board say which problem, which target and which rounds are meant
+pub record SaysBoard (rows : List Row) (words : BoardWords) : Type 0 where
+  pub problem : SaysProblem rows words.problem
+  pub grouping : first_of (codes "grouping") rows ≡ Some words.grouping.now
+  pub round : GivesRound rows words.round
+
+-- the values of the options of `share` say which board and which events are meant, how many steps a test may take, and the file
+-- that the certificate is written to
+pub record SaysShare (rows : List Row) (words : ShareWords) : Type 0 where
+  pub board : SaysBoard rows words.board
+  pub events : first_of (codes "events") rows ≡ Some words.events.now
+  pub budget : GivesNumber (codes "budget") rows words.budget
+  pub default : is_given (codes "budget") rows ≡ false → words.budget ≡ 10000000
+  pub certificate : GivesText (codes "certificate") rows words.certificate
+
+-- the values of the options of `piece` say which board, which events and which piece are meant, and how many steps the search may
+-- take
+pub record SaysPiece (rows : List Row) (words : PieceWords) : Type 0 where
+  pub board : SaysBoard rows words.board
+  pub events : GivesText (codes "events") rows words.events
+  pub round : GivesNumber (codes "round") rows words.round
+  pub number : GivesNumber (codes "number") rows words.number
+  pub steps : GivesNumber (codes "steps") rows words.steps
+  pub default : is_given (codes "steps") rows ≡ false → words.steps ≡ 10000000
+
 -- a subcommand with the values of its options means the command
 abbrev pub SaysCommand : Text × List Row → CommandWords → Type 0
 SaysCommand p (Size words) = (p.0 ≡ codes "size") × SaysCommon p.1 words
@@ -92,6 +152,31 @@ SaysCommand p (Judge words) = (p.0 ≡ codes "judge") × SaysJudge p.1 words
 SaysCommand p (Solve words) = (p.0 ≡ codes "solve") × SaysSolve p.1 words
 SaysCommand p (Check words) = (p.0 ≡ codes "check") × SaysCheck p.1 words
 SaysCommand p (Audit words) = (p.0 ≡ codes "audit") × SaysAudit p.1 words
+SaysCommand p (ListCommand words) = (p.0 ≡ codes "list") × SaysList p.1 words
+SaysCommand p (Share words) = (p.0 ≡ codes "share") × SaysShare p.1 words
+SaysCommand p (Piece words) = (p.0 ≡ codes "piece") × SaysPiece p.1 words
+
+-- the words give the number of a grouping without a file, or a file without a number
+abbrev pub AreUnpaired : List Row → Type 0
+AreUnpaired rows = is_given (codes "number") rows ≢ is_given (codes "out") rows
+
+-- the words give a depth without a limit
+abbrev pub LacksLimit : List Row → Type 0
+LacksLimit rows = (is_given (codes "depth") rows ≡ true) × (is_given (codes "limit") rows ≡ false)
+
+-- which option is given without the one that it needs: one of `--number` and `--out` alone at `list`, or `--depth` without
+-- `--limit` at `share` or `piece`
+abbrev pub IsLone : Text × List Row → LoneOption → Type 0
+IsLone p NumberOrOut = (p.0 ≡ codes "list") × AreUnpaired p.1
+IsLone p Depth = ((p.0 ≡ codes "share") ⊎ (p.0 ≡ codes "piece")) × LacksLimit p.1
+
+-- an option is given so
+abbrev pub LacksPartner : Text × List Row → Type 0
+LacksPartner p = (lone : LoneOption) × IsLone p lone
+
+-- the words give an option so
+abbrev pub LackPartner : List Text → Type 0
+LackPartner words = IsSomeAnd (subcommand_in words) LacksPartner
 
 -- the words mean the command
 abbrev pub Means : List Text → CommandWords → Type 0
@@ -112,6 +197,20 @@ EndsBy faults (Help text) = faults ≡ DisplayHelp ∷ []
 EndsBy faults (Version text) = faults ≡ DisplayVersion ∷ []
 EndsBy faults (Usage text) = (faults ≢ []) × (faults ≢ DisplayHelp ∷ []) × (faults ≢ DisplayVersion ∷ [])
 EndsBy faults Memory = ⊤
+
+-- the end is usage
+abbrev pub IsUsage : WordsEnd → Type 0
+IsUsage (Usage text) = ⊤
+IsUsage _ = ⊥
+
+-- words without a command end as their faults say; words that have none of clap's faults, but give an option without the one that
+-- it needs, end in usage
+abbrev pub EndsFor : List Text → WordsEnd → Type 0
+EndsFor words end = EndsBy (faults_of words) end ⊎ ((faults_of words ≡ []) × LackPartner words × IsUsage end)
+
+-- words that clap takes end in memory alone, but for words that give an option without the one that it needs
+abbrev pub EndsTaken : List Text → WordsEnd → Type 0
+EndsTaken words end = (end ≡ Memory) ⊎ (LackPartner words × IsUsage end)
 
 -- help or the version was asked for
 abbrev pub IsAsked : WordsEnd → Type 0

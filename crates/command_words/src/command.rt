@@ -1,7 +1,7 @@
 //! The command `countygroups`, as `clap` parses it.
 ghost use Rattle.std.specs.Prelude.{◌≡◌, IfOk, codes, false};
 ghost use Rattle.clap.specs.Words.{app_of, rule_of};
-ghost use Rattle.command_words.specs.Command.{AddsCommand, AddsOption, HasMore, HasShape, countygroups, countygroups_alone, subcommand, of_number, common_options, problem_options, judge_options, solve_options, check_options, audit_options, of_steps, required, text_option, with_default};
+ghost use Rattle.command_words.specs.Command.{AddsCommand, AddsOption, HasMore, HasShape, countygroups, countygroups_alone, subcommand, of_number, common_options, problem_options, judge_options, solve_options, check_options, audit_options, list_options, board_options, share_options, piece_options, of_steps, required, text_option, with_default};
 
 use clap::{Arg, ArgAction, Command, value_parser};
 use std::alloc::{AllocError, Global};
@@ -23,8 +23,9 @@ Exit status:
   0  an answer, help or the version
   1  a fault of the grouping, a finding, no lawful grouping, or a text that is no certificate
   2  the words are no command
-  3  the steps of `solve` or the budget of `check` ran out
-  4  a file or the problem was refused
+  3  the steps of `solve` or `piece` or the budget of `check`, `list` or `share` ran out, `list`
+     stays open, or `share` has pieces left
+  4  a file, the problem, the board, or the number of a grouping or of a piece was refused
   5  a file could not be read or stored, memory was refused, or the answer could not be written
 
 A file's name is its path: `/dev/stdin` is standard input, and `-` a file of that name. The
@@ -97,6 +98,64 @@ Exit status:
   1  something was found, or the grouping isn't lawful
   2  the words are no command
   4  a file or the problem was refused
+  5  a file could not be read, memory was refused, or the answer could not be written";
+
+/// What `list --help` ends with.
+const AFTER_LIST: &str = "\
+It shows the groups that every best grouping has, and for each region of the other counties the
+alternatives that best groupings choose from. With --number and --out it stores one grouping too:
+they are numbered from 1, in the order of their lists of groups.
+
+Example:
+  countygroups list --geo nc2020geo.pl --segment nc000012020.pl --chamber 50 \\
+      --adjacency county_adjacency2023.txt --certificate senate.certificate
+
+Exit status:
+  0  these are all best groupings
+  1  no grouping is lawful, or the text is no certificate of these files
+  2  the words are no command
+  3  the budget ran out, or the certificate doesn't show which other groupings are best
+  4  a file, the problem or the number was refused
+  5  a file could not be read or stored, memory was refused, or the answer could not be written";
+
+/// What `share --help` ends with.
+const AFTER_SHARE: &str = "\
+A board cuts the proof that the grouping is the best one into pieces. Desks prove them with `piece`.
+What `piece` prints, in any order, is the text of events. The answer has one line for each event.
+If no piece is left, their proofs are joined to one certificate, which `check` tests like any other.
+
+With --depth the board is plain, and --limit must be given. Without --depth it is wide: a piece that
+is too hard is split, and the longest group of the grouping is the limit if --limit isn't given.
+
+Example:
+  countygroups share --geo nc2020geo.pl --segment nc000012020.pl --chamber 50 \\
+      --adjacency county_adjacency2023.txt --grouping senate.grouping --events senate.events \\
+      --certificate senate.certificate
+
+Exit status:
+  0  the proofs are joined; if --certificate names a file, the certificate is stored
+  2  the words are no command
+  3  pieces are left, or the budget is too small to open the board
+  4  a file, the problem or the board was refused
+  5  a file could not be read or stored, memory was refused, or the answer could not be written";
+
+/// What `piece --help` ends with.
+const AFTER_PIECE: &str = "\
+The board is that of `share`. If --events is given, the board takes these events first.
+
+It prints an event for `share`: `result` with a proof of the piece, `better` with a better grouping,
+or `wider` if the limit must grow. If the steps run out, it prints `split` where a piece of a wide
+board has a split to propose, and else `open`.
+
+Example:
+  countygroups piece --geo nc2020geo.pl --segment nc000012020.pl --chamber 50 \\
+      --adjacency county_adjacency2023.txt --grouping senate.grouping --round 1 --number 1
+
+Exit status:
+  0  a result for `share`: `result`, `better` or `wider`
+  2  the words are no command
+  3  the steps ran out, or opening the board would take more than 10,000,000
+  4  a file, the problem or the board was refused, or no piece waits under the number
   5  a file could not be read, memory was refused, or the answer could not be written";
 
 /// An option `--name VALUE`.
@@ -228,6 +287,17 @@ fn solve_command<'a>(alloc: Global) -> Result<Command<'a>, AllocError>
     with_option(made, out)
 }
 
+/// The command with the options of a check: those that give a problem, the certificate and the budget.
+fn with_check_options<'a>(alloc: Global, command: Command<'a>) -> Result<Command<'a>, AllocError>
+    ensures { IfOk result (HasMore command.entry check_options) }
+{
+    let made = with_problem_options(alloc, command);
+    let certificate = file_option(alloc, "certificate", "The certificate");
+    let made = with_option(made, certificate);
+    let budget = steps_option(alloc, "budget", "The most steps of the checker");
+    with_option(made, budget)
+}
+
 /// The subcommand `check`.
 fn check_command<'a>(alloc: Global) -> Result<Command<'a>, AllocError>
     ensures { IfOk result (λ c. HasShape c (subcommand (codes "check") check_options)) }
@@ -235,11 +305,38 @@ fn check_command<'a>(alloc: Global) -> Result<Command<'a>, AllocError>
     let check = Command::new(alloc, "check")
         .about("Checks a certificate")
         .after_help(AFTER_CHECK);
-    let made = with_problem_options(alloc, check);
-    let certificate = file_option(alloc, "certificate", "The certificate");
-    let made = with_option(made, certificate);
-    let budget = steps_option(alloc, "budget", "The most steps of the checker");
-    with_option(made, budget)
+    with_check_options(alloc, check)
+}
+
+/// An option `--name NUMBER`, from 0 to 4,294,967,295.
+fn number_option<'a>(alloc: Global, name: &'a str, help: &'a str) -> Arg<'a>
+    ensures rule { rule_of result ≡ of_number 0 4294967295 (text_option name.entry.now) }
+    ensures local { result.global ≡ false }
+{
+    text_option(alloc, name, "NUMBER", help).value_parser(value_parser!(u32).range(0..=4294967295))
+}
+
+/// The subcommand `list`.
+fn list_command<'a>(alloc: Global) -> Result<Command<'a>, AllocError>
+    ensures { IfOk result (λ c. HasShape c (subcommand (codes "list") list_options)) }
+{
+    let list = Command::new(alloc, "list")
+        .about("Lists all best groupings, by a certificate")
+        .after_help(AFTER_LIST);
+    let made = with_check_options(alloc, list);
+    let number = number_option(
+        alloc,
+        "number",
+        "Which grouping --out stores, from 1 (with --out)",
+    );
+    let made = with_option(made, number);
+    let out = text_option(
+        alloc,
+        "out",
+        "FILE",
+        "The file to write that grouping to (with --number)",
+    );
+    with_option(made, out)
 }
 
 /// The subcommand `audit`.
@@ -256,6 +353,87 @@ fn audit_command<'a>(alloc: Global) -> Result<Command<'a>, AllocError>
     let made = with_option(made, grouping);
     let assignments = file_option(alloc, "assignments", "The district of each census block");
     with_option(made, assignments)
+}
+
+/// `--limit COUNTIES`, from 0 to 65,535.
+fn limit_option<'a>(alloc: Global) -> Arg<'a>
+    ensures rule { rule_of result ≡ of_number 0 65535 (text_option (codes "limit")) }
+    ensures local { result.global ≡ false }
+{
+    let help = "The most counties of a group in the first round, 0 to 65535";
+    text_option(alloc, "limit", "COUNTIES", help).value_parser(value_parser!(u16).range(0..=65535))
+}
+
+/// `--depth BRANCHINGS`, from 0 to 255.
+fn depth_option<'a>(alloc: Global) -> Arg<'a>
+    ensures rule { rule_of result ≡ of_number 0 255 (text_option (codes "depth")) }
+    ensures local { result.global ≡ false }
+{
+    let help = "The most branchings above a piece, 0 to 255 (with --limit)";
+    text_option(alloc, "depth", "BRANCHINGS", help).value_parser(value_parser!(u8).range(0..=255))
+}
+
+/// The command with the options that give a board.
+fn with_board_options<'a>(alloc: Global, command: Command<'a>) -> Result<Command<'a>, AllocError>
+    ensures { IfOk result (HasMore command.entry board_options) }
+{
+    let made = with_problem_options(alloc, command);
+    let help = "The groups that are to be proved best, each with its seats";
+    let made = with_option(made, file_option(alloc, "grouping", help));
+    let made = with_option(made, limit_option(alloc));
+    with_option(made, depth_option(alloc))
+}
+
+/// The subcommand `share`.
+fn share_command<'a>(alloc: Global) -> Result<Command<'a>, AllocError>
+    ensures { IfOk result (λ c. HasShape c (subcommand (codes "share") share_options)) }
+{
+    let share = Command::new(alloc, "share")
+        .about("Tests what several desks proved and joins one certificate")
+        .after_help(AFTER_SHARE);
+    let made = with_board_options(alloc, share);
+    let events = file_option(alloc, "events", "The events, as `piece` prints them");
+    let made = with_option(made, events);
+    let budget = steps_option(alloc, "budget", "The most steps of the test of an event");
+    let made = with_option(made, budget);
+    let certificate = text_option(
+        alloc,
+        "certificate",
+        "FILE",
+        "The file to write the certificate to",
+    );
+    with_option(made, certificate)
+}
+
+/// A required option `--name NUMBER`, from 0 to 4,294,967,295.
+fn required_number_option<'a>(alloc: Global, name: &'a str, help: &'a str) -> Arg<'a>
+    ensures rule { rule_of result ≡ of_number 0 4294967295 (required (text_option name.entry.now)) }
+    ensures local { result.global ≡ false }
+{
+    number_option(alloc, name, help).required(true)
+}
+
+/// The subcommand `piece`.
+fn piece_command<'a>(alloc: Global) -> Result<Command<'a>, AllocError>
+    ensures { IfOk result (λ c. HasShape c (subcommand (codes "piece") piece_options)) }
+{
+    let piece = Command::new(alloc, "piece")
+        .about("Proves one piece of a shared proof")
+        .after_help(AFTER_PIECE);
+    let made = with_board_options(alloc, piece);
+    let events = text_option(
+        alloc,
+        "events",
+        "FILE",
+        "The events that the board takes first",
+    );
+    let made = with_option(made, events);
+    let round = required_number_option(alloc, "round", "The number of the round");
+    let made = with_option(made, round);
+    let number = required_number_option(alloc, "number", "The number of the piece");
+    let made = with_option(made, number);
+    let steps = steps_option(alloc, "steps", "The most steps of the search");
+    with_option(made, steps)
 }
 
 /// The command of the program without its subcommands.
@@ -291,5 +469,8 @@ pub(crate) fn program<'a>(alloc: Global) -> Result<Command<'a>, AllocError>
     let program = with_command(program, judge_command(alloc));
     let program = with_command(program, solve_command(alloc));
     let program = with_command(program, check_command(alloc));
-    with_command(program, audit_command(alloc))
+    let program = with_command(program, audit_command(alloc));
+    let program = with_command(program, list_command(alloc));
+    let program = with_command(program, share_command(alloc));
+    with_command(program, piece_command(alloc))
 }

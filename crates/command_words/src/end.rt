@@ -1,7 +1,8 @@
 //! How a parse of the words ends where it gives no command.
-ghost use Rattle.std.specs.Prelude.{◌≡◌, ◌↔◌};
+ghost use Rattle.std.specs.Prelude.{◌≡◌, ◌↔◌, ◌⊎◌};
 ghost use Rattle.clap.specs.Words.{kind_of};
-ghost use Rattle.command_words.specs.Words.{EndsAs, IsAsked, status_of};
+ghost use Rattle.command_words.specs.Words.{EndsAs, IsAsked, IsUsage, status_of};
+ghost use Rattle.command_words.specs.declared.end.WordsEnd.TheVariants.{Memory};
 
 use clap::error::ErrorKind;
 use std::alloc::Global;
@@ -24,7 +25,44 @@ pub enum WordsEnd {
     Memory,
 }
 
+/// The option that is given without the one that it needs.
+#[derive(Clone, Copy, Debug)]
+pub(crate) enum LoneOption {
+    /// One of `--number` and `--out` of `list` is given without the other.
+    NumberOrOut,
+    /// `--depth` of `share` or `piece` is given without `--limit`.
+    Depth,
+}
+
+/// The text of usage where one of `--number` and `--out` is given without the other.
+const NUMBER_OR_OUT: &str = "\
+error: the options '--number <NUMBER>' and '--out <FILE>' of `list` stand together, and one was given without the other
+
+For more information, try '--help'.
+";
+
+/// The text of usage where `--depth` is given without `--limit`.
+const DEPTH: &str = "\
+error: the option '--depth <BRANCHINGS>' of `share` and `piece` needs '--limit <COUNTIES>'
+
+For more information, try '--help'.
+";
+
 impl WordsEnd {
+    /// The end where an option is given without the one that it needs.
+    pub(crate) fn of_lone(alloc: Global, lone: LoneOption) -> WordsEnd
+        ensures { (result ≡ Memory) ⊎ IsUsage result }
+    {
+        let text = match lone {
+            LoneOption::NumberOrOut => NUMBER_OR_OUT,
+            LoneOption::Depth => DEPTH,
+        };
+        match String::from_str(alloc, text) {
+            Ok(text) => WordsEnd::Usage(text),
+            Err(_) => WordsEnd::Memory,
+        }
+    }
+
     /// The exit status of the program: 0 for help and the version, 2 for usage and 5 for memory.
     pub fn status(&self) -> u8
         ensures value { result ≡ status_of self.now }

@@ -19,5 +19,6 @@ mod words;
 
 pub use end::WordsEnd;
 pub use words::{
-    AuditWords, CheckWords, CommandWords, CommonWords, JudgeWords, ProblemWords, SolveWords, parse,
+    AuditWords, BoardWords, CheckWords, CommandWords, CommonWords, JudgeWords, ListWords,
+    PieceWords, ProblemWords, RoundWords, ShareWords, SolveWords, StoredWords, parse,
 };

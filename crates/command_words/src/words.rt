@@ -1,14 +1,16 @@
 //! The command that the words name.
-ghost use Rattle.std.specs.Prelude.{◌≡◌, [], IfErr, IfOk, MatchResult, true};
+ghost use Rattle.std.specs.Prelude.{◌≡◌, ◌≢◌, [], IfErr, IfOk, MatchResult, true, codes};
 ghost use Rattle.std.specs.Option.{IsSomeAnd};
+ghost use Rattle.clap.specs.Takes.{is_given};
 ghost use Rattle.clap.specs.Walk.{texts};
 ghost use Rattle.clap.specs.Words.{FailsBy, found_of, kind_of, rows_of, subcommand_rows_of};
-ghost use Rattle.command_words.specs.Command.{audit_options, check_options, common_options, judge_options, problem_options, solve_options};
+ghost use Rattle.command_words.specs.Command.{audit_options, board_options, check_options, common_options, judge_options, list_options, piece_options, problem_options, share_options, solve_options};
 ghost use Rattle.command_words.specs.Options.{HasCommand, HasValues};
-ghost use Rattle.command_words.specs.Words.{EndsBy, Means, SaysAudit, SaysCheck, SaysCommand, SaysCommon, SaysJudge, SaysProblem, SaysSolve, faults_of, subcommand_in, takes_words};
+ghost use Rattle.command_words.specs.Words.{AreUnpaired, EndsFor, EndsTaken, GivesRound, GivesStored, IsLone, LacksLimit, Means, SaysAudit, SaysBoard, SaysCheck, SaysCommand, SaysCommon, SaysJudge, SaysList, SaysPiece, SaysProblem, SaysShare, SaysSolve, faults_of, subcommand_in, takes_words};
+ghost use Rattle.command_words.specs.declared.end.LoneOption.TheVariants.{Depth, NumberOrOut};
 
-use crate::WordsEnd;
 use crate::command::program;
+use crate::end::{LoneOption, WordsEnd};
 use clap::error::ErrorKind;
 use clap::{ArgMatches, Error};
 use std::alloc::Global;
@@ -26,6 +28,12 @@ pub enum CommandWords<'a> {
     Check(CheckWords<'a>),
     /// The audit of a plan's assignments.
     Audit(AuditWords<'a>),
+    /// The list of all best groupings.
+    List(ListWords<'a>),
+    /// The test of what several desks proved, joined to one certificate.
+    Share(ShareWords<'a>),
+    /// The proof of one piece of a board.
+    Piece(PieceWords<'a>),
 }
 
 /// The options that each subcommand has.
@@ -96,6 +104,80 @@ pub struct AuditWords<'a> {
     pub grouping: &'a str,
     /// The name of the block assignment file.
     pub assignments: &'a str,
+}
+
+/// Which listed grouping is stored, and where.
+#[derive(Clone, Copy, Debug)]
+pub struct StoredWords<'a> {
+    /// The number of the grouping in the list, whose first has number 1.
+    pub number: u32,
+    /// The name of the file that the grouping is written to.
+    pub out: &'a str,
+}
+
+/// The options of `list`.
+#[derive(Clone, Copy, Debug)]
+pub struct ListWords<'a> {
+    /// The options of a check: the problem, the certificate and the budget.
+    pub check: CheckWords<'a>,
+    /// The grouping that is stored, where the words give its number and a file.
+    pub stored: Option<StoredWords<'a>>,
+}
+
+/// How the rounds of a board are.
+#[derive(Clone, Copy, Debug)]
+pub enum RoundWords {
+    /// Plain rounds.
+    Plain {
+        /// The limit of the first round, in counties.
+        limit: u16,
+        /// How many branchings stand above the pieces, at most.
+        depth: u8,
+    },
+    /// Wide rounds.
+    Wide {
+        /// The limit of the first round, in counties, where the words give one.
+        limit: Option<u16>,
+    },
+}
+
+/// The options that give a board.
+#[derive(Clone, Copy, Debug)]
+pub struct BoardWords<'a> {
+    /// The options that give the problem.
+    pub problem: ProblemWords<'a>,
+    /// The name of the file of the grouping that is the board's target.
+    pub grouping: &'a str,
+    /// How its rounds are.
+    pub round: RoundWords,
+}
+
+/// The options of `share`.
+#[derive(Clone, Copy, Debug)]
+pub struct ShareWords<'a> {
+    /// The options that give the board.
+    pub board: BoardWords<'a>,
+    /// The name of the file of the events.
+    pub events: &'a str,
+    /// The most steps of the test of one event; 10,000,000 where the words give none.
+    pub budget: u64,
+    /// The name of the file that the certificate is written to, where the words give one.
+    pub certificate: Option<&'a str>,
+}
+
+/// The options of `piece`.
+#[derive(Clone, Copy, Debug)]
+pub struct PieceWords<'a> {
+    /// The options that give the board.
+    pub board: BoardWords<'a>,
+    /// The name of the file of the events, where the words give one.
+    pub events: Option<&'a str>,
+    /// The number of the round.
+    pub round: u32,
+    /// The number of the piece.
+    pub number: u32,
+    /// The most steps of the search; 10,000,000 where the words give none.
+    pub steps: u64,
 }
 
 /// What the values of the options say that each subcommand has.
@@ -172,25 +254,140 @@ fn audit_words<'a>(found: &ArgMatches<'a>) -> AuditWords<'a>
     }
 }
 
+/// Which listed grouping is stored and where, by the values of the options of `list`.
+fn stored_words<'a>(found: &ArgMatches<'a>) -> Result<Option<StoredWords<'a>>, LoneOption>
+    requires { HasValues list_options (rows_of (found_of found.now)) }
+    ensures { MatchResult
+        result
+        (GivesStored (rows_of (found_of found.now)))
+        (λ lone. (lone ≡ NumberOrOut) × AreUnpaired (rows_of (found_of found.now))) }
+{
+    let number = found.get_one::<u32>("number");
+    let out = found.get_str("out");
+    match number {
+        Some(number) => match out {
+            Some(out) => Ok(Some(StoredWords { number, out })),
+            None => Err(LoneOption::NumberOrOut),
+        },
+        None => match out {
+            Some(_) => Err(LoneOption::NumberOrOut),
+            None => Ok(None),
+        },
+    }
+}
+
+/// What the values of the options of `list` say.
+fn list_words<'a>(found: &ArgMatches<'a>) -> Result<ListWords<'a>, LoneOption>
+    requires { HasValues list_options (rows_of (found_of found.now)) }
+    ensures { MatchResult
+        result
+        (SaysList (rows_of (found_of found.now)))
+        (λ lone. (lone ≡ NumberOrOut) × AreUnpaired (rows_of (found_of found.now))) }
+{
+    let stored = stored_words(found)?;
+    Ok(ListWords {
+        check: check_words(found),
+        stored,
+    })
+}
+
+/// How the rounds of a board are, by the values of its options.
+fn round_words<'a>(found: &ArgMatches<'a>) -> Result<RoundWords, LoneOption>
+    requires { HasValues board_options (rows_of (found_of found.now)) }
+    ensures { MatchResult
+        result
+        (GivesRound (rows_of (found_of found.now)))
+        (λ lone. (lone ≡ Depth) × LacksLimit (rows_of (found_of found.now))) }
+{
+    let limit = found.get_one::<u16>("limit");
+    let depth = found.get_one::<u8>("depth");
+    match depth {
+        Some(depth) => match limit {
+            Some(limit) => Ok(RoundWords::Plain { limit, depth }),
+            None => Err(LoneOption::Depth),
+        },
+        None => Ok(RoundWords::Wide { limit }),
+    }
+}
+
+/// What the values of the options say that give a board.
+fn board_words<'a>(found: &ArgMatches<'a>) -> Result<BoardWords<'a>, LoneOption>
+    requires { HasValues board_options (rows_of (found_of found.now)) }
+    ensures { MatchResult
+        result
+        (SaysBoard (rows_of (found_of found.now)))
+        (λ lone. (lone ≡ Depth) × LacksLimit (rows_of (found_of found.now))) }
+{
+    let round = round_words(found)?;
+    let JudgeWords { problem, grouping } = judge_words(found);
+    Ok(BoardWords {
+        problem,
+        grouping,
+        round,
+    })
+}
+
+/// What the values of the options of `share` say.
+fn share_words<'a>(found: &ArgMatches<'a>) -> Result<ShareWords<'a>, LoneOption>
+    requires { HasValues share_options (rows_of (found_of found.now)) }
+    ensures { MatchResult
+        result
+        (SaysShare (rows_of (found_of found.now)))
+        (λ lone. (lone ≡ Depth) × LacksLimit (rows_of (found_of found.now))) }
+{
+    let board = board_words(found)?;
+    let certificate = found.get_str("certificate");
+    Ok(ShareWords {
+        board,
+        events: found.get_str("events").unwrap(),
+        budget: found.get_one::<u64>("budget").unwrap(),
+        certificate,
+    })
+}
+
+/// What the values of the options of `piece` say.
+fn piece_words<'a>(found: &ArgMatches<'a>) -> Result<PieceWords<'a>, LoneOption>
+    requires { HasValues piece_options (rows_of (found_of found.now)) }
+    ensures { MatchResult
+        result
+        (SaysPiece (rows_of (found_of found.now)))
+        (λ lone. (lone ≡ Depth) × LacksLimit (rows_of (found_of found.now))) }
+{
+    let board = board_words(found)?;
+    Ok(PieceWords {
+        board,
+        events: found.get_str("events"),
+        round: found.get_one::<u32>("round").unwrap(),
+        number: found.get_one::<u32>("number").unwrap(),
+        steps: found.get_one::<u64>("steps").unwrap(),
+    })
+}
+
 /// What the subcommand of this name says, by the values of its options.
-fn command_words<'a>(name: &str, found: &ArgMatches<'a>) -> CommandWords<'a>
+fn command_words<'a>(name: &str, found: &ArgMatches<'a>) -> Result<CommandWords<'a>, LoneOption>
     requires { HasCommand (name.now, rows_of (found_of found.now)) }
-    ensures { SaysCommand (name.now, rows_of (found_of found.now)) result }
+    ensures { MatchResult result (SaysCommand (name.now, rows_of (found_of found.now))) (IsLone (name.now, rows_of (found_of found.now))) }
 {
     match name {
-        "size" => CommandWords::Size(common_words(found)),
-        "judge" => CommandWords::Judge(judge_words(found)),
-        "solve" => CommandWords::Solve(solve_words(found)),
-        "check" => CommandWords::Check(check_words(found)),
-        "audit" => CommandWords::Audit(audit_words(found)),
+        "size" => Ok(CommandWords::Size(common_words(found))),
+        "judge" => Ok(CommandWords::Judge(judge_words(found))),
+        "solve" => Ok(CommandWords::Solve(solve_words(found))),
+        "check" => Ok(CommandWords::Check(check_words(found))),
+        "audit" => Ok(CommandWords::Audit(audit_words(found))),
+        "list" => Ok(CommandWords::List(list_words(found)?)),
+        "share" => Ok(CommandWords::Share(share_words(found)?)),
+        "piece" => Ok(CommandWords::Piece(piece_words(found)?)),
         _ => unreachable!(),
     }
 }
 
 /// What the subcommand that was found says.
-fn command_in<'a>(matches: &ArgMatches<'a>) -> CommandWords<'a>
+fn command_in<'a>(matches: &ArgMatches<'a>) -> Result<CommandWords<'a>, LoneOption>
     requires { IsSomeAnd (subcommand_rows_of matches.now) HasCommand }
-    ensures { IsSomeAnd (subcommand_rows_of matches.now) (λ p. SaysCommand p result) }
+    ensures { MatchResult
+        result
+        (λ command. IsSomeAnd (subcommand_rows_of matches.now) (λ p. SaysCommand p command))
+        (λ lone. IsSomeAnd (subcommand_rows_of matches.now) (λ p. IsLone p lone)) }
 {
     match matches.subcommand() {
         Some((name, found)) => command_words(name, found),
@@ -211,19 +408,24 @@ fn matches_in<'a>(alloc: Global, words: &'a [&'a str]) -> Result<ArgMatches<'a>,
 /// The command that the words after the program's name say.
 ///
 /// Words that `clap` does not take end in `Help` where they ask for help before anything is wrong,
-/// and else in `Usage`. `Memory` may come for any words.
+/// and else in `Usage`. Words of `list` that give one of `--number` and `--out` without the other end in `Usage` too,
+/// and words of `share` and `piece` that give `--depth` without `--limit`.
+/// `Memory` may come for any words.
 pub fn parse<'a>(alloc: Global, words: &'a [&'a str]) -> Result<CommandWords<'a>, WordsEnd>
     // The command is what the words mean.
     ensures said { IfOk result (Means (texts words.now)) }
 
-    // Words that `clap` takes end in no usage and no help.
-    ensures taken { IfErr result (λ end. takes_words (texts words.now) ≡ true → end ≡ WordsEnd.Memory) }
+    // Words that `clap` takes end in no usage and no help, but for those that give an option without the one that it needs.
+    ensures taken { IfErr result (λ end. takes_words (texts words.now) ≡ true → EndsTaken (texts words.now) end) }
 
-    // A command comes only of words without a fault, and each end only of its faults.
-    ensures ends { MatchResult result (λ _. faults_of (texts words.now) ≡ []) (EndsBy (faults_of (texts words.now))) }
+    // A command comes only of words without a fault, and each end only of its faults, or of an option without the one that it needs.
+    ensures ends { MatchResult result (λ _. faults_of (texts words.now) ≡ []) (EndsFor (texts words.now)) }
 {
     match matches_in(alloc, words) {
-        Ok(matches) => Ok(command_in(&matches)),
+        Ok(matches) => match command_in(&matches) {
+            Ok(command) => Ok(command),
+            Err(lone) => Err(WordsEnd::of_lone(alloc, lone)),
+        },
         Err(error) => Err(WordsEnd::of_error(alloc, &error)),
     }
 }

@@ -79,7 +79,7 @@ pub(crate) fn explain_unstored(out: &mut String, file: Unmoved<'_>) -> Result<()
     }
 }
 
-/// Appends the report of a search whose files could not all be stored.
+/// Appends the report of a search, or the text of a list or of a board, whose files could not all be stored.
 ///
 /// # Errors
 ///
@@ -87,7 +87,7 @@ pub(crate) fn explain_unstored(out: &mut String, file: Unmoved<'_>) -> Result<()
 pub(crate) fn push_report(out: &mut String, report: &[u8]) -> Result<(), AllocError> {
     match str::from_utf8(report) {
         Ok(report) => {
-            out.push_str("countygroups: the report of the search is:\n")?;
+            out.push_str("countygroups: the answer is:\n")?;
             out.push_str(report)
         }
         Err(_) => Ok(()),

@@ -1,5 +1,6 @@
 //! What a person is told on standard error, before a run and once it has ended.
 
+use crate::board::{explain_board, explain_left, explain_no_piece, explain_open_piece};
 use crate::certificate_fault::explain_certificate;
 use crate::device::{Unmoved, explain_unloaded, explain_unstored, push_report};
 use crate::findings::explain_findings;
@@ -37,6 +38,22 @@ const IMPOSSIBLE: &str =
 
 const OPEN: &str =
     "countygroups: the steps of --steps ran out, so that a grouping of the report need not be the best: give a greater number\n";
+
+/// Explains that the certificate doesn't show which other groupings are best.
+fn explain_open_list(out: &mut String, line: u64) -> Result<(), AllocError> {
+    writeln!(
+        out,
+        "countygroups: the certificate proves that its grouping is best, but at line {line} it leaves open which others are: a certificate that `countygroups solve` stores lists them all"
+    )
+}
+
+/// Explains that no best grouping has the number that was to be stored.
+fn explain_number(out: &mut String, count: usize) -> Result<(), AllocError> {
+    writeln!(
+        out,
+        "countygroups: no grouping has the number of --number: the best groupings are numbered from 1 to {count}"
+    )
+}
 
 /// A run that has ended.
 #[derive(Clone, Copy)]
@@ -113,6 +130,12 @@ fn explain_ending(
         Ending::Memory => out.push_str(NO_MEMORY),
         Ending::Impossible => out.push_str(IMPOSSIBLE),
         Ending::Open => out.push_str(OPEN),
+        Ending::ListOpen(line) => explain_open_list(out, *line),
+        Ending::NoSuchGrouping(count) => explain_number(out, *count),
+        Ending::Board(fault) => explain_board(out, options, fault),
+        Ending::PiecesLeft(left) => explain_left(out, *left),
+        Ending::PieceOpen(is_split) => explain_open_piece(out, *is_split),
+        Ending::NoSuchPiece => explain_no_piece(out),
         Ending::Done => Ok(()),
     }
 }

@@ -3,6 +3,7 @@
 #![tactic(auto)]
 
 mod again;
+mod board;
 mod certificate_fault;
 mod device;
 mod ended;

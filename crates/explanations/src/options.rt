@@ -32,6 +32,9 @@ fn problem_of<'a>(command: CommandWords<'a>) -> Option<ProblemWords<'a>> {
         CommandWords::Solve(words) => Some(words.problem),
         CommandWords::Check(words) => Some(words.problem),
         CommandWords::Audit(words) => Some(words.problem),
+        CommandWords::List(words) => Some(words.check.problem),
+        CommandWords::Share(words) => Some(words.board.problem),
+        CommandWords::Piece(words) => Some(words.board.problem),
     }
 }
 
@@ -43,6 +46,9 @@ pub(crate) fn common_of<'a>(command: CommandWords<'a>) -> CommonWords<'a> {
         CommandWords::Solve(words) => words.problem.common,
         CommandWords::Check(words) => words.problem.common,
         CommandWords::Audit(words) => words.problem.common,
+        CommandWords::List(words) => words.check.problem.common,
+        CommandWords::Share(words) => words.board.problem.common,
+        CommandWords::Piece(words) => words.board.problem.common,
     }
 }
 
@@ -60,6 +66,13 @@ pub(crate) fn path_in<'a>(command: CommandWords<'a>, option: FileOption) -> Opti
         (CommandWords::Check(words), FileOption::Certificate) => Some(words.certificate),
         (CommandWords::Audit(words), FileOption::Grouping) => Some(words.grouping),
         (CommandWords::Audit(words), FileOption::Assignments) => Some(words.assignments),
+        (CommandWords::List(words), FileOption::Certificate) => Some(words.check.certificate),
+        (CommandWords::List(words), FileOption::Out) => Some(words.stored?.out),
+        (CommandWords::Share(words), FileOption::Grouping) => Some(words.board.grouping),
+        (CommandWords::Share(words), FileOption::Events) => Some(words.events),
+        (CommandWords::Share(words), FileOption::CertificateOut) => words.certificate,
+        (CommandWords::Piece(words), FileOption::Grouping) => Some(words.board.grouping),
+        (CommandWords::Piece(words), FileOption::Events) => words.events,
         _ => None,
     }
 }

@@ -1,4 +1,4 @@
-//! The files that `solve` stores: what is amiss with their names before the search, and what stays under them after it.
+//! The files that `solve`, `list` and `share` store: what is amiss with their names before the run, and what stays under them after it.
 
 use crate::again::{closed_reason, is_plain};
 use crate::options::path_in;
@@ -9,16 +9,19 @@ use std::alloc::AllocError;
 use std::fmt::Write;
 use std::rt::Files;
 
-/// The options of the files that `solve` loads.
-const INPUTS: [FileOption; 5] = [
+/// The options of the files that `solve`, `list` and `share` load.
+const INPUTS: [FileOption; 8] = [
     FileOption::Geo,
     FileOption::Segment,
     FileOption::Adjacency,
     FileOption::Links,
     FileOption::Withdrawn,
+    FileOption::Certificate,
+    FileOption::Grouping,
+    FileOption::Events,
 ];
 
-/// The options of the files that `solve` stores, in their order.
+/// The options of the files that `solve`, `list` and `share` store, in their order.
 const OUTPUTS: [FileOption; 2] = [FileOption::CertificateOut, FileOption::Out];
 
 /// Whether the run stored a file under a path.

@@ -31,6 +31,9 @@ fn remedy(option: FileOption) -> &'static str {
         FileOption::Assignments => {
             "a line of --assignments is a block's fifteen digits and its district, as 370010201001000,1"
         }
+        FileOption::Events => {
+            "give --events what `countygroups piece` prints: each event begins with a line of hand, result, split, better or wider"
+        }
         _ =>
             "a line of --grouping is seats and the codes of the group's counties, as 2|37063|37183",
     }
@@ -44,7 +47,7 @@ fn explain_line(
     text: &[u8],
 ) -> Result<(), AllocError> {
     let number = fault.line();
-    match cut_line(text, u64::from(number)) {
+    match cut_line(text, number) {
         Some(line) => {
             let line = start_of(line);
             writeln!(

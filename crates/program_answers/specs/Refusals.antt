@@ -17,13 +17,19 @@ use Rattle.grouping_report.specs.FaultWords.{grouping_fault_words}
 use Rattle.grouping_judge.specs.declared.grouping_fault.GroupingFault.{GroupingFault}
 use Rattle.grouping_judge.specs.declared.grouping_fault.GroupingFault.TheVariants as verdict
 use Rattle.program_answers.specs.declared.refusal.InputFile.{InputFile}
-use Rattle.program_answers.specs.declared.refusal.InputFile.TheVariants.{Geo, Segment1, Adjacency, Links, Withdrawn, Grouping, Assignments}
+use Rattle.program_answers.specs.declared.refusal.InputFile.TheVariants.{Geo, Segment1, Adjacency, Links, Withdrawn, Grouping, Assignments, Events}
 use Rattle.grouping_problem.specs.declared.fault.ProblemFault.{ProblemFault}
 use Rattle.grouping_problem.specs.declared.fault.ProblemFault.TheVariants as problem
+use Rattle.certificate_lines.specs.declared.fault.TextFault.{TextFault}
+use Rattle.certificate_lines.specs.declared.fault.TextKind.{TextKind}
+use Rattle.certificate_lines.specs.declared.fault.TextKind.TheVariants as text
+use Rattle.share_board.specs.declared.fault.BoardFault.{BoardFault}
+use Rattle.share_board.specs.declared.fault.BoardFault.TheVariants as board
 use Rattle.shelves.specs.declared.shelf.ShelfFault.{ShelfFault}
 use Rattle.shelves.specs.declared.shelf.ShelfFault.TheVariants as shelf
 use Rattle.grouping_report.specs.Digits.{five_digits}
-use Rattle.program_answers.specs.Answer.{Answered, memory_answer}
+use Rattle.program_answers.specs.Answer.{Answered, budget_answer, memory_answer}
+use Rattle.program_answers.specs.CheckLines.{text_kind_word}
 
 -- the word of a line fault
 abbrev pub line_fault_word : LineFault → List ℕ
@@ -94,6 +100,7 @@ file_word Links = codes "links"
 file_word Withdrawn = codes "withdrawn"
 file_word Grouping = codes "grouping"
 file_word Assignments = codes "assignments"
+file_word Events = codes "events"
 
 -- the input file that a PL 94-171 file is
 abbrev pub input_of : File → InputFile
@@ -135,6 +142,15 @@ assignment_line_answer kind line = input_answer Assignments (assignment_word kin
 abbrev pub assignment_answer : AssignmentFault → Answered
 assignment_answer fault = assignment_line_answer fault.kind fault.line
 
+-- a fault of this kind, at this line of a text of events
+abbrev pub events_line_answer : TextKind → ℕ → Answered
+events_line_answer text.Memory line = memory_answer
+events_line_answer kind line = input_answer Events (text_kind_word kind) line
+
+-- the answer to a fault of a text of events
+abbrev pub events_answer : TextFault → Answered
+events_answer fault = events_line_answer fault.kind fault.line
+
 -- `fault KIND` with its group, its county or its seats
 unfoldable pub fault_line : GroupingFault → List ℕ
 fault_line fault = codes "fault " ++ grouping_fault_words fault ++ codes "\n"
@@ -169,6 +185,27 @@ refused_problem fault = codes "refused problem " ++ problem_words fault ++ codes
 abbrev pub problem_answer : ProblemFault → Answered
 problem_answer problem.Memory = memory_answer
 problem_answer fault = record { text = refused_problem fault; status = 4 }
+
+-- the word of a board's fault; a target that isn't lawful has the board's word alone
+abbrev pub board_word : BoardFault → List ℕ
+board_word board.DepthOutOfRange = codes "DepthOutOfRange"
+board_word board.WrongOrder = codes "WrongOrder"
+board_word (board.Target fault) = codes "Target"
+board_word board.LimitTooSmall = codes "LimitTooSmall"
+board_word board.LimitTooLarge = codes "LimitTooLarge"
+board_word board.TooManyPieces = codes "TooManyPieces"
+board_word board.Budget = codes "Budget"
+board_word board.Memory = codes "Memory"
+
+-- `refused board KIND`
+unfoldable pub refused_board : List ℕ → List ℕ
+refused_board kind = codes "refused board " ++ kind ++ codes "\n"
+
+-- the answer to a fault of the board: a budget that is too small to open it is answered as that of a check is
+abbrev pub board_answer : BoardFault → Answered
+board_answer board.Budget = budget_answer
+board_answer board.Memory = memory_answer
+board_answer fault = record { text = refused_board (board_word fault); status = 4 }
 
 -- the word of a fault of the shelf
 abbrev pub shelf_word : ShelfFault → List ℕ

@@ -13,7 +13,8 @@ use grouping_judge::GroupingFault;
 use grouping_report::push_number;
 use std::alloc::{AllocError, Global};
 
-fn word_of_text_kind(kind: TextKind) -> &'static [u8]
+/// The word of a kind of fault of a certificate's text.
+pub(crate) fn word_of_text_kind(kind: TextKind) -> &'static [u8]
     ensures { result.now ≡ text_kind_word kind }
 {
     match kind {

@@ -2,14 +2,16 @@
 //! status.
 //!
 //! The definitions stand in `specs/`: `Answer` (a text and a status), `Answers` (those of the code as those of the definitions),
-//! `Refusals` (the lines of faults) and `CheckLines` (the line of a text that is no certificate).
+//! `Refusals` (the lines of faults, those of events and of a board among them) and `CheckLines` (the line of a text that is no certificate).
 #![tactic(auto)]
 
 mod answer;
+mod board_refusal;
 mod check_lines;
 mod refusal;
 
 pub use answer::{Answer, Refusal};
+pub use board_refusal::{refuse_board, refuse_events};
 pub use check_lines::{budget_answer, no_answer};
 pub use refusal::{
     InputFile, MEMORY, refuse_assignments, refuse_codes, refuse_file, refuse_load, refuse_problem,

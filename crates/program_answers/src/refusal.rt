@@ -97,6 +97,8 @@ pub enum InputFile {
     Grouping,
     /// A block assignment file.
     Assignments,
+    /// The events of a board.
+    Events,
 }
 
 fn input_of(file: File) -> InputFile
@@ -119,6 +121,7 @@ fn word_of_file(file: InputFile) -> &'static [u8]
         InputFile::Withdrawn => b"withdrawn",
         InputFile::Grouping => b"grouping",
         InputFile::Assignments => b"assignments",
+        InputFile::Events => b"events",
     }
 }
 
@@ -134,7 +137,7 @@ fn line_of_cut(fault: LineFault, line: u32) -> u32
 
 /// `refused FILE KIND line L`.
 #[tactic(auto, unfolding(crate::specs::Refusals::refused_line))]
-fn refused_text(alloc: Global, file: &[u8], kind: &[u8], line: u32) -> Result<Vec<u8>, AllocError>
+fn refused_text(alloc: Global, file: &[u8], kind: &[u8], line: u64) -> Result<Vec<u8>, AllocError>
     ensures { IfOk result (λ v. v.items ≡ refused_line file.now kind.now line) }
 {
     let mut out = Vec::from_slice(alloc, b"refused ")?;
@@ -142,13 +145,13 @@ fn refused_text(alloc: Global, file: &[u8], kind: &[u8], line: u32) -> Result<Ve
     out.extend_from_slice(b" ")?;
     out.extend_from_slice(kind)?;
     out.extend_from_slice(b" line ")?;
-    push_number(&mut out, u64::from(line))?;
+    push_number(&mut out, line)?;
     out.extend_from_slice(b"\n")?;
     Ok(out)
 }
 
 /// The refusal of an input file for a fault at a line.
-fn refuse_input(alloc: Global, file: InputFile, kind: &[u8], line: u32) -> Refusal
+pub(crate) fn refuse_input(alloc: Global, file: InputFile, kind: &[u8], line: u64) -> Refusal
     ensures { Refuses (input_answer file kind.now line) result }
 {
     Refusal::of_text(refused_text(alloc, word_of_file(file), kind, line), 4)
@@ -165,7 +168,12 @@ pub fn refuse_file(alloc: Global, fault: Pl94Fault) -> Refusal
         Pl94Kind::Lower(cut) => line_of_cut(cut, fault.line),
         _ => fault.line,
     };
-    refuse_input(alloc, input_of(fault.file), word_of_kind(fault.kind), line)
+    refuse_input(
+        alloc,
+        input_of(fault.file),
+        word_of_kind(fault.kind),
+        u64::from(line),
+    )
 }
 
 /// The refusal of a fault of a file whose lines have county codes: `refused FILE KIND line L` with exit status 4, or `Memory` where the
@@ -179,7 +187,7 @@ pub fn refuse_codes(alloc: Global, file: InputFile, fault: CodeLineFault) -> Ref
         CodeLineKind::Lower(cut) => line_of_cut(cut, fault.line),
         _ => fault.line,
     };
-    refuse_input(alloc, file, word_of_code_line(fault.kind), line)
+    refuse_input(alloc, file, word_of_code_line(fault.kind), u64::from(line))
 }
 
 /// The refusal of a fault of an assignment file: `refused assignments KIND line L` with exit status 4, or `Memory` where the fault is
@@ -194,7 +202,7 @@ pub fn refuse_assignments(alloc: Global, fault: AssignmentFault) -> Refusal
         _ => fault.line,
     };
     let word = word_of_assignment(fault.kind);
-    refuse_input(alloc, InputFile::Assignments, word, line)
+    refuse_input(alloc, InputFile::Assignments, word, u64::from(line))
 }
 
 /// `fault KIND` with its group, its county or its seats.

@@ -1,5 +1,5 @@
 -- The pieces below the branches that have no number.
-use Rattle.std.proofs.Common.{◌≡◌, ℕ, ◌+◌, ◌<◌, ◌≤◌, List, ◌++◌, length, refl, sym, ap, ◌∙◌, subst, arith, ◌⊎◌, inl, inr, ⊎_elim, Option, Some, None}
+use Rattle.std.proofs.Common.{ℕ, List, ◌⊎◌, inl, inr, ⊎_elim, Option, Some, None}
 use Rattle.grouping_laws.proofs.Elements.{Has, has_append}
 use Rattle.proof_trees.specs.Tree.{Tree, leaf, branch, Takes, no_take, take}
 use Rattle.shared_proofs.specs.Skeleton.{Skeleton, waits, proved, split, Parts, no_part, part, pieces, pieces_in, put, put_in}

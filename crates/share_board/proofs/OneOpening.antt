@@ -1,5 +1,5 @@
 -- A plain round opens in one way: whichever skeleton it begins with has as many pieces.
-use Rattle.std.proofs.Common.{◌≡◌, ◌≢◌, ℕ, ◌+◌, ◌-◌, ◌<◌, ◌≤◌, true, List, ◌∷◌, filter, refl, sym, ap, ◌∙◌, subst, arith, inl, inr, Option, Some, None}
+use Rattle.std.proofs.Common.{◌≡◌, ℕ, ◌-◌, ◌<◌, ◌≤◌, true, List, ◌∷◌, filter, refl, sym, ap, ◌∙◌, subst, arith, inl, inr, Option, Some, None}
 use Rattle.grouping_laws.specs.Problem.{Problem}
 use Rattle.grouping_laws.specs.GroupsFrom.{BeginsWith}
 use Rattle.proof_trees.specs.Round.{Language, Plain, Wide, Round}
@@ -24,7 +24,7 @@ mutual
       omega (arith, opens_up depth skeleton p round (close codes s) first o.0 o.1, opens_up_in depth others p round s o.0 next o.2)
 
 -- in a plain round a branch names no limit, and its county is the first that is open
-names_none : (language : Language) (limit : Option ℕ) → language ≡ Plain → NamesLimit language limit → limit ≡ None
+pub names_none : (language : Language) (limit : Option ℕ) → language ≡ Plain → NamesLimit language limit → limit ≡ None
 names_none Plain None e n = refl
 names_none Plain (Some limit) e n = absurd n
 names_none Wide limit e n = absurd (cc)

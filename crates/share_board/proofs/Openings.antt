@@ -1,5 +1,5 @@
 -- How the branches above the pieces are put together, from the pieces up.
-use Rattle.std.proofs.Common.{◌≡◌, ◌≢◌, ℕ, ◌+◌, ◌-◌, ◌<◌, ◌≤◌, ◌⊎◌, inl, inr, Bool, true, List, [], ◌∷◌, refl, sym, ap, ◌∙◌, subst, arith, Option, Some, None}
+use Rattle.std.proofs.Common.{◌≡◌, ◌≢◌, ℕ, ◌+◌, ◌-◌, ◌≤◌, ◌⊎◌, inl, inr, Bool, true, List, [], ◌∷◌, refl, sym, ap, ◌∙◌, subst, arith, Some, None}
 use Rattle.grouping_laws.specs.Problem.{Problem}
 use Rattle.proof_trees.specs.Round.{Plain, Round}
 use Rattle.proof_trees.specs.State.{State, open_to, close, raise}
@@ -11,11 +11,10 @@ use Rattle.proof_trees.proofs.Decided.{leaves_are_decided}
 use Rattle.shared_proofs.specs.Skeleton.{Skeleton, waits, proved, split, Parts, no_part, part, groups_in}
 use Rattle.shared_proofs.specs.Standing.{StandsAt, StandsIn}
 use Rattle.shared_proofs.specs.Content.{Opens, EachOpens}
-use Rattle.share_board.specs.declared.piece.Fate.{Fate}
-use Rattle.share_board.specs.Replies.{most_opening}
+use Rattle.share_board.specs.Replies.{most_opening, OpensWithMore}
 use Rattle.share_board.specs.BoardValue.{IsStateAt}
-use Rattle.share_board.specs.Opened.{AllWait, IsOpened, AreOpened, OpensWithMore, EachOpensWithMore}
-use Rattle.share_board.proofs.OneOpening.{opens_up, opens_up_in, opens_one, opens_one_in, one_county, at_limit, none_apart}
+use Rattle.share_board.specs.Opened.{IsOpened, AreOpened, EachOpensWithMore}
+use Rattle.share_board.proofs.OneOpening.{opens_up, opens_up_in, opens_one, opens_one_in, one_county, at_limit}
 
 module _ {C : Type 0} (test : C → ℕ → Bool) (p : Problem) (round : Round) where
   -- what was opened stays so where states are kept

@@ -1,17 +1,31 @@
 -- The branches above the pieces with which a round begins, and the states at which these pieces stand.
-use Rattle.std.specs.Prelude.{ℕ, ◌+◌, ◌≡◌, ◌≤◌, ◌<◌, Bool, List}
+use Rattle.std.specs.Prelude.{ℕ, ◌+◌, ◌*◌, ◌≡◌, ◌≢◌, ◌≤◌, ◌<◌, Bool, true, List, length, All, ⊤}
 use Rattle.grouping_laws.specs.Problem.{Problem}
+use Rattle.grouping_problem.specs.ProblemValue.{problem_of}
+use Rattle.ordered_counties.specs.OrderedValue.{problem_at, code_at}
+use Rattle.county_regions.specs.Rows.{AreRows}
 use Rattle.proof_trees.specs.Round.{Round}
-use Rattle.proof_trees.specs.State.{State}
+use Rattle.proof_trees.specs.RoundValue.{round_of}
+use Rattle.proof_trees.specs.State.{State, empty_state, open_to}
 use Rattle.proof_trees.specs.declared.state.State.{State as StateHeld}
+use Rattle.proof_trees.specs.Groups.{AreGroupsAt}
+use Rattle.proof_trees.specs.Proving.{CanBranch}
 use Rattle.proof_trees.specs.Tree.{Tree, Takes}
+use Rattle.verdicts.specs.Cost.{AreSoMany}
+use Rattle.line_verdicts.specs.Placed.{state_at, codes_of_sets, IsClosable}
+use Rattle.line_verdicts.specs.declared.branch.Branching.{Branching}
 use Rattle.shared_proofs.specs.Skeleton.{Skeleton, Parts, groups_in}
 use Rattle.shared_proofs.specs.Standing.{StandsAt, StandsIn}
 use Rattle.shared_proofs.specs.Content.{Opens, EachOpens}
 use Rattle.share_board.specs.declared.piece.Fate.{Fate}
 use Rattle.share_board.specs.declared.piece.Fate.TheVariants.{Waits}
+use Rattle.share_board.specs.declared.ground.Ground.{Ground}
+use Rattle.share_board.specs.declared.stop.OpeningStop.{OpeningStop}
+use Rattle.share_board.specs.declared.stop.OpeningStop.TheVariants as stop
+use Rattle.share_board.specs.declared.reply.Reply.{Reply as ReplyHeld}
+use Rattle.share_board.specs.declared.reply.Reply.TheVariants as held
 use Rattle.share_board.specs.Held.{IsAt, ShowsAbove, PartsShowAbove}
-use Rattle.share_board.specs.Replies.{most_opening}
+use Rattle.share_board.specs.Replies.{most_opening, IsSmallSet, OpensWithMore, IsBelowOpening}
 use Rattle.share_board.specs.BoardValue.{IsStateAt}
 
 -- pieces wait at the places from one on up to another
@@ -33,9 +47,65 @@ pub record AreOpened {C : Type 0} (test : C → ℕ → Bool) (p : Problem) (rou
   pub shows : (fates : List Fate) → AllWait fates first next → PartsShowAbove fates takes first next parts
   pub stand : (k : ℕ) (t : State) → StandsIn parts round s (k + 1) t → IsStateAt round.order test states k t
 
--- with whichever skeleton the round opens there, it has too many pieces
-abbrev pub OpensWithMore : Problem → Round → ℕ → State → ℕ → Type 0
-OpensWithMore p round depth s first = (skeleton : Skeleton) (next : ℕ) → Opens depth skeleton p round s (first + 1) next → most_opening + 1 < next
-
+-- where each of these groups is closed there are too many pieces, however the round opens there
 abbrev pub EachOpensWithMore : Problem → Round → ℕ → State → List (List ℕ) → ℕ → Type 0
 EachOpensWithMore p round depth s groups first = (parts : Parts) (next : ℕ) → groups_in parts ≡ groups → EachOpens depth parts p round s (first + 1) next → most_opening + 1 < next
+
+-- states that are kept stay where they are
+abbrev pub AreKept : {C : Type 0} → List ℕ → (C → ℕ → Bool) → List (StateHeld C) → List (StateHeld C) → Type 0
+AreKept order test states news = (k : ℕ) (t : State) → IsStateAt order test states k t → IsStateAt order test news k t
+
+-- what the opening of a round goes by, and a state of it
+abbrev pub problem_in : {C : Type 0} → Ground C → Problem
+problem_in g = problem_of g.ordered.now.problem
+
+abbrev pub round_in : {C : Type 0} → Ground C → Round
+round_in g = round_of g.round.now
+
+abbrev pub state_in : {C : Type 0} → Ground C → (C → ℕ → Bool) → StateHeld C → State
+state_in g test s = state_at g.ordered.now.order test s
+
+-- the rows are those of the order, which is the round's, and the sets have room for its places
+pub record IsGround {C : Type 0} (places : ℕ) (test : C → ℕ → Bool) (g : Ground C) : Type 0 where
+  pub fits : length g.ordered.now.order ≤ places
+  pub rows : AreRows C test (problem_at g.ordered.now) (length g.ordered.now.order) g.near.now
+  pub order : g.ordered.now.order ≡ g.round.now.order
+  pub small : g.round.now.limit ≤ 128
+
+-- no county is open, so that a piece stands here
+abbrev pub NoneIsOpen : Round → State → Type 0
+NoneIsOpen round s = (c : ℕ) → open_to s round.limit c ≢ true
+
+-- the branch of a plain round at a state
+pub record IsBranching {C : Type 0} (test : C → ℕ → Bool) (g : Ground C) (state : StateHeld C) (branching : Branching C) : Type 0 where
+  pub place : branching.place < length g.ordered.now.order
+  pub can : CanBranch (round_in g) (state_in g test state) (code_at g.ordered.now.order branching.place) g.round.now.limit
+  pub groups : AreGroupsAt (problem_in g) (round_in g) (state_in g test state) (code_at g.ordered.now.order branching.place) g.round.now.limit (codes_of_sets g.ordered.now.order test branching.groups.items)
+  pub closable : All (IsClosable test state) branching.groups.items
+
+-- the share of a branch is below the cost of a line
+abbrev pub IsBelowLine : Problem → Round → ℕ → Type 0
+IsBelowLine p round share = (m : ℕ) → AreSoMany round.order (IsSmallSet p round) m → share < 3 * (m + 1)
+
+-- why the round isn't opened at a state, where so many pieces stand before it; and why not where each of these groups is closed
+abbrev pub IsHalted : Problem → Round → ℕ → ℕ → State → ℕ → OpeningStop → Type 0
+IsHalted p round share depth s first stop.TooManyPieces = OpensWithMore p round depth s first
+IsHalted p round share depth s first stop.Budget = (1 ≤ depth) × IsBelowLine p round share
+IsHalted p round share depth s first stop.Memory = ⊤
+
+abbrev pub AreHalted : Problem → Round → ℕ → ℕ → State → List (List ℕ) → ℕ → OpeningStop → Type 0
+AreHalted p round share depth s groups first stop.TooManyPieces = EachOpensWithMore p round depth s groups first
+AreHalted p round share depth s groups first stop.Budget = IsBelowLine p round share
+AreHalted p round share depth s groups first stop.Memory = ⊤
+
+-- why a round isn't opened
+abbrev pub IsOpeningStop : Problem → ℕ → ℕ → Round → OpeningStop → Type 0
+IsOpeningStop p depth budget round stop.TooManyPieces = OpensWithMore p round depth (empty_state p) 0
+IsOpeningStop p depth budget round stop.Budget = IsBelowOpening p depth budget round
+IsOpeningStop p depth budget round stop.Memory = ⊤
+
+-- what is replied then
+abbrev pub reply_to : {C : Type 0} → OpeningStop → ReplyHeld C
+reply_to stop.TooManyPieces = held.TooManyPieces
+reply_to stop.Budget = held.Budget
+reply_to stop.Memory = held.Memory

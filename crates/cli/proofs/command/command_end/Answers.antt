@@ -1,10 +1,11 @@
 use Rattle.std.proofs.Common.{List, [], refl, sym, subst}
 use Rattle.shelves.specs.Files.{File}
 use Rattle.command_words.specs.declared.words.CommandWords.{CommandWords}
-use Rattle.command_words.specs.declared.words.CommandWords.TheVariants.{Size, Judge, Check, Audit}
+use Rattle.command_words.specs.declared.words.CommandWords.TheVariants.{Size, Judge, Check, Audit, Piece}
 use Rattle.program_answers.specs.Answers.{said_by}
 use Rattle.command_runs.specs.JudgeCourse.{size_course, judge_course, audit_course}
 use Rattle.command_runs.specs.CheckCourse.{check_course}
+use Rattle.command_runs.specs.PieceCourse.{piece_course}
 use Rattle.command_runs.specs.Storing.{HasStored}
 use Rattle.command_runs.specs.Run.{CommandRun}
 use Rattle.command_runs.proofs.StoreLemmas.{none_stored}
@@ -76,4 +77,40 @@ returns-in-Audit g c =
       [],
       none_stored files later listed last c.audit.ensures.same c.audit.ensures.kept,
       quiet_run files (Audit c.in-Audit.words) (audit_course files c.in-Audit.words) before after c.audit.result (λ a h. (h, refl)) c.audit.ensures.course,
+    )
+
+pub returns-in-List : goal.returns-in-List
+returns-in-List g c =
+    let files = g.H.Shelf.contents c.args.shelf.now in
+    let later = g.H.Shelf.contents c.list.new.shelf in
+    let listed = g.H.Shelf.stored c.args.shelf.now in
+    let last = g.H.Shelf.stored c.list.new.shelf in
+    let before = g.H.Shelf.history c.args.shelf.now in
+    let after = g.H.Shelf.history c.list.new.shelf in
+    subst (λ (command : CommandWords). (x : List File) × HasStored files later listed last x × CommandRun files command before after x (said_by c.list.result)) (sym c.in-List.is)
+    c.list.ensures
+
+pub returns-in-Share : goal.returns-in-Share
+returns-in-Share g c =
+    let files = g.H.Shelf.contents c.args.shelf.now in
+    let later = g.H.Shelf.contents c.share.new.shelf in
+    let listed = g.H.Shelf.stored c.args.shelf.now in
+    let last = g.H.Shelf.stored c.share.new.shelf in
+    let before = g.H.Shelf.history c.args.shelf.now in
+    let after = g.H.Shelf.history c.share.new.shelf in
+    subst (λ (command : CommandWords). (x : List File) × HasStored files later listed last x × CommandRun files command before after x (said_by c.share.result)) (sym c.in-Share.is)
+    c.share.ensures
+
+pub returns-in-Piece : goal.returns-in-Piece
+returns-in-Piece g c =
+    let files = g.H.Shelf.contents c.args.shelf.now in
+    let later = g.H.Shelf.contents c.piece.new.shelf in
+    let listed = g.H.Shelf.stored c.args.shelf.now in
+    let last = g.H.Shelf.stored c.piece.new.shelf in
+    let before = g.H.Shelf.history c.args.shelf.now in
+    let after = g.H.Shelf.history c.piece.new.shelf in
+    subst (λ (command : CommandWords). (x : List File) × HasStored files later listed last x × CommandRun files command before after x (said_by c.piece.result)) (sym c.in-Piece.is) (
+      [],
+      none_stored files later listed last c.piece.ensures.same c.piece.ensures.kept,
+      quiet_run files (Piece c.in-Piece.words) (piece_course files c.in-Piece.words) before after c.piece.result (λ a h. (h, refl)) c.piece.ensures.course,
     )

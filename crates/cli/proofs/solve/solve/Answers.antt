@@ -1,24 +1,17 @@
-use Rattle.std.proofs.Common.{◌≡◌, refl, List, [], Option, subst}
+use Rattle.std.proofs.Common.{refl, []}
 use Rattle.std.specs.Prelude.{Err}
-use Rattle.shelves.specs.Files.{File, Files}
-use Rattle.command_runs.specs.Storing.{HasStored}
+use Rattle.command_runs.specs.SolveCourse.{solve_course, files_to_store}
 use Rattle.command_runs.proofs.StoreLemmas.{none_stored}
 use Rattle.command_runs.specs.Texts.{solved_of}
-use Rattle.cli.proofs.SolveLemmas.{refused_run, stopped_run, ended_run}
+use Rattle.cli.proofs.StoringLemmas.{from_start, refused_run, stopped_run, ended_run}
 use Rattle.cli.proofs.solve.solve.Goals as goal
 
 pub returns-in_err-solved : goal.returns-in_err-solved
 returns-in_err-solved g c = (
   [],
   none_stored (g.H.Shelf.contents c.args.shelf.now) (g.H.Shelf.contents c.solve_files.new.shelf) (g.H.Shelf.stored c.args.shelf.now) (g.H.Shelf.stored c.solve_files.new.shelf) c.solve_files.ensures.same c.solve_files.ensures.kept,
-  refused_run (g.H.Shelf.contents c.args.shelf.now) c.args.words (g.H.Shelf.history c.args.shelf.now) (g.H.Shelf.history c.solve_files.new.shelf) c.in_err-solved.field-0.0 c.from_residual.result c.from_residual.ensures.1 c.in_err-solved.ensures.course,
+  refused_run (solve_course (g.H.Shelf.contents c.args.shelf.now) c.args.words) (files_to_store c.args.words) (λ s. s.answer) (g.H.Shelf.history c.args.shelf.now) (g.H.Shelf.history c.solve_files.new.shelf) c.in_err-solved.field-0.0 c.from_residual.result c.from_residual.ensures.1 c.in_err-solved.ensures.course,
 )
-
--- the shelf was as it was until the files were stored
-from_start : (files files_then after : Option Files) (listed listed_then last : Option (List File)) (stored : List File)
-    → files_then ≡ files → listed_then ≡ listed → HasStored files_then after listed_then last stored → HasStored files after listed last stored
-from_start files files_then after listed listed_then last stored same kept h =
-    subst (λ (f : Option Files). HasStored f after listed last stored) same (subst (λ (l : Option (List File)). HasStored files_then after l last stored) kept h)
 
 pub returns : goal.returns
 returns g c =
@@ -29,7 +22,7 @@ returns g c =
     let end = c.in-Err.ensures in (
       end.0,
       from_start files (g.H.Shelf.contents c.solve_files.new.shelf) (g.H.Shelf.contents c.store_solved.new.shelf) (g.H.Shelf.stored c.args.shelf.now) (g.H.Shelf.stored c.solve_files.new.shelf) (g.H.Shelf.stored c.store_solved.new.shelf) end.0 c.solve_files.ensures.same c.solve_files.ensures.kept end.1,
-      stopped_run files c.args.words (solved_of c.in_ok-solved.solved) before between after end.0 c.in-Err.refusal (Err c.in-Err.refusal) refl c.in_ok-solved.ensures.course end.2,
+      stopped_run (solve_course files c.args.words) (files_to_store c.args.words) (λ s. s.answer) (solved_of c.in_ok-solved.solved) before between after end.0 c.in-Err.refusal (Err c.in-Err.refusal) refl c.in_ok-solved.ensures.course end.2,
     )
 
 pub returns-in-Ok : goal.returns-in-Ok
@@ -41,5 +34,5 @@ returns-in-Ok g c =
     let end = c.in-Ok.ensures in (
       end.0,
       from_start files (g.H.Shelf.contents c.solve_files.new.shelf) (g.H.Shelf.contents c.store_solved.new.shelf) (g.H.Shelf.stored c.args.shelf.now) (g.H.Shelf.stored c.solve_files.new.shelf) (g.H.Shelf.stored c.store_solved.new.shelf) end.0 c.solve_files.ensures.same c.solve_files.ensures.kept end.1,
-      ended_run files c.args.words (solved_of c.in_ok-solved.solved) before between after end.0 c.in_ok-solved.ensures.course end.2,
+      ended_run (solve_course files c.args.words) (files_to_store c.args.words) (λ s. s.answer) (solved_of c.in_ok-solved.solved) before between after end.0 c.in_ok-solved.ensures.course end.2,
     )

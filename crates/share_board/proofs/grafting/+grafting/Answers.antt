@@ -1,10 +1,10 @@
-use Rattle.std.proofs.Common.{◌≡◌, ℕ, ◌+◌, ◌<◌, List, [], length, drop, option_map, Some, None, IfSome, refl, sym, ap, ◌∙◌, subst, arith}
+use Rattle.std.proofs.Common.{◌≡◌, ℕ, ◌+◌, drop, option_map, Some, None, IfSome, sym, ap, ◌∙◌, subst, arith}
 use Rattle.std.proofs.lemmas.List.{drop_all}
-use Rattle.proof_trees.specs.Tree.{Tree, leaf, branch, take}
+use Rattle.proof_trees.specs.Tree.{leaf, branch, take}
 use Rattle.certificate_text.specs.Trees.{leaf_of, tree_of, list_of_takes}
 use Rattle.certificate_text.specs.declared.tree.Tree.{Tree as TreeHeld, out-Tree}
 use Rattle.certificate_text.specs.declared.tree.Branch.{out-Branch}
-use Rattle.certificate_text.specs.declared.tree.Take.{Take, out-Take, roll-Take}
+use Rattle.certificate_text.specs.declared.tree.Take.{out-Take, roll-Take}
 use Rattle.certificate_text.proofs.TreeViews.{list_onto}
 use Rattle.certificate_text.proofs.CopyLaws.{takes_onto}
 use Rattle.shared_proofs.specs.Skeleton.{joined, joined_parts}

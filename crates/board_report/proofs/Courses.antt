@@ -1,0 +1,62 @@
+-- A board from its first round on, through all events.
+use Rattle.std.proofs.Common.{◌≡◌, ℕ, Bool, List, [], ◌++◌, sym, ap, ◌∙◌, subst, Option, IfSome}
+use Rattle.std.specs.List.{flat_map}
+use Rattle.grouping_problem.specs.ProblemValue.{problem_of}
+use Rattle.grouping_problem.specs.declared.problem.Problem.{Problem as ProblemHeld}
+use Rattle.certificate_languages.specs.declared.language.Language.{Language}
+use Rattle.proof_trees.specs.Round.{Round}
+use Rattle.shared_proofs.specs.Content.{Content, Event}
+use Rattle.share_board.specs.declared.board.Board.{Board}
+use Rattle.share_board.specs.BoardValue.{IsOf, Keeps}
+use Rattle.share_board.specs.Rounds.{IsOpening}
+use Rattle.event_text.specs.Replies.{reply_line}
+use Rattle.branch_bound.specs.declared.piece.Piece.{Piece}
+use Rattle.board_report.specs.Taking.{Takes, IsTaken, HasTaken, HasTold, HasHeard}
+use Rattle.board_report.specs.Shared.{IsEnded, IsShared}
+use Rattle.board_report.specs.declared.shared.Shared.{Shared}
+use Rattle.board_report.specs.PieceText.{HasText}
+use Rattle.board_report.specs.Proved.{IsAnswerAt, IsAnswered, piece_budget}
+use Rattle.board_report.proofs.InTurn.{same_language}
+
+module _ {C : Type 0} (test : C → ℕ → Bool) (problem : ProblemHeld) (depth budget : ℕ) (round : Round) (before later : Board C) (b : Content) (events : List Event) where
+  taken_from : before.problem ≡ problem → before.depth ≡ depth → before.budget ≡ budget → IsOpening (problem_of problem) depth round b → (taken : HasTaken test before b events later) → IsTaken (problem_of problem) depth budget round events taken.replies taken.last
+  taken_from problem_is depth_is budget_is opening taken = record {
+    first = b;
+    opening = opening;
+    takes =
+        subst (λ z. Takes (problem_of z) depth budget b events taken.replies taken.last) problem_is
+        (subst (λ z. Takes (problem_of before.problem) z budget b events taken.replies taken.last) depth_is
+        (subst (λ z. Takes (problem_of before.problem) before.depth z b events taken.replies taken.last) budget_is taken.takes));
+  }
+
+  pub shared_so : before.problem ≡ problem → before.depth ≡ depth → before.budget ≡ budget → IsOpening (problem_of problem) depth round b → (start text : List ℕ) → start ≡ [] → HasTold test before b events later start text → Keeps before later
+      → (s : Shared) → ((c : Content) → IsOf test later c → IsEnded (problem_of later.problem) c text s) → IsShared (problem_of problem) depth budget round events s
+  shared_so problem_is depth_is budget_is opening start text none told keeps s ended = record {
+    replies = (told.0).replies;
+    last = (told.0).last;
+    taken = taken_from problem_is depth_is budget_is opening told.0;
+    ended =
+        subst (λ z. IsEnded (problem_of problem) (told.0).last z s) (told.1 ∙ ap (λ z. z ++ flat_map reply_line (told.0).replies) none)
+        (subst (λ z. IsEnded (problem_of z) (told.0).last text s) (keeps.problem ∙ problem_is) (ended (told.0).last (told.0).is));
+  }
+
+  pub answered_so : before.problem ≡ problem → before.depth ≡ depth → before.budget ≡ piece_budget → IsOpening (problem_of problem) depth round b → HasHeard test before b events later
+      → (number : ℕ) (answer : Option Piece) → ((c : Content) → IsOf test later c → IsAnswerAt (problem_of problem) c number answer) → budget ≡ piece_budget → IsAnswered (problem_of problem) depth round events number answer
+  answered_so problem_is depth_is budget_is opening heard number answer is same = record {
+    replies = (heard.0).replies;
+    last = (heard.0).last;
+    taken = subst (λ z. IsTaken (problem_of problem) depth z round events (heard.0).replies (heard.0).last) same (taken_from problem_is depth_is (budget_is ∙ sym same) opening heard.0);
+    none_refused = heard.1;
+    answer_is = is (heard.0).last (heard.0).is;
+  }
+
+  -- the language is that of the first round
+  pub language_so : (language : Language) → round.language ≡ language → IsOpening (problem_of problem) depth round b → HasTaken test before b events later → later.round.language ≡ language
+  language_so language is opening taken =
+      ap (λ (z : Round). z.language) taken.is.round
+      ∙ same_language (problem_of before.problem) before.depth before.budget b taken.last events taken.replies taken.takes
+      ∙ ap (λ (z : Round). z.language) opening.round_is
+      ∙ is
+
+pub text_so : (language other : Language) (places counties number : ℕ) (answer : Option Piece) → language ≡ other → places ≡ counties → IfSome answer (HasText language places number) → IfSome answer (HasText other counties number)
+text_so language other places counties number answer e k h = subst (λ z. IfSome answer (HasText z counties number)) e (subst (λ z. IfSome answer (HasText language z number)) k h)

@@ -1,0 +1,50 @@
+-- A text spells the event that gives a desk's answer to a board.
+use Rattle.std.proofs.Common.{◌≡◌, ◌≤◌, ℕ, Bool, true, false, List, [], ◌++◌, ◌&&◌, nat_le, map, length, append-nil, refl, subst, arith, Some, None}
+use Rattle.certificate_lines.specs.Fits.{AllFit}
+use Rattle.certificate_lines.specs.Items.{groups_wanted}
+use Rattle.certificate_lines.specs.Lines.{most}
+use Rattle.certificate_lines.specs.declared.item.Item.{Item}
+use Rattle.certificate_lines.specs.declared.item.Item.TheVariants.{Grouped}
+use Rattle.certificate_lines.specs.declared.item.Wanted.{Wanted}
+use Rattle.grouping_laws.specs.Problem.{Problem}
+use Rattle.grouping_laws.specs.Grouping.{Grouping}
+use Rattle.grouping_laws.specs.GroupsFrom.{IsOrder}
+use Rattle.grouping_laws.specs.Sets.{member}
+use Rattle.grouping_laws.proofs.Digits.{true_digit, digit_true}
+use Rattle.proof_trees.specs.Round.{Round}
+use Rattle.proof_trees.specs.State.{State, IsState}
+use Rattle.certificate_text.specs.Trees.{tree_of}
+use Rattle.tree_spelling.specs.TreeItems.{HasTargetLines}
+use Rattle.tree_spelling.proofs.ItemsFit.{target_fits}
+use Rattle.tree_spelling.proofs.Texts.{have_texts}
+use Rattle.share_board.specs.Spelled.{HasFiveDigits}
+use Rattle.share_board.proofs.Spelling.{five_digits}
+use Rattle.branch_bound.specs.Pieces.{IsPiece}
+use Rattle.branch_bound.specs.declared.piece.Piece.{Piece}
+use Rattle.branch_bound.specs.declared.piece.Piece.TheVariants.{Proved, Better, Wider, Open}
+use Rattle.event_text.specs.Lines.{greatest}
+use Rattle.board_report.specs.PieceText.{HasText}
+
+groups_fit : (g : Grouping) → HasTargetLines g → AllFit (groups_wanted (length g)) (map Grouped g)
+groups_fit g lines =
+    subst (λ (z : List Wanted). AllFit z (map Grouped g)) (append-nil (groups_wanted (length g)))
+    (subst (λ (z : List Item). AllFit (groups_wanted (length g) ++ []) z) (append-nil (map Grouped g)) (target_fits (Some g) [] [] lines tt).1)
+
+and_left : (a b : Bool) → (a && b) ≡ true → a ≡ true
+and_left true b e = refl
+and_left false b e = absurd (cc)
+
+-- a county of the rest is one of the problem
+rest_five : (p : Problem) (round : Round) (s : State) (county limit : ℕ) → HasFiveDigits p → IsState p round s → (s.rest county && nat_le (s.least county) limit) ≡ true → county ≤ 99999
+rest_five p round s county limit five state e = five_digits p county five (digit_true (member p.counties county) (omega (arith, state.once county, true_digit (s.rest county) (and_left (s.rest county) (nat_le (s.least county) limit) e))))
+
+pub has_text : (p : Problem) (round : Round) (s : State) (number : ℕ) (piece : Piece) → IsOrder p round.order → HasFiveDigits p → IsState p round s → round.limit ≤ most → number ≤ greatest → IsPiece p round s piece
+    → HasText round.language (length round.order) number piece
+has_text p round s number (Proved tree) order five state small few is r low = record { line = (low, few); items = have_texts.tree p round s (tree_of tree) order state is.0 is.1 }
+has_text p round s number (Better g) order five state small few is r low = record { line = (low, is.2.few); items = groups_fit g.groups.items is.2 }
+has_text p round s number (Wider g) order five state small few is r low = record { line = low; items = tt }
+has_text p round s number (Open None) order five state small few is r low = tt
+has_text p round s number (Open (Some split)) order five state small few is r low = record {
+  line = (low, few, rest_five p round s split.county split.limit five state is.2.is_open, is.1, omega (arith, is.2.small, small));
+  items = tt;
+}

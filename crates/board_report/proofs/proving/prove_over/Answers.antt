@@ -1,0 +1,34 @@
+use Rattle.std.proofs.Common.{map, length, refl, ap, ◌∙◌}
+use Rattle.grouping_problem.specs.ProblemValue.{problem_of}
+use Rattle.share_board.specs.Events.{event_of}
+use Rattle.board_report.specs.Proved.{piece_budget}
+use Rattle.board_report.specs.Rounds.{round_by_code}
+use Rattle.board_report.proofs.FirstRounds.{as_many}
+use Rattle.board_report.proofs.Courses.{answered_so, language_so, text_so}
+use Rattle.board_report.proofs.proving.prove_over.Goals as goal
+
+pub answer_at-requires-clause-board : goal.answer_at-requires-clause-board
+answer_at-requires-clause-board g c =
+    let first = c.in_ok-board.ensures.board in
+    let heard = c.in_ok-take_all.ensures.heard first.0 first.2 in
+    ((heard.0).last, (heard.0).is)
+
+pub returns-clause-answer : goal.returns-clause-answer
+returns-clause-answer g c =
+    let first = c.in_ok-board.ensures.board in
+    let round = round_by_code (problem_of c.args.problem.now) c.args.grouping.now.groups.items c.args.shape.limit c.args.shape.language in (
+      round,
+      c.in_ok-board.ensures.first,
+      answered_so g.C.CountySet.test c.args.problem.now c.args.shape.depth piece_budget round c.in_ok-board.board c.take_all.new.board first.0 (map event_of c.args.events.items) c.in_ok-board.ensures.problem c.in_ok-board.ensures.depth c.in_ok-board.ensures.budget first.1
+          (c.in_ok-take_all.ensures.heard first.0 first.2) c.args.number c.in_ok-answer_at.field-0 (λ x of. c.in_ok-answer_at.ensures.answer x of) refl,
+    )
+
+pub returns-clause-text : goal.returns-clause-text
+returns-clause-text g c =
+    let first = c.in_ok-board.ensures.board in
+    let heard = c.in_ok-take_all.ensures.heard first.0 first.2 in
+    let round = round_by_code (problem_of c.args.problem.now) c.args.grouping.now.groups.items c.args.shape.limit c.args.shape.language in
+    let later = c.take_all.new.board in
+    let language = language_so g.C.CountySet.test c.args.problem.now c.args.shape.depth piece_budget round c.in_ok-board.board later first.0 (map event_of c.args.events.items) c.args.shape.language refl first.1 heard.0 in
+    text_so later.round.language c.args.shape.language (length later.round.order) (length c.args.problem.now.counties) c.args.number c.in_ok-answer_at.field-0 language
+    (ap length (c.take_all.ensures.keeps.order ∙ c.in_ok-board.ensures.order) ∙ as_many c.args.problem.now.counties) c.in_ok-answer_at.ensures.text

@@ -1,0 +1,5 @@
+pub mod Rounds
+pub mod Taking
+pub mod Shared
+pub mod PieceText
+pub mod Proved

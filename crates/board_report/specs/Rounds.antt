@@ -1,0 +1,18 @@
+-- The first round of a board whose counties stand by ascending codes.
+use Rattle.std.specs.Prelude.{ℕ, ◌≡◌}
+use Rattle.std.specs.List.Sorted.{IsStrictlyIncreasing}
+use Rattle.grouping_laws.specs.Problem.{Problem}
+use Rattle.grouping_laws.specs.Grouping.{Grouping}
+use Rattle.grouping_laws.specs.GroupsFrom.{IsOrder}
+use Rattle.proof_trees.specs.Round.{Language, Round}
+use Rattle.share_board.specs.Rounds.{first_round}
+
+-- the order has each county of the problem once, by ascending codes; no round but one is so
+pub record IsFirstRound (p : Problem) (target : Grouping) (limit : ℕ) (language : Language) (round : Round) : Type 0 where
+  pub order : IsOrder p round.order
+  pub ascending : IsStrictlyIncreasing round.order
+  pub is : round ≡ first_round target round.order limit language
+
+-- the round of a problem whose counties are listed so
+abbrev pub round_by_code : Problem → Grouping → ℕ → Language → Round
+round_by_code p target limit language = first_round target p.counties limit language

@@ -1,0 +1,76 @@
+//! What is printed of the answer of a desk.
+
+ghost use Rattle.std.specs.Prelude.{◌≡◌, ◌≤◌, ℕ, [], ◌∷◌, IfOk, IfSome, option_map};
+ghost use Rattle.certificate_lines.specs.Lines.{most};
+ghost use Rattle.share_board.specs.Events.{event_of};
+ghost use Rattle.event_text.specs.Spelled.{text_of_event, HasSpelling, AreSpelled};
+ghost use Rattle.board_report.specs.PieceText.{event_in, piece_text_of, HasText};
+
+use branch_bound::Piece;
+use certificate_text::WriteFault;
+use event_text::write_event;
+use proof_trees::Language;
+use share_board::Event;
+use std::alloc::{AllocError, Global};
+
+/// The event that gives the answer to a board, if there is one.
+fn answer_event(piece: &Piece, round: u32, number: u32) -> Result<Option<Event>, AllocError>
+    ensures { IfOk result (λ event. option_map event_of event ≡ event_in round number piece.now) }
+{
+    match piece {
+        Piece::Proved(tree) => Ok(Some(Event::Result(round, number, tree.copy()?))),
+        Piece::Better(grouping) => Ok(Some(Event::Better(round, grouping.copy()?))),
+        Piece::Wider(_) => Ok(Some(Event::Wider(round))),
+        Piece::Open(Some(split)) => Ok(Some(Event::Split(
+            round,
+            number,
+            split.county,
+            split.limit,
+        ))),
+        Piece::Open(None) => Ok(None),
+    }
+}
+
+/// The text of an event that has one.
+fn event_lines(
+    alloc: Global,
+    event: &Event,
+    language: Language,
+    counties: u16,
+) -> Result<Vec<u8>, AllocError>
+    requires few { counties ≤ most }
+    requires spelled { HasSpelling language counties (event_of event.now) }
+    ensures spelled { IfOk result (λ text. AreSpelled language counties text.items (event_of event.now ∷ [])) }
+    ensures text { IfOk result (λ text. text.items ≡ text_of_event (event_of event.now)) }
+{
+    match write_event(alloc, event, language, counties) {
+        Ok(text) => Ok(text),
+        Err(WriteFault::Memory) => Err(AllocError),
+        Err(WriteFault::NoSpelling) => unreachable!(),
+    }
+}
+
+/// What is printed of the answer of a desk, for a round of this number: the text of the event that gives the answer to a board, or
+/// `open` if no branch is proposed.
+///
+/// # Errors
+///
+/// Where memory was refused.
+pub fn piece_text(
+    alloc: Global,
+    piece: &Piece,
+    round: u32,
+    number: u32,
+    language: Language,
+    counties: u16,
+) -> Result<Vec<u8>, AllocError>
+    requires few { counties ≤ most }
+    requires spelled { HasText language counties number piece.now }
+    ensures text { IfOk result (λ text. text.items ≡ piece_text_of round number piece.now) }
+    ensures spelled { IfOk result (λ text. IfSome (event_in round number piece.now) (λ event. AreSpelled language counties text.items (event ∷ []))) }
+{
+    match answer_event(piece, round, number)? {
+        Some(event) => event_lines(alloc, &event, language, counties),
+        None => Vec::from_slice(alloc, b"open\n"),
+    }
+}

@@ -1,0 +1,108 @@
+//! How a board stands, and the certificate to which its pieces join.
+
+ghost use Rattle.std.specs.Prelude.{◌≡◌, ℕ, ◌++◌, List, length, IfOk, OnOk};
+ghost use Rattle.std.specs.List.{flat_map};
+ghost use Rattle.certificate_text.specs.Spelled.{IsSpelling};
+ghost use Rattle.certificate_text.specs.Trees.{certificate_of};
+ghost use Rattle.grouping_problem.specs.ProblemValue.{problem_of};
+ghost use Rattle.shared_proofs.specs.Content.{Content};
+ghost use Rattle.share_board.specs.BoardValue.{IsOf};
+ghost use Rattle.board_report.specs.Shared.{open_line, open_lines, left_lines, IsEnded};
+
+use crate::shared::Shared;
+use certificate_lines::push_number_line;
+use certificate_text::{Certificate, WriteFault, write};
+use grouping_report::push_words_number;
+use place_sets::CountySet;
+use proof_trees::Language;
+use share_board::Board;
+use std::alloc::{AllocError, Global};
+
+/// Appends the line of a piece that waits.
+fn push_open(out: &mut Vec<u8>, number: u32, piece: u32) -> Result<(), AllocError>
+    ensures { OnOk result (out.new.items ≡ out.old.items ++ open_line number piece) }
+{
+    push_words_number(out, b"open ", u64::from(number))?;
+    push_number_line(out, b" ", piece)
+}
+
+/// Appends the lines of the pieces that wait.
+fn push_each_open(out: &mut Vec<u8>, number: u32, found: &[u32]) -> Result<(), AllocError>
+    ensures { OnOk result (out.new.items ≡ out.old.items ++ flat_map (open_line number) found.now) }
+{
+    for piece in found {
+        push_open(out, number, *piece)?;
+    }
+    Ok(())
+}
+
+/// Appends which pieces wait, where the round is a wide one.
+fn push_which(
+    out: &mut Vec<u8>,
+    language: Language,
+    number: u32,
+    found: &[u32],
+) -> Result<(), AllocError>
+    ensures { OnOk result (out.new.items ≡ out.old.items ++ open_lines language number found.now) }
+{
+    match language {
+        Language::Plain => Ok(()),
+        Language::Wide => push_each_open(out, number, found),
+    }
+}
+
+/// Appends how many pieces wait, and which.
+fn push_left(
+    out: &mut Vec<u8>,
+    language: Language,
+    number: u32,
+    found: &[u32],
+) -> Result<(), AllocError>
+    ensures { OnOk result (out.new.items ≡ out.old.items ++ left_lines language number found.now) }
+{
+    push_words_number(out, b"left ", found.len() as u64)?;
+    out.extend_from_slice(b"\n")?;
+    push_which(out, language, number, found)
+}
+
+/// The text of a certificate that has one.
+fn certificate_lines(alloc: Global, certificate: &Certificate) -> Result<Vec<u8>, AllocError>
+    requires { (text : List ℕ) × IsSpelling text (certificate_of certificate.now) }
+    ensures { IfOk result (λ v. IsSpelling v.items (certificate_of certificate.now)) }
+{
+    match write(alloc, certificate) {
+        Ok(text) => Ok(text),
+        Err(WriteFault::Memory) => Err(AllocError),
+        Err(WriteFault::NoSpelling) => unreachable!(),
+    }
+}
+
+/// How the board stands, behind a text.
+pub(crate) fn ended<C: CountySet>(
+    alloc: Global,
+    board: &Board<C>,
+    text: Vec<u8>,
+) -> Result<Shared, AllocError>
+    requires { (b : Content) × IsOf C.test board.now b }
+    ensures { (b : Content) → IsOf C.test board.now b → IfOk result (IsEnded (problem_of board.now.problem) b text.items) }
+{
+    let mut text = text;
+    let found = board.open_pieces(alloc)?;
+    let left = found.len();
+    let Some(certificate) = board.join(alloc)? else {
+        let language = board.proof_round().language;
+        push_left(&mut text, language, board.round(), &found)?;
+        return Ok(Shared {
+            text,
+            left,
+            certificate: None,
+        });
+    };
+    text.extend_from_slice(b"joined\n")?;
+    let lines = certificate_lines(alloc, &certificate)?;
+    Ok(Shared {
+        text,
+        left,
+        certificate: Some(lines),
+    })
+}

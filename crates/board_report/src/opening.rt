@@ -1,0 +1,49 @@
+//! The board of a command before its events.
+
+ghost use Rattle.std.specs.Prelude.{◌≡◌, ℕ, ◌≤◌, length, IfOk, MatchResult};
+ghost use Rattle.grouping_problem.specs.ProblemValue.{problem_of};
+ghost use Rattle.shared_proofs.specs.Content.{Content};
+ghost use Rattle.share_board.specs.BoardValue.{IsOf};
+ghost use Rattle.share_board.specs.Rounds.{IsOpening, IsBoardFault};
+ghost use Rattle.board_report.specs.Rounds.{IsFirstRound, round_by_code};
+
+use crate::shape::BoardShape;
+use county_codes::{Grouping, listed_codes};
+use grouping_problem::Problem;
+use place_sets::CountySet;
+use share_board::{Board, BoardFault};
+use std::alloc::Global;
+
+/// A board that no event has come to yet, whose order is that of ascending codes.
+pub(crate) fn opened_board<C: CountySet>(
+    alloc: Global,
+    problem: &Problem,
+    target: &Grouping,
+    shape: BoardShape,
+    budget: u64,
+) -> Result<Board<C>, BoardFault>
+    requires { length problem.now.counties ≤ C.PLACES }
+    ensures first { IsFirstRound (problem_of problem.now) target.now.groups.items shape.limit shape.language (round_by_code (problem_of problem.now) target.now.groups.items shape.limit shape.language) }
+    ensures board { MatchResult
+        result
+        (λ board. (b : Content)
+        × IsOpening (problem_of problem.now) shape.depth (round_by_code (problem_of problem.now) target.now.groups.items shape.limit shape.language) b
+        × IsOf C.test board b)
+        (IsBoardFault (problem_of problem.now) shape.depth budget target.now.groups.items (round_by_code (problem_of problem.now) target.now.groups.items shape.limit shape.language)) }
+    ensures problem { IfOk result (λ board. board.problem ≡ problem.now) }
+    ensures depth { IfOk result (λ board. board.depth ≡ shape.depth) }
+    ensures budget { IfOk result (λ board. board.budget ≡ budget) }
+    ensures order { IfOk result (λ board. board.round.order ≡ (problem_of problem.now).counties) }
+{
+    let order = listed_codes(alloc, problem.counties())?;
+    Board::new(
+        alloc,
+        problem,
+        target,
+        &order,
+        shape.limit,
+        shape.language,
+        shape.depth,
+        budget,
+    )
+}

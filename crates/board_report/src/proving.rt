@@ -1,0 +1,125 @@
+//! What a desk answers of a piece that waits.
+
+ghost use Rattle.std.specs.Prelude.{◌≡◌, ℕ, ◌≤◌, length, map, IfOk, IfSome, MatchResult};
+ghost use Rattle.grouping_problem.specs.ProblemValue.{problem_of};
+ghost use Rattle.proof_trees.specs.Round.{Round as RoundValue};
+ghost use Rattle.proof_trees.specs.RoundValue.{round_of};
+ghost use Rattle.shared_proofs.specs.Content.{Content};
+ghost use Rattle.share_board.specs.BoardValue.{IsOf};
+ghost use Rattle.share_board.specs.Events.{event_of};
+ghost use Rattle.share_board.specs.Rounds.{IsBoardFault};
+ghost use Rattle.board_report.specs.PieceText.{HasText};
+ghost use Rattle.board_report.specs.Proved.{IsAnswerAt, IsAnswered, IsStateHeld, piece_budget};
+ghost use Rattle.board_report.specs.Rounds.{IsFirstRound};
+
+use crate::opening::opened_board;
+use crate::shape::BoardShape;
+use crate::taking::take_all;
+use branch_bound::{Piece, prove_piece};
+use county_codes::Grouping;
+use grouping_problem::Problem;
+use ordered_counties::Steps;
+use place_sets::{CountySet, Places};
+use proof_trees::State;
+use share_board::{Board, BoardFault, Event, Reply};
+use std::alloc::{AllocError, Global};
+
+/// How much an event may cost on the board of a piece.
+const PIECE_BUDGET: u64 = 10_000_000;
+
+/// The state of the piece of this number, if it waits.
+fn waiting_state<C: CountySet>(
+    alloc: Global,
+    board: &Board<C>,
+    number: u32,
+) -> Result<Option<State<C>>, AllocError>
+    requires { (b : Content) × IsOf C.test board.now b }
+    ensures { (b : Content) → IsOf C.test board.now b → IfOk result (IsStateHeld C.test board.now b number) }
+{
+    match board.hand(alloc, number) {
+        Reply::Piece(_, piece, state) => {
+            if piece != number {
+                return Ok(None);
+            }
+            Ok(Some(state))
+        }
+        Reply::NothingLeft => Ok(None),
+        _ => Err(AllocError),
+    }
+}
+
+/// What a desk answers of the piece at this state, with so many steps.
+fn answer_at<C: CountySet>(
+    alloc: Global,
+    problem: &Problem,
+    board: &Board<C>,
+    number: u32,
+    steps: u64,
+) -> Result<Option<Piece>, AllocError>
+    requires board { (b : Content) × IsOf C.test board.now b }
+    requires problem { board.now.problem ≡ problem.now }
+    requires fits { length board.now.round.order ≤ C.PLACES }
+    ensures answer { (b : Content) → IsOf C.test board.now b → IfOk result (IsAnswerAt (problem_of problem.now) b number) }
+    ensures text { IfOk result (λ r. IfSome r (HasText board.now.round.language (length board.now.round.order) number)) }
+{
+    let Some(state) = waiting_state(alloc, board, number)? else {
+        return Ok(None);
+    };
+    let mut steps = Steps::new(steps);
+    let piece = prove_piece(alloc, problem, board.proof_round(), &state, &mut steps)?;
+    Ok(Some(piece))
+}
+
+/// What a desk answers of a piece, by any form of sets of places that has room for the counties.
+fn prove_over<C: CountySet>(
+    alloc: Global,
+    problem: &Problem,
+    grouping: &Grouping,
+    shape: BoardShape,
+    events: Vec<Event>,
+    number: u32,
+    steps: u64,
+) -> Result<Option<Piece>, BoardFault>
+    requires { length problem.now.counties ≤ C.PLACES }
+    ensures answer { (round : RoundValue)
+        × IsFirstRound (problem_of problem.now) grouping.now.groups.items shape.limit shape.language round
+        × MatchResult
+        result
+        (IsAnswered (problem_of problem.now) shape.depth round (map event_of events.items) number)
+        (IsBoardFault (problem_of problem.now) shape.depth piece_budget grouping.now.groups.items round) }
+    ensures text { IfOk result (λ r. IfSome r (HasText shape.language (length problem.now.counties) number)) }
+{
+    let mut board: Board<C> = opened_board(alloc, problem, grouping, shape, PIECE_BUDGET)?;
+    take_all(alloc, &mut board, events)?;
+    Ok(answer_at(alloc, problem, &board, number, steps)?)
+}
+
+/// What a desk answers of the piece of this number, with so many steps, once a board has taken the events in turn: none, if that piece
+/// doesn't wait.
+///
+/// The board's first target is the grouping, and its order is that of ascending codes. One event may cost 10,000,000.
+///
+/// # Errors
+///
+/// Why there is no board: the first fault that stands. `Memory` if memory was refused, also to an event.
+pub fn prove_waiting(
+    alloc: Global,
+    problem: &Problem,
+    grouping: &Grouping,
+    shape: BoardShape,
+    events: Vec<Event>,
+    number: u32,
+    steps: u64,
+) -> Result<Option<Piece>, BoardFault>
+    ensures answer { (round : RoundValue)
+        × IsFirstRound (problem_of problem.now) grouping.now.groups.items shape.limit shape.language round
+        × MatchResult
+        result
+        (IsAnswered (problem_of problem.now) shape.depth round (map event_of events.items) number)
+        (IsBoardFault (problem_of problem.now) shape.depth piece_budget grouping.now.groups.items round) }
+    // A text spells the event that gives the answer to the board.
+    ensures text { IfOk result (λ r. IfSome r (HasText shape.language (length problem.now.counties) number)) }
+{
+    let _counties = problem.counties();
+    prove_over::<Places>(alloc, problem, grouping, shape, events, number, steps)
+}

@@ -1,0 +1,70 @@
+//! What a board comes to by a list of events.
+
+ghost use Rattle.std.specs.Prelude.{◌≡◌, ℕ, ◌≤◌, length, map, MatchResult};
+ghost use Rattle.grouping_problem.specs.ProblemValue.{problem_of};
+ghost use Rattle.proof_trees.specs.Round.{Round as RoundValue};
+ghost use Rattle.share_board.specs.Events.{event_of};
+ghost use Rattle.share_board.specs.Rounds.{IsBoardFault};
+ghost use Rattle.board_report.specs.Rounds.{IsFirstRound};
+ghost use Rattle.board_report.specs.Shared.{IsShared};
+
+use crate::ending::ended;
+use crate::opening::opened_board;
+use crate::shape::BoardShape;
+use crate::shared::Shared;
+use crate::taking::take_and_tell;
+use county_codes::Grouping;
+use grouping_problem::Problem;
+use place_sets::{CountySet, Places};
+use share_board::{Board, BoardFault, Event};
+use std::alloc::Global;
+
+/// What a board comes to, by any form of sets of places that has room for the counties.
+fn share_over<C: CountySet>(
+    alloc: Global,
+    problem: &Problem,
+    grouping: &Grouping,
+    shape: BoardShape,
+    events: Vec<Event>,
+    budget: u64,
+) -> Result<Shared, BoardFault>
+    requires { length problem.now.counties ≤ C.PLACES }
+    ensures { (round : RoundValue)
+        × IsFirstRound (problem_of problem.now) grouping.now.groups.items shape.limit shape.language round
+        × MatchResult
+        result
+        (IsShared (problem_of problem.now) shape.depth budget round (map event_of events.items))
+        (IsBoardFault (problem_of problem.now) shape.depth budget grouping.now.groups.items round) }
+{
+    let mut board: Board<C> = opened_board(alloc, problem, grouping, shape, budget)?;
+    let mut text = Vec::new(alloc);
+    take_and_tell(alloc, &mut board, events, &mut text)?;
+    Ok(ended(alloc, &board, text)?)
+}
+
+/// What a board comes to by a list of events: the text of its replies and of how it stands then, and the certificate, if no piece waits.
+///
+/// The board's first target is the grouping, its order is that of ascending codes, and one event may cost so much. If memory is refused
+/// to an event, its reply says so, and the next event follows.
+///
+/// # Errors
+///
+/// Why there is no board: the first fault that stands. `Memory` may stand in the place of any answer.
+pub fn share(
+    alloc: Global,
+    problem: &Problem,
+    grouping: &Grouping,
+    shape: BoardShape,
+    events: Vec<Event>,
+    budget: u64,
+) -> Result<Shared, BoardFault>
+    ensures { (round : RoundValue)
+        × IsFirstRound (problem_of problem.now) grouping.now.groups.items shape.limit shape.language round
+        × MatchResult
+        result
+        (IsShared (problem_of problem.now) shape.depth budget round (map event_of events.items))
+        (IsBoardFault (problem_of problem.now) shape.depth budget grouping.now.groups.items round) }
+{
+    let _counties = problem.counties();
+    share_over::<Places>(alloc, problem, grouping, shape, events, budget)
+}

@@ -1,0 +1,116 @@
+//! Events, taken by a board in turn.
+
+ghost use Rattle.std.specs.Prelude.{◌≡◌, ◌≢◌, ℕ, ◌++◌, ◌≤◌, Bool, false, List, length, map, OnOk};
+ghost use Rattle.grouping_problem.specs.ProblemValue.{problem_of};
+ghost use Rattle.shared_proofs.specs.Content.{Content, Reply as ReplyValue, Memory};
+ghost use Rattle.share_board.specs.BoardValue.{IsOf, Follows, Keeps, reply_of};
+ghost use Rattle.share_board.specs.Events.{event_of};
+ghost use Rattle.share_board.specs.Replies.{IsReply};
+ghost use Rattle.event_text.specs.Replies.{reply_line};
+ghost use Rattle.board_report.specs.Taking.{HasTold, HasHeard};
+
+use event_text::push_reply;
+use place_sets::CountySet;
+use share_board::{Board, Event, Reply};
+use std::alloc::{AllocError, Global};
+
+/// Takes an event, and appends the line of what is replied to it.
+fn tell_one<C: CountySet>(
+    alloc: Global,
+    board: &mut Board<C>,
+    event: Event,
+    text: &mut Vec<u8>,
+) -> Result<(), AllocError>
+    requires board { (b : Content) × IsOf C.test board.old b }
+    requires fits { length board.old.round.order ≤ C.PLACES }
+    ensures told { OnOk
+        result
+        ((b : Content)
+        → IsOf C.test board.old b
+        → (reply : ReplyValue)
+        × IsReply (problem_of board.old.problem) board.old.depth board.old.budget b (event_of event) reply
+        × Follows C.test board.old.depth board.old.problem b (event_of event) reply board.new
+        × (text.new.items ≡ text.old.items ++ reply_line reply)) }
+    ensures keeps { Keeps board.old board.new }
+{
+    let reply = board.step(alloc, event);
+    push_reply(text, &reply)
+}
+
+/// Takes events in turn, and appends the line of what is replied to each.
+pub(crate) fn take_and_tell<C: CountySet>(
+    alloc: Global,
+    board: &mut Board<C>,
+    events: Vec<Event>,
+    text: &mut Vec<u8>,
+) -> Result<(), AllocError>
+    requires board { (b : Content) × IsOf C.test board.old b }
+    requires fits { length board.old.round.order ≤ C.PLACES }
+    ensures told { OnOk result ((b : Content) → IsOf C.test board.old b → HasTold C.test board.old b (map event_of events.items) board.new text.old.items text.new.items) }
+    ensures keeps { Keeps board.old board.new }
+{
+    for event in events {
+        tell_one(alloc, board, event, text)?;
+    }
+    Ok(())
+}
+
+/// Whether memory was refused to the event.
+fn was_refused<C>(reply: &Reply<C>) -> bool
+    ensures { (order : List ℕ) (test : C → ℕ → Bool) → result ≡ false → reply_of order test reply.now ≢ Memory }
+{
+    match reply {
+        Reply::Memory => true,
+        _ => false,
+    }
+}
+
+/// Takes an event.
+///
+/// # Errors
+///
+/// Where memory was refused.
+fn take_one<C: CountySet>(
+    alloc: Global,
+    board: &mut Board<C>,
+    event: Event,
+) -> Result<(), AllocError>
+    requires board { (b : Content) × IsOf C.test board.old b }
+    requires fits { length board.old.round.order ≤ C.PLACES }
+    ensures taken { OnOk
+        result
+        ((b : Content)
+        → IsOf C.test board.old b
+        → (reply : ReplyValue)
+        × (reply ≢ Memory)
+        × IsReply (problem_of board.old.problem) board.old.depth board.old.budget b (event_of event) reply
+        × Follows C.test board.old.depth board.old.problem b (event_of event) reply board.new) }
+    ensures keeps { Keeps board.old board.new }
+{
+    let answer = board.step(alloc, event);
+    if was_refused(&answer) {
+        return Err(AllocError);
+    }
+    Ok(())
+}
+
+/// Takes events in turn.
+///
+/// # Errors
+///
+/// Where memory was refused to one.
+pub(crate) fn take_all<C: CountySet>(
+    alloc: Global,
+    board: &mut Board<C>,
+    events: Vec<Event>,
+) -> Result<(), AllocError>
+    requires board { (b : Content) × IsOf C.test board.old b }
+    requires fits { length board.old.round.order ≤ C.PLACES }
+    ensures heard { OnOk result ((b : Content) → IsOf C.test board.old b → HasHeard C.test board.old b (map event_of events.items) board.new) }
+    ensures keeps { Keeps board.old board.new }
+{
+    for event in events {
+        take_one(alloc, board, event)?;
+    }
+    Ok(())
+}

@@ -1,0 +1,65 @@
+-- What a run of a command that stores files comes to, by its parts.
+use Rattle.std.proofs.Common.{◌≡◌, ◌⊎◌, ◌++◌, List, [], Option, Some, None, inl, inr, refl, sym, subst}
+use Rattle.std.specs.Prelude.{Result, Ok, Err, option_map}
+use Rattle.std.specs.Borrow.{Bor}
+use Rattle.std.specs.Option.{option_copied}
+use Rattle.std.specs.Result.{IsErrAnd}
+use Rattle.shelves.specs.Files.{File, Files}
+use Rattle.shelves.specs.History.{History}
+use Rattle.program_answers.specs.declared.answer.Answer.{Answer}
+use Rattle.program_answers.specs.declared.answer.Refusal.{Refusal}
+use Rattle.program_answers.specs.declared.answer.Refusal.TheVariants.{Shown, Memory}
+use Rattle.program_answers.specs.Answer.{Answered, memory_answer}
+use Rattle.program_answers.specs.Answers.{answer_of, said_by, Meets}
+use Rattle.command_runs.specs.Course.{Course}
+use Rattle.command_runs.specs.Storing.{EndsStoring, HasStored, store_steps}
+use Rattle.command_runs.specs.Run.{IsOutOfMemory}
+use Rattle.command_runs.proofs.StoreLemmas.{stops_in}
+use Rattle.cli.specs.Ends.{refusal_by}
+
+-- what is seen of a value that is lent is what is seen of the value
+pub seen_lent : {X Y : Type 0} (f : X → Y) (lent : Option (Bor X)) → option_map f (option_copied lent) ≡ option_map (λ t. f t.now) lent
+seen_lent f None = refl
+seen_lent f (Some t) = refl
+
+-- the shelf was as it was until the files were stored
+pub from_start : (files files_then after : Option Files) (listed listed_then last : Option (List File)) (stored : List File)
+    → files_then ≡ files → listed_then ≡ listed → HasStored files_then after listed_then last stored → HasStored files after listed last stored
+from_start files files_then after listed listed_then last stored same kept h =
+    subst (λ (f : Option Files). HasStored f after listed last stored) same (subst (λ (l : Option (List File)). HasStored files_then after l last stored) kept h)
+
+module _ {S : Type 0} (steps : Course S) (files_of : S → List File) (answer : S → Answered) where
+  -- a run of the steps, whose files are stored; a growth may be refused
+  abbrev pub Runs : History → History → List File → Answered → Type 0
+  Runs before after stored a = IsOutOfMemory stored a ⊎ EndsStoring steps files_of answer before after stored a
+
+  -- it ends at a fault, before anything is stored
+  pub refused_run : (before after : History) (refusal : Refusal) (end : Result Answer Refusal)
+      → IsErrAnd end (λ e. e ≡ refusal) → Meets refusal (λ a. steps before after (Err a)) → Runs before after [] (said_by end)
+  refused_run before after refusal (Ok a) i h = absurd i
+  refused_run before after (Shown a) (Err e) i h = subst (λ (r : Refusal). Runs before after [] (said_by (Err r))) (sym i) (inr (inl (h, refl)))
+  refused_run before after Memory (Err e) i h = subst (λ (r : Refusal). Runs before after [] (said_by (Err r))) (sym i) (inl (refl, refl))
+
+  -- or at a file that was refused
+  pub stopped_run : (s : S) (before between after : History) (stored : List File) (refusal : Refusal) (end : Result Answer Refusal)
+      → IsErrAnd end (λ e. e ≡ refusal) → steps before between (Ok s) → store_steps (files_of s) between after stored (refusal_by (Err refusal))
+      → Runs before after stored (said_by end)
+  stopped_run s before between after stored refusal (Ok a) i h k = absurd i
+  stopped_run s before between after stored (Shown a) (Err e) i h k =
+      subst (λ (r : Refusal). Runs before after stored (said_by (Err r))) (sym i) (inr (inr (s, between, Some (answer_of a), h, k, refl)))
+  stopped_run s before between after stored Memory (Err e) i h k =
+      subst (λ (r : Refusal). Runs before after stored (said_by (Err r))) (sym i) (inr (inr (s, between, Some memory_answer, h, k, refl)))
+
+  -- or with all its files stored
+  pub ended_run : (s : S) (before between after : History) (stored : List File) → steps before between (Ok s) → store_steps (files_of s) between after stored None
+      → Runs before after stored (answer s)
+  ended_run s before between after stored h k = inr (inr (s, between, None, h, k, refl))
+
+-- files of which one is refused, with others behind them
+pub stops_with : (xs ys : List File) (before after : History) (stored : List File) (refusal : Refusal) (end : Result (Unit {0}) Refusal)
+    → IsErrAnd end (λ e. e ≡ refusal) → store_steps xs before after stored (refusal_by (Err refusal)) → store_steps (xs ++ ys) before after stored (refusal_by end)
+stops_with xs ys before after stored refusal (Ok x) i h = absurd i
+stops_with xs ys before after stored (Shown a) (Err e) i h =
+    subst (λ (r : Refusal). store_steps (xs ++ ys) before after stored (refusal_by (Err r))) (sym i) (stops_in xs ys before after stored (answer_of a) h)
+stops_with xs ys before after stored Memory (Err e) i h =
+    subst (λ (r : Refusal). store_steps (xs ++ ys) before after stored (refusal_by (Err r))) (sym i) (stops_in xs ys before after stored memory_answer h)

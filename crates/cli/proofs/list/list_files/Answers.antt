@@ -1,0 +1,29 @@
+use Rattle.std.proofs.Common.{Option, subst}
+use Rattle.std.specs.Prelude.{Err, option_map}
+use Rattle.grouping_problem.specs.ProblemValue.{ProblemValue}
+use Rattle.command_words.specs.declared.words.ListWords.{ListWords}
+use Rattle.shelves.specs.Files.{Files}
+use Rattle.program_answers.specs.Answers.{Meets}
+use Rattle.command_runs.specs.Course.{Course, ◌>>=◌, load_step, value_step}
+use Rattle.command_runs.specs.ProblemCourse.{problem_in}
+use Rattle.command_runs.specs.ListCourse.{IsListed, Listed}
+use Rattle.command_runs.specs.Texts.{listed_of}
+use Rattle.command_runs.proofs.RunLemmas.{handed_on, went_on}
+use Rattle.cli.proofs.list.list_files.Goals as goal
+
+-- the list by the certificate of a file, where the problem is known
+with_problem : Option Files → ListWords → ProblemValue → Course Listed
+with_problem files words v = load_step files words.check.certificate.now >>= λ text. value_step (IsListed v words.check.budget (option_map (λ w. w.number) words.stored) text)
+
+pub returns-in_err-text-clause-course : goal.returns-in_err-text-clause-course
+unfolding with_problem
+returns-in_err-text-clause-course g c =
+    let files = g.H.Shelf.contents c.args.shelf.now in
+    let before = g.H.Shelf.history c.args.shelf.now in
+    let between = g.H.Shelf.history c.load_problem.new.shelf in
+    let after = g.H.Shelf.history c.load.new.shelf in
+    let words = c.args.words in
+    let v = c.in_ok-problem.problem in
+    let met = subst (λ (f : Option Files). Meets c.in_err-text.field-0.0 (λ a. load_step f words.check.certificate.now between after (Err a))) c.load_problem.ensures.same c.in_err-text.ensures.course in
+    went_on listed_of c.from_residual-in_err-text.result (problem_in files words.check.problem) (with_problem files words) v before between after c.in_ok-problem.ensures.course
+    (handed_on listed_of c.in_err-text.field-0.0 c.from_residual-in_err-text.result (load_step files words.check.certificate.now) (λ text. value_step (IsListed v words.check.budget (option_map (λ w. w.number) words.stored) text)) between after c.from_residual-in_err-text.ensures.1 met)

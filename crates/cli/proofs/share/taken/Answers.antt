@@ -1,0 +1,16 @@
+use Rattle.std.proofs.Common.{map}
+use Rattle.grouping_problem.specs.ProblemValue.{problem_of}
+use Rattle.share_board.specs.Events.{event_of}
+use Rattle.board_report.specs.Shared.{IsShared}
+use Rattle.program_answers.specs.Refusals.{board_answer}
+use Rattle.command_runs.specs.BoardCourse.{depth_of, AnswersOnBoard}
+use Rattle.command_runs.proofs.RunLemmas.{refused}
+use Rattle.cli.proofs.share.taken.Goals as goal
+
+pub returns-in-Err : goal.returns-in-Err
+returns-in-Err c = λ history.
+    let v = c.args.problem.now in
+    let words = c.args.words in
+    refused c.refuse_board.result board_answer c.in-Err.fault
+    (AnswersOnBoard v c.args.grouping.now.groups.items words.board.round words.budget (λ round. IsShared (problem_of v) (depth_of words.board.round) words.budget round (map event_of c.args.events.items)))
+    history c.refuse_board.ensures.answer (λ shown. c.in-Err.ensures.fault)

@@ -1,0 +1,75 @@
+//! What the file of a board's events gives.
+
+ghost use Rattle.std.specs.Prelude.{◌≡◌, length, map};
+ghost use Rattle.share_board.specs.Events.{event_of};
+ghost use Rattle.shelves.specs.History.{History};
+ghost use Rattle.program_answers.specs.Answers.{Comes};
+ghost use Rattle.command_runs.specs.BoardCourse.{language_of, events_in, events_of, named_events_of};
+
+use crate::end::{End, Ending, FileFault, FileOption};
+use crate::files::load;
+use command_runs::language_for;
+use command_words::RoundWords;
+use event_text::read_events;
+use grouping_problem::Problem;
+use program_answers::{Refusal, refuse_events};
+use share_board::Event;
+use shelves::Shelf;
+use std::alloc::Global;
+
+/// The events that a text gives.
+fn events_from(
+    alloc: Global,
+    text: Vec<u8>,
+    words: RoundWords,
+    problem: &Problem,
+    end: &mut End,
+) -> Result<Vec<Event>, Refusal>
+    ensures { (history : History) → Comes (λ v. map event_of v.items) result (events_in (language_of words) (length problem.now.counties) text.items history history) }
+{
+    let language = language_for(words);
+    let counties = problem.counties().len() as u16;
+    match read_events(alloc, &text, language, counties) {
+        Ok(events) => Ok(events),
+        Err(fault) => {
+            end.note(Ending::Refused(FileOption::Events, FileFault::Events(fault), text));
+            Err(refuse_events(alloc, fault))
+        }
+    }
+}
+
+/// The events of a file, whose trees are of the language of the rounds and for the counties of the problem.
+pub(crate) fn load_events<H: Shelf>(
+    alloc: Global,
+    name: &str,
+    words: RoundWords,
+    problem: &Problem,
+    shelf: &mut H,
+    end: &mut End,
+) -> Result<Vec<Event>, Refusal>
+    ensures course { Comes (λ v. map event_of v.items) result (events_of (H.contents shelf.old) (language_of words) (length problem.now.counties) name.now (H.history shelf.old) (H.history shelf.new)) }
+    ensures same { H.contents shelf.new ≡ H.contents shelf.old }
+    ensures kept { H.stored shelf.new ≡ H.stored shelf.old }
+{
+    let text = load(alloc, FileOption::Events, name, shelf, end)?;
+    events_from(alloc, text, words, problem, end)
+}
+
+/// The events of a file that is named, else none.
+pub(crate) fn load_named_events<H: Shelf>(
+    alloc: Global,
+    name: Option<&str>,
+    words: RoundWords,
+    problem: &Problem,
+    shelf: &mut H,
+    end: &mut End,
+) -> Result<Vec<Event>, Refusal>
+    ensures course { Comes (λ v. map event_of v.items) result (named_events_of (H.contents shelf.old) (language_of words) (length problem.now.counties) name.entry (H.history shelf.old) (H.history shelf.new)) }
+    ensures same { H.contents shelf.new ≡ H.contents shelf.old }
+    ensures kept { H.stored shelf.new ≡ H.stored shelf.old }
+{
+    match name {
+        Some(name) => load_events(alloc, name, words, problem, shelf, end),
+        None => Ok(Vec::new(alloc)),
+    }
+}

@@ -1,0 +1,70 @@
+//! The subcommand `piece`.
+
+ghost use Rattle.std.specs.Prelude.{◌≡◌, ◌≤◌, map, length};
+ghost use Rattle.shelves.specs.History.{History};
+ghost use Rattle.share_board.specs.Events.{event_of};
+ghost use Rattle.program_answers.specs.Answers.{answer_of, Comes};
+ghost use Rattle.command_runs.specs.PieceCourse.{said_step, piece_course};
+
+use crate::board_files::load_named_events;
+use crate::end::{End, Ending};
+use crate::files::load_grouping;
+use crate::problem::load_problem;
+use command_runs::{PieceEnd, piece_and_say};
+use command_words::PieceWords;
+use county_codes::Grouping;
+use grouping_problem::Problem;
+use program_answers::{Answer, Refusal, refuse_board};
+use share_board::Event;
+use shelves::Shelf;
+use std::alloc::Global;
+
+/// The end of a piece.
+fn piece_end(end: PieceEnd) -> Ending {
+    match end {
+        PieceEnd::Answered => Ending::Done,
+        PieceEnd::Open(is_split) => Ending::PieceOpen(is_split),
+        PieceEnd::NoSuchPiece => Ending::NoSuchPiece,
+    }
+}
+
+/// What a desk answers of the piece, on a board that takes the events.
+fn proved(
+    alloc: Global,
+    problem: &Problem,
+    grouping: &Grouping,
+    events: Vec<Event>,
+    words: PieceWords<'_>,
+    end: &mut End,
+) -> Result<Answer, Refusal>
+    ensures { (history : History) → Comes answer_of result (said_step problem.now grouping.now.groups.items words.entry (map event_of events.items) history history) }
+{
+    match piece_and_say(alloc, problem, grouping, words, events) {
+        Ok(said) => {
+            end.note(piece_end(said.end));
+            Ok(said.answer)
+        }
+        Err(fault) => {
+            end.note_board(&fault);
+            Err(refuse_board(alloc, fault))
+        }
+    }
+}
+
+/// A piece of a board, as a desk proves it. All files are read before the board is opened; the first fault met is the answer.
+pub(crate) fn piece<H: Shelf>(
+    alloc: Global,
+    words: PieceWords<'_>,
+    shelf: &mut H,
+    end: &mut End,
+) -> Result<Answer, Refusal>
+    requires { words.board.problem.common.state ≤ 99 }
+    ensures course { Comes answer_of result (piece_course (H.contents shelf.old) words.entry (H.history shelf.old) (H.history shelf.new)) }
+    ensures same { H.contents shelf.new ≡ H.contents shelf.old }
+    ensures kept { H.stored shelf.new ≡ H.stored shelf.old }
+{
+    let problem = load_problem(alloc, words.board.problem, shelf, end)?;
+    let grouping = load_grouping(alloc, words.board.grouping, shelf, end)?;
+    let events = load_named_events(alloc, words.events, words.board.round, &problem, shelf, end)?;
+    proved(alloc, &problem, &grouping, events, words, end)
+}

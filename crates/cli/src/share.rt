@@ -1,0 +1,122 @@
+//! The subcommand `share`.
+
+ghost use Rattle.std.specs.Prelude.{◌≡◌, ◌≤◌, List, map, length};
+ghost use Rattle.shelves.specs.Files.{File};
+ghost use Rattle.shelves.specs.History.{History};
+ghost use Rattle.share_board.specs.Events.{event_of};
+ghost use Rattle.program_answers.specs.Answers.{answer_of, Comes, said_by};
+ghost use Rattle.command_runs.specs.Storing.{HasStored};
+ghost use Rattle.command_runs.specs.ShareCourse.{share_answer, share_step, share_course};
+ghost use Rattle.command_runs.specs.Run.{CommandRun};
+
+use crate::board_files::load_events;
+use crate::end::{End, Ending, FileOption};
+use crate::files::load_grouping;
+use crate::problem::load_problem;
+use crate::storing::store_named;
+use board_report::Shared;
+use command_runs::share_events;
+use command_words::{CommandWords, ShareWords};
+use county_codes::Grouping;
+use grouping_problem::Problem;
+use program_answers::{Answer, Refusal, refuse_board};
+use share_board::Event;
+use shelves::Shelf;
+use std::alloc::Global;
+
+/// What a board comes to that takes the events.
+fn taken(
+    alloc: Global,
+    problem: &Problem,
+    grouping: &Grouping,
+    events: Vec<Event>,
+    words: ShareWords<'_>,
+    end: &mut End,
+) -> Result<Shared, Refusal>
+    ensures { (history : History) → Comes (λ s. s) result (share_step problem.now grouping.now.groups.items words.entry (map event_of events.items) history history) }
+{
+    match share_events(
+        alloc,
+        problem,
+        grouping,
+        words.board.round,
+        events,
+        words.budget,
+    ) {
+        Ok(shared) => Ok(shared),
+        Err(fault) => {
+            end.note_board(&fault);
+            Err(refuse_board(alloc, fault))
+        }
+    }
+}
+
+/// What `share` comes to over the files, before anything is stored.
+fn share_files<H: Shelf>(
+    alloc: Global,
+    words: ShareWords<'_>,
+    shelf: &mut H,
+    end: &mut End,
+) -> Result<Shared, Refusal>
+    requires { words.board.problem.common.state ≤ 99 }
+    ensures course { Comes (λ s. s) result (share_course (H.contents shelf.old) words.entry (H.history shelf.old) (H.history shelf.new)) }
+    ensures same { H.contents shelf.new ≡ H.contents shelf.old }
+    ensures kept { H.stored shelf.new ≡ H.stored shelf.old }
+{
+    let problem = load_problem(alloc, words.board.problem, shelf, end)?;
+    let grouping = load_grouping(alloc, words.board.grouping, shelf, end)?;
+    let events = load_events(alloc, words.events, words.board.round, &problem, shelf, end)?;
+    taken(alloc, &problem, &grouping, events, words, end)
+}
+
+/// The answer of a board: its text, with status 0 where no piece waits, else 3.
+fn answer_to(shared: Shared) -> Answer
+    ensures { answer_of result ≡ share_answer shared }
+{
+    Answer {
+        status: if shared.left == 0 { 0 } else { 3 },
+        text: shared.text,
+    }
+}
+
+/// The end of a board at which so many pieces wait.
+fn shared_end(left: usize) -> Ending {
+    if left == 0 {
+        Ending::Done
+    } else {
+        Ending::PiecesLeft(left)
+    }
+}
+
+/// A board takes events that desks have sent, and the certificate that it joins is stored. All files are read before the board is
+/// opened; the first fault met is the answer.
+pub(crate) fn share<H: Shelf>(
+    alloc: Global,
+    words: ShareWords<'_>,
+    shelf: &mut H,
+    end: &mut End,
+) -> Result<Answer, Refusal>
+    requires { words.board.problem.common.state ≤ 99 }
+    ensures { (stored : List File)
+        × HasStored (H.contents shelf.old) (H.contents shelf.new) (H.stored shelf.old) (H.stored shelf.new) stored
+        × CommandRun (H.contents shelf.old) (CommandWords.Share words.entry) (H.history shelf.old) (H.history shelf.new) stored (said_by result) }
+{
+    let shared = share_files(alloc, words, shelf, end)?;
+    match store_named(
+        alloc,
+        FileOption::CertificateOut,
+        words.certificate,
+        shared.certificate.as_ref(),
+        shelf,
+        end,
+    ) {
+        Ok(()) => {
+            end.note(shared_end(shared.left));
+            Ok(answer_to(shared))
+        }
+        Err(refusal) => {
+            end.note_report(shared.text);
+            Err(refusal)
+        }
+    }
+}

@@ -1,0 +1,11 @@
+pub mod LinesBack
+pub mod LinesRead
+pub mod FaultLaws
+pub mod FaultPlaces
+pub mod FaultTold
+pub mod OneList
+pub mod FrontEvents
+pub mod ReadOnly
+pub mod Written
+pub mod SomeEvents
+pub mod FaultKinds

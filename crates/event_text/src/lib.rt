@@ -1,0 +1,26 @@
+//! Events of a board as text: their lines read and written, and the lines of replies.
+//!
+//! An event is spelled by its first line, and by the lines of its tree or of its groups behind it. A text of events has
+//! them one after the other, without a head and without an end.
+//!
+//! ```
+//! let events = read_events(alloc, text, Language::Wide, 100)?;
+//! let text = write_event(alloc, &event, Language::Wide, 100)?;
+//! ```
+//!
+//! The definitions stand in `specs/`: `Spelled`, `Faults`, `Lines`, `Replies` and `Laws`.
+#![tactic(auto)]
+
+mod first_lines;
+mod laws;
+mod line;
+mod numbers;
+mod reading;
+mod replies;
+mod writing;
+
+pub use laws::events_have_texts;
+pub use line::EventLine;
+pub use reading::read_events;
+pub use replies::push_reply;
+pub use writing::write_event;

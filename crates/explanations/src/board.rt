@@ -1,0 +1,91 @@
+//! Why there is no board, and what is left to do on one.
+
+use crate::options::Options;
+use cli::FileOption;
+use share_board::BoardFault;
+use std::alloc::AllocError;
+use std::fmt::Write;
+
+const OPEN_PIECE: &str =
+    "countygroups: the steps of --steps ran out before the piece was proved, and no split of it was found: give a greater number\n";
+
+const SPLIT_PIECE: &str =
+    "countygroups: the steps of --steps ran out before the piece was proved: append the line of the split to the events, or give a greater number\n";
+
+const NO_SUCH_PIECE: &str =
+    "countygroups: no piece with the number of --number waits: `countygroups share` tells which do, by the same --events\n";
+
+const SMALL_BUDGET: &str =
+    "countygroups: the steps of --budget ran out before the board was opened: give a greater number, or a smaller --depth\n";
+
+/// What helps against a fault of the board.
+fn remedy(fault: &BoardFault) -> &'static str {
+    match fault {
+        BoardFault::DepthOutOfRange => "--depth is 0 to 16",
+        BoardFault::WrongOrder => "see that the problem has each county once",
+        BoardFault::Target(_) => "give --grouping a lawful grouping: `countygroups judge` tells",
+        BoardFault::LimitTooSmall => {
+            "give --limit the number of counties of the longest group at least"
+        }
+        BoardFault::LimitTooLarge => "give --limit the number of counties at most",
+        BoardFault::TooManyPieces => {
+            "give a smaller --depth, or none: a wide board begins with one piece"
+        }
+        BoardFault::Budget | BoardFault::Memory => "",
+    }
+}
+
+/// Explains why there is no board.
+///
+/// # Errors
+///
+/// `AllocError` where memory was refused.
+pub(crate) fn explain_board(
+    out: &mut String,
+    options: Options<'_>,
+    fault: &BoardFault,
+) -> Result<(), AllocError> {
+    match fault {
+        BoardFault::Budget => out.push_str(SMALL_BUDGET),
+        BoardFault::Memory => {
+            out.push_str("countygroups: memory was refused: more of it has to be free\n")
+        }
+        _ => {
+            let (file, words) = (options.file(FileOption::Grouping), remedy(fault));
+            writeln!(
+                out,
+                "countygroups: there is no board for {file}: {fault}\ncountygroups: {words}"
+            )
+        }
+    }
+}
+
+/// Explains that pieces of the board wait.
+///
+/// # Errors
+///
+/// `AllocError` where memory was refused.
+pub(crate) fn explain_left(out: &mut String, left: usize) -> Result<(), AllocError> {
+    writeln!(
+        out,
+        "countygroups: {left} pieces wait: append to --events what `countygroups piece` prints of each, and run `countygroups share` again"
+    )
+}
+
+/// Explains that the steps of a piece ran out.
+///
+/// # Errors
+///
+/// `AllocError` where memory was refused.
+pub(crate) fn explain_open_piece(out: &mut String, is_split: bool) -> Result<(), AllocError> {
+    out.push_str(if is_split { SPLIT_PIECE } else { OPEN_PIECE })
+}
+
+/// Explains that no piece of the number waits.
+///
+/// # Errors
+///
+/// `AllocError` where memory was refused.
+pub(crate) fn explain_no_piece(out: &mut String) -> Result<(), AllocError> {
+    out.push_str(NO_SUCH_PIECE)
+}

@@ -1,0 +1,16 @@
+use Rattle.std.proofs.Common.{sym, subst}
+use Rattle.grouping_problem.specs.ProblemValue.{problem_of}
+use Rattle.grouping_laws.specs.GroupsFrom.{IsOrder}
+use Rattle.proof_trees.specs.Round.{Round}
+use Rattle.proof_trees.specs.State.{IsState, empty_state}
+use Rattle.proof_trees.proofs.Agreement.{empty_is_state}
+use Rattle.shared_proofs.proofs.Pieces.{pieces_stand}
+use Rattle.share_board.proofs.board.Board.proof_round.Goals as goal
+
+pub returns-clause-order : goal.returns-clause-order
+returns-clause-order g c = λ b is. subst (λ (z : Round). IsOrder (problem_of c.args.self.now.problem) z.order) (sym is.round) is.content.order
+
+pub returns-clause-states : goal.returns-clause-states
+returns-clause-states g c = λ b n s is stand.
+    let p = problem_of c.args.self.now.problem in
+    subst (λ (z : Round). IsState p z s) (sym is.round) ((pieces_stand).state b.skeleton p b.round (empty_state p) n s (empty_is_state p b.round) is.content.skeleton stand)

@@ -1,0 +1,190 @@
+//! How a round begins: the branches above its pieces, and the states at which these stand.
+
+ghost use Rattle.std.specs.Prelude.{◌≡◌, ℕ, ◌-◌, ◌≤◌, All, length, IfOk, IfErr};
+ghost use Rattle.certificate_text.specs.Trees.{tree_of, list_of_takes};
+ghost use Rattle.grouping_problem.specs.ProblemValue.{problem_of};
+ghost use Rattle.line_verdicts.specs.Placed.{codes_of_sets, IsPlaced, IsClosable};
+ghost use Rattle.proof_trees.specs.Round.{Plain};
+ghost use Rattle.proof_trees.specs.RoundValue.{round_of};
+ghost use Rattle.proof_trees.specs.State.{empty_state};
+ghost use Rattle.share_board.specs.Replies.{most_opening};
+ghost use Rattle.share_board.specs.Opened.{AllWait, IsOpened, AreOpened, AreKept, problem_in, round_in, state_in, IsGround, IsBranching, IsHalted, AreHalted, IsOpeningStop};
+
+use crate::changing::waiting;
+use crate::ground::Ground;
+use crate::piece::Fate;
+use crate::steps::{branched, next_branch, place_piece, put_take, share_of};
+use crate::stop::OpeningStop;
+use certificate_text::{Take, Tree};
+use county_regions::neighbour_rows;
+use line_verdicts::{Branching, closed_state, first_state, raise_place};
+use ordered_counties::Ordered;
+use place_sets::CountySet;
+use proof_trees::{Round, State};
+use std::alloc::Global;
+
+/// With what a round begins: the branches above its pieces, which all wait, and the states at which these stand.
+#[derive(Drop)]
+pub(crate) struct Opening<C> {
+    pub(crate) above: Tree,
+    pub(crate) fates: Vec<Fate>,
+    pub(crate) states: Vec<State<C>>,
+}
+
+/// The takes of a branch: for each group the tree where it is closed.
+#[cycle(opening)]
+fn open_takes<C: CountySet>(
+    ground: &Ground<C>,
+    depth: u8,
+    state: &State<C>,
+    groups: &[C],
+    states: &mut Vec<State<C>>,
+) -> Result<Vec<Take>, OpeningStop>
+    requires ground { IsGround C.PLACES C.test ground.now }
+    requires plain { ground.now.round.now.language ≡ Plain }
+    requires placed { IsPlaced (length ground.now.ordered.now.order) C.test state.now }
+    requires groups { All (IsClosable C.test state.now) groups.now }
+    requires few { length states.old.items ≤ most_opening }
+    ensures opened { IfOk
+        result
+        (λ takes. AreOpened C.test (problem_in ground.now) (round_in ground.now) depth (state_in ground.now C.test state.now) (codes_of_sets ground.now.ordered.now.order C.test groups.now) (list_of_takes takes.items) (length states.old.items) (length states.new.items) states.new.items) }
+    ensures kept { IfOk result (λ _. AreKept ground.now.round.now.order C.test states.old.items states.new.items) }
+    ensures few { IfOk result (λ _. length states.new.items ≤ most_opening) }
+    ensures stopped { IfErr
+        result
+        (AreHalted (problem_in ground.now) (round_in ground.now) ground.now.share depth (state_in ground.now C.test state.now) (codes_of_sets ground.now.ordered.now.order C.test groups.now) (length states.old.items)) }
+{
+    let mut takes = Vec::new(ground.alloc);
+    'taking: for group in groups {
+        let closed = closed_state(ground.alloc, ground.ordered, state, group)?;
+        let tree = match open_tree(ground, depth, closed, states) {
+            Ok(tree) => tree,
+            Err(stop) => return Err(stop),
+        };
+        put_take(ground, group, tree, &mut takes)?;
+    }
+    Ok(takes)
+}
+
+/// The tree of a branch: its takes, and then the tree where its county is raised.
+#[cycle(opening)]
+fn open_branch<C: CountySet>(
+    ground: &Ground<C>,
+    depth: u8,
+    state: State<C>,
+    branching: &Branching<C>,
+    states: &mut Vec<State<C>>,
+) -> Result<Tree, OpeningStop>
+    requires ground { IsGround C.PLACES C.test ground.now }
+    requires plain { ground.now.round.now.language ≡ Plain }
+    requires some { 1 ≤ depth }
+    requires placed { IsPlaced (length ground.now.ordered.now.order) C.test state }
+    requires branching { IsBranching C.test ground.now state branching.now }
+    requires few { length states.old.items ≤ most_opening }
+    ensures opened { IfOk
+        result
+        (λ tree. IsOpened C.test (problem_in ground.now) (round_in ground.now) depth (state_in ground.now C.test state) (tree_of tree) (length states.old.items) (length states.new.items) states.new.items) }
+    ensures kept { IfOk result (λ _. AreKept ground.now.round.now.order C.test states.old.items states.new.items) }
+    ensures few { IfOk result (λ _. length states.new.items ≤ most_opening) }
+    ensures stopped { IfErr
+        result
+        (IsHalted (problem_in ground.now) (round_in ground.now) ground.now.share depth (state_in ground.now C.test state) (length states.old.items)) }
+{
+    let takes = match open_takes(ground, depth - 1, &state, &branching.groups, states) {
+        Ok(takes) => takes,
+        Err(stop) => return Err(stop),
+    };
+    let mut state = state;
+    raise_place(
+        ground.ordered,
+        &mut state,
+        branching.place,
+        ground.round.limit,
+    );
+    let raised = match open_tree(ground, depth - 1, state, states) {
+        Ok(tree) => tree,
+        Err(stop) => return Err(stop),
+    };
+    Ok(branched(ground, branching.place, takes, raised)?)
+}
+
+/// The tree of so many branchings at the state, or of fewer where no county is open any more; its pieces stand behind the
+/// others.
+///
+/// It goes as deep as twice the branchings.
+#[cycle(opening)]
+fn open_tree<C: CountySet>(
+    ground: &Ground<C>,
+    depth: u8,
+    state: State<C>,
+    states: &mut Vec<State<C>>,
+) -> Result<Tree, OpeningStop>
+    requires ground { IsGround C.PLACES C.test ground.now }
+    requires plain { 1 ≤ depth → ground.now.round.now.language ≡ Plain }
+    requires placed { IsPlaced (length ground.now.ordered.now.order) C.test state }
+    requires few { length states.old.items ≤ most_opening }
+    ensures opened { IfOk
+        result
+        (λ tree. IsOpened C.test (problem_in ground.now) (round_in ground.now) depth (state_in ground.now C.test state) (tree_of tree) (length states.old.items) (length states.new.items) states.new.items) }
+    ensures kept { IfOk result (λ _. AreKept ground.now.round.now.order C.test states.old.items states.new.items) }
+    ensures few { IfOk result (λ _. length states.new.items ≤ most_opening) }
+    ensures stopped { IfErr
+        result
+        (IsHalted (problem_in ground.now) (round_in ground.now) ground.now.share depth (state_in ground.now C.test state) (length states.old.items)) }
+{
+    if depth == 0 {
+        return place_piece(ground, depth, state, states);
+    }
+    match next_branch(ground, &state) {
+        Ok(None) => place_piece(ground, depth, state, states),
+        Ok(Some(branching)) => open_branch(ground, depth, state, &branching, states),
+        Err(stop) => Err(OpeningStop::from(stop)),
+    }
+}
+
+/// How the round begins: with the states after so many branchings from the empty one, or earlier where no county is open.
+///
+/// # Errors
+///
+/// `TooManyPieces` where there would be more than 4,096, `Budget` where a branch costs more than its share of the budget,
+/// `Memory` where memory was refused.
+pub(crate) fn opened<C: CountySet>(
+    alloc: Global,
+    ordered: &Ordered,
+    round: &Round,
+    depth: u8,
+    budget: u64,
+) -> Result<Opening<C>, OpeningStop>
+    requires fits { length ordered.now.order ≤ C.PLACES }
+    requires order { ordered.now.order ≡ round.now.order }
+    requires small { round.now.limit ≤ 128 }
+    requires plain { 1 ≤ depth → round.now.language ≡ Plain }
+    ensures opened { IfOk
+        result
+        (λ opening. IsOpened C.test (problem_of ordered.now.problem) (round_of round.now) depth (empty_state (problem_of ordered.now.problem)) (tree_of opening.above) 0 (length opening.states.items) opening.states.items) }
+    ensures few { IfOk result (λ opening. length opening.states.items ≤ most_opening) }
+    ensures count { IfOk result (λ opening. length opening.fates.items ≡ length opening.states.items) }
+    ensures wait { IfOk result (λ opening. AllWait opening.fates.items 0 (length opening.states.items)) }
+    ensures stopped { IfErr result (IsOpeningStop (problem_of ordered.now.problem) depth budget (round_of round.now)) }
+{
+    let near = neighbour_rows(alloc, ordered)?;
+    let state = first_state(alloc, ordered)?;
+    let ground = Ground {
+        alloc,
+        ordered,
+        near: &near,
+        round,
+        share: share_of(budget, depth),
+    };
+    let mut states = Vec::new(alloc);
+    let above = match open_tree(&ground, depth, state, &mut states) {
+        Ok(tree) => tree,
+        Err(stop) => return Err(stop),
+    };
+    let fates = waiting(alloc, states.len())?;
+    Ok(Opening {
+        above,
+        fates,
+        states,
+    })
+}

@@ -1,0 +1,205 @@
+#!/usr/bin/env python3
+"""Compares the second checker, tools/check.py, with the worked cases and with a program.
+
+usage: compare_checkers.py [--all] [--program FILE [--chamber SEATS ..] [--mutations N] [--seed N]] [FOLDER or FILE.case or FILE.words ..]
+
+Without --program: each run of `check` among the cases whose wanted answer isn't `budget`. The second checker has to write what the case wants,
+and to end with its status. If the words are no command or ask for help, the text is that of `clap`: then the status alone is compared,
+and help isn't run. A run over a file that an earlier run of the case makes takes it from what the case has stored. If the case
+hasn't it, the run is left out, since that needs a program.
+--all takes the cases of millions of lines too, which take minutes.
+--program FILE makes certificates of North Carolina's two chambers (data/nc2020; --chamber: of these) too. Both checkers check them, and each
+of them with one line changed at random, N times (--mutations, 20 unless said otherwise; --seed, 1).
+
+Statuses: 0 all agree, 1 some differ, 2 these words can't be run. The last line is `N agree, M differ`.
+"""
+import argparse
+import os
+import random
+import re
+import subprocess
+import sys
+import tempfile
+import time
+
+TOP = os.path.dirname(os.path.dirname(os.path.realpath(__file__)))
+sys.path[:0] = [f"{TOP}/cases", f"{TOP}/tools"]
+import cases  # noqa: E402
+import check  # noqa: E402
+
+# Cases that take long in Python, by the beginnings of their names.
+LONG = ("a_plain_text_of_a_million_marks", "a_wide_text_of_a_million_raises")
+SECONDS = 900
+
+
+class Run:
+    """What a run wrote, and its status, as `cases.Case.said` reads them."""
+
+    def __init__(self, wrote, status):
+        self.wrote, self.status = wrote, status
+
+
+def case_parts(text):
+    """The words of a case text and its files, by `docs/formats.md`, "Cases"."""
+    pieces = text.split(b"\n")
+    words, files, name = pieces[0].decode().split(" "), {}, None
+    for place, piece in enumerate(pieces[1:], 1):
+        if piece.startswith(b"file "):
+            name = piece[5:].decode()
+            files[name] = b""
+        elif name is not None:
+            files[name] += piece + (b"\n" if place + 1 < len(pieces) else b"")
+    return words, files
+
+
+def second_checker(words, files):
+    """The second checker over files that are told."""
+
+    def load(name):
+        if name not in files:
+            raise check.End(f"device {name} Missing", 5)
+        return files[name]
+
+    text, status = check.answer(words[1:], load)
+    return Run(os.fsencode(text), status)
+
+
+def checks_of(case):
+    """The runs of `check` of a case that need no program: words, files, and the wanted text of each with its exit line."""
+    for given, wanted in case.cut():
+        wanted_runs = wanted.splitlines(keepends=True)
+        runs, files = (case.runs, case.files) if case.runs != [[]] else ([case_parts(given)[0]], case_parts(given)[1])
+        has_stored = False
+        for words in runs:
+            end = next(i for i, it in enumerate(wanted_runs) if it.startswith(b"exit ")) + 1
+            is_lost = has_stored and certificate_of(words) not in files
+            is_run = words[:1] == ["check"] and not ({"-h", "--help"} & {*words} or is_lost)
+            if is_run and wanted_runs[:end] != [b"budget\n", b"exit 3\n"]:
+                yield words, files, b"".join(wanted_runs[:end])
+            if may_store(words, wanted_runs[end - 1]):
+                has_stored, files = True, {**files, **case.stored}
+            del wanted_runs[:end]
+
+
+def may_store(words, ending):
+    """Whether a run that ends so may have stored a file."""
+    return ending == b"exit 0\n" if words[:1] == ["share"] else words[:1] in (["solve"], ["list"])
+
+
+def certificate_of(words):
+    return words[words.index("--certificate") + 1] if "--certificate" in words[:-1] else None
+
+
+class Tally:
+    def __init__(self):
+        self.agree = self.differ = 0
+
+    def add(self, name, why):
+        if why:
+            print(f"DIFFERS {name}: {why}", flush=True)
+        self.agree, self.differ = self.agree + (not why), self.differ + bool(why)
+
+
+def compare_cases(stems, tally):
+    for stem in stems:
+        case = cases.Case(stem)
+        if case.program:
+            continue
+        began = time.time()
+        for words, files, wanted in checks_of(case):
+            found = second_checker(words, files)
+            said = case.said([found]) if not wanted.endswith(b"exit 2\n") else b"exit %d\n" % found.status
+            wanted = wanted if not wanted.endswith(b"exit 2\n") else b"exit 2\n"
+            tally.add(os.path.relpath(stem), cases.first_difference(wanted, said) if said != wanted else None)
+        if time.time() - began > 10:
+            print(f"note: {os.path.relpath(stem)} took {time.time() - began:.0f} seconds", flush=True)
+
+
+def with_changed_number(line, codes, chance):
+    """The line with one number a little greater or less, or one code another."""
+    found = chance.choice(list(re.finditer(rb"[0-9]+", line)))
+    number = found[0]
+    if len(number) == 5 and chance.random() < 0.8:
+        new = chance.choice(codes)
+    else:
+        new = b"%d" % max(0, int(number) + chance.choice((-2, -1, 1, 2)))
+    return line[: found.start()] + new + line[found.end() :]
+
+
+def mutated(text, chance):
+    """The text with one line changed, and what was done. Most ways keep it the text of some certificate."""
+    lines = text.split(b"\n")[:-1]
+    codes, place = lines[1].split(b" ")[1:], chance.randrange(1, len(lines) - 1)
+    like = [it for it in lines if it.split(b" ")[0] == lines[place].split(b" ")[0]]
+    way = chance.choice(("number", "number", "number", "number", "like", "like", "leaf", "left out", "doubled", "elsewhere"))
+    if way == "number" and re.search(rb"[0-9]", lines[place]):
+        lines[place] = with_changed_number(lines[place], codes, chance)
+    elif way == "leaf" and lines[place].startswith((b"stuck", b"seats")):
+        lines[place] = chance.choice((b"seats", b"stuck " + chance.choice(codes)))
+    elif way == "left out":
+        del lines[place]
+    elif way == "doubled":
+        lines.insert(place, lines[place])
+    elif way == "elsewhere":
+        lines.insert(chance.randrange(1, len(lines)), lines.pop(place))
+    else:
+        lines[place], way = chance.choice(like), "like"
+    return b"\n".join(lines) + b"\n", f"line {place + 1} {way}"
+
+
+def ran(program, words, folder):
+    made = subprocess.run([program, *words], cwd=folder, stdin=subprocess.DEVNULL, stdout=subprocess.PIPE, stderr=subprocess.DEVNULL, timeout=SECONDS)
+    return made.stdout, made.returncode
+
+
+def both_checkers(program, words, folder):
+    """What differs between both checkers, if anything does. A budget that ran out says nothing."""
+    wanted = ran(program, words, folder)
+    if wanted == (b"budget\n", 3):
+        return None
+    found = ran(sys.executable, [f"{TOP}/tools/check.py", *words[1:]], folder)
+    if found == wanted:
+        return None
+    text = lambda run: run[0] + b"exit %d\n" % run[1]
+    return cases.first_difference(text(wanted), text(found))
+
+
+def compare_chamber(program, chamber, asked, tally):
+    common = ["--geo", f"{cases.DATA}/nc2020geo.pl", "--segment", f"{cases.DATA}/nc000012020.pl"]
+    common += ["--adjacency", f"{cases.DATA}/county_adjacency2023.txt", "--chamber", str(chamber), "--certificate", "certificate"]
+    with tempfile.TemporaryDirectory(prefix="compare-") as room:
+        _, status = ran(program, ["solve", *common], room)
+        if status != 0:
+            cases.stop(f"{program} didn't solve chamber {chamber}: status {status}")
+        began = time.time()
+        tally.add(f"chamber {chamber}", both_checkers(program, ["check", *common], room))
+        print(f"chamber {chamber}: both checkers took {time.time() - began:.0f} seconds", flush=True)
+        with open(f"{room}/certificate", "rb") as file:
+            whole = file.read()
+        for turn in range(asked.mutations):
+            text, what = mutated(whole, random.Random(f"{asked.seed} {chamber} {turn}"))
+            with open(f"{room}/certificate", "wb") as file:
+                file.write(text)
+            tally.add(f"chamber {chamber}, seed {asked.seed}, mutation {turn}, {what}", both_checkers(program, ["check", *common], room))
+
+
+def main():
+    parser = argparse.ArgumentParser(usage=__doc__.split("usage: ")[1].split("\n\n")[0])
+    parser.add_argument("--all", action="store_true")
+    parser.add_argument("--program")
+    parser.add_argument("--chamber", type=int, action="append")
+    parser.add_argument("--mutations", type=int, default=20)
+    parser.add_argument("--seed", type=int, default=1)
+    parser.add_argument("folders", nargs="*")
+    asked = parser.parse_args()
+    tally = Tally()
+    compare_cases([it for it in cases.stems(asked.folders) if asked.all or not os.path.basename(it).startswith(LONG)], tally)
+    if asked.program:
+        for chamber in asked.chamber or (120, 50):
+            compare_chamber(os.path.realpath(asked.program), chamber, asked, tally)
+    print(f"{tally.agree} agree, {tally.differ} differ")
+    return 1 if tally.differ else 0
+
+
+if __name__ == "__main__":
+    sys.exit(main())
