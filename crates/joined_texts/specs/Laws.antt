@@ -1,5 +1,5 @@
 -- That what is joined depends on what came, and not on the order in which it came.
-use Rattle.std.specs.Prelude.{ℕ, ◌≡◌, List, Option, Some, ◌↔◌}
+use Rattle.std.specs.Prelude.{ℕ, ◌≡◌, List, Some, ◌↔◌}
 use Rattle.grouping_laws.specs.Problem.{Problem}
 use Rattle.grouping_laws.specs.GroupsFrom.{IsOrder}
 use Rattle.grouping_laws.specs.Grouping.{Grouping}
