@@ -1,3 +1,5 @@
 pub mod CodeLists
 pub mod Counties
 pub mod Groups
+pub mod Limits
+pub mod Windows

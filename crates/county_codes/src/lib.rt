@@ -14,6 +14,8 @@ mod code_lists;
 mod codes;
 mod county;
 mod group;
+mod limits;
+mod window;
 mod withdrawn;
 
 pub use code::CountyCode;
@@ -21,4 +23,6 @@ pub use code_lists::{has_code, listed_codes, repeated_code, unlisted_code};
 pub use codes::Codes;
 pub use county::County;
 pub use group::{Group, Grouping};
+pub use limits::MAX_COUNTIES;
+pub use window::Window;
 pub use withdrawn::{Withdrawn, copy_sets};

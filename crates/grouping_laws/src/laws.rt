@@ -1,5 +1,7 @@
 //! Laws of groupings and of their counts: the functions do nothing, and their contracts are the laws.
 
+ghost use Rattle.grouping_laws.specs.Problem.{Problem};
+ghost use Rattle.grouping_laws.specs.Allowance.{HasWindow, named_window};
 ghost use Rattle.grouping_laws.specs.AddUp.{SizesAddUp, WindowsAddUp, GroupsFit};
 ghost use Rattle.grouping_laws.specs.Order.{GreaterIsIrreflexive, GreaterIsTransitive, GreaterIsTotal};
 
@@ -17,4 +19,9 @@ pub fn greater_orders_counts()
     ensures irreflexive { GreaterIsIrreflexive }
     ensures transitive { GreaterIsTransitive }
     ensures total { GreaterIsTotal }
+{}
+
+/// What a certificate names for a problem is the problem's allowance.
+pub fn problems_name_their_window()
+    ensures { (p : Problem) → HasWindow p (named_window p) }
 {}

@@ -4,6 +4,7 @@ use Rattle.std.specs.Prelude.{ℕ, ◌≤◌, length, All, Option, Some, None, �
 use Rattle.grouping_laws.specs.Problem.{Problem}
 use Rattle.grouping_laws.specs.Grouping.{Grouping, Lawful, counts, sets_of, IsGreater, IsBest, IsImpossible}
 use Rattle.grouping_laws.specs.GroupsFrom.{IsOrder}
+use Rattle.grouping_laws.specs.Allowance.{HasWindow}
 use Rattle.proof_trees.specs.Round.{Round}
 use Rattle.proof_trees.specs.State.{State, IsState, empty_state}
 use Rattle.proof_trees.specs.Agreement.{Agrees}
@@ -20,8 +21,9 @@ abbrev pub TargetFits : Problem → ℕ → Option Grouping → Type 0
 TargetFits p limit None = ⊤
 TargetFits p limit (Some t) = Lawful p t × All (λ s. length s.codes ≤ limit) t
 
--- an order of the problem's counties, a target that fits, and a proof tree at the empty state
+-- the problem's allowance, an order of its counties, a target that fits, and a proof tree at the empty state
 pub record IsCertificate (p : Problem) (round : Round) (tree : Tree) : Type 0 where
+  pub window : HasWindow p round.window
   pub order : IsOrder p round.order
   pub target : TargetFits p round.limit round.target
   pub proof : Proves tree p round (empty_state p)

@@ -28,14 +28,14 @@ together = record { seats = 2; codes = path } ∷ []
 
 -- The plain certificate: the first county is in a group of all three, or stuck.
 abbrev pub plain_round : Round
-plain_round = record { order = path; limit = 3; target = Some together; language = Plain }
+plain_round = record { order = path; limit = 3; target = Some together; language = Plain; window = None }
 
 abbrev pub plain_tree : Tree
 plain_tree = branch 37001 None (take path (leaf (bound (room ∷ room ∷ room ∷ []))) no_take) (leaf (stuck 37001))
 
 -- The wide certificate: the middle county alone leaves a stuck part, so it is not alone, no group of one or two fits, and there is room for one of three.
 abbrev pub wide_round : Round
-wide_round = record { order = path; limit = 3; target = Some together; language = Wide }
+wide_round = record { order = path; limit = 3; target = Some together; language = Wide; window = None }
 
 abbrev pub wide_tree : Tree
 wide_tree = branch 37003 (Some 1) no_take (leaf (bound (weigh 1 [] ∷ weigh 1 [] ∷ room ∷ [])))

@@ -1,10 +1,12 @@
 -- What a search for groupings greater than a target goes by.
 use Rattle.std.specs.Prelude.{ℕ, List, Option}
+use Rattle.county_codes.specs.declared.window.Window.{Window}
 use Rattle.grouping_laws.specs.Grouping.{Grouping}
 pub use Rattle.certificate_languages.specs.declared.language.Language.{Language}
 pub use Rattle.certificate_languages.specs.declared.language.Language.TheVariants.{Plain, Wide}
 
--- The order of the counties, the limit of sizes, the target, if there is one, and the language: in a plain round the limit serves the
+-- The order of the counties, the limit of sizes, the target, if there is one, the language, and the allowance that is named, if it
+-- isn't a twentieth: in a plain round the limit serves the
 -- whole tree and branches stand at the first open county; in a wide one each branch has a county and a limit of its own, and groups
 -- that leave a stuck part behind are left out.
 pub record Round : Type 0 where
@@ -12,3 +14,4 @@ pub record Round : Type 0 where
   pub limit : ℕ
   pub target : Option Grouping
   pub language : Language
+  pub window : Option Window

@@ -9,6 +9,6 @@ use Rattle.proof_trees.specs.Round.{Round}
 abbrev pub target_of : Option GroupingHeld → Option Grouping
 target_of target = option_map (λ g. g.groups.items) target
 
--- the order's codes, the limit, the target's groups and the language
+-- the order's codes, the limit, the target's groups, the language and the allowance that is named
 abbrev pub round_of : RoundHeld → Round
-round_of r = record { order = r.order; limit = r.limit; target = target_of r.target; language = r.language }
+round_of r = record { order = r.order; limit = r.limit; target = target_of r.target; language = r.language; window = r.window }

@@ -2,7 +2,7 @@ ghost use Rattle.std.specs.Prelude.{◌≡◌, IfOk};
 ghost use Rattle.proof_trees.specs.RoundValue.{round_of, target_of};
 
 use certificate_languages::Language;
-use county_codes::{Codes, Grouping};
+use county_codes::{Codes, Grouping, Window};
 use std::alloc::AllocError;
 
 /// What a search for groupings greater than a target goes by, and a certificate's tree is made for.
@@ -19,6 +19,8 @@ pub struct Round {
     pub target: Option<Grouping>,
     /// The language of the certificate.
     pub language: Language,
+    /// The allowance that the certificate names; one that names none is for a twentieth.
+    pub window: Option<Window>,
 }
 
 impl Round {
@@ -31,6 +33,7 @@ impl Round {
             limit: self.limit,
             target: copy_target(&self.target)?,
             language: self.language,
+            window: self.window,
         })
     }
 }

@@ -3,6 +3,7 @@ use Rattle.std.specs.Prelude.{ℕ, ◌+◌, ◌*◌, ◌≡◌, ◌≤◌, List,
 use Rattle.grouping_laws.specs.Problem.{Problem}
 use Rattle.grouping_laws.specs.Grouping.{Grouping, counts, sets_of}
 use Rattle.grouping_laws.specs.GroupsFrom.{IsOrder, IsBefore}
+use Rattle.grouping_laws.specs.Allowance.{HasWindow}
 use Rattle.proof_trees.specs.Round.{Round}
 use Rattle.proof_trees.specs.State.{State, close, raise, empty_state}
 use Rattle.proof_trees.specs.Groups.{AreGroupsAt, IsSetAt, IsSetWithin}
@@ -78,9 +79,9 @@ abbrev mutual
 abbrev pub TreeCosts : Tree → Problem → Round → State → ℕ → Type 0
 TreeCosts tree p round s cost = (n : ℕ) × TreeLooks tree p round s n × (cost ≡ 3 * (tree_lines tree + n))
 
--- A text has one line more than LFs. The tree is judged where order, limit and target are fine.
+-- A text has one line more than LFs. The tree is judged where allowance, order, limit and target are fine.
 abbrev pub CertificateCosts : Problem → Round → Tree → ℕ → Type 0
 CertificateCosts p round tree cost =
     (n : ℕ)
-    × Where (IsOrder p round.order × IsLargeEnough round.limit round.target × IsLawfulTarget p round.target) (TreeLooks tree p round (empty_state p)) n
+    × Where (HasWindow p round.window × IsOrder p round.order × IsLargeEnough round.limit round.target × IsLawfulTarget p round.target) (TreeLooks tree p round (empty_state p)) n
     × (cost ≡ 3 * (certificate_lines round tree + 1 + n))

@@ -2,6 +2,7 @@
 use Rattle.grouping_judge.specs.declared.grouping_fault.GroupingFault.{GroupingFault}
 
 pub data Fault : Type 0 where
+  WrongWindow : Fault
   WrongOrder : Fault
   LimitTooSmall : Fault
   TargetFault : GroupingFault → Fault

@@ -1,5 +1,6 @@
 -- How many lines a tree has in a text.
 use Rattle.std.specs.Prelude.{ℕ, ◌+◌, length, Option, Some, None}
+use Rattle.county_codes.specs.declared.window.Window.{Window}
 use Rattle.grouping_laws.specs.Grouping.{Grouping}
 use Rattle.proof_trees.specs.Tree.{Leaf, bound, Tree, leaf, branch, Takes, no_take, take, stuck, seats}
 use Rattle.proof_trees.specs.Round.{Round}
@@ -25,6 +26,11 @@ abbrev pub group_lines : Option Grouping → ℕ
 group_lines None = 0
 group_lines (Some target) = length target
 
--- head, order, limit, target, its groups, the tree, and the end
+-- the line of the allowance: the second, or the head's where none is named
+abbrev pub window_line : Option Window → ℕ
+window_line None = 1
+window_line (Some window) = 2
+
+-- head, allowance if one is named, order, limit, target, its groups, the tree, and the end
 abbrev pub certificate_lines : Round → Tree → ℕ
-certificate_lines round tree = 4 + (group_lines round.target + (tree_lines tree + 1))
+certificate_lines round tree = window_line round.window + (3 + (group_lines round.target + (tree_lines tree + 1)))

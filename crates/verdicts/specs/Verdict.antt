@@ -6,14 +6,19 @@ use Rattle.grouping_judge.specs.declared.grouping_fault.GroupingFault.TheVariant
 use Rattle.grouping_laws.specs.Problem.{Problem}
 use Rattle.grouping_laws.specs.Grouping.{Grouping, Lawful}
 use Rattle.grouping_laws.specs.GroupsFrom.{IsOrder}
+use Rattle.grouping_laws.specs.Allowance.{HasWindow}
 use Rattle.grouping_judge.specs.Judging.{IsFault}
 use Rattle.proof_trees.specs.Round.{Round}
 use Rattle.proof_trees.specs.State.{empty_state}
 use Rattle.proof_trees.specs.Tree.{Tree}
-use Rattle.verdicts.specs.Fault.{Fault, WrongOrder, LimitTooSmall, TargetFault}
+use Rattle.verdicts.specs.Fault.{Fault, WrongWindow, WrongOrder, LimitTooSmall, TargetFault}
 use Rattle.verdicts.specs.End.{End, fine, faulty, LineEnds, LinesEnd, Then}
-use Rattle.verdicts.specs.Lines.{group_lines}
+use Rattle.verdicts.specs.Lines.{window_line, group_lines}
 use Rattle.verdicts.specs.Trees.{TreeEnds}
+
+-- the allowance isn't the problem's
+abbrev pub IsWindowFault : Problem → Round → Fault → Type 0
+IsWindowFault p round fault = (fault ≡ WrongWindow) × (¬ HasWindow p round.window)
 
 abbrev pub IsOrderFault : Problem → Round → Fault → Type 0
 IsOrderFault p round fault = (fault ≡ WrongOrder) × (¬ IsOrder p round.order)
@@ -37,16 +42,21 @@ abbrev pub IsTargetFault : Problem → Option Grouping → Fault → Type 0
 IsTargetFault p None fault = ⊥
 IsTargetFault p (Some target) fault = (kind : GroupingFault) × (fault ≡ TargetFault kind) × IsFault p target kind × (kind ≢ Memory)
 
--- The order stands on line 2, the limit on line 3, the target on line 4 with its groups behind it, and then the tree.
-abbrev pub CertificateEnds : Problem → Round → Tree → End → Type 0
-CertificateEnds p round tree end =
-    Then (LineEnds (IsOrder p round.order) (IsOrderFault p round) 2)
+-- The order stands on the line after that of the allowance, then come the limit, the target with its groups behind it, and the tree.
+abbrev pub RestEnds : Problem → Round → Tree → ℕ → End → Type 0
+RestEnds p round tree second end =
+    Then (LineEnds (IsOrder p round.order) (IsOrderFault p round) second)
     (λ third after_order. Then (LineEnds (IsLargeEnough round.limit round.target) (IsLimitFault round.limit round.target) third)
     (λ fourth after_limit. Then (LinesEnd (1 + group_lines round.target) (IsLawfulTarget p round.target) (IsTargetFault p round.target) fourth)
     (TreeEnds tree p round (empty_state p))
     after_limit)
     after_order)
     end
+
+-- The allowance comes first: it stands on line 2, or a certificate without one is at fault on line 1.
+abbrev pub CertificateEnds : Problem → Round → Tree → End → Type 0
+CertificateEnds p round tree end =
+    Then (LineEnds (HasWindow p round.window) (IsWindowFault p round) (window_line round.window)) (RestEnds p round tree) end
 
 -- what is said of a certificate
 pub data Verdict : Type 0 where

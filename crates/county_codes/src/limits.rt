@@ -1,0 +1,2 @@
+/// How many counties a problem may list. Texas, with the most of all states, has 254.
+pub const MAX_COUNTIES: usize = 256;
