@@ -1,1 +1,2 @@
 pub mod CodeListLemmas
+pub mod WindowLemmas

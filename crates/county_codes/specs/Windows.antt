@@ -1,5 +1,5 @@
 -- Allowances as fractions.
-use Rattle.std.specs.Prelude.{ℕ, ◌*◌, ◌==◌, ◌&&◌, nat_le, Bool, Option, Some, None}
+use Rattle.std.specs.Prelude.{◌≡◌, ℕ, ◌*◌, ◌==◌, ◌&&◌, nat_le, Bool, true, Option, Some, None}
 use Rattle.county_codes.specs.declared.window.Window.{Window}
 
 -- one twentieth, the five percent of Stephenson
@@ -18,3 +18,8 @@ same_window v w = v.part * w.whole == w.part * v.whole
 abbrev pub meant : Option Window → Window
 meant None = twentieth
 meant (Some w) = w
+
+-- what a certificate names is in its range
+abbrev pub FitsRange : Option Window → Type 0
+FitsRange None = Unit {0}
+FitsRange (Some w) = is_window w ≡ true

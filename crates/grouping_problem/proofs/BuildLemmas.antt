@@ -13,7 +13,7 @@ use Rattle.std.proofs.lemmas.Bool.{eqb-true, eq-eqb}
 use Rattle.county_codes.specs.declared.county.County.{County}
 use Rattle.county_codes.specs.declared.withdrawn.Withdrawn.{Withdrawn}
 use Rattle.grouping_problem.specs.declared.fault.ProblemFault.{ProblemFault}
-use Rattle.grouping_problem.specs.declared.fault.ProblemFault.TheVariants.{EmptyWithdrawn, SeatsOutOfRange, TooManyCounties, Memory}
+use Rattle.grouping_problem.specs.declared.fault.ProblemFault.TheVariants.{EmptyWithdrawn, BadWindow, SeatsOutOfRange, TooManyCounties, Memory}
 use Rattle.grouping_laws.specs.Sets.{digit, total, often}
 use Rattle.grouping_problem.specs.ProblemValue.{codes_of}
 use Rattle.grouping_problem.specs.Building.{first_repeated, people_in, seats_in, first_of, withdrawn_fault}
@@ -137,3 +137,6 @@ seats_not_memory e = absurd cc
 
 pub counties_not_memory : TooManyCounties ≡ Memory → ⊥
 counties_not_memory e = absurd cc
+
+pub window_not_memory : BadWindow ≡ Memory → ⊥
+window_not_memory e = absurd cc

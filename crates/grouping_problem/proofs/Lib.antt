@@ -3,3 +3,4 @@ pub mod BuildLemmas
 pub mod ProblemLemmas
 pub mod PeopleLemmas
 pub mod TestLemmas
+pub mod SeatLemmas

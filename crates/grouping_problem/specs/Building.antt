@@ -1,11 +1,14 @@
--- The problem that counties, pairs, withdrawn sets and a chamber make, or the first fault.
+-- The problem that counties, pairs, withdrawn sets, a chamber and an allowance make, or the first fault.
 use Rattle.std.specs.Prelude.{◌≡◌, ℕ, ◌+◌, ◌==◌, ◌&&◌, ◌||◌, not, nat_lt, Bool, List, [], ◌∷◌, ◌++◌, Option, Some, None, Result, Ok, Err, length, filter, find, option_map, if◌then◌else◌}
 use Rattle.std.specs.List.{position_from}
 use Rattle.std.specs.List.Sorted.{IsPermutation, IsStrictlyIncreasing}
 use Rattle.county_codes.specs.declared.county.County.{County}
 use Rattle.county_codes.specs.declared.withdrawn.Withdrawn.{Withdrawn}
+use Rattle.county_codes.specs.declared.window.Window.{Window}
+use Rattle.county_codes.specs.Limits.{most_counties}
+use Rattle.county_codes.specs.Windows.{is_window}
 use Rattle.grouping_problem.specs.declared.fault.ProblemFault.{ProblemFault}
-use Rattle.grouping_problem.specs.declared.fault.ProblemFault.TheVariants.{SeatsOutOfRange, TooManyCounties, DoubleCounty, NoPeople, EmptyWithdrawn, UnknownWithdrawn, WithdrawnTwice, WithdrawnSeats, UnknownPair, Memory}
+use Rattle.grouping_problem.specs.declared.fault.ProblemFault.TheVariants.{BadWindow, SeatsOutOfRange, TooManyCounties, DoubleCounty, NoPeople, EmptyWithdrawn, UnknownWithdrawn, WithdrawnTwice, WithdrawnSeats, UnknownPair, Memory}
 use Rattle.grouping_laws.specs.Sets.{total, member}
 use Rattle.grouping_problem.specs.ProblemValue.{ProblemValue, codes_of}
 pub use Rattle.county_codes.specs.CodeLists.{repeated_after, first_repeated, first_unlisted}
@@ -50,12 +53,13 @@ withdrawn_fault listed sets chamber =
     )
 
 -- the first kind of fault that occurs, and in it the first in the list
-abbrev pub problem_fault : List County → List (ℕ × ℕ) → List Withdrawn → ℕ → Option ProblemFault
-problem_fault counties pairs withdrawn chamber =
+abbrev pub problem_fault : List County → List (ℕ × ℕ) → List Withdrawn → ℕ → Window → Option ProblemFault
+problem_fault counties pairs withdrawn chamber window =
     let listed = codes_of counties in
     first_of (
-    fault_if (chamber == 0 || nat_lt 1000 chamber) SeatsOutOfRange
-    ∷ fault_if (nat_lt 128 (length counties)) TooManyCounties
+    fault_if (not (is_window window)) BadWindow
+    ∷ fault_if (chamber == 0 || nat_lt 1000 chamber) SeatsOutOfRange
+    ∷ fault_if (nat_lt most_counties (length counties)) TooManyCounties
     ∷ option_map DoubleCounty (first_repeated listed)
     ∷ fault_if (people_in counties == 0) NoPeople
     ∷ withdrawn_fault listed withdrawn chamber
@@ -72,8 +76,8 @@ abbrev pub joins : List ℕ → ℕ × ℕ → Bool
 joins codes q = not (q.0 == q.1) && (member codes q.0 && member codes q.1)
 
 -- The problem: the listed counties that aren't withdrawn, by code, and the pairs of two of them; all listed people count,
--- the withdrawn seats are taken off, and a district may miss the ideal population by a twentieth.
-pub record IsProblemOf (counties : List County) (pairs : List (ℕ × ℕ)) (withdrawn : List Withdrawn) (chamber : ℕ) (v : ProblemValue) : Type 0 where
+-- the withdrawn seats are taken off, and a district may miss the ideal population by the allowance.
+pub record IsProblemOf (counties : List County) (pairs : List (ℕ × ℕ)) (withdrawn : List Withdrawn) (chamber : ℕ) (window : Window) (v : ProblemValue) : Type 0 where
   pub same : IsPermutation (filter (is_left withdrawn) counties) v.counties
   pub by_code : IsStrictlyIncreasing (codes_of v.counties)
   pub sets : v.withdrawn ≡ withdrawn
@@ -81,8 +85,8 @@ pub record IsProblemOf (counties : List County) (pairs : List (ℕ × ℕ)) (wit
   pub total_people : v.total_people ≡ people_in counties
   pub seats : v.chamber ≡ chamber
   pub seats_left : v.seats_left + seats_in withdrawn ≡ chamber
-  pub tolerance : v.tolerance ≡ 1
-  pub scale : v.scale ≡ 20
+  pub tolerance : v.tolerance ≡ window.part
+  pub scale : v.scale ≡ window.whole
 
 -- the fault that stands, where memory wasn't refused
 abbrev pub IsRefused : Option ProblemFault → Result ProblemValue ProblemFault → Type 0

@@ -1,5 +1,5 @@
 -- A built problem, as contracts see it.
-use Rattle.std.specs.Prelude.{ℕ, Bool, ◌≡◌, ◌≤◌, ◌^◌, ◌==◌, ◌&&◌, ◌||◌, List}
+use Rattle.std.specs.Prelude.{ℕ, Bool, ◌≡◌, ◌*◌, ◌≤◌, ◌^◌, ◌==◌, ◌&&◌, ◌||◌, List}
 use Rattle.std.specs.List.{list_any}
 use Rattle.county_codes.specs.declared.county.County.{County}
 use Rattle.county_codes.specs.declared.withdrawn.Withdrawn.{Withdrawn}
@@ -35,11 +35,12 @@ problem_of v = record {
   scale = v.scale;
 }
 
--- what every built problem keeps: some people, a chamber's seats, and a district at or within a twentieth of the ideal population
+-- what every built problem keeps: some people, a chamber's seats, and an allowance of at most a half
 pub record IsWithinLimits (v : ProblemValue) : Type 0 where
   pub some_people : 1 ≤ v.total_people
   pub people : v.total_people ≤ 2 ^ 40
   pub some_seats : 1 ≤ v.chamber
   pub seats : v.chamber ≤ 1000
-  pub tolerance : v.tolerance ≡ 1
-  pub scale : v.scale ≡ 20
+  pub some_scale : 1 ≤ v.scale
+  pub scale : v.scale ≤ 1000
+  pub tolerance : 2 * v.tolerance ≤ v.scale

@@ -1,7 +1,9 @@
-ghost use Rattle.std.specs.Prelude.{◌≡◌, ℕ, ◌+◌, ◌<◌, ◌≤◌, ◌^◌, ◌==◌, ◌&&◌, ◌||◌, not, find, filter, length, map, None, Some, IfOk, IfErr, MatchOption, MatchResult, option_map};
+ghost use Rattle.std.specs.Prelude.{◌≡◌, ℕ, ◌+◌, ◌<◌, ◌≤◌, ◌^◌, ◌==◌, ◌&&◌, ◌||◌, not, find, filter, length, map, None, Some, IfOk, IfErr, MatchOption, MatchResult, option_map, true};
 ghost use Rattle.std.specs.List.{position_from, list_any};
 ghost use Rattle.std.specs.List.Sorted.{IsPermutation, IsStrictlyIncreasing};
 ghost use Rattle.std.specs.Option.{option_copied};
+ghost use Rattle.county_codes.specs.Limits.{most_counties};
+ghost use Rattle.county_codes.specs.Windows.{is_window, twentieth};
 ghost use Rattle.grouping_laws.specs.Sets.{member};
 ghost use Rattle.grouping_problem.specs.declared.fault.ProblemFault.TheVariants.{Memory};
 ghost use Rattle.grouping_problem.specs.ProblemValue.{codes_of};
@@ -10,12 +12,10 @@ ghost use Rattle.grouping_problem.specs.Building.{people_in, seats_in, codes_in,
 use crate::fault::ProblemFault;
 use crate::problem::Problem;
 use county_codes::{
-    County, CountyCode, Withdrawn, copy_sets, has_code, listed_codes, repeated_code, unlisted_code,
+    County, CountyCode, MAX_COUNTIES, Window, Withdrawn, copy_sets, has_code, listed_codes,
+    repeated_code, unlisted_code,
 };
 use std::alloc::{AllocError, Global};
-
-/// How many counties a problem may list.
-pub const MAX_COUNTIES: usize = 128;
 
 /// How many seats a chamber may have.
 pub const MAX_SEATS: u16 = 1000;
@@ -49,7 +49,7 @@ fn strange_pair(
 
 /// The people of the counties.
 fn people_of(counties: &[County]) -> u64
-    requires { length counties.now ≤ 128 }
+    requires { length counties.now ≤ most_counties }
     ensures sum { result ≡ people_in counties.now }
     ensures small { result ≤ 2 ^ 40 }
 {
@@ -155,7 +155,7 @@ fn pairs_between(
 }
 
 /// The people of all counties and the seats that the withdrawn sets leave, or the first fault after those of
-/// the two limits.
+/// the limits.
 fn totals_of(
     counties: &[County],
     listed: &[CountyCode],
@@ -163,16 +163,18 @@ fn totals_of(
     withdrawn: &[Withdrawn],
     taken: &[CountyCode],
     chamber: u16,
+    window: Window,
 ) -> Result<(u64, u16), ProblemFault>
+    requires window { is_window window ≡ true }
     requires some { 1 ≤ chamber }
     requires most { chamber ≤ 1000 }
-    requires few { length counties.now ≤ 128 }
+    requires few { length counties.now ≤ most_counties }
     requires listed { listed.now ≡ codes_of counties.now }
     requires taken { taken.now ≡ codes_in withdrawn.now }
     ensures fault { MatchResult
         result
-        (λ _. problem_fault counties.now pairs.now withdrawn.now chamber ≡ None)
-        (λ fault. problem_fault counties.now pairs.now withdrawn.now chamber ≡ Some fault) }
+        (λ _. problem_fault counties.now pairs.now withdrawn.now chamber window ≡ None)
+        (λ fault. problem_fault counties.now pairs.now withdrawn.now chamber window ≡ Some fault) }
     ensures once { IfOk result (λ _. first_repeated (codes_of counties.now) ≡ None) }
     ensures people { IfOk result (λ r. (r.0 ≡ people_in counties.now) × ((1 ≤ r.0) × (r.0 ≤ 2 ^ 40))) }
     ensures seats { IfOk result (λ r. (withdrawn_fault listed.now withdrawn.now chamber ≡ None) × (r.1 + seats_in withdrawn.now ≡ chamber)) }
@@ -200,16 +202,18 @@ fn with_totals(
     taken: &[CountyCode],
     totals: (u64, u16),
     chamber: u16,
+    window: Window,
 ) -> Result<Problem, AllocError>
+    requires window { is_window window ≡ true }
     requires some { 1 ≤ chamber }
     requires most { chamber ≤ 1000 }
-    requires few { length counties.now ≤ 128 }
+    requires few { length counties.now ≤ most_counties }
     requires taken { taken.now ≡ codes_in withdrawn.now }
     requires once { first_repeated (codes_of counties.now) ≡ None }
     requires people { (totals.0 ≡ people_in counties.now) × ((1 ≤ totals.0) × (totals.0 ≤ 2 ^ 40)) }
     requires seats { totals.1 + seats_in withdrawn.now ≡ chamber }
     requires sets { length withdrawn.now ≤ chamber }
-    ensures { IfOk result (IsProblemOf counties.now pairs.now withdrawn.now chamber) }
+    ensures { IfOk result (IsProblemOf counties.now pairs.now withdrawn.now chamber window) }
 {
     let counties = counties_left(alloc, counties, taken)?;
     Ok(Problem {
@@ -219,23 +223,17 @@ fn with_totals(
         total: totals.0,
         chamber,
         left: totals.1,
+        window,
     })
 }
 
 impl Problem {
     /// The problem of the listed counties, the pairs of adjacent codes, the withdrawn sets and a chamber's
-    /// seats, or the first fault. A pair of a county with itself is ignored, and so is a pair of listed
-    /// counties of which at least one is withdrawn.
+    /// seats, with the allowance of *Stephenson v. Bartlett*, one twentieth; or the first fault.
     ///
     /// # Errors
     ///
-    /// The first that occurs: `SeatsOutOfRange` for a chamber of no seat or of more than 1,000;
-    /// `TooManyCounties` for more than 128 counties; `DoubleCounty` with the first code that stood before;
-    /// `NoPeople`; `EmptyWithdrawn` with the number, from 1, of the first set without codes or seats;
-    /// `UnknownWithdrawn` and `WithdrawnTwice` with the first such code of the sets; `WithdrawnSeats` where
-    /// the sets have more seats than the chamber; and `UnknownPair` with the first pair of two different codes
-    /// of which one isn't listed. `Memory` comes only where a growth was refused, and never in the place of
-    /// the first two, which are found before anything grows.
+    /// Those of `build_with`, but for `BadWindow`.
     pub fn build(
         alloc: Global,
         counties: &[County],
@@ -243,10 +241,49 @@ impl Problem {
         withdrawn: &[Withdrawn],
         chamber: u16,
     ) -> Result<Problem, ProblemFault>
-        ensures problem { IfOk result (IsProblemOf counties.now pairs.now withdrawn.now chamber) }
-        ensures fault { IsRefused (problem_fault counties.now pairs.now withdrawn.now chamber) result }
-        ensures memory { IfErr result (λ fault. fault ≡ Memory → (1 ≤ chamber) × (chamber ≤ 1000) × (length counties.now ≤ 128)) }
+        ensures problem { IfOk result (IsProblemOf counties.now pairs.now withdrawn.now chamber twentieth) }
+        ensures fault { IsRefused (problem_fault counties.now pairs.now withdrawn.now chamber twentieth) result }
+        ensures memory { IfErr result (λ fault. fault ≡ Memory → (1 ≤ chamber) × (chamber ≤ 1000) × (length counties.now ≤ most_counties)) }
     {
+        Problem::build_with(
+            alloc,
+            counties,
+            pairs,
+            withdrawn,
+            chamber,
+            Window::twentieth(),
+        )
+    }
+
+    /// The problem of the listed counties, the pairs of adjacent codes, the withdrawn sets, a chamber's
+    /// seats and an allowance, or the first fault. A pair of a county with itself is ignored, and so is a
+    /// pair of listed counties of which at least one is withdrawn.
+    ///
+    /// # Errors
+    ///
+    /// The first that occurs: `BadWindow` for an allowance of more than a half, or with a denominator that is
+    /// none of 1 to 1,000; `SeatsOutOfRange` for a chamber of no seat or of more than 1,000;
+    /// `TooManyCounties` for more than 256 counties; `DoubleCounty` with the first code that stood before;
+    /// `NoPeople`; `EmptyWithdrawn` with the number, from 1, of the first set without codes or seats;
+    /// `UnknownWithdrawn` and `WithdrawnTwice` with the first such code of the sets; `WithdrawnSeats` where
+    /// the sets have more seats than the chamber; and `UnknownPair` with the first pair of two different codes
+    /// of which one isn't listed. `Memory` comes only where a growth was refused, and never in the place of
+    /// the first three, which are found before anything grows.
+    pub fn build_with(
+        alloc: Global,
+        counties: &[County],
+        pairs: &[(CountyCode, CountyCode)],
+        withdrawn: &[Withdrawn],
+        chamber: u16,
+        window: Window,
+    ) -> Result<Problem, ProblemFault>
+        ensures problem { IfOk result (IsProblemOf counties.now pairs.now withdrawn.now chamber window) }
+        ensures fault { IsRefused (problem_fault counties.now pairs.now withdrawn.now chamber window) result }
+        ensures memory { IfErr result (λ fault. fault ≡ Memory → (is_window window ≡ true) × (1 ≤ chamber) × (chamber ≤ 1000) × (length counties.now ≤ most_counties)) }
+    {
+        if !window.is_in_range() {
+            return Err(ProblemFault::BadWindow);
+        }
         if chamber == 0 || chamber > MAX_SEATS {
             return Err(ProblemFault::SeatsOutOfRange);
         }
@@ -255,7 +292,11 @@ impl Problem {
         }
         let listed = listed_codes(alloc, counties)?;
         let taken = withdrawn_codes(alloc, withdrawn)?;
-        let totals = totals_of(counties, &listed, pairs, withdrawn, &taken, chamber)?;
-        Ok(with_totals(alloc, counties, pairs, withdrawn, &taken, totals, chamber)?)
+        let totals = totals_of(
+            counties, &listed, pairs, withdrawn, &taken, chamber, window,
+        )?;
+        Ok(with_totals(
+            alloc, counties, pairs, withdrawn, &taken, totals, chamber, window,
+        )?)
     }
 }

@@ -5,15 +5,18 @@ use county_codes::CountyCode;
 use std::alloc::{AllocError, AllocFailed};
 use thiserror::Error;
 
-/// Why counties, pairs, withdrawn sets and a chamber make no problem. The first kind that occurs, in the
+/// Why counties, pairs, withdrawn sets, a chamber and an allowance make no problem. The first kind that occurs, in the
 /// order below, is answered, and in it the first in the list.
 #[derive(Clone, Copy, Debug, PartialEq, Eq, Error)]
 pub enum ProblemFault {
+    /// The allowance is more than a half, or its denominator is none of 1 to 1,000.
+    #[error("an allowance is at most a half, with a denominator of 1 to 1000")]
+    BadWindow,
     /// The chamber has no seat, or more than 1,000.
     #[error("a chamber has 1 to 1000 seats")]
     SeatsOutOfRange,
-    /// More than 128 counties are listed.
-    #[error("more than 128 counties are listed")]
+    /// More than 256 counties are listed.
+    #[error("more than 256 counties are listed")]
     TooManyCounties,
     /// A county is listed twice.
     #[error("county {0} is listed twice")]
