@@ -1,6 +1,7 @@
 ghost use Rattle.std.specs.Prelude.{◌≡◌, ◌≢◌, ◌<◌, ◌≤◌, ◌↔◌, [], ◌∷◌, length, map, All, IfOk, OnOk, MatchOption};
 ghost use Rattle.std.specs.List.Sorted.{IsStrictlyIncreasing};
 ghost use Rattle.std.specs.BTreeMap.{btree_map_len, keys};
+ghost use Rattle.county_codes.specs.Limits.{most_counties};
 ghost use Rattle.grouping_laws.specs.Grouping.{Lawful};
 ghost use Rattle.grouping_problem.specs.ProblemValue.{problem_of};
 ghost use Rattle.grouping_judge.specs.Judging.{IsFault};
@@ -33,7 +34,7 @@ fn add_district_findings(
     grouping: &Grouping,
     given: &BTreeMap<(Label, u64), u32>,
 ) -> Result<(), AllocError>
-    requires few_groups { length grouping.now.groups.items ≤ 128 }
+    requires few_groups { length grouping.now.groups.items ≤ most_counties }
     requires few { btree_map_len given.now ≤ 4000000 }
     requires fits { All (λ k. k.1 < 1000000000000000) (keys given.now) }
     ensures { OnOk result (AddsOfDistricts (problem_of problem.now) (drawn_sets problem.now grouping.now.groups.items) (length grouping.now.groups.items) given.now.entries findings.old.items findings.new.items) }
@@ -58,7 +59,7 @@ fn plan_findings(
     blocks: &[Block],
     lines: &[Assignment],
 ) -> Result<Vec<Finding>, AllocError>
-    requires few_groups { length grouping.now.groups.items ≤ 128 }
+    requires few_groups { length grouping.now.groups.items ≤ most_counties }
     requires fits { All (λ block. block.code < 1000000000000000) blocks.now }
     requires ascending { IsStrictlyIncreasing (map (λ block. block.code) blocks.now) }
     requires few { length lines.now ≤ 4000000 }
@@ -77,7 +78,7 @@ fn plan_findings(
 /// The first fault of a grouping, if it isn't lawful.
 fn fault_of(alloc: Global, problem: &Problem, grouping: &Grouping) -> Option<GroupingFault>
     ensures lawful { MatchOption result (Lawful (problem_of problem.now) grouping.now.groups.items) (IsFault (problem_of problem.now) grouping.now.groups.items) }
-    ensures few { MatchOption result (length grouping.now.groups.items ≤ 128) (λ fault. fault ≢ Memory → ¬ Lawful (problem_of problem.now) grouping.now.groups.items) }
+    ensures few { MatchOption result (length grouping.now.groups.items ≤ most_counties) (λ fault. fault ≢ Memory → ¬ Lawful (problem_of problem.now) grouping.now.groups.items) }
 {
     judge(alloc, problem, grouping).err()
 }

@@ -2,6 +2,7 @@
 use Rattle.std.proofs.Common.{◌≡◌, ℕ, zero, suc, ◌+◌, ◌-◌, ◌*◌, ◌/◌, ◌≤◌, ◌<◌, Bool, true, false, min, nat_lt, ◌==◌, List, [], ◌∷◌, ◌++◌, map, take, length, get_or, refl, sym, ap, ◌∙◌, subst, arith, mul-le-mul, inl, inr, ◌⊎◌, take_all}
 use Rattle.std.proofs.lemmas.Bool.Decides.{nat_tests}
 use Rattle.std.proofs.lemmas.List.{length-map, map-append}
+use Rattle.county_codes.specs.Limits.{most_counties}
 use Rattle.grouping_laws.specs.Sets.{digit, total}
 use Rattle.grouping_laws.specs.Problem.{Problem}
 use Rattle.grouping_laws.specs.Grouping.{counts}
@@ -107,7 +108,7 @@ still_same s f g (suc n) same = ap (λ z. z + suc n * (f (suc n) - counts s.clos
 pub fewer_allowed : (closed all wanted missing : ℕ) → missing ≡ wanted - closed → nat_lt all missing ≡ nat_lt (closed + all) wanted
 fewer_allowed closed all wanted missing e = grind (arith, nat_tests)
 
-pub small_product : (a b : ℕ) → a ≤ 128 → b ≤ 65535 → a * b ≤ 8388480
+pub small_product : (a b : ℕ) → a ≤ most_counties → b ≤ 65535 → a * b ≤ 16776960
 small_product a b x y = grind (arith, mul-le-mul)
 
 pub allowed_weigh : (p : Problem) (s : State) (i used quota : ℕ) (ws : List WeightHeld) (openings left weight all : ℕ) → openings ≡ length (listed p (open_to s i)) → left ≡ openings - used → weight ≡ total (county_weight ws) (listed p (open_to s i))

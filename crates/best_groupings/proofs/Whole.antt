@@ -4,6 +4,7 @@ use Rattle.std.specs.Ordering.{is_lt}
 use Rattle.std.specs.Cmp.Lexicographic.{slice_cmp}
 use Rattle.std.specs.List.Sorted.{IsPermutation, IsSortedBy}
 use Rattle.std.proofs.lemmas.List.Sums.{count_by-le-length}
+use Rattle.county_codes.specs.Limits.{most_counties}
 use Rattle.county_codes.specs.declared.group.Grouping.{Grouping as GroupingHeld}
 use Rattle.field_lines.specs.Raw.{is_lf}
 use Rattle.grouping_judge.specs.CountList.{count_at}
@@ -39,7 +40,7 @@ module _ (p : Problem) (text : List ℕ) (c : CertificateHeld) (target : Groupin
   pub wanted_is : (i : ℕ) → count_at counted i ≡ wanted (target_of c.round.target) i
   wanted_is i = ready.counts_are i ∙ ap (λ t. wanted t i) (sym ready.target_is)
 
-  pub small : c.round.limit ≤ 128
+  pub small : c.round.limit ≤ most_counties
   small = limit_of_fits (certificate_of c) ready.spells.spelling.fits
 
   pub begins : IsProofAt p (round_of c.round) (empty_state p) (tree_of c.tree)

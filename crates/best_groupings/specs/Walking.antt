@@ -1,5 +1,6 @@
 -- What going through a part of a tree gives.
 use Rattle.std.specs.Prelude.{ℕ, ◌+◌, ◌≡◌, ◌≤◌, List, ◌++◌, map, length, All, Contains, Result, Ok, Err, ⊤}
+use Rattle.county_codes.specs.Limits.{most_counties}
 use Rattle.county_codes.specs.declared.group.Grouping.{Grouping as GroupingHeld}
 use Rattle.grouping_laws.specs.Problem.{Problem}
 use Rattle.grouping_laws.specs.Grouping.{Grouping}
@@ -45,7 +46,7 @@ HasWalked p Complete Gaps lists lines old (Err stop.Memory) new = ⊤
 
 -- the limit is that of a text, and the counts are those of the round's target
 pub record IsGround (g : Ground) : Type 0 where
-  pub small : g.round.now.limit ≤ 128
+  pub small : g.round.now.limit ≤ most_counties
   pub wanted_is : (i : ℕ) → count_at g.wanted.now i ≡ wanted (target_of g.round.now.target) i
 
 -- a tree that proves the round from a state on, and that a text may spell

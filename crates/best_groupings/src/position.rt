@@ -1,6 +1,7 @@
 //! Where the walk through a tree stands.
 
 ghost use Rattle.std.specs.Prelude.{◌≡◌, ℕ, ◌+◌, ◌≤◌, ◌==◌, not, cond, length, map, filter, nat_le, true, IfOk};
+ghost use Rattle.county_codes.specs.Limits.{most_counties};
 ghost use Rattle.grouping_laws.specs.Problem.{Problem as ProblemOf};
 ghost use Rattle.grouping_laws.specs.Sets.{total, member};
 ghost use Rattle.grouping_problem.specs.ProblemValue.{problem_of};
@@ -145,7 +146,7 @@ impl Position {
 
     /// How many counties are open to a group of so many.
     pub(crate) fn open_counties(&self, size: u32) -> u32
-        requires few { length self.now.rest.items ≤ 128 }
+        requires few { length self.now.rest.items ≤ most_counties }
         ensures { (p : ProblemOf) (s : State) → IsPosition p s self.now → result ≡ length (listed p (open_to s size)) }
     {
         let mut count = 0;
@@ -159,7 +160,7 @@ impl Position {
 
     /// What the counties weigh together that are open to a group of so many.
     pub(crate) fn open_weight(&self, size: u32, weights: &[Weight]) -> u64
-        requires few { length self.now.rest.items ≤ 128 }
+        requires few { length self.now.rest.items ≤ most_counties }
         requires ascend { ascend weights.now ≡ true }
         ensures { (p : ProblemOf) (s : State) → IsPosition p s self.now → result ≡ total (county_weight weights.now) (listed p (open_to s size)) }
     {

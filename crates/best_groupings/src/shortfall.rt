@@ -1,6 +1,7 @@
 //! Whether a bound leaf falls short of the target's counts.
 
 ghost use Rattle.std.specs.Prelude.{◌≡◌, ℕ, ◌+◌, ◌-◌, ◌≤◌, nat_lt, length, map};
+ghost use Rattle.county_codes.specs.Limits.{most_counties};
 ghost use Rattle.grouping_laws.specs.Grouping.{counts};
 ghost use Rattle.grouping_laws.specs.Problem.{Problem as ProblemOf};
 ghost use Rattle.grouping_judge.specs.CountList.{count_at};
@@ -35,7 +36,7 @@ fn groups_of_size(groups: &[Codes], size: u16) -> usize
 
 /// How many counties the groups of at most so many counties have that the target has and that aren't closed.
 fn still_wanted(closed: &[Codes], wanted: &Counts, size: u16) -> usize
-    requires small { size ≤ 128 }
+    requires small { size ≤ most_counties }
     ensures value { (s : State) → closed.now ≡ s.closed → result ≡ counties_wanted s (count_at wanted.now) size }
 {
     let mut counties = 0;
@@ -49,7 +50,7 @@ fn still_wanted(closed: &[Codes], wanted: &Counts, size: u16) -> usize
 
 /// How many groups of so many counties a line allows where smaller groups use up so many counties.
 fn allowance(position: &Position, line: &Allowance, size: u16, used: usize) -> u64
-    requires few { length position.now.rest.items ≤ 128 }
+    requires few { length position.now.rest.items ≤ most_counties }
     requires some { 1 ≤ size }
     requires spelled { IsSpelled line.now }
     ensures value { (p : ProblemOf) (s : State) → IsPosition p s position.now → result ≡ allowance_at p s size used (allowance_of line.now) }
@@ -67,9 +68,9 @@ fn allowance(position: &Position, line: &Allowance, size: u16, used: usize) -> u
 
 /// Whether the last line, for groups of so many counties, gives fewer groups than the target has.
 fn gives_fewer(position: &Position, wanted: &Counts, line: &Allowance, size: u16) -> bool
-    requires few { length position.now.rest.items ≤ 128 }
+    requires few { length position.now.rest.items ≤ most_counties }
     requires some { 1 ≤ size }
-    requires small { size ≤ 128 }
+    requires small { size ≤ most_counties }
     requires spelled { IsSpelled line.now }
     ensures value { (p : ProblemOf) (s : State)
         → IsPosition p s position.now
@@ -89,8 +90,8 @@ pub(crate) fn falls_short(
     limit: u16,
     lines: &[Allowance],
 ) -> bool
-    requires few { length position.now.rest.items ≤ 128 }
-    requires small { limit ≤ 128 }
+    requires few { length position.now.rest.items ≤ most_counties }
+    requires small { limit ≤ most_counties }
     requires spelled { AreSpelled (map allowance_of lines.now) }
     ensures value { (language : Language) (p : ProblemOf) (s : State)
         → IsPosition p s position.now

@@ -2,6 +2,7 @@
 use Rattle.std.proofs.Common.{◌≡◌, ℕ, ◌+◌, ◌-◌, ◌/◌, ◌≤◌, ◌<◌, List, [], ◌∷◌, ◌++◌, length, refl, sym, ap, ◌∙◌, subst, arith, ◌⊎◌, inl, inr}
 use Rattle.std.specs.List.{AllByRecursion}
 use Rattle.std.proofs.lemmas.List.{append-nil, length-append}
+use Rattle.county_codes.specs.Limits.{most_counties}
 use Rattle.grouping_laws.specs.Problem.{Problem}
 use Rattle.grouping_laws.specs.Grouping.{counts, sets_of}
 use Rattle.proof_trees.specs.Round.{Round}
@@ -25,7 +26,7 @@ use Rattle.bound_leaves.specs.Missing.{IsMissing, MayEndAt, TargetEndsAt, Allows
 use Rattle.bound_leaves.proofs.EmptyBounds.{empty_bounds, empty_loss}
 use Rattle.bound_leaves.proofs.LeafLines.{empty_lines_spelled, one_more_spelled, bound_spelled}
 
-module _ (p : Problem) (round : Round) (s : State) (few : round.limit ≤ 128) where
+module _ (p : Problem) (round : Round) (s : State) (few : round.limit ≤ most_counties) where
   -- a leaf whose value is that of a bound leaf of lines that bound and are spelled
   given_from : (leaf : LeafHeld) (lines : List Allowance) → leaf_of leaf ≡ bound lines → IsValidLeaf p round s (bound lines) → AllByRecursion (FitsInTree round.language) (leaf_items (bound lines)) → IsGiven p round s leaf
   given_from leaf lines is valid spelled = record {

@@ -1,6 +1,7 @@
 -- The lines of leaves: their numbers are in their ranges.
 use Rattle.std.proofs.Common.{ℕ, ◌+◌, ◌≤◌, List, [], ◌∷◌, ◌++◌, map, length, refl, sym, subst, arith}
 use Rattle.std.specs.List.{AllByRecursion}
+use Rattle.county_codes.specs.Limits.{most_counties}
 use Rattle.grouping_laws.specs.Problem.{Problem}
 use Rattle.certificate_languages.specs.declared.language.Language.{Language}
 use Rattle.certificate_languages.specs.declared.language.Language.TheVariants.{Plain, Wide}
@@ -15,7 +16,7 @@ use Rattle.tree_spelling.specs.TreeItems.{FitsInTree}
 use Rattle.bound_leaves.specs.EmptyLines.{IsEmptyLine, AreEmptyFrom}
 use Rattle.tree_spelling.proofs.ShortLines.{weights_fit}
 
-bound_opens : (language : Language) (n : ℕ) → n ≤ 128 → FitsInTree language (Opens (opening.Bound n))
+bound_opens : (language : Language) (n : ℕ) → n ≤ most_counties → FitsInTree language (Opens (opening.Bound n))
 bound_opens Plain n l = l
 bound_opens Wide n l = l
 
@@ -41,5 +42,5 @@ module _ (language : Language) where
   one_more_spelled (x ∷ xs) line are is = (are.0, one_more_spelled xs line are.1 is)
 
   -- a bound leaf of lines that are spelled
-  pub bound_spelled : (lines : List Allowance) → length lines ≤ 128 → AreSpelled lines → AllByRecursion (FitsInTree language) (leaf_items (bound lines))
+  pub bound_spelled : (lines : List Allowance) → length lines ≤ most_counties → AreSpelled lines → AllByRecursion (FitsInTree language) (leaf_items (bound lines))
   bound_spelled lines few are = (bound_opens language (length lines) few, are)

@@ -3,6 +3,7 @@ use Rattle.std.proofs.Common.{◌≡◌, ℕ, ◌+◌, ◌/◌, ◌≤◌, ◌<�
 use Rattle.std.proofs.lemmas.Bool.Decides.{nat_tests}
 use Rattle.std.proofs.lemmas.List.{append-nil, drop_all}
 use Rattle.std.proofs.lemmas.List.Elements.{All-more, recursion_from_All}
+use Rattle.county_codes.specs.Limits.{most_counties}
 use Rattle.county_codes.specs.declared.county.County.{County}
 use Rattle.county_codes.specs.Counties.{codes_of}
 use Rattle.certificate_lines.specs.Lines.{ascend}
@@ -19,11 +20,11 @@ lesser_next f xs i item a b le here l is all =
     All-more (λ x. b ≤ f x) xs i item l (λ k d m. omega (arith, all k d m, le)) (subst (λ x. b ≤ f x) is here)
 
 -- where all counties were gone over, the weights are those of the table
-pub made_weights : (p : Problem) → IsProblem p → (order table : List ℕ) → IsOrder p order → length order ≤ 128 → (counties : List County) → codes_of counties ≡ p.counties → AllPairs (λ x y. x < y) (codes_of counties) → (k : ℕ) → length counties ≤ k → (ws held : List Weight)
+pub made_weights : (p : Problem) → IsProblem p → (order table : List ℕ) → IsOrder p order → length order ≤ most_counties → (counties : List County) → codes_of counties ≡ p.counties → AllPairs (λ x y. x < y) (codes_of counties) → (k : ℕ) → length counties ≤ k → (ws held : List Weight)
     → ws ++ weights_above (placed_weight order table) (codes_of (drop k counties)) ≡ weights_above (placed_weight order table) (codes_of counties) → All FitsWeight ws → held ≡ ws → AreTableWeights order p.counties table held
 made_weights p law order table whole small counties known up k over ws held same each e = subst (AreTableWeights order p.counties table) (sym e) (record {
   are = are;
-  few = subst (λ (z : List Weight). length z ≤ 128) (sym are) (omega (arith, above_few value p.counties, counties_few p law order whole, small));
+  few = subst (λ (z : List Weight). length z ≤ most_counties) (sym are) (omega (arith, above_few value p.counties, counties_few p law order whole, small));
   each = recursion_from_All FitsWeight ws each;
   ascending = ap ascend are ∙ above_ascend value p.counties (subst (AllPairs (λ x y. x < y)) known up);
 })

@@ -1,6 +1,7 @@
 -- Weights of a line, by the places of an order.
 use Rattle.std.specs.Prelude.{ℕ, ◌≡◌, ◌≤◌, cond, nat_lt, true, List, map, filter, length, get_or}
 use Rattle.std.specs.List.{AllByRecursion}
+use Rattle.county_codes.specs.Limits.{most_counties}
 use Rattle.grouping_laws.specs.Sets.{member}
 use Rattle.grouping_laws.specs.GroupsFrom.{place}
 use Rattle.certificate_lines.specs.declared.weights.Weight.{Weight}
@@ -22,6 +23,6 @@ weights_above value counties = map (weight_for value) (filter (λ c. nat_lt 0 (v
 -- the weights of a line: those above 0 of the counties, each as the table has it for the county's place; their numbers are in their ranges
 pub record AreTableWeights (order counties table : List ℕ) (weights : List Weight) : Type 0 where
   pub are : weights ≡ weights_above (placed_weight order table) counties
-  pub few : length weights ≤ 128
+  pub few : length weights ≤ most_counties
   pub each : AllByRecursion FitsWeight weights
   pub ascending : ascend weights ≡ true

@@ -1,4 +1,5 @@
 ghost use Rattle.std.specs.Prelude.{◌≡◌, ℕ, ◌≤◌, map, length, ⊤, ◌⊎◌, IfOk, MatchOption};
+ghost use Rattle.county_codes.specs.Limits.{most_counties};
 ghost use Rattle.grouping_problem.specs.ProblemValue.{problem_of};
 ghost use Rattle.proof_trees.specs.RoundValue.{round_of};
 ghost use Rattle.certificate_text.specs.Trees.{allowance_of, leaf_of};
@@ -129,7 +130,7 @@ pub fn empty_leaf<C: CountySet>(
     requires fits { length ordered.now.order ≤ C.PLACES }
     requires placed { IsPlaced (length ordered.now.order) C.test state.now }
     requires order { ordered.now.order ≡ round.now.order }
-    requires limit { round.now.limit ≤ 128 }
+    requires limit { round.now.limit ≤ most_counties }
     requires small { size ≤ round.now.limit }
     requires none { NoneUpTo (problem_of ordered.now.problem) (round_of round.now) (state_at ordered.now.order C.test state.now) size }
     ensures leaf { IfOk

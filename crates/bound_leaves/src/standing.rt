@@ -1,4 +1,5 @@
 ghost use Rattle.std.specs.Prelude.{◌≡◌, ◌≤◌, ⊤, length, MatchOption};
+ghost use Rattle.county_codes.specs.Limits.{most_counties};
 ghost use Rattle.grouping_laws.specs.Grouping.{counts, sets_of};
 ghost use Rattle.proof_trees.specs.RoundValue.{round_of};
 ghost use Rattle.line_verdicts.specs.Placed.{state_at, IsPlaced};
@@ -59,7 +60,7 @@ pub fn wanted_more<C: CountySet>(
     requires fits { length ordered.now.order ≤ C.PLACES }
     requires placed { IsPlaced (length ordered.now.order) C.test state.now }
     requires order { ordered.now.order ≡ round.now.order }
-    requires limit { round.now.limit ≤ 128 }
+    requires limit { round.now.limit ≤ most_counties }
     ensures { MatchOption result ⊤ (λ k. IsMissing (round_of round.now) (state_at ordered.now.order C.test state.now) size k) }
 {
     let Some(target) = &round.target else {

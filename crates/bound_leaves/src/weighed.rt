@@ -1,4 +1,5 @@
 ghost use Rattle.std.specs.Prelude.{◌≡◌, ℕ, true, cond, ◌<◌, ◌≤◌, List, length, get_or, All, ⊤, IfOk, MatchOption};
+ghost use Rattle.county_codes.specs.Limits.{most_counties};
 ghost use Rattle.grouping_laws.specs.Sets.{total};
 ghost use Rattle.place_lists.specs.PlaceSets.{places_of};
 ghost use Rattle.grouping_problem.specs.ProblemValue.{problem_of};
@@ -33,7 +34,7 @@ fn weights_within<C: CountySet>(
     weights: &[u32],
 ) -> Result<Vec<u32>, AllocError>
     requires fits { length weights.now ≤ C.PLACES }
-    requires few { length weights.now ≤ 128 }
+    requires few { length weights.now ≤ most_counties }
     requires range { All (λ w. w ≤ 1000000) weights.now }
     ensures count { IfOk result (λ v. length v.items ≡ length weights.now) }
     ensures range { IfOk result (λ v. All (λ w. w ≤ 1000000) v.items) }
@@ -55,7 +56,7 @@ fn weights_within<C: CountySet>(
 
 /// What the lightest of the groups weighs by the table; the greatest quota where that is less.
 fn least_weight<C: CountySet>(groups: &[C], table: &[u32]) -> u32
-    requires few { length table.now ≤ 128 }
+    requires few { length table.now ≤ most_counties }
     requires below { AreBelow (length table.now) C.test groups.now }
     ensures each { All (λ g. result ≤ total (λ i. get_or table.now i 0) (places_of (length table.now) (C.test g))) groups.now }
     ensures small { result ≤ 256000000 }
@@ -171,7 +172,7 @@ pub fn weighed_leaf<C: CountySet>(
     requires fits { length ordered.now.order ≤ C.PLACES }
     requires placed { IsPlaced (length ordered.now.order) C.test state.now }
     requires order { ordered.now.order ≡ round.now.order }
-    requires limit { round.now.limit ≤ 128 }
+    requires limit { round.now.limit ≤ most_counties }
     requires size { 1 ≤ size }
     requires small { size ≤ round.now.limit }
     requires known { IsKnown

@@ -1,4 +1,5 @@
 ghost use Rattle.std.specs.Prelude.{◌≡◌, ℕ, ◌≤◌, length, ⊤, IfOk, MatchOption};
+ghost use Rattle.county_codes.specs.Limits.{most_counties};
 ghost use Rattle.grouping_problem.specs.ProblemValue.{problem_of};
 ghost use Rattle.ordered_counties.specs.OrderedValue.{problem_at};
 ghost use Rattle.county_regions.specs.Rows.{AreRows};
@@ -65,7 +66,7 @@ pub fn whole_leaf<C: CountySet>(
     requires rows { AreRows C C.test (problem_at ordered.now) (length ordered.now.order) near.now }
     requires placed { IsPlaced (length ordered.now.order) C.test state.now }
     requires order { ordered.now.order ≡ round.now.order }
-    requires limit { round.now.limit ≤ 128 }
+    requires limit { round.now.limit ≤ most_counties }
     ensures leaf { IfOk
         result
         (λ found. MatchOption

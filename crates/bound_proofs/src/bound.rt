@@ -1,5 +1,6 @@
 ghost use Rattle.std.specs.Prelude.{◌≡◌, ℕ, ◌+◌, ◌*◌, ◌≤◌, List, map, length, IfOk, MatchOption};
 ghost use Rattle.std.specs.Vec.{vec_items};
+ghost use Rattle.county_codes.specs.Limits.{most_counties};
 ghost use Rattle.grouping_laws.specs.Grouping.{counts, sets_of};
 ghost use Rattle.grouping_problem.specs.ProblemValue.{problem_of};
 ghost use Rattle.proof_trees.specs.Tree.{Allowance as AllowanceValue};
@@ -21,7 +22,7 @@ use proof_trees::{Round, State};
 use std::alloc::{AllocError, Global};
 
 /// How many groups of a size, in counties, the count line for it allows, where smaller groups use up so many counties,
-/// at most 128, and these are the groups of the size that fit.
+/// at most 256, and these are the groups of the size that fit.
 fn count_allowance<C: CountySet>(
     alloc: Global,
     ordered: &Ordered,
@@ -35,14 +36,14 @@ fn count_allowance<C: CountySet>(
     requires placed { IsPlaced (length ordered.now.order) C.test state.now }
     requires order { ordered.now.order ≡ round.now.order }
     requires size { 1 ≤ size }
-    requires used { used ≤ 128 }
+    requires used { used ≤ most_counties }
     requires groups { IsListOf C.test ordered.now.order (problem_of ordered.now.problem) (round_of round.now) (state_at ordered.now.order C.test state.now) size groups.now }
     ensures line { IfOk
         result
         (λ allowed. (line : AllowanceValue)
         → IsCountLine round.now.language (problem_of ordered.now.problem) (state_at ordered.now.order C.test state.now) size line
         → allowance (problem_of ordered.now.problem) (state_at ordered.now.order C.test state.now) size used line ≡ allowed) }
-    ensures few { IfOk result (λ allowed. (allowed ≤ 128) × (used + size * allowed ≤ 128)) }
+    ensures few { IfOk result (λ allowed. (allowed ≤ most_counties) × (used + size * allowed ≤ most_counties)) }
 {
     let _places = ordered.places();
     let _problem = ordered.problem();

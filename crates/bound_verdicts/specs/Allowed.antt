@@ -1,5 +1,6 @@
 -- What the answers of the call that judges a line of a bound leaf say.
 use Rattle.std.specs.Prelude.{ℕ, ◌+◌, ◌*◌, ◌≡◌, ◌≤◌, true, ⊤}
+use Rattle.county_codes.specs.Limits.{most_counties}
 use Rattle.grouping_laws.specs.Problem.{Problem}
 use Rattle.certificate_languages.specs.declared.language.Language.{Language}
 use Rattle.proof_trees.specs.State.{State}
@@ -20,4 +21,4 @@ IsSpelled (Weigh quota weights) = (1 ≤ quota) × (ascend weights ≡ true)
 -- the line is fair, and what it allows is fewer groups than the target has, or as many, where so many counties are used up from now on
 abbrev pub IsAllowed : Language → Problem → State → (ℕ → ℕ) → ℕ → ℕ → Allowance → Allowed → Type 0
 IsAllowed language p s wanted i used line Loss = IsFair language p s i line × IsLoss p s wanted i used line
-IsAllowed language p s wanted i used line (Even now) = IsFair language p s i line × IsEven p s wanted i used line × (now ≡ used + i * allowance p s i used line) × (now ≤ 128)
+IsAllowed language p s wanted i used line (Even now) = IsFair language p s i line × IsEven p s wanted i used line × (now ≡ used + i * allowance p s i used line) × (now ≤ most_counties)

@@ -1,4 +1,5 @@
 ghost use Rattle.std.specs.Prelude.{◌≡◌, ℕ, ◌+◌, ◌-◌, ◌*◌, ◌/◌, ◌<◌, ◌≤◌, min, length, IfOk, IsErrOf, MatchResult};
+ghost use Rattle.county_codes.specs.Limits.{most_counties};
 ghost use Rattle.grouping_laws.specs.Grouping.{counts};
 ghost use Rattle.grouping_problem.specs.ProblemValue.{problem_of};
 ghost use Rattle.ordered_counties.specs.OrderedValue.{problem_at};
@@ -44,7 +45,7 @@ pub fn room_left<C: CountySet>(
     requires fits { length ordered.now.order ≤ C.PLACES }
     requires placed { IsPlaced (length ordered.now.order) C.test state.now }
     ensures value { IfOk result (λ left. left ≡ room_at (problem_of ordered.now.problem) (state_at ordered.now.order C.test state.now) size used) }
-    ensures few { IfOk result (λ left. left ≤ 128 - used) }
+    ensures few { IfOk result (λ left. left ≤ most_counties - used) }
 {
     let _places = ordered.places();
     let _problem = ordered.problem();
@@ -55,7 +56,7 @@ pub fn room_left<C: CountySet>(
 pub fn closed_of_size<C: CountySet>(ordered: &Ordered, state: &State<C>, size: u16) -> u32
     requires placed { IsPlaced (length ordered.now.order) C.test state.now }
     ensures value { result ≡ counts (state_at ordered.now.order C.test state.now).closed size }
-    ensures few { result ≤ 128 }
+    ensures few { result ≤ most_counties }
 {
     let _places = ordered.places();
     let mut count = 0;
@@ -92,7 +93,7 @@ fn fair_allowance<C: CountySet>(
     requires placed { IsPlaced (length ordered.now.order) C.test state.now }
     requires order { ordered.now.order ≡ round.now.order }
     requires size { 1 ≤ size }
-    requires used { used ≤ 128 }
+    requires used { used ≤ most_counties }
     ensures line { MatchResult
         result
         (λ allowed. IsFair round.now.language (problem_of ordered.now.problem) (state_at ordered.now.order C.test state.now) size (allowance_of line.now)
@@ -101,7 +102,7 @@ fn fair_allowance<C: CountySet>(
         stop
         (IsUnfair round.now.language (problem_of ordered.now.problem) (state_at ordered.now.order C.test state.now) size (allowance_of line.now))
         (IsSpelled line.now → ⊥)) }
-    ensures few { IfOk result (λ allowed. (allowed ≤ 128) × (used + size * allowed ≤ 128)) }
+    ensures few { IfOk result (λ allowed. (allowed ≤ most_counties) × (used + size * allowed ≤ most_counties)) }
     ensures steps { (m : ℕ)
         → LineLooks (allowance_of line.now) (problem_of ordered.now.problem) (round_of round.now) (state_at ordered.now.order C.test state.now) size m
         → steps.new.used ≤ steps.old.used + m }
@@ -130,7 +131,7 @@ fn fair_allowance<C: CountySet>(
 }
 
 /// Judges the line of a bound leaf for a size, in counties, where the target has so many groups of this size and
-/// smaller groups use up so many counties, at most 128.
+/// smaller groups use up so many counties, at most 256.
 ///
 /// `near` are the rows of the order (`neighbour_rows`). A step is taken for each set that is split.
 ///
@@ -157,7 +158,7 @@ pub fn judge_allowance<C: CountySet>(
     requires placed { IsPlaced (length ordered.now.order) C.test state.now }
     requires order { ordered.now.order ≡ round.now.order }
     requires size { 1 ≤ size }
-    requires used { used ≤ 128 }
+    requires used { used ≤ most_counties }
     ensures line { (counts : ℕ → ℕ)
         → counts size ≡ wanted
         → MatchResult

@@ -1,6 +1,7 @@
 -- Certificates of the rounds of a search, and what they show.
 use Rattle.std.proofs.Common.{◌≡◌, ℕ, ◌≤◌, List, [], length, Option, Some, None, Result, Ok, Err, IfOk, Vec, Global, refl, sym, ap, ◌∙◌, subst, arith, All}
 use Rattle.std.specs.List.Sorted.{IsStrictlyIncreasing}
+use Rattle.county_codes.specs.Limits.{most_counties}
 use Rattle.county_codes.specs.declared.group.Group.{Group}
 use Rattle.county_codes.specs.declared.group.Grouping.{Grouping as GroupingHeld}
 use Rattle.grouping_laws.specs.Problem.{Problem, IsProblem}
@@ -36,29 +37,29 @@ use Rattle.branch_bound.specs.declared.answer.Answer.{Answer}
 use Rattle.branch_bound.specs.declared.answer.Answer.TheVariants.{Best, Impossible, Open}
 
 -- a round with a tree that proves it where nothing is closed
-certified : (p : Problem) (r : Round) (round : RoundHeld) (tree : Tree) → round_of round ≡ r → IsOrder p r.order → TargetFits p r.limit r.target → length r.order ≤ 128 → r.limit ≤ 128 → AreCodes round.order → TargetHasLines r.target
+certified : (p : Problem) (r : Round) (round : RoundHeld) (tree : Tree) → round_of round ≡ r → IsOrder p r.order → TargetFits p r.limit r.target → length r.order ≤ most_counties → r.limit ≤ most_counties → AreCodes round.order → TargetHasLines r.target
     → Proves (tree_of tree) p r (empty_state p) × HasLines r.language (tree_of tree) → Certifies p r.language r.target (record { round = round; tree = tree })
 certified p r round tree e order fits few small codes target proof =
-    subst (λ (x : Round). IsOrder p x.order → TargetFits p x.limit x.target → length x.order ≤ 128 → x.limit ≤ 128 → TargetHasLines x.target → Proves (tree_of tree) p x (empty_state p) × HasLines x.language (tree_of tree) → Certifies p x.language x.target c) e whole order fits few small target proof
+    subst (λ (x : Round). IsOrder p x.order → TargetFits p x.limit x.target → length x.order ≤ most_counties → x.limit ≤ most_counties → TargetHasLines x.target → Proves (tree_of tree) p x (empty_state p) × HasLines x.language (tree_of tree) → Certifies p x.language x.target c) e whole order fits few small target proof
   where
     c : CertificateHeld
     c = record { round = round; tree = tree }
 
-    whole : IsOrder p round.order → TargetFits p round.limit (round_of round).target → length round.order ≤ 128 → round.limit ≤ 128 → TargetHasLines (round_of round).target → Proves (tree_of tree) p (round_of round) (empty_state p) × HasLines round.language (tree_of tree)
+    whole : IsOrder p round.order → TargetFits p round.limit (round_of round).target → length round.order ≤ most_counties → round.limit ≤ most_counties → TargetHasLines (round_of round).target → Proves (tree_of tree) p (round_of round) (empty_state p) × HasLines round.language (tree_of tree)
         → Certifies p round.language (round_of round).target c
     whole order fits few small target proof =
         let is : IsCertificate p (certificate_of c).round (certificate_of c).tree = record { order = order; target = fits; proof = proof.0 } in
         record { proves = is; target_is = refl; language_is = refl; spelled = have_texts.certificate p (certificate_of c) is few codes small target proof.1 }
 
 -- the certificate of a target that is best
-best_certified : (p : Problem) (order : List ℕ) (limit : ℕ) (g : Grouping) (round : RoundHeld) (tree : Tree) → IsOrder p order → length order ≤ 128 → IsTarget p order g → limit ≤ 128 → All (λ (m : Group). length m.codes ≤ limit) g
+best_certified : (p : Problem) (order : List ℕ) (limit : ℕ) (g : Grouping) (round : RoundHeld) (tree : Tree) → IsOrder p order → length order ≤ most_counties → IsTarget p order g → limit ≤ most_counties → All (λ (m : Group). length m.codes ≤ limit) g
     → round_of round ≡ record { order = order; limit = limit; target = Some g; language = Wide } → AreCodes round.order → IsProof p (record { order = order; limit = limit; target = Some g; language = Wide }) (empty_state p) tree
     → Certifies p Wide (Some g) (record { round = round; tree = tree })
 best_certified p order limit g round tree whole few target small large e codes proof =
     certified p (record { order = order; limit = limit; target = Some g; language = Wide }) round tree e whole (target.lawful, large) few small codes target.lines (proof.0, proof.1)
 
 -- the answer that a target is best
-pub best_answer : (p : Problem) (order : List ℕ) (limit : ℕ) (g : GroupingHeld) (round : RoundHeld) (tree : Tree) → IsOrder p order → length order ≤ 128 → IsStrictlyIncreasing order → IsTarget p order g.groups.items → limit ≤ 128
+pub best_answer : (p : Problem) (order : List ℕ) (limit : ℕ) (g : GroupingHeld) (round : RoundHeld) (tree : Tree) → IsOrder p order → length order ≤ most_counties → IsStrictlyIncreasing order → IsTarget p order g.groups.items → limit ≤ most_counties
     → All (λ (m : Group). length m.codes ≤ limit) g.groups.items → round_of round ≡ record { order = order; limit = limit; target = Some g.groups.items; language = Wide } → AreCodes round.order
     → IsProof p (record { order = order; limit = limit; target = Some g.groups.items; language = Wide }) (empty_state p) tree → (allowed : ℕ) → 1 ≤ allowed → IsAnswer p allowed (Best g (record { round = round; tree = tree }))
 best_answer p order limit g round tree whole few ascending target small large e codes proof allowed some =
@@ -81,7 +82,7 @@ leaf_proof p r s branches last none given =
     alone bs e = ap (λ (l : List Branch). list_onto l (leaf (leaf_of last))) e
 
 -- the certificate that no grouping is lawful
-pub impossible_certified : (p : Problem) (order : List ℕ) (round : RoundHeld) (branches : Vec Branch Global) (last : Leaf) → IsOrder p order → length order ≤ 128 → round_of round ≡ record { order = order; limit = 0; target = None; language = Plain } → AreCodes round.order
+pub impossible_certified : (p : Problem) (order : List ℕ) (round : RoundHeld) (branches : Vec Branch Global) (last : Leaf) → IsOrder p order → length order ≤ most_counties → round_of round ≡ record { order = order; limit = 0; target = None; language = Plain } → AreCodes round.order
     → branches.items ≡ [] → IsGiven p (round_of round) (empty_state p) last → Certifies p Plain None (record { round = round; tree = roll-Tree (record { branches = branches; leaf = last }) })
 impossible_certified p order round branches last whole few e codes none given =
     let r : Round = record { order = order; limit = 0; target = None; language = Plain } in

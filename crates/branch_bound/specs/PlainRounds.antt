@@ -1,5 +1,6 @@
 -- The search of a piece of a plain round.
 use Rattle.std.specs.Prelude.{ℕ, ◌≡◌, ◌≤◌, ◌<◌, Bool, length}
+use Rattle.county_codes.specs.Limits.{most_counties}
 use Rattle.ordered_counties.specs.OrderedValue.{problem_at, code_at}
 use Rattle.county_regions.specs.Rows.{AreRows}
 use Rattle.certificate_languages.specs.declared.language.Language.TheVariants.{Plain}
@@ -17,7 +18,7 @@ pub record IsPlainGround {C : Type 0} (places : ℕ) (test : C → ℕ → Bool)
   pub fits : length g.ordered.now.order ≤ places
   pub rows : AreRows C test (problem_at g.ordered.now) (length g.ordered.now.order) g.near.now
   pub order : g.ordered.now.order ≡ g.round.now.order
-  pub small : g.round.now.limit ≤ 128
+  pub small : g.round.now.limit ≤ most_counties
   pub plain : g.round.now.language ≡ Plain
 
 -- the state is one of the round, by the places of the order

@@ -1,6 +1,7 @@
 -- What a search by branch and bound keeps at a state, and what it answers.
 use Rattle.std.specs.Prelude.{ℕ, ◌+◌, ◌≡◌, ◌≤◌, ◌<◌, Bool, true, List, ◌∷◌, filter, length, All, AllPairs, Contains}
 use Rattle.std.specs.List.{AllByRecursion}
+use Rattle.county_codes.specs.Limits.{most_counties}
 use Rattle.county_codes.specs.declared.group.Grouping.{Grouping as GroupingHeld}
 use Rattle.grouping_laws.specs.Sets.{member}
 use Rattle.grouping_laws.specs.Problem.{Problem}
@@ -58,7 +59,7 @@ pub record IsGround {C : Type 0} (places : ℕ) (test : C → ℕ → Bool) (g :
   pub fits : length g.ordered.now.order ≤ places
   pub rows : AreRows C test (problem_at g.ordered.now) (length g.ordered.now.order) g.near.now
   pub order : g.ordered.now.order ≡ g.round.now.order
-  pub small : g.round.now.limit ≤ 128
+  pub small : g.round.now.limit ≤ most_counties
   pub wide : g.round.now.language ≡ Wide
 
 -- A position is at a state of the round, of which the groups of so many counties, at most the limit, are known.

@@ -1,6 +1,7 @@
 //! The search of a piece of a round, from its state.
 
 ghost use Rattle.std.specs.Prelude.{◌≡◌, ℕ, ◌≤◌, ◌↔◌, IsTrue, length, IfOk, IsErrOf};
+ghost use Rattle.county_codes.specs.Limits.{most_counties};
 ghost use Rattle.proof_trees.specs.State.{IsState};
 ghost use Rattle.proof_trees.specs.RoundValue.{round_of};
 ghost use Rattle.proof_trees.specs.State.{State as StateValue};
@@ -165,7 +166,7 @@ fn ordered_piece<C: CountySet>(
 ) -> Result<Piece, AllocError>
     requires fits { length ordered.now.order ≤ C.PLACES }
     requires order { ordered.now.order ≡ round.now.order }
-    requires small { round.now.limit ≤ 128 }
+    requires small { round.now.limit ≤ most_counties }
     requires placed { IsPlaced (length ordered.now.order) C.test state.now }
     requires state { IsState (problem_of ordered.now.problem) (round_of round.now) (state_at ordered.now.order C.test state.now) }
     ensures piece { IfOk result (IsPiece (problem_of ordered.now.problem) (round_of round.now) (state_at ordered.now.order C.test state.now)) }
@@ -189,7 +190,7 @@ fn ordered_piece<C: CountySet>(
 /// What a desk answers of a piece of a round: a proof tree of its state, a greater grouping that agrees with the state, or
 /// that the steps ran out.
 ///
-/// The round's order names each county of the problem once, its limit is at most 128, and the state is one of the round by
+/// The round's order names each county of the problem once, its limit is at most 256, and the state is one of the round by
 /// the places of the order. If the steps ran out in a wide round, the answer has the branch that the search made first, so
 /// that the piece can be split there. A step is a state that is entered, a set that is grown or a group that is tested for
 /// being live.
@@ -206,7 +207,7 @@ pub fn prove_piece<C: CountySet>(
 ) -> Result<Piece, AllocError>
     requires fits { length round.now.order ≤ C.PLACES }
     requires order { IsOrder (problem_of problem.now) round.now.order }
-    requires small { round.now.limit ≤ 128 }
+    requires small { round.now.limit ≤ most_counties }
     requires placed { IsPlaced (length round.now.order) C.test state.now }
     requires state { IsState (problem_of problem.now) (round_of round.now) (state_at round.now.order C.test state.now) }
     ensures piece { IfOk result (IsPiece (problem_of problem.now) (round_of round.now) (state_at round.now.order C.test state.now)) }

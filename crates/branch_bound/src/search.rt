@@ -1,6 +1,7 @@
 //! The search: one recursion over the groups that are closed.
 
 ghost use Rattle.std.specs.Prelude.{◌≡◌, ℕ, ◌≤◌, ◌<◌, ◌∷◌, [], ◌++◌, Ok, Some, true, length, IfOk, OnOk, IsErrOf};
+ghost use Rattle.county_codes.specs.Limits.{most_counties};
 ghost use Rattle.certificate_text.specs.declared.tree.Branch.{roll-Branch};
 ghost use Rattle.certificate_text.specs.declared.tree.Take.{Take as TakeHeld};
 ghost use Rattle.county_codes.specs.declared.group.Grouping.{Grouping as GroupingHeld};
@@ -35,7 +36,7 @@ pub(crate) fn taken_of<C: CountySet>(
     requires fits { length ground.now.ordered.now.order ≤ C.PLACES }
     ensures taken { (s : StateValue)
         → Fits ground.now.round.now.language (problem_in ground.now) s (codes_of_set ground.now.ordered.now.order C.test group.now)
-        → length (codes_of_set ground.now.ordered.now.order C.test group.now) ≤ 128
+        → length (codes_of_set ground.now.ordered.now.order C.test group.now) ≤ most_counties
         → IfOk outcome (IsOutcome (problem_in ground.now) (round_in ground.now) (close (codes_of_set ground.now.ordered.now.order C.test group.now) s))
         → IfOk result (IsTaken (problem_in ground.now) (round_in ground.now) s (codes_of_set ground.now.ordered.now.order C.test group.now)) }
     ensures stopped { IsErrOf result Stop.StepLimit → IsErrOf outcome Stop.StepLimit }

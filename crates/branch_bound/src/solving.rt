@@ -2,6 +2,7 @@
 
 ghost use Rattle.std.specs.Prelude.{◌≡◌, ℕ, ◌≤◌, ◌<◌, Some, None, length, All, IfOk, OnOk, IsErrOf};
 ghost use Rattle.std.specs.List.Sorted.{IsStrictlyIncreasing};
+ghost use Rattle.county_codes.specs.Limits.{most_counties};
 ghost use Rattle.certificate_lines.specs.Fits.{AreCodes};
 ghost use Rattle.county_regions.specs.Rows.{AreRows};
 ghost use Rattle.grouping_problem.specs.ProblemValue.{problem_of};
@@ -51,8 +52,8 @@ fn limit_after(limit: u16) -> u16 {
 
 /// How many counties the largest group of a grouping has.
 fn largest_size(grouping: &Grouping) -> u16
-    requires few { All (λ m. length m.codes ≤ 128) grouping.now.groups.items }
-    ensures bound { result ≤ 128 }
+    requires few { All (λ m. length m.codes ≤ most_counties) grouping.now.groups.items }
+    ensures bound { result ≤ most_counties }
     ensures large { All (λ m. length m.codes ≤ result) grouping.now.groups.items }
 {
     let mut largest = 0;
@@ -105,7 +106,7 @@ fn prove_first<C: CountySet>(
     requires fits { length ordered.now.order ≤ C.PLACES }
     requires rows { AreRows C C.test (problem_at ordered.now) (length ordered.now.order) near.now }
     requires order { ordered.now.order ≡ round.now.order }
-    requires small { round.now.limit ≤ 128 }
+    requires small { round.now.limit ≤ most_counties }
     requires wide { round.now.language ≡ Wide }
     ensures outcome { IfOk result (IsOutcome (problem_of ordered.now.problem) (round_of round.now) (empty_state (problem_of ordered.now.problem))) }
     ensures counted { OnOk result (steps.old.used < steps.new.used) }
@@ -133,7 +134,7 @@ fn prove_round<C: CountySet>(
 ) -> Result<Outcome, Stop>
     requires fits { length ordered.now.order ≤ C.PLACES }
     requires rows { AreRows C C.test (problem_at ordered.now) (length ordered.now.order) near.now }
-    requires small { limit ≤ 128 }
+    requires small { limit ≤ most_counties }
     ensures outcome { IfOk
         result
         (IsOutcome
@@ -160,7 +161,7 @@ fn best(
     tree: Tree,
 ) -> Result<Answer, AllocError>
     requires target { IsTarget (problem_of ordered.now.problem) ordered.now.order target.groups.items }
-    requires small { limit ≤ 128 }
+    requires small { limit ≤ most_counties }
     requires large { All (λ m. length m.codes ≤ limit) target.groups.items }
     requires order { IsStrictlyIncreasing ordered.now.order }
     requires tree { IsProof

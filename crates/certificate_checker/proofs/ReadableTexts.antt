@@ -1,5 +1,6 @@
 -- The tree of a certificate that a text can spell is readable, and the certificate's limit and order are small.
 use Rattle.std.proofs.Common.{◌≤◌, List, [], ◌∷◌, length}
+use Rattle.county_codes.specs.Limits.{most_counties}
 use Rattle.certificate_languages.specs.declared.language.Language.{Language}
 use Rattle.proof_trees.specs.Tree.{Allowance, room, weigh, stuck, seats, bound, Tree, leaf, branch, Takes, no_take, take}
 use Rattle.certificate_lines.specs.Fits.{AllFit}
@@ -31,8 +32,8 @@ mutual
 pub readable_of_fits : (c : Certificate) → AllFit (want.Head ∷ []) (items_of_certificate c) → IsReadable c.round.language c.tree
 readable_of_fits c f = tree_readable c.round.language c.tree (formed_of_fits c f)
 
-pub limit_of_fits : (c : Certificate) → AllFit (want.Head ∷ []) (items_of_certificate c) → c.round.limit ≤ 128
+pub limit_of_fits : (c : Certificate) → AllFit (want.Head ∷ []) (items_of_certificate c) → c.round.limit ≤ most_counties
 limit_of_fits c f = f.1.1.0
 
-pub order_of_fits : (c : Certificate) → AllFit (want.Head ∷ []) (items_of_certificate c) → length c.round.order ≤ 128
+pub order_of_fits : (c : Certificate) → AllFit (want.Head ∷ []) (items_of_certificate c) → length c.round.order ≤ most_counties
 order_of_fits c f = f.1.0.0

@@ -15,6 +15,7 @@ use Rattle.certificate_lines.specs.declared.item.Item.TheVariants.{Allows}
 use Rattle.certificate_lines.specs.Courses.{only_fault}
 use Rattle.certificate_lines.specs.declared.item.Item.{Item}
 use Rattle.std.specs.Borrow.{Bor}
+use Rattle.county_codes.specs.Limits.{most_counties}
 use Rattle.verdicts.specs.Fault.{Fault}
 use Rattle.verdicts.specs.End.{fine, faulty}
 use Rattle.verdicts.specs.Leaves.{LeafEnds, IsAllowanceFault}
@@ -48,7 +49,7 @@ pub record IsGround {C : Type 0} (places : ℕ) (test : C → ℕ → Bool) (g :
   pub fits : length g.ordered.now.order ≤ places
   pub rows : AreRows C test (problem_at g.ordered.now) (length g.ordered.now.order) g.near.now
   pub order : g.ordered.now.order ≡ g.round.now.order
-  pub small : g.round.now.limit ≤ 128
+  pub small : g.round.now.limit ≤ most_counties
   pub wanted : AreWanted (target_of g.round.now.target) g.wanted
 
 -- A line of one form was read; or there was none, or one of another form, or no step was left.
@@ -123,7 +124,7 @@ IsLineJudged p round s wanted i used (line ∷ lines) rest old (Err stop.Memory)
 -- so many counties are used up by groups of a size or a smaller one, that there is room for them
 abbrev pub IsSmall : Allowed → Type 0
 IsSmall Loss = ⊤
-IsSmall (Even now) = now ≤ 128
+IsSmall (Even now) = now ≤ most_counties
 
 -- The groups of a branch are listed, whose line was read last: its takes are left then, and behind them what is raised past its limit.
 abbrev pub IsListed : Problem → Round → State → ℕ → Option ℕ → List (List ℕ) → FeedValue → FeedValue → Type 0

@@ -1,4 +1,5 @@
 ghost use Rattle.std.specs.Prelude.{◌≡◌, ℕ, ◌≤◌, ◌<◌, ◌∷◌, List, All, length, IfOk, MatchResult};
+ghost use Rattle.county_codes.specs.Limits.{most_counties};
 ghost use Rattle.grouping_problem.specs.ProblemValue.{problem_of};
 ghost use Rattle.ordered_counties.specs.OrderedValue.{code_at};
 ghost use Rattle.proof_trees.specs.RoundValue.{round_of};
@@ -32,7 +33,7 @@ pub(crate) fn listed_groups<C: CountySet, S: ItemSource>(
     ensures fed { IsFed (feed_of S.course feed.old) result (feed_of S.course feed.new) }
     ensures same { S.course feed.new.source ≡ S.course feed.old.source }
     ensures place { IfOk result (λ b. (b.place < length ground.now.ordered.now.order) × (code_at ground.now.ordered.now.order b.place ≡ county)) }
-    ensures size { IfOk result (λ b. (b.limit ≡ limit_of (round_of ground.now.round.now) limit) × (b.limit ≤ 128)) }
+    ensures size { IfOk result (λ b. (b.limit ≡ limit_of (round_of ground.now.round.now) limit) × (b.limit ≤ most_counties)) }
     ensures groups { IfOk result (λ b. All (IsClosable C.test state.now) b.groups.items) }
     ensures judged { MatchResult
         result

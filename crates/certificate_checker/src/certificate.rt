@@ -2,6 +2,7 @@
 
 ghost use Rattle.std.specs.Prelude.{◌≡◌, ℕ, ◌≤◌, ◌<◌, ◌+◌, ◌∷◌, [], ◌++◌, List, length, nat_lt, IfOk, IfErr, MatchResult};
 ghost use Rattle.std.specs.List.{list_any};
+ghost use Rattle.county_codes.specs.Limits.{most_counties};
 ghost use Rattle.grouping_laws.specs.GroupsFrom.{IsOrder};
 ghost use Rattle.grouping_problem.specs.ProblemValue.{problem_of};
 ghost use Rattle.proof_trees.specs.RoundValue.{round_of, target_of};
@@ -118,7 +119,7 @@ pub(crate) fn judge_placed<C: CountySet, S: ItemSource>(
 ) -> Result<(), Stop>
     requires fits { length ordered.now.order ≤ C.PLACES }
     requires order { ordered.now.order ≡ round.now.order }
-    requires small { round.now.limit ≤ 128 }
+    requires small { round.now.limit ≤ most_counties }
     requires wanted { AreWanted (target_of round.now.target) wanted }
     requires placed { IsPlaced (length ordered.now.order) C.test state.old }
     requires counted { feed.old.line ≤ feed.old.steps.used }
@@ -157,7 +158,7 @@ fn judge_first<C: CountySet, S: ItemSource>(
 ) -> Result<(), Stop>
     requires fits { length ordered.now.order ≤ C.PLACES }
     requires order { ordered.now.order ≡ round.now.order }
-    requires small { round.now.limit ≤ 128 }
+    requires small { round.now.limit ≤ most_counties }
     requires wanted { AreWanted (target_of round.now.target) wanted }
     requires counted { feed.old.line ≤ feed.old.steps.used }
     ensures fed { IsFed (feed_of S.course feed.old) result (feed_of S.course feed.new) }
@@ -188,7 +189,7 @@ fn judge_round<C: CountySet, S: ItemSource>(
     feed: &mut Feed<S>,
 ) -> Result<(), Stop>
     requires fits { length problem.now.counties ≤ C.PLACES }
-    requires small { round.now.limit ≤ 128 }
+    requires small { round.now.limit ≤ most_counties }
     requires counted { feed.old.line ≤ feed.old.steps.used }
     ensures fed { IsFed (feed_of S.course feed.old) result (feed_of S.course feed.new) }
     ensures judged { (tree : Tree) (rest : List ItemValue)

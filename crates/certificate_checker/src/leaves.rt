@@ -1,4 +1,5 @@
 ghost use Rattle.std.specs.Prelude.{◌≡◌, ℕ, ◌≤◌, ◌++◌, List, length, IfOk};
+ghost use Rattle.county_codes.specs.Limits.{most_counties};
 ghost use Rattle.grouping_problem.specs.ProblemValue.{problem_of};
 ghost use Rattle.proof_trees.specs.RoundValue.{round_of};
 ghost use Rattle.proof_trees.specs.Tree.{Allowance as AllowanceValue, stuck, seats, bound};
@@ -88,7 +89,7 @@ fn judge_line<C: CountySet, S: ItemSource>(
     requires placed { IsPlaced (length ground.now.ordered.now.order) C.test state.now }
     requires counted { feed.old.line ≤ feed.old.steps.used }
     requires size { 1 ≤ size }
-    requires used { used ≤ 128 }
+    requires used { used ≤ most_counties }
     ensures fed { IsFed (feed_of S.course feed.old) result (feed_of S.course feed.new) }
     ensures small { IfOk result IsSmall }
     ensures judged { (counts : ℕ → ℕ) (lines : List AllowanceValue) (rest : List ItemValue)

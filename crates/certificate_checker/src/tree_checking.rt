@@ -1,6 +1,7 @@
 //! The verdict on a tree.
 
 ghost use Rattle.std.specs.Prelude.{◌≡◌, ◌≤◌, length, IfOk};
+ghost use Rattle.county_codes.specs.Limits.{most_counties};
 ghost use Rattle.grouping_laws.specs.GroupsFrom.{IsOrder};
 ghost use Rattle.grouping_problem.specs.ProblemValue.{problem_of};
 ghost use Rattle.proof_trees.specs.RoundValue.{round_of, target_of};
@@ -68,7 +69,7 @@ fn check_lines<C: CountySet>(
 ) -> Result<TreeVerdict, AllocError>
     requires fits { length ordered.now.order ≤ C.PLACES }
     requires order { ordered.now.order ≡ round.now.order }
-    requires small { round.now.limit ≤ 128 }
+    requires small { round.now.limit ≤ most_counties }
     requires wanted { AreWanted (target_of round.now.target) wanted }
     requires placed { IsPlaced (length ordered.now.order) C.test state.old }
     ensures { (tree : TreeValue)
@@ -96,7 +97,7 @@ fn check_lines<C: CountySet>(
 /// each set of counties that is met counts one, and `Budget` comes only where the budget is below the cost of the tree, three for each
 /// of its lines and for each set of counties that they ask to look through.
 ///
-/// The order has each county of the problem once, the target, if there is one, is lawful, and the limit is at most 128 counties. The state
+/// The order has each county of the problem once, the target, if there is one, is lawful, and the limit is at most 256 counties. The state
 /// is by places of the order.
 ///
 /// # Errors
@@ -112,7 +113,7 @@ pub fn check_tree<C: CountySet>(
 ) -> Result<TreeVerdict, AllocError>
     requires fits { length round.now.order ≤ C.PLACES }
     requires order { IsOrder (problem_of problem.now) round.now.order }
-    requires small { round.now.limit ≤ 128 }
+    requires small { round.now.limit ≤ most_counties }
     requires target { IsLawfulTarget (problem_of problem.now) (target_of round.now.target) }
     requires placed { IsPlaced (length round.now.order) C.test state.now }
     ensures verdict { IfOk result (IsTreeAnswer (problem_of problem.now) (round_of round.now) (state_at round.now.order C.test state.now) (tree_of tree.now) budget) }

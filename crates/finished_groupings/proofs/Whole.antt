@@ -1,5 +1,6 @@
 -- The grouping of the sets of a finished state with their seats.
 use Rattle.std.proofs.Common.{◌≡◌, ℕ, ◌≤◌, Bool, List, filter, length, sym, ap, ◌∙◌, subst, All, AllPairs}
+use Rattle.county_codes.specs.Limits.{most_counties}
 use Rattle.grouping_laws.specs.Sets.{total, member}
 use Rattle.grouping_laws.specs.Problem.{Problem}
 use Rattle.grouping_laws.specs.Grouping.{Grouping, sets_of}
@@ -47,7 +48,7 @@ module _ {C : Type 0} (test : C → ℕ → Bool) (p : Problem) (round : Round) 
             let r : (x : C) × Has sets x × (codes_of_set order test x ≡ m.codes) = has_mapped (codes_of_set order test) sets m.codes (subst (λ z. Has z m.codes) same_sets (has_set groups m h)) in
             subst (λ z. filter (member z) order ≡ z) r.2 (codes_ordered test order (order_once p order whole) p r.0)
 
-    pub groups_lines : length order ≤ 128 → All HasNumbers groups → HasTargetLines groups
+    pub groups_lines : length order ≤ most_counties → All HasNumbers groups → HasTargetLines groups
     groups_lines small numbers =
         target_lines p order groups whole small (subst (CoverOnce p) (sym same_sets) (cover_once p round s codes end are))
         (λ g h. some_county p round s codes end are g (subst (λ z. Has z g) same_sets h)) numbers

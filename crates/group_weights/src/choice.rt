@@ -1,4 +1,5 @@
 ghost use Rattle.std.specs.Prelude.{◌≡◌, ℕ, true, false, ◌<◌, ◌≤◌, length, All, Contains, IfOk, MatchOption};
+ghost use Rattle.county_codes.specs.Limits.{most_counties};
 ghost use Rattle.growing_sets.specs.Listing.{AreBelow};
 
 use crate::sets::{covered_by, lightest};
@@ -58,7 +59,7 @@ pub fn county_of_choice<C: CountySet>(
     weights: &[u32],
 ) -> Result<Option<u16>, AllocError>
     requires fits { places ≤ C.PLACES }
-    requires few { places ≤ 128 }
+    requires few { places ≤ most_counties }
     requires below { AreBelow places C.test groups.now }
     requires count { length weights.now ≡ places }
     ensures { IfOk

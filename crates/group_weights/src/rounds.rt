@@ -1,4 +1,5 @@
 ghost use Rattle.std.specs.Prelude.{◌≡◌, ℕ, true, ◌<◌, ◌≤◌, length, All, IfOk};
+ghost use Rattle.county_codes.specs.Limits.{most_counties};
 ghost use Rattle.growing_sets.specs.Listing.{AreBelow};
 
 use crate::sets::{covered_by, lightest};
@@ -44,7 +45,7 @@ fn better<C: CountySet>(
     covered: &C,
     quota: u64,
 ) -> Result<Weighing, AllocError>
-    requires few { length weights.now ≤ 128 }
+    requires few { length weights.now ≤ most_counties }
     requires within { (x : ℕ) → C.test covered.now x ≡ true → x < length weights.now }
     requires count { length best.weights.items ≡ length weights.now }
     requires best_range { All (λ w. w ≤ 1000000) best.weights.items }
@@ -73,7 +74,7 @@ fn better_lowered<C: CountySet>(
     covered: &C,
     quota: u64,
 ) -> Result<Weighing, AllocError>
-    requires few { length weights.now ≤ 128 }
+    requires few { length weights.now ≤ most_counties }
     requires below { AreBelow (length weights.now) C.test groups.now }
     requires within { (x : ℕ) → C.test covered.now x ≡ true → x < length weights.now }
     requires count { length best.weights.items ≡ length weights.now }
@@ -96,7 +97,7 @@ fn best_of_rounds<C: CountySet>(
     found: Weighing,
     wanted: u32,
 ) -> Result<Vec<u32>, AllocError>
-    requires few { length weights.old ≤ 128 }
+    requires few { length weights.old ≤ most_counties }
     requires below { AreBelow (length weights.old) C.test groups.now }
     requires some { 0 < length groups.now }
     requires within { (x : ℕ) → C.test covered.now x ≡ true → x < length weights.old }
@@ -136,7 +137,7 @@ pub fn weigh<C: CountySet>(
     wanted: u32,
 ) -> Result<Vec<u32>, AllocError>
     requires fits { places ≤ C.PLACES }
-    requires few { places ≤ 128 }
+    requires few { places ≤ most_counties }
     requires below { AreBelow places C.test groups.now }
     ensures count { IfOk result (λ v. length v.items ≡ places) }
     ensures range { IfOk result (λ v. All (λ w. w ≤ 1000000) v.items) }

@@ -1,5 +1,6 @@
 ghost use Rattle.std.specs.Prelude.{◌≡◌, ℕ, ◌<◌, ◌≤◌, length, IfOk};
 ghost use Rattle.std.specs.List.{list_any};
+ghost use Rattle.county_codes.specs.Limits.{most_counties};
 ghost use Rattle.growing_sets.specs.Listing.{AreBelow};
 
 use place_sets::CountySet;
@@ -19,7 +20,7 @@ pub(crate) fn covered_by<C: CountySet>(alloc: Global, groups: &[C]) -> Result<C,
 
 /// The index of the lightest group, the first of several, and its weight.
 pub(crate) fn lightest<C: CountySet>(weights: &[u32], groups: &[C]) -> (usize, u64)
-    requires few { length weights.now ≤ 128 }
+    requires few { length weights.now ≤ most_counties }
     requires below { AreBelow (length weights.now) C.test groups.now }
     requires some { 0 < length groups.now }
     ensures { result.0 < length groups.now }

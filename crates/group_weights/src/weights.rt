@@ -1,4 +1,5 @@
 ghost use Rattle.std.specs.Prelude.{◌≡◌, ℕ, true, ◌<◌, ◌≤◌, length, get_or, All, IfOk};
+ghost use Rattle.county_codes.specs.Limits.{most_counties};
 ghost use Rattle.growing_sets.specs.Listing.{AreBelow};
 
 use place_sets::CountySet;
@@ -75,7 +76,7 @@ pub(crate) fn raise<C: CountySet>(weights: &mut [u32], group: &C)
 
 /// By how much the county at a place can be lighter while each of its groups weighs the quota: at most its weight.
 fn slack<C: CountySet>(weights: &[u32], groups: &[C], place: u16, quota: u64) -> u32
-    requires few { length weights.now ≤ 128 }
+    requires few { length weights.now ≤ most_counties }
     requires below { AreBelow (length weights.now) C.test groups.now }
     requires there { place < length weights.now }
     requires fits { place < C.PLACES }
@@ -101,7 +102,7 @@ pub(crate) fn lowered<C: CountySet>(
     covered: &C,
     quota: u64,
 ) -> Result<Vec<u32>, AllocError>
-    requires few { length weights.now ≤ 128 }
+    requires few { length weights.now ≤ most_counties }
     requires below { AreBelow (length weights.now) C.test groups.now }
     requires within { (x : ℕ) → C.test covered.now x ≡ true → x < length weights.now }
     requires range { All (λ w. w ≤ 1000000) weights.now }

@@ -1,4 +1,5 @@
 ghost use Rattle.std.specs.Prelude.{◌≡◌, ◌≢◌, ℕ, ◌≤◌, ◌↔◌, length, All, IsTrue, IfOk, IfErr, OnOk, MatchResult};
+ghost use Rattle.county_codes.specs.Limits.{most_counties};
 ghost use Rattle.grouping_judge.specs.declared.grouping_fault.GroupingFault.TheVariants.{Memory};
 ghost use Rattle.grouping_laws.specs.Sets.{often};
 ghost use Rattle.grouping_laws.specs.Problem.{Suits, people_of, Connected};
@@ -51,8 +52,8 @@ fn read_codes(alloc: Global, groups: &[Group]) -> Result<Vec<CountyCode>, AllocE
 
 /// Tests that the groups have each county of the problem once, and no other code.
 fn check_codes(alloc: Global, problem: &Problem, groups: &[Group]) -> Result<(), GroupingFault>
-    ensures few { OnOk result (length groups.now ≤ 128) }
-    ensures small { OnOk result (All (λ s. length s.codes ≤ 128) groups.now) }
+    ensures few { OnOk result (length groups.now ≤ most_counties) }
+    ensures small { OnOk result (All (λ s. length s.codes ≤ most_counties) groups.now) }
     ensures test { MatchResult result (λ _. NoneMissing (problem_of problem.now) groups.now) (IsFault (problem_of problem.now) groups.now) }
     ensures memory { IfErr result (λ fault. fault ≡ Memory → NoneEmpty groups.now) }
 {
@@ -110,7 +111,7 @@ fn suits(problem: &Problem, group: &Group) -> bool
 
 /// The seats of all groups.
 fn total_seats(groups: &[Group]) -> u64
-    requires { length groups.now ≤ 128 }
+    requires { length groups.now ≤ most_counties }
     ensures { result ≡ seats_of groups.now }
 {
     let mut seats = 0;
@@ -122,7 +123,7 @@ fn total_seats(groups: &[Group]) -> u64
 
 /// Tests that the people of every group suit its seats, and that the seats are those left.
 fn check_seats(problem: &Problem, groups: &[Group]) -> Result<(), GroupingFault>
-    requires few { length groups.now ≤ 128 }
+    requires few { length groups.now ≤ most_counties }
     requires connected { AllConnected (problem_of problem.now) groups.now }
     ensures { MatchResult
         result
@@ -145,8 +146,8 @@ fn check_seats(problem: &Problem, groups: &[Group]) -> Result<(), GroupingFault>
 /// The counts of the groups.
 fn tally(alloc: Global, groups: &[Group]) -> Result<Counts, AllocError>
     requires some { NoneEmpty groups.now }
-    requires few { length groups.now ≤ 128 }
-    requires small { All (λ s. length s.codes ≤ 128) groups.now }
+    requires few { length groups.now ≤ most_counties }
+    requires small { All (λ s. length s.codes ≤ most_counties) groups.now }
     ensures { IfOk result (λ list. (size : ℕ) → count_at list size ≡ counts (sets_of groups.now) size) }
 {
     let mut counts = Counts::new(alloc);
@@ -171,7 +172,7 @@ fn tally(alloc: Global, groups: &[Group]) -> Result<Counts, AllocError>
 pub fn judge(alloc: Global, problem: &Problem, grouping: &Grouping) -> Result<Counts, GroupingFault>
     ensures counts { IfOk result (λ list. (size : ℕ) → count_at list size ≡ counts (sets_of grouping.now.groups.items) size) }
     ensures lawful { IfOk result (λ _. Lawful (problem_of problem.now) grouping.now.groups.items) }
-    ensures few { IfOk result (λ _. length grouping.now.groups.items ≤ 128) }
+    ensures few { IfOk result (λ _. length grouping.now.groups.items ≤ most_counties) }
     ensures fault { IfErr result (IsFault (problem_of problem.now) grouping.now.groups.items) }
     ensures unlawful { IfErr result (λ fault. fault ≢ Memory → ¬ Lawful (problem_of problem.now) grouping.now.groups.items) }
     ensures memory { IfErr result (λ fault. fault ≡ Memory → NoneEmpty grouping.now.groups.items) }

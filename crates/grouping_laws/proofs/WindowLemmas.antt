@@ -23,7 +23,7 @@ module _ (x d k : ℕ) (some : 0 < d) where
 regrouped_right : (n k t : ℕ) → n * (k * t) ≡ n * k * t
 regrouped_right n k t = omega arith
 
-pos_product : (a b : ℕ) → 1 ≤ a → 1 ≤ b → 0 < a * b
+pub pos_product : (a b : ℕ) → 1 ≤ a → 1 ≤ b → 0 < a * b
 pos_product a b one two = grind arith
 
 -- between the quotients of three products, on plain numbers

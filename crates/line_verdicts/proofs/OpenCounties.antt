@@ -1,6 +1,7 @@
 -- The counties that are open to a group, by places and by codes, and the groups and sets among them.
 use Rattle.std.proofs.Common.{◌≡◌, ℕ, ◌-◌, ◌≤◌, ◌&&◌, nat_le, refl, List, map, length, sym, ap, ◌∙◌, subst, arith}
 use Rattle.std.proofs.lemmas.List.{length-map}
+use Rattle.county_codes.specs.Limits.{most_counties}
 use Rattle.grouping_laws.specs.Sets.{often}
 use Rattle.grouping_laws.specs.Problem.{Problem, IsProblem}
 use Rattle.grouping_laws.specs.GroupsFrom.{IsOrder, place}
@@ -36,7 +37,7 @@ open_many p order s t i is whole at =
 pub room_same : (p : Problem) (order : List ℕ) (s t : State) (i used : ℕ) → IsProblem p → IsOrder p order → IsStateAt order s t → room_at (at_places p order) t i used ≡ room_at p s i used
 room_same p order s t i used is whole at = omega (arith, open_many p order s t i is whole at)
 
-pub room_few : (p : Problem) (order : List ℕ) (s t : State) (i used : ℕ) → IsProblem p → IsOrder p order → IsStateAt order s t → length order ≤ 128 → room_at p s i used ≤ 128 - used
+pub room_few : (p : Problem) (order : List ℕ) (s t : State) (i used : ℕ) → IsProblem p → IsOrder p order → IsStateAt order s t → length order ≤ most_counties → room_at p s i used ≤ most_counties - used
 room_few p order s t i used is whole at small = omega (arith, open_many p order s t i is whole at, few (length order) (open_to t i), small)
 
 -- a set of places within the open ones is a set of codes

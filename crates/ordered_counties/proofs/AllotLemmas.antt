@@ -2,7 +2,8 @@
 use Rattle.std.proofs.Common.{◌≡◌, ℕ, ◌+◌, ◌-◌, ◌*◌, ◌<◌, ◌≤◌, min, List, [], ◌∷◌, ◌++◌, length, take, drop, drop-cons, add-one, get_or, Some, All, sym, ap, subst, arith, inl, inr}
 use Rattle.std.proofs.lemmas.List.{take_more}
 use Rattle.std.proofs.lemmas.List.Elements.{AllZip-get_or}
-use Rattle.std.proofs.Math.Nat.{le_of_mul-le-mul_right, mul-le-mul_left}
+use Rattle.std.proofs.Math.Nat.{le_of_mul-le-mul_right, mul-le-mul_left, mul-le-mul_right}
+use Rattle.grouping_laws.proofs.WindowLemmas.{pos_product}
 use Rattle.grouping_laws.specs.Sets.{total}
 use Rattle.grouping_laws.specs.Problem.{Problem, Suits}
 use Rattle.grouping_laws.specs.SeatWindow.{IsRun}
@@ -86,14 +87,15 @@ module _ (p : Problem) where
       added : (b t w g n h m : ℕ) → b * g * t ≤ w * n → b * h * t ≤ w * m → b * (g + h) * t ≤ w * (n + m)
       added b t w g n h m i j = omega (arith, i, j)
 
-  -- with a twentieth of the ideal population allowed they are at most twenty nineteenths of the chamber's
-  pub few_seats : (people : List ℕ) (ranges : List (ℕ × ℕ)) → AreRuns p people ranges → p.tolerance ≡ 1 → p.scale ≡ 20 → 1 ≤ p.total_people → p.chamber ≤ 1000 → total (λ n. n) people ≤ p.total_people → greatest_sum ranges ≤ 2000
-  few_seats people ranges h one twenty some seats fits =
-      bounded p.scale p.tolerance p.total_people p.chamber (greatest_sum ranges) (total (λ n. n) people) one twenty some seats fits (greatest_within people ranges h)
+  -- a district has at least half of the ideal population, so they are at most twice the chamber's
+  pub few_seats : (people : List ℕ) (ranges : List (ℕ × ℕ)) → AreRuns p people ranges → 1 ≤ p.scale → 2 * p.tolerance ≤ p.scale → 1 ≤ p.total_people → p.chamber ≤ 1000 → total (λ n. n) people ≤ p.total_people → greatest_sum ranges ≤ 2000
+  few_seats people ranges h scaled half some seats fits =
+      bounded (p.scale - p.tolerance) p.scale p.total_people p.chamber (greatest_sum ranges) (total (λ n. n) people) (omega (arith, scaled, half)) (omega (arith, half)) some seats fits (greatest_within people ranges h)
     where
-      bounded : (s a t c g m : ℕ) → a ≡ 1 → s ≡ 20 → 1 ≤ t → c ≤ 1000 → m ≤ t → (s - a) * g * t ≤ s * c * m → g ≤ 2000
-      bounded s a t c g m one twenty some seats fits h =
-          let all : 19 * g * t ≤ 20 * c * m = subst (λ z. (20 - z) * g * t ≤ 20 * c * m) one (subst (λ z. (z - a) * g * t ≤ z * c * m) twenty h) in
-          let less : 20 * c * m ≤ 20 * c * t = mul-le-mul_left (20 * c) fits in
-          let each : 19 * g ≤ 20 * c = le_of_mul-le-mul_right (omega (arith, all, less)) some in
-          omega (arith, each, seats)
+      bounded : (b s t c g m : ℕ) → 1 ≤ b → s ≤ 2 * b → 1 ≤ t → c ≤ 1000 → m ≤ t → b * g * t ≤ s * c * m → g ≤ 2000
+      bounded b s t c g m one half some seats fits h =
+          let all : s * c * m ≤ s * c * t = mul-le-mul_left (s * c) fits in
+          let less : s * (c * t) ≤ 2 * b * (c * t) = mul-le-mul_right (c * t) half in
+          let each : g * (b * t) ≤ 2 * c * (b * t) = omega (arith, h, all, less) in
+          let few : g ≤ 2 * c = le_of_mul-le-mul_right each (pos_product b t one some) in
+          omega (arith, few, seats)

@@ -1,6 +1,7 @@
 -- The counties of a problem in an order, as contracts see them.
 use Rattle.std.specs.Prelude.{ℕ, ◌≡◌, ◌≤◌, Bool, List, map, length, get_or}
 use Rattle.std.specs.List.{flat_map}
+use Rattle.county_codes.specs.Limits.{most_counties}
 use Rattle.grouping_laws.specs.Problem.{Problem, IsProblem}
 use Rattle.grouping_problem.specs.ProblemValue.{ProblemValue, problem_of, people_at}
 use Rattle.grouping_problem.specs.Building.{people_in}
@@ -25,6 +26,6 @@ pub record IsOrdered (v : ProblemValue) (order people : List ℕ) (rows : List B
   pub is_order : IsOrder (problem_of v) order
   pub is_problem : IsProblem (problem_of v)
   pub fits : people_in v.counties ≤ v.total_people
-  pub few : length order ≤ 128
+  pub few : length order ≤ most_counties
   pub people_are : people ≡ map (people_at v.counties) order
   pub rows_are : rows ≡ rows_of (problem_of v).adjacent order

@@ -1,4 +1,5 @@
 ghost use Rattle.std.specs.Prelude.{◌≡◌, ℕ, ◌<◌, ◌≤◌, ◌↔◌, ◌++◌, ◌&&◌, length, map, IsTrue, IfOk, IfErr, OnOk};
+ghost use Rattle.county_codes.specs.Limits.{most_counties};
 ghost use Rattle.ordered_counties.specs.declared.order_fault.OrderFault.TheVariants.{WrongOrder};
 ghost use Rattle.std.specs.Option.{is_none};
 ghost use Rattle.grouping_laws.specs.Sets.{often};
@@ -158,10 +159,10 @@ impl<'a> Ordered<'a> {
         self.problem
     }
 
-    /// How many places there are, at most 128: the counties of the problem.
+    /// How many places there are, at most 256: the counties of the problem.
     pub fn places(&self) -> u16
         ensures value { result ≡ length self.now.order }
-        ensures few { result ≤ 128 }
+        ensures few { result ≤ most_counties }
         ensures order { IsOrder (problem_of self.now.problem) self.now.order }
         ensures problem { IsProblem (at_places (problem_of self.now.problem) self.now.order) }
         ensures people { people_of (at_places (problem_of self.now.problem) self.now.order) (places_below (length self.now.order)) ≤ self.now.problem.total_people }

@@ -1,5 +1,6 @@
 -- The branches above the pieces with which a round begins, and the states at which these pieces stand.
 use Rattle.std.specs.Prelude.{ℕ, ◌+◌, ◌*◌, ◌≡◌, ◌≢◌, ◌≤◌, ◌<◌, Bool, true, List, length, All, ⊤}
+use Rattle.county_codes.specs.Limits.{most_counties}
 use Rattle.grouping_laws.specs.Problem.{Problem}
 use Rattle.grouping_problem.specs.ProblemValue.{problem_of}
 use Rattle.ordered_counties.specs.OrderedValue.{problem_at, code_at}
@@ -70,7 +71,7 @@ pub record IsGround {C : Type 0} (places : ℕ) (test : C → ℕ → Bool) (g :
   pub fits : length g.ordered.now.order ≤ places
   pub rows : AreRows C test (problem_at g.ordered.now) (length g.ordered.now.order) g.near.now
   pub order : g.ordered.now.order ≡ g.round.now.order
-  pub small : g.round.now.limit ≤ 128
+  pub small : g.round.now.limit ≤ most_counties
 
 -- no county is open, so that a piece stands here
 abbrev pub NoneIsOpen : Round → State → Type 0

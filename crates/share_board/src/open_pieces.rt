@@ -1,6 +1,7 @@
 //! Which pieces wait, and the round in which they are proved.
 
 ghost use Rattle.std.specs.Prelude.{◌≡◌, ℕ, ◌≤◌, ◌<◌, length, IfOk};
+ghost use Rattle.county_codes.specs.Limits.{most_counties};
 ghost use Rattle.grouping_laws.specs.GroupsFrom.{IsOrder};
 ghost use Rattle.grouping_problem.specs.ProblemValue.{problem_of};
 ghost use Rattle.proof_trees.specs.RoundValue.{round_of};
@@ -49,7 +50,7 @@ impl<C: CountySet> Board<C> {
         ensures round { (b : Content) → IsOf C.test self.now b → round_of result.now ≡ b.round }
         ensures same_order { result.now.order ≡ self.now.round.order }
         ensures order { (b : Content) → IsOf C.test self.now b → IsOrder (problem_of self.now.problem) result.now.order }
-        ensures small { (b : Content) → IsOf C.test self.now b → result.now.limit ≤ 128 }
+        ensures small { (b : Content) → IsOf C.test self.now b → result.now.limit ≤ most_counties }
         ensures states { (b : Content) (n : ℕ) (s : StateValue)
             → IsOf C.test self.now b
             → StandsAt b.skeleton b.round (empty_state (problem_of self.now.problem)) n s

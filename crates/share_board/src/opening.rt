@@ -1,6 +1,7 @@
 //! How a round begins: the branches above its pieces, and the states at which these stand.
 
 ghost use Rattle.std.specs.Prelude.{◌≡◌, ℕ, ◌-◌, ◌≤◌, All, length, IfOk, IfErr};
+ghost use Rattle.county_codes.specs.Limits.{most_counties};
 ghost use Rattle.certificate_text.specs.Trees.{tree_of, list_of_takes};
 ghost use Rattle.grouping_problem.specs.ProblemValue.{problem_of};
 ghost use Rattle.line_verdicts.specs.Placed.{codes_of_sets, IsPlaced, IsClosable};
@@ -157,7 +158,7 @@ pub(crate) fn opened<C: CountySet>(
 ) -> Result<Opening<C>, OpeningStop>
     requires fits { length ordered.now.order ≤ C.PLACES }
     requires order { ordered.now.order ≡ round.now.order }
-    requires small { round.now.limit ≤ 128 }
+    requires small { round.now.limit ≤ most_counties }
     requires plain { 1 ≤ depth → round.now.language ≡ Plain }
     ensures opened { IfOk
         result

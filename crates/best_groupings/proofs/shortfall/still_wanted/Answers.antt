@@ -17,7 +17,7 @@ loop-before-preserved c =
           let product : c.from-in-loop-before.result * missing ≡ (b + 1) * (f (b + 1) - counts s.closed (b + 1)) = ap (λ z. z * missing) size ∙ ap (λ z. (b + 1) * z) miss in
           omega (arith, c.loop-before.invariant.sum s e, still_more s f b, product);
       few =
-          let small : c.from-in-loop-before.result * missing ≤ 8388480 = small_product c.from-in-loop-before.result missing (omega arith) (omega arith) in
+          let small : c.from-in-loop-before.result * missing ≤ 16776960 = small_product c.from-in-loop-before.result missing (omega arith) (omega arith) in
           omega (arith, c.loop-before.invariant.few, small);
     }
 

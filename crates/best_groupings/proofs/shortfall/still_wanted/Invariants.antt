@@ -7,5 +7,5 @@ use Rattle.best_groupings.proofs.shortfall.still_wanted.Given as goal
 abbrev pub invariant-loop-before : goal.invariant-loop-before
 invariant-loop-before l = record {
   sum : (s : State) → l.closed ≡ s.closed → l.counties ≡ still_wanted s (count_at l.wanted) l.before;
-  few : l.counties ≤ 8388480 * l.before;
+  few : l.counties ≤ 16776960 * l.before;
 }

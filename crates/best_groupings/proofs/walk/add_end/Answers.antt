@@ -1,6 +1,7 @@
 use Rattle.std.proofs.Common.{◌≡◌, ◌≤◌, ◌+◌, ℕ, List, map, length, true, false, refl, sym, ap, ◌∙◌, subst, arith}
 use Rattle.std.proofs.lemmas.Bool.Decides.{nat_tests}
 use Rattle.std.proofs.lemmas.List.{length-map}
+use Rattle.county_codes.specs.Limits.{most_counties}
 use Rattle.county_codes.specs.declared.county.County.{County}
 use Rattle.county_codes.specs.Counties.{codes_of}
 use Rattle.grouping_laws.specs.Sets.{total, stands}
@@ -21,7 +22,7 @@ pub falls_short-requires-clause-few : goal.falls_short-requires-clause-few
 falls_short-requires-clause-few c =
     let r = c.requires.at in
     let few = few_waiting (problem_of c.args.ground.now.problem.now) r.0 c.args.position.now r.1.0 in
-    let all : length (codes_of c.args.ground.now.problem.now.counties) ≤ 128 = omega (arith, length-map c.args.ground.now.problem.now.counties (λ (x : County). x.code), ap (λ (l : List County). length l) c.counties-counties.ensures.value, c.counties-counties.ensures.few) in
+    let all : length (codes_of c.args.ground.now.problem.now.counties) ≤ most_counties = omega (arith, length-map c.args.ground.now.problem.now.counties (λ (x : County). x.code), ap (λ (l : List County). length l) c.counties-counties.ensures.value, c.counties-counties.ensures.few) in
     omega (arith, few, all)
 
 pub returns-then-falls_short : goal.returns-then-falls_short

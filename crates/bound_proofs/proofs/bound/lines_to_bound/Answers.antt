@@ -1,5 +1,6 @@
 use Rattle.std.proofs.Common.{◌+◌, ◌*◌, ◌≤◌, refl, sym, ap, subst, arith}
 use Rattle.std.specs.Vec.{vec_items}
+use Rattle.county_codes.specs.Limits.{most_counties}
 use Rattle.grouping_laws.specs.Grouping.{counts, sets_of}
 use Rattle.grouping_problem.specs.ProblemValue.{problem_of}
 use Rattle.proof_trees.specs.RoundValue.{round_of}
@@ -42,7 +43,7 @@ loop-groups-preserved g c =
     let inv = c.loop-groups.invariant in
     record {
       size = omega (arith, inv.size);
-      few = subst (λ n. c.loop-groups.used + n * c.in_ok-more.more ≤ 128) (sym c.from.ensures) c.in_ok-more.ensures.few.1;
+      few = subst (λ n. c.loop-groups.used + n * c.in_ok-more.more ≤ most_counties) (sym c.from.ensures) c.in_ok-more.ensures.few.1;
       reached = reached_next (problem_of c.args.ordered.now.problem) (round_of c.args.round.now) (state_at c.args.ordered.now.order g.C.CountySet.test c.args.state.now) (counts (sets_of c.args.target.now.groups.items)) c.loop-groups.size c.loop-groups.used c.in_ok-more.more c.in_ok-more.ensures.line inv.reached
           (omega (arith, inv.size, c.loop-groups-test.true, c.requires.few)) (omega (arith, c.if-allowed-wanted.false, c.if-allowed-wanted-2.false, c.closed_of_size.ensures.value, c.groups_of_size-wanted.ensures)) (c.loop-groups.size + 1) (c.loop-groups.used + c.from.result * c.in_ok-more.more)
           refl (ap (λ n. c.loop-groups.used + n * c.in_ok-more.more) c.from.ensures);

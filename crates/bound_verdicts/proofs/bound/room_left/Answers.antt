@@ -1,5 +1,6 @@
 use Rattle.std.proofs.Common.{◌≡◌, ◌-◌, ◌≤◌, length, ◌∙◌, arith}
 use Rattle.std.proofs.lemmas.Result.{IfOk-weaker}
+use Rattle.county_codes.specs.Limits.{most_counties}
 use Rattle.grouping_laws.proofs.PlaceProblem.{order_once}
 use Rattle.grouping_problem.specs.ProblemValue.{problem_of}
 use Rattle.ordered_counties.specs.OrderedValue.{problem_at}
@@ -29,7 +30,7 @@ returns-clause-few g c =
     let t = state_of test c.args.state.now in
     let whole = c.places-places.ensures.order in
     let at : IsStateAt order (in_codes order t) t = states_have_codes.there order t (order_once p order whole) c.requires.placed.rest in
-    let small : length order ≤ 128 = omega (arith, c.places-places.ensures.value, c.places-places.ensures.few) in
+    let small : length order ≤ most_counties = omega (arith, c.places-places.ensures.value, c.places-places.ensures.few) in
     let law = c.problem-problem.ensures.law in
-    IfOk-weaker c.room.result (λ left. left ≡ room_at (problem_at c.args.ordered.now) t c.args.size c.args.used) (λ left. left ≤ 128 - c.args.used)
+    IfOk-weaker c.room.result (λ left. left ≡ room_at (problem_at c.args.ordered.now) t c.args.size c.args.used) (λ left. left ≤ most_counties - c.args.used)
     (λ left e. omega (arith, e, room_same p order (in_codes order t) t c.args.size c.args.used law whole at, room_few p order (in_codes order t) t c.args.size c.args.used law whole at small)) c.room.ensures

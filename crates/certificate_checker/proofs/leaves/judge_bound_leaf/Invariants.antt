@@ -1,4 +1,5 @@
 use Rattle.std.proofs.Common.{◌≡◌, ◌≤◌, ◌++◌, List, length, Some}
+use Rattle.county_codes.specs.Limits.{most_counties}
 use Rattle.grouping_laws.specs.Grouping.{Grouping}
 use Rattle.grouping_problem.specs.ProblemValue.{problem_of}
 use Rattle.proof_trees.specs.RoundValue.{round_of, target_of}
@@ -14,7 +15,7 @@ use Rattle.certificate_checker.proofs.leaves.judge_bound_leaf.Given as goal
 abbrev pub invariant-judging : goal.invariant-judging
 invariant-judging g l = record {
   fed : Fed (feed_of g.S.ItemSource.course l.fn.feed) (feed_of g.S.ItemSource.course l.feed);
-  used : l.used ≤ 128;
+  used : l.used ≤ most_counties;
   left : (lines : List AllowanceValue) (rest : List ItemValue) (target : Grouping)
       → AreSpelled lines
       → length lines ≡ l.count

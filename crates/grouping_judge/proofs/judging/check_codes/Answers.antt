@@ -1,6 +1,7 @@
 use Rattle.std.proofs.Common.{◌∙◌, List, length, ap, sym, subst, arith}
 use Rattle.std.proofs.lemmas.List.{length-map}
 use Rattle.std.specs.List.Sorted.{IsStrictlyIncreasing}
+use Rattle.county_codes.specs.Limits.{most_counties}
 use Rattle.county_codes.specs.declared.county.County.{County}
 use Rattle.grouping_problem.specs.ProblemValue.{problem_of, codes_of}
 use Rattle.grouping_problem.specs.Building.{first_repeated, first_unlisted}
@@ -54,7 +55,7 @@ returns-clause-small c =
     let first_missing = ap (λ l. first_unlisted l (codes_of v.counties)) (sym (c.deref-3.ensures.value ∙ c.in_ok-codes.ensures)) ∙ (ap (λ l. first_unlisted c.deref-3.result.now l) (sym (c.deref-4.ensures.value ∙ listed)) ∙ sym c.unlisted_code.ensures) in
     let once : NoneTwice (problem_of v) groups = ((sym c.empty_group.ensures ∙ c.in_default.is, none_unknown), none_twice) in
     let whole = is_whole (problem_of v) groups (once, unlisted_none (codes_read groups) (codes_of v.counties) (first_missing ∙ c.in_default-unlisted_code.is)) in
-    small_groups (problem_of v) groups 128 whole (omega (arith, length-map v.counties (λ x. x.code), ap length c.counties.ensures.value, c.counties.ensures.few))
+    small_groups (problem_of v) groups most_counties whole (omega (arith, length-map v.counties (λ x. x.code), ap length c.counties.ensures.value, c.counties.ensures.few))
 
 pub returns-in-Some-clause-memory : goal.returns-in-Some-clause-memory
 returns-in-Some-clause-memory c = λ memory. absurd cc

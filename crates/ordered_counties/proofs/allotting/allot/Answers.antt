@@ -18,7 +18,7 @@ most-requires c =
     let ranges = c.in-Some.ranges.items in
     let runs : AreRuns p people ranges = rw c.in-Some.is at c.in_ok-ranges.ensures in
     let limits = c.seats_left-left.ensures.limits in
-    rw c.deref-else-left-least.ensures.value (few_seats p people ranges runs limits.tolerance limits.scale limits.some_people limits.seats c.requires)
+    rw c.deref-else-left-least.ensures.value (few_seats p people ranges runs limits.some_scale limits.tolerance limits.some_people limits.seats c.requires)
 
 pub fewest-least-requires : goal.fewest-least-requires
 fewest-least-requires c =
@@ -27,7 +27,7 @@ fewest-least-requires c =
     let ranges = c.in-Some.ranges.items in
     let runs : AreRuns p people ranges = rw c.in-Some.is at c.in_ok-ranges.ensures in
     let limits = c.seats_left-left.ensures.limits in
-    let few = few_seats p people ranges runs limits.tolerance limits.scale limits.some_people limits.seats c.requires in
+    let few = few_seats p people ranges runs limits.some_scale limits.tolerance limits.some_people limits.seats c.requires in
     rw c.deref.ensures.value (omega (arith, few, least-le-greatest p people ranges runs))
 
 pub returns-then-left-least : goal.returns-then-left-least
