@@ -114,6 +114,7 @@ whole_part = record { once = path_once; connected = connected; inside = λ c e. 
 
 pub plain_certificate : IsCertificate stranding plain_round plain_tree
 plain_certificate = record {
+  window = refl;
   order = order;
   target = target;
   proof = (
@@ -180,6 +181,7 @@ fair i small g f e = absurd (none_fit g i f e small)
 
 pub wide_certificate : IsCertificate stranding wide_round wide_tree
 wide_certificate = record {
+  window = refl;
   order = order;
   target = target;
   proof = (
@@ -208,6 +210,7 @@ fair_at_first i small g f e = absurd (none_at_first g i f e small)
 
 pub lone_certificate : IsCertificate stranding wide_round lone_leaf
 lone_certificate = record {
+  window = refl;
   order = order;
   target = target;
   proof = (together, refl, ((lit≤ tt, λ k d h. absurd (omega arith), fair_at_first 1 (lit≤ tt)), inl (refl, ((lit≤ tt, λ k d h. absurd (omega arith), fair_at_first 2 (lit≤ tt)), inl (refl, (tt, inl (refl, refl)))))));

@@ -2,6 +2,7 @@
 use Rattle.std.proofs.Common.{◌≡◌, ℕ, ◌+◌, ◌*◌, ◌≤◌, List, [], ◌∷◌, map, length, Option, Some, None, refl, sym, ap, ◌∙◌, subst, arith, inl, inr, AllPairs}
 use Rattle.grouping_laws.specs.Problem.{Problem}
 use Rattle.grouping_laws.specs.Grouping.{Grouping, counts, sets_of}
+use Rattle.grouping_laws.specs.Allowance.{HasWindow}
 use Rattle.grouping_laws.specs.GroupsFrom.{IsOrder, IsLesser, IsBefore, place}
 use Rattle.grouping_laws.proofs.Elements.{Has, has_from_contains, contains_from_has}
 use Rattle.proof_trees.specs.Round.{Round}
@@ -141,5 +142,5 @@ pub costs_are_one : CostsAreOne
 costs_are_one = record {
   tree = λ tree p round s m n h k. omega (arith, h.2, k.2, tree_one tree p round s h.0 k.0 h.1 k.1);
   certificate = λ p round tree m n h k.
-      omega (arith, h.2, k.2, where_one (IsOrder p round.order × IsLargeEnough round.limit round.target × IsLawfulTarget p round.target) (TreeLooks tree p round (empty_state p)) (tree_one tree p round (empty_state p)) h.0 k.0 h.1 k.1);
+      omega (arith, h.2, k.2, where_one (HasWindow p round.window × IsOrder p round.order × IsLargeEnough round.limit round.target × IsLawfulTarget p round.target) (TreeLooks tree p round (empty_state p)) (tree_one tree p round (empty_state p)) h.0 k.0 h.1 k.1);
 }

@@ -3,6 +3,7 @@ use Rattle.std.proofs.Common.{◌≡◌, ℕ, ◌+◌, ◌≤◌, length, Option
 use Rattle.grouping_laws.specs.Problem.{Problem}
 use Rattle.grouping_laws.specs.Grouping.{Grouping}
 use Rattle.grouping_laws.specs.GroupsFrom.{IsOrder}
+use Rattle.grouping_laws.specs.Allowance.{HasWindow}
 use Rattle.grouping_laws.proofs.Elements.{has_all, has_from_contains}
 use Rattle.grouping_judge.proofs.JudgeLemmas.{fault_excludes}
 use Rattle.proof_trees.specs.Round.{Round}
@@ -12,9 +13,9 @@ use Rattle.proof_trees.specs.Certificate.{TargetFits, IsCertificate, Conclusion}
 use Rattle.proof_trees.proofs.Agreement.{certificate_shows}
 use Rattle.verdicts.specs.Fault.{Fault, TargetFault}
 use Rattle.verdicts.specs.End.{End, fine, faulty, LineEnds, LinesEnd, Then}
-use Rattle.verdicts.specs.Lines.{group_lines, tree_lines}
+use Rattle.verdicts.specs.Lines.{window_line, group_lines, tree_lines}
 use Rattle.verdicts.specs.Trees.{TreeEnds}
-use Rattle.verdicts.specs.Verdict.{IsOrderFault, IsLargeEnough, IsLimitFault, IsLawfulTarget, IsTargetFault, CertificateEnds, Verdict, Best, Impossible, No, shown, verdict_of}
+use Rattle.verdicts.specs.Verdict.{IsWindowFault, RestEnds, IsOrderFault, IsLargeEnough, IsLimitFault, IsLawfulTarget, IsTargetFault, CertificateEnds, Verdict, Best, Impossible, No, shown, verdict_of}
 use Rattle.verdicts.specs.Laws.{VerdictsShow}
 use Rattle.verdicts.proofs.Ends.{OneEnd, fine_not, lines_one, then_one}
 use Rattle.verdicts.proofs.GroupingFaults.{fault_one, some_same, some_not_none}
@@ -36,19 +37,25 @@ target_same : (p : Problem) (target : Option Grouping) (f g : Fault) → IsTarge
 target_same p None f g h k = absurd h
 target_same p (Some t) f g h k = h.1 ∙ (ap TargetFault (fault_one p t h.0 k.0 h.2 k.2 h.3 k.3) ∙ sym k.1)
 
-certificate_one : (p : Problem) (round : Round) (tree : Tree) → OneEnd (CertificateEnds p round tree)
-certificate_one p round tree =
-    then_one (LineEnds (IsOrder p round.order) (IsOrderFault p round) 2)
+rest_one : (p : Problem) (round : Round) (tree : Tree) (second : ℕ) → OneEnd (RestEnds p round tree second)
+rest_one p round tree second =
+    then_one (LineEnds (IsOrder p round.order) (IsOrderFault p round) second)
     (λ third later. Then (LineEnds (IsLargeEnough round.limit round.target) (IsLimitFault round.limit round.target) third)
     (λ fourth last. Then (LinesEnd (1 + group_lines round.target) (IsLawfulTarget p round.target) (IsTargetFault p round.target) fourth) (TreeEnds tree p round (empty_state p)) last)
     later)
-    (lines_one 1 (IsOrder p round.order) (IsOrderFault p round) 2 (λ f h k. k.1 h) (λ f g h k. h.0 ∙ sym k.0))
+    (lines_one 1 (IsOrder p round.order) (IsOrderFault p round) second (λ f h k. k.1 h) (λ f g h k. h.0 ∙ sym k.0))
     (λ third a. then_one (LineEnds (IsLargeEnough round.limit round.target) (IsLimitFault round.limit round.target) third)
     (λ fourth last. Then (LinesEnd (1 + group_lines round.target) (IsLawfulTarget p round.target) (IsTargetFault p round.target) fourth) (TreeEnds tree p round (empty_state p)) last)
     (lines_one 1 (IsLargeEnough round.limit round.target) (IsLimitFault round.limit round.target) third (limit_apart round.limit round.target) (limit_same round.limit round.target))
     (λ fourth b. then_one (LinesEnd (1 + group_lines round.target) (IsLawfulTarget p round.target) (IsTargetFault p round.target) fourth) (TreeEnds tree p round (empty_state p))
     (lines_one (1 + group_lines round.target) (IsLawfulTarget p round.target) (IsTargetFault p round.target) fourth (target_apart p round.target) (target_same p round.target))
     (λ n c. trees_end.one tree p round (empty_state p) n)))
+
+certificate_one : (p : Problem) (round : Round) (tree : Tree) → OneEnd (CertificateEnds p round tree)
+certificate_one p round tree =
+    then_one (LineEnds (HasWindow p round.window) (IsWindowFault p round) (window_line round.window)) (RestEnds p round tree)
+    (lines_one 1 (HasWindow p round.window) (IsWindowFault p round) (window_line round.window) (λ f h k. k.1 h) (λ f g h k. h.0 ∙ sym k.0))
+    (λ second a. rest_one p round tree second)
 
 target_fits : (p : Problem) (limit : ℕ) (target : Option Grouping) → IsLargeEnough limit target → IsLawfulTarget p target → TargetFits p limit target
 target_fits p limit None h k = tt
@@ -64,19 +71,28 @@ lawful_target p limit (Some t) h = h.0
 
 certificate_proves : (p : Problem) (round : Round) (tree : Tree) (next : ℕ) → CertificateEnds p round tree (fine next) → IsCertificate p round tree
 certificate_proves p round tree next h = record {
-  order = h.1.0;
-  target = target_fits p round.limit round.target h.2.1.0 h.2.2.1.0;
-  proof = (trees_end.proves tree p round (empty_state p) h.2.2.0 next h.2.2.2).0;
+  window = h.1.0;
+  order = h.2.1.0;
+  target = target_fits p round.limit round.target h.2.2.1.0 h.2.2.2.1.0;
+  proof = (trees_end.proves tree p round (empty_state p) h.2.2.2.0 next h.2.2.2.2).0;
 }
 
-certificate_ends : (p : Problem) (round : Round) (tree : Tree) → IsCertificate p round tree → CertificateEnds p round tree (fine (4 + (1 + group_lines round.target) + tree_lines tree))
+-- the line of the tree, and the one behind it
+tree_line : Round → ℕ
+tree_line round = window_line round.window + 3 + (1 + group_lines round.target)
+
+certificate_ends : (p : Problem) (round : Round) (tree : Tree) → IsCertificate p round tree → CertificateEnds p round tree (fine (tree_line round + tree_lines tree))
 certificate_ends p round tree c = (
-  3,
-  (c.order, refl),
+  window_line round.window + 1,
+  (c.window, refl),
   (
-    4,
-    (large_enough p round.limit round.target c.target, refl),
-    (4 + (1 + group_lines round.target), (lawful_target p round.limit round.target c.target, refl), trees_end.ends tree p round (empty_state p) (4 + (1 + group_lines round.target)) c.proof),
+    window_line round.window + 2,
+    (c.order, omega arith),
+    (
+      window_line round.window + 3,
+      (large_enough p round.limit round.target c.target, omega arith),
+      (tree_line round, (lawful_target p round.limit round.target c.target, refl), trees_end.ends tree p round (empty_state p) (tree_line round) c.proof),
+    ),
   ),
 )
 
@@ -98,7 +114,7 @@ certified p round tree verdict target e (faulty f l) h v = absurd (some_not_none
 refused : (p : Problem) (round : Round) (tree : Tree) (fault : Fault) (line : ℕ) (end : End) → CertificateEnds p round tree end → No fault line ≡ verdict_of round.target end → ¬ IsCertificate p round tree
 refused p round tree fault line (fine next) h v c = some_not_none round.target (sym (ap said v ∙ shown_said round.target))
 refused p round tree fault line (faulty f l) h v c =
-    fine_not (4 + (1 + group_lines round.target) + tree_lines tree) f l (certificate_one p round tree (fine (4 + (1 + group_lines round.target) + tree_lines tree)) (faulty f l) (certificate_ends p round tree c) h)
+    fine_not (tree_line round + tree_lines tree) f l (certificate_one p round tree (fine (tree_line round + tree_lines tree)) (faulty f l) (certificate_ends p round tree c) h)
 
 pub verdicts_show : VerdictsShow
 verdicts_show = record {
@@ -109,6 +125,6 @@ verdicts_show = record {
       let c = certified p round tree Impossible None refl v.0 v.1 v.2 in
       (c.0, c.1, subst (Conclusion p) c.1 (certificate_shows p round tree c.0));
   no = λ p round tree fault line v. refused p round tree fault line v.0 v.1 v.2;
-  yes = λ p round tree c. (fine (4 + (1 + group_lines round.target) + tree_lines tree), certificate_ends p round tree c, refl);
+  yes = λ p round tree c. (fine (tree_line round + tree_lines tree), certificate_ends p round tree c, refl);
   one = λ p round tree x y v w. v.2 ∙ (ap (verdict_of round.target) (certificate_one p round tree v.0 w.0 v.1 w.1) ∙ sym w.2);
 }
