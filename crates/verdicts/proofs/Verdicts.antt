@@ -78,7 +78,7 @@ certificate_proves p round tree next h = record {
 }
 
 -- the line of the tree, and the one behind it
-tree_line : Round → ℕ
+abbrev tree_line : Round → ℕ
 tree_line round = window_line round.window + 3 + (1 + group_lines round.target)
 
 certificate_ends : (p : Problem) (round : Round) (tree : Tree) → IsCertificate p round tree → CertificateEnds p round tree (fine (tree_line round + tree_lines tree))
