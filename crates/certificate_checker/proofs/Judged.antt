@@ -1,5 +1,5 @@
 -- A whole certificate, read and judged.
-use Rattle.std.proofs.Common.{◌≡◌, ℕ, ◌+◌, ◌*◌, ◌≤◌, ◌<◌, List, [], ◌∷◌, ◌++◌, length, Option, Ok, Err, sym, ◌∙◌, ap, subst, arith}
+use Rattle.std.proofs.Common.{◌≡◌, ℕ, ◌+◌, ◌*◌, ◌≤◌, ◌<◌, List, [], ◌∷◌, ◌++◌, length, Option, Ok, Err, sym, ◌∙◌, ap, subst, arith, append_assoc}
 use Rattle.std.proofs.lemmas.List.{length-append}
 use Rattle.grouping_laws.specs.Problem.{Problem}
 use Rattle.county_codes.specs.declared.group.Grouping.{Grouping as GroupingHeld}
@@ -7,10 +7,10 @@ use Rattle.proof_trees.specs.Round.{Round}
 use Rattle.proof_trees.specs.RoundValue.{target_of}
 use Rattle.certificate_lines.specs.declared.item.Item.{Item}
 use Rattle.certificate_lines.specs.declared.item.Item.TheVariants as item
-use Rattle.certificate_text.specs.Trees.{Certificate, items_of_tree, items_of_certificate}
-use Rattle.verdicts.specs.Lines.{group_lines}
+use Rattle.certificate_text.specs.Trees.{Certificate, items_of_head, items_of_target, items_of_tree, items_of_certificate}
+use Rattle.verdicts.specs.Lines.{window_line, group_lines}
 use Rattle.verdicts.specs.Cost.{CertificateCosts}
-use Rattle.text_verdicts.proofs.Lengths.{target_length, certificate_length}
+use Rattle.text_verdicts.proofs.Lengths.{head_length, target_length, certificate_length}
 use Rattle.certificate_checker.specs.Feeding.{FeedValue, Fed}
 use Rattle.certificate_checker.specs.Judging.{TookForm}
 use Rattle.certificate_checker.specs.Certificates.{AreTaken, round_items, FirstLooks, IsRoundJudged, IsCertificateJudged}
@@ -19,12 +19,16 @@ use Rattle.certificate_checker.specs.declared.feed.Stop.TheVariants as stop
 use Rattle.certificate_checker.proofs.Taken.{form_taken}
 
 -- the lines in front of a tree
-pub round_lines : (c : Certificate) → length (round_items c) ≡ 4 + group_lines c.round.target
-round_lines c = omega (arith, target_length c.round.target)
+pub round_lines : (c : Certificate) → length (round_items c) ≡ window_line c.round.window + 3 + group_lines c.round.target
+round_lines c = omega (arith, target_length c.round.target, head_length c.round.language c.round.window, length-append (items_of_head c.round.language c.round.window) (item.Order c.round.order ∷ item.Limit c.round.limit ∷ items_of_target c.round.target))
+
+-- the items of a certificate are those of its round and those behind
+pub items_split : (c : Certificate) → items_of_certificate c ≡ round_items c ++ (items_of_tree c.tree ++ item.End ∷ [])
+items_split c = sym (append_assoc (items_of_head c.round.language c.round.window) (item.Order c.round.order ∷ item.Limit c.round.limit ∷ items_of_target c.round.target) (items_of_tree c.tree ++ item.End ∷ []))
 
 -- the lines of a certificate
 all_lines : (c : Certificate) → length (items_of_certificate c) ≡ length (round_items c) + (length (items_of_tree c.tree) + 1)
-all_lines c = length-append (round_items c) (items_of_tree c.tree ++ item.End ∷ []) ∙ ap (λ n. length (round_items c) + n) (length-append (items_of_tree c.tree) (item.End ∷ []))
+all_lines c = ap length (items_split c) ∙ length-append (round_items c) (items_of_tree c.tree ++ item.End ∷ []) ∙ ap (λ n. length (round_items c) + n) (length-append (items_of_tree c.tree) (item.End ∷ []))
 
 module _ (p : Problem) (c : Certificate) (old : FeedValue) (none_used : old.used ≡ 0) where
   -- what is not enough for the lines and the sets is below the cost

@@ -32,13 +32,13 @@ larger limit (g ∷ gs) e = larger_first limit g gs (nat_lt limit (length g.code
 pub limit_fault : (limit : ℕ) (target : Option GroupingHeld) (g : GroupingHeld) → target ≡ Some g → list_any (λ s. nat_lt limit (length s.codes)) g.groups.items ≡ true → IsLimitFault limit (target_of target) LimitTooSmall
 limit_fault limit target g is any = subst (λ t. IsLimitFault limit (target_of t) LimitTooSmall) (sym is) (refl, larger limit g.groups.items any)
 
-pub target_stopped : (p : Problem) (target : Option GroupingHeld) (g : GroupingHeld) → target ≡ Some g → (fault : GroupingFault) → IsFault p g.groups.items fault → (s : Stop) → IsTargetStop fault s → StopsAt (IsTargetFault p (target_of target)) 4 s
-target_stopped p target g is fault has (stop.Fault named found) h =
+pub target_stopped : (p : Problem) (target : Option GroupingHeld) (g : GroupingHeld) → target ≡ Some g → (fault : GroupingFault) → IsFault p g.groups.items fault → (line : ℕ) (s : Stop) → IsTargetStop fault line s → StopsAt (IsTargetFault p (target_of target)) line s
+target_stopped p target g is fault has line (stop.Fault named found) h =
     (TargetFault fault, ap fault_of h.0, subst (λ t. IsTargetFault p (target_of t) (TargetFault fault)) (sym is) (fault, refl, has, h.2), h.1)
-target_stopped p target g is fault has stop.Memory h = tt
-target_stopped p target g is fault has stop.Budget h = absurd h
-target_stopped p target g is fault has stop.Unspelled h = absurd h
-target_stopped p target g is fault has (stop.Text words) h = absurd h
+target_stopped p target g is fault has line stop.Memory h = tt
+target_stopped p target g is fault has line stop.Budget h = absurd h
+target_stopped p target g is fault has line stop.Unspelled h = absurd h
+target_stopped p target g is fault has line (stop.Text words) h = absurd h
 
 -- an order has as many places as the problem has counties
 pub order_fits : (v : ProblemValue) (order : List ℕ) (places : ℕ) → IsProblem (problem_of v) → IsOrder (problem_of v) order → length v.counties ≤ places → length order ≤ places

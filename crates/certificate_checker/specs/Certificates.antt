@@ -1,9 +1,10 @@
 -- What is promised of the lines of a certificate outside its tree, and of a whole one.
-use Rattle.std.specs.Prelude.{ℕ, ◌+◌, ◌*◌, ◌≡◌, ◌≢◌, ◌≤◌, ◌<◌, List, ◌∷◌, length, Option, Some, None, Result, Ok, Err, ⊤}
+use Rattle.std.specs.Prelude.{ℕ, ◌+◌, ◌*◌, ◌≡◌, ◌≢◌, ◌≤◌, ◌<◌, List, ◌∷◌, ◌++◌, length, Option, Some, None, Result, Ok, Err, ⊤}
 use Rattle.grouping_laws.specs.Problem.{Problem}
 use Rattle.grouping_laws.specs.Grouping.{Grouping, counts, sets_of}
 use Rattle.grouping_judge.specs.CountList.{count_at}
 use Rattle.county_codes.specs.declared.group.Grouping.{Grouping as GroupingHeld}
+use Rattle.grouping_laws.specs.Allowance.{HasWindow}
 use Rattle.grouping_laws.specs.GroupsFrom.{IsOrder}
 use Rattle.proof_trees.specs.Round.{Round}
 use Rattle.proof_trees.specs.RoundValue.{target_of}
@@ -11,7 +12,7 @@ use Rattle.proof_trees.specs.State.{empty_state}
 use Rattle.proof_trees.specs.Tree.{Tree}
 use Rattle.certificate_lines.specs.declared.item.Item.{Item}
 use Rattle.certificate_lines.specs.declared.item.Item.TheVariants as item
-use Rattle.certificate_text.specs.Trees.{Certificate, items_of_target}
+use Rattle.certificate_text.specs.Trees.{Certificate, items_of_head, items_of_target}
 use Rattle.verdicts.specs.Fault.{Fault}
 use Rattle.verdicts.specs.End.{fine, faulty}
 use Rattle.verdicts.specs.Verdict.{IsLargeEnough, IsLawfulTarget, CertificateEnds}
@@ -35,7 +36,7 @@ AreTaken Gave xs rest old (Err (stop.Fault fault line)) new = ⊥
 
 -- the items of a certificate in front of its tree
 abbrev pub round_items : Certificate → List Item
-round_items c = item.Head c.round.language ∷ item.Order c.round.order ∷ item.Limit c.round.limit ∷ items_of_target c.round.target
+round_items c = items_of_head c.round.language c.round.window ++ (item.Order c.round.order ∷ item.Limit c.round.limit ∷ items_of_target c.round.target)
 
 -- the judging of a line stopped at its fault
 abbrev pub StopsAt : (Fault → Type 0) → ℕ → Stop → Type 0
@@ -45,13 +46,13 @@ StopsAt Fails line stop.Budget = ⊥
 StopsAt Fails line stop.Unspelled = ⊥
 StopsAt Fails line (stop.Text fault) = ⊥
 
--- the judging of a target stopped at this fault of it, whose line is the fourth, or memory was refused
-abbrev pub IsTargetStop : GroupingFault → Stop → Type 0
-IsTargetStop kind (stop.Fault fault found) = (fault ≡ TargetFault kind) × (found ≡ 4) × (kind ≢ Memory)
-IsTargetStop kind stop.Memory = kind ≡ Memory
-IsTargetStop kind stop.Budget = ⊥
-IsTargetStop kind stop.Unspelled = ⊥
-IsTargetStop kind (stop.Text fault) = ⊥
+-- the judging of a target stopped at this fault of it, on its first line, or memory was refused
+abbrev pub IsTargetStop : GroupingFault → ℕ → Stop → Type 0
+IsTargetStop kind line (stop.Fault fault found) = (fault ≡ TargetFault kind) × (found ≡ line) × (kind ≢ Memory)
+IsTargetStop kind line stop.Memory = kind ≡ Memory
+IsTargetStop kind line stop.Budget = ⊥
+IsTargetStop kind line stop.Unspelled = ⊥
+IsTargetStop kind line (stop.Text fault) = ⊥
 
 -- the counts are those of the target; there are none where there is no target
 abbrev pub AreCounts : Option Grouping → Option (List ℕ) → Type 0
@@ -60,11 +61,11 @@ AreCounts None (Some list) = ⊥
 AreCounts (Some target) None = ⊥
 AreCounts (Some target) (Some list) = (i : ℕ) → count_at list i ≡ counts (sets_of target) i
 
--- how many sets are looked through for a tree at the beginning, where order, limit and target are fine
+-- how many sets are looked through for a tree at the beginning, where allowance, order, limit and target are fine
 abbrev pub FirstLooks : Problem → Round → Tree → ℕ → Type 0
-FirstLooks p round tree n = Where (IsOrder p round.order × IsLargeEnough round.limit round.target × IsLawfulTarget p round.target) (TreeLooks tree p round (empty_state p)) n
+FirstLooks p round tree n = Where (HasWindow p round.window × IsOrder p round.order × IsLargeEnough round.limit round.target × IsLawfulTarget p round.target) (TreeLooks tree p round (empty_state p)) n
 
--- Behind order, limit and target a tree was judged, up to the rest behind it; or the judging stopped at the first fault, or where the limit of
+-- Behind allowance, order, limit and target a tree was judged, up to the rest behind it; or the judging stopped at the first fault, or where the limit of
 -- steps is not enough.
 abbrev pub IsRoundJudged : Problem → Round → Tree → List Item → FeedValue → Result (Unit {0}) Stop → FeedValue → Type 0
 IsRoundJudged p round tree rest old (Ok done) new =

@@ -3,11 +3,12 @@ use Rattle.std.specs.Prelude.{Option, Some, None}
 use Rattle.verdicts.specs.Fault.{Fault}
 use Rattle.verdicts.specs.Fault as fault
 use Rattle.certificate_checker.specs.declared.fault.CheckFault.{CheckFault}
-use Rattle.certificate_checker.specs.declared.fault.CheckFault.TheVariants.{Text, WrongOrder, LimitTooSmall, TargetFault, WrongCounty, MissingGroup, StrayGroup, LightGroup, BoundOver, BoundLength, NotStuck, SeatsOpen, BoundWithoutTarget, NoLeaf}
+use Rattle.certificate_checker.specs.declared.fault.CheckFault.TheVariants.{Text, WrongWindow, WrongOrder, LimitTooSmall, TargetFault, WrongCounty, MissingGroup, StrayGroup, LightGroup, BoundOver, BoundLength, NotStuck, SeatsOpen, BoundWithoutTarget, NoLeaf}
 
 -- the fault of a certificate whose text can be read; a fault of the text is none
 abbrev pub fault_of : CheckFault → Option Fault
 fault_of (Text f) = None
+fault_of WrongWindow = Some fault.WrongWindow
 fault_of WrongOrder = Some fault.WrongOrder
 fault_of LimitTooSmall = Some fault.LimitTooSmall
 fault_of (TargetFault kind) = Some (fault.TargetFault kind)

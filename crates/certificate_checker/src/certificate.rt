@@ -3,6 +3,7 @@
 ghost use Rattle.std.specs.Prelude.{◌≡◌, ℕ, ◌≤◌, ◌<◌, ◌+◌, ◌∷◌, [], ◌++◌, List, length, nat_lt, IfOk, IfErr, MatchResult};
 ghost use Rattle.std.specs.List.{list_any};
 ghost use Rattle.county_codes.specs.Limits.{most_counties};
+ghost use Rattle.grouping_laws.specs.Allowance.{HasWindow};
 ghost use Rattle.grouping_laws.specs.GroupsFrom.{IsOrder};
 ghost use Rattle.grouping_problem.specs.ProblemValue.{problem_of};
 ghost use Rattle.proof_trees.specs.RoundValue.{round_of, target_of};
@@ -12,8 +13,8 @@ ghost use Rattle.certificate_lines.specs.Fits.{AllFit};
 ghost use Rattle.certificate_lines.specs.declared.item.Item.{Item as ItemValue};
 ghost use Rattle.certificate_lines.specs.declared.item.Wanted.TheVariants as want;
 ghost use Rattle.certificate_text.specs.Trees.{Certificate, items_of_tree, items_of_certificate};
-ghost use Rattle.verdicts.specs.Lines.{group_lines};
-ghost use Rattle.verdicts.specs.Verdict.{IsOrderFault, IsLargeEnough, IsLimitFault, IsLawfulTarget, IsTargetFault};
+ghost use Rattle.verdicts.specs.Lines.{window_line, group_lines};
+ghost use Rattle.verdicts.specs.Verdict.{IsWindowFault, IsOrderFault, IsLargeEnough, IsLimitFault, IsLawfulTarget, IsTargetFault};
 ghost use Rattle.verdicts.specs.Work.{a_tree};
 ghost use Rattle.line_verdicts.specs.Placed.{state_at, IsPlaced};
 ghost use Rattle.certificate_checker.specs.Readable.{IsReadable};
@@ -28,7 +29,7 @@ use crate::ground::Ground;
 use crate::rounds::read_round;
 use crate::tree::judge_tree;
 use certificate_lines::{ItemSource, MOST};
-use county_codes::{Group, Grouping};
+use county_codes::{Group, Grouping, Window};
 use county_regions::neighbour_rows;
 use grouping_judge::{Counts, GroupingFault, judge};
 use grouping_problem::Problem;
@@ -38,18 +39,42 @@ use place_sets::CountySet;
 use proof_trees::{Round, State};
 use std::alloc::Global;
 
-/// The counties in the order of a certificate, which stands on its second line.
+/// The line of the allowance: the second, or the head's where none is named.
+fn window_line(round: &Round) -> u64
+    ensures { result ≡ window_line round.now.window }
+{
+    match round.window {
+        Some(_) => 2,
+        None => 1,
+    }
+}
+
+/// Judges the allowance of a certificate, which is the problem's where the fractions are equal.
+fn judge_window(problem: &Problem, round: &Round) -> Result<(), Stop>
+    ensures { MatchResult result (λ _. HasWindow (problem_of problem.now) round.now.window) (StopsAt (IsWindowFault (problem_of problem.now) (round_of round.now)) (window_line round.now.window)) }
+{
+    let window = round.window.unwrap_or(Window::twentieth());
+    if window.same_as(problem.window()) {
+        Ok(())
+    } else {
+        Err(Stop::Fault(CheckFault::WrongWindow, window_line(round)))
+    }
+}
+
+/// The counties in the order of a certificate, which stands on the line after that of the allowance.
 pub(crate) fn judge_order<'a>(
     alloc: Global,
     problem: &'a Problem,
     round: &Round,
 ) -> Result<Ordered<'a>, Stop>
     ensures value { IfOk result (λ o. o ≡ record { problem = problem.now; order = round.now.order }) }
-    ensures order { MatchResult result (λ _. IsOrder (problem_of problem.now) round.now.order) (StopsAt (IsOrderFault (problem_of problem.now) (round_of round.now)) 2) }
+    ensures order { MatchResult result (λ _. IsOrder (problem_of problem.now) round.now.order) (StopsAt (IsOrderFault (problem_of problem.now) (round_of round.now)) (window_line round.now.window + 1)) }
 {
     match Ordered::build(alloc, problem, round.order.as_slice()) {
         Ok(ordered) => Ok(ordered),
-        Err(OrderFault::WrongOrder) => Err(Stop::Fault(CheckFault::WrongOrder, 2)),
+        Err(OrderFault::WrongOrder) => {
+            Err(Stop::Fault(CheckFault::WrongOrder, window_line(round) + 1))
+        }
         Err(OrderFault::Memory) => Err(Stop::Memory),
     }
 }
@@ -63,14 +88,17 @@ fn has_larger(groups: &[Group], limit: u16) -> bool
         .any(|group| group.codes.as_slice().len() > usize::from(limit))
 }
 
-/// Judges the limit, which stands on the third line: no group of the target may have more counties.
+/// Judges the limit, which stands behind the order: no group of the target may have more counties.
 fn judge_limit(round: &Round) -> Result<(), Stop>
-    ensures { MatchResult result (λ _. IsLargeEnough round.now.limit (target_of round.now.target)) (StopsAt (IsLimitFault round.now.limit (target_of round.now.target)) 3) }
+    ensures { MatchResult result (λ _. IsLargeEnough round.now.limit (target_of round.now.target)) (StopsAt (IsLimitFault round.now.limit (target_of round.now.target)) (window_line round.now.window + 2)) }
 {
     match &round.target {
         Some(target) => {
             if has_larger(&target.groups, round.limit) {
-                return Err(Stop::Fault(CheckFault::LimitTooSmall, 3));
+                return Err(Stop::Fault(
+                    CheckFault::LimitTooSmall,
+                    window_line(round) + 2,
+                ));
             }
             Ok(())
         }
@@ -78,31 +106,31 @@ fn judge_limit(round: &Round) -> Result<(), Stop>
     }
 }
 
-/// What the judging of a target stops with.
-fn target_stop(fault: GroupingFault) -> Stop
-    ensures { IsTargetStop fault result }
+/// What the judging of a target stops with, whose first line this is.
+fn target_stop(fault: GroupingFault, line: u64) -> Stop
+    ensures { IsTargetStop fault line result }
 {
     match fault {
         GroupingFault::Memory => Stop::Memory,
-        _ => Stop::Fault(CheckFault::TargetFault(fault), 4),
+        _ => Stop::Fault(CheckFault::TargetFault(fault), line),
     }
 }
 
-/// The counts of a target, whose first line is the fourth: it has to be lawful.
+/// The counts of a round's target, which stands behind the limit: it has to be lawful.
 pub(crate) fn judge_target(
     alloc: Global,
     problem: &Problem,
-    target: &Option<Grouping>,
+    round: &Round,
 ) -> Result<Option<Counts>, Stop>
     ensures { MatchResult
         result
-        (λ wanted. IsLawfulTarget (problem_of problem.now) (target_of target.now) × AreCounts (target_of target.now) wanted)
-        (StopsAt (IsTargetFault (problem_of problem.now) (target_of target.now)) 4) }
+        (λ wanted. IsLawfulTarget (problem_of problem.now) (target_of round.now.target) × AreCounts (target_of round.now.target) wanted)
+        (StopsAt (IsTargetFault (problem_of problem.now) (target_of round.now.target)) (window_line round.now.window + 3)) }
 {
-    match target {
+    match &round.target {
         Some(grouping) => match judge(alloc, problem, grouping) {
             Ok(counts) => Ok(Some(counts)),
-            Err(fault) => Err(target_stop(fault)),
+            Err(fault) => Err(target_stop(fault, window_line(round) + 3)),
         },
         None => Ok(None),
     }
@@ -148,7 +176,7 @@ pub(crate) fn judge_placed<C: CountySet, S: ItemSource>(
     judge_tree(&ground, state, feed)
 }
 
-/// Judges the tree of a certificate, which begins on the next line, where order, limit and target are fine.
+/// Judges the tree of a certificate, which begins on the next line, where all in front of it is fine.
 fn judge_first<C: CountySet, S: ItemSource>(
     alloc: Global,
     ordered: &Ordered,
@@ -193,24 +221,17 @@ fn judge_round<C: CountySet, S: ItemSource>(
     requires counted { feed.old.line ≤ feed.old.steps.used }
     ensures fed { IsFed (feed_of S.course feed.old) result (feed_of S.course feed.new) }
     ensures judged { (tree : Tree) (rest : List ItemValue)
-        → feed.old.line ≡ 4 + group_lines (target_of round.now.target)
+        → feed.old.line ≡ window_line round.now.window + 3 + group_lines (target_of round.now.target)
         → IsReadable round.now.language tree
         → (feed_of S.course feed.old).course.items ≡ items_of_tree tree ++ rest
         → IsRoundJudged (problem_of problem.now) (round_of round.now) tree rest (feed_of S.course feed.old) result (feed_of S.course feed.new) }
 {
-    match judge_order(alloc, problem, round) {
-        Ok(ordered) => match judge_limit(round) {
-            Ok(()) => match judge_target(alloc, problem, &round.target) {
-                Ok(wanted) => {
-                    let _problem = ordered.problem();
-                    judge_first::<C, S>(alloc, &ordered, round, wanted.as_ref(), feed)
-                }
-                Err(stop) => Err(stop),
-            },
-            Err(stop) => Err(stop),
-        },
-        Err(stop) => Err(stop),
-    }
+    judge_window(problem, round)?;
+    let ordered = judge_order(alloc, problem, round)?;
+    judge_limit(round)?;
+    let wanted = judge_target(alloc, problem, round)?;
+    let _problem = ordered.problem();
+    judge_first::<C, S>(alloc, &ordered, round, wanted.as_ref(), feed)
 }
 
 /// Judges the certificate whose lines are to come: its target, where it has no fault.

@@ -13,6 +13,9 @@ pub enum CheckFault {
     /// The text spells no certificate: its first fault. It comes before any other.
     #[error("{0}")]
     Text(TextFault),
+    /// The allowance that the text names, or one twentieth if it names none, isn't the problem's.
+    #[error("the certificate is for another allowance")]
+    WrongWindow,
     /// The order has not each county of the problem once, or another code.
     #[error("the order has not each county of the problem once")]
     WrongOrder,

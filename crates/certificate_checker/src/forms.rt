@@ -6,8 +6,8 @@ ghost use Rattle.certificate_checker.specs.Judging.{TookForm, IsStopAt, IsJudged
 
 use crate::fault::of_line;
 use crate::feed::{Feed, Stop, next_line};
-use certificate_lines::{Allowance, Item, ItemSource, Opening};
-use county_codes::{Codes, Group};
+use certificate_lines::{Allowance, Item, ItemSource, Opening, Version};
+use county_codes::{Codes, Group, Window};
 use line_verdicts::LineStop;
 use proof_trees::Language;
 
@@ -50,13 +50,25 @@ pub(crate) fn next_allowance<S: ItemSource>(feed: &mut Feed<S>) -> Result<Allowa
 }
 
 /// The next line, which has to be the head of a certificate.
-pub(crate) fn next_head<S: ItemSource>(feed: &mut Feed<S>) -> Result<Language, Stop>
+pub(crate) fn next_head<S: ItemSource>(feed: &mut Feed<S>) -> Result<(Language, Version), Stop>
     requires { feed.old.line ≤ feed.old.steps.used }
     ensures fed { IsFed (feed_of S.course feed.old) result (feed_of S.course feed.new) }
-    ensures took { TookForm item.Head (λ l. l) (feed_of S.course feed.old) result (feed_of S.course feed.new) }
+    ensures took { TookForm (λ h. item.Head h.0 h.1) (λ h. h) (feed_of S.course feed.old) result (feed_of S.course feed.new) }
 {
     match next_line(feed)? {
-        Item::Head(language) => Ok(language),
+        Item::Head(language, version) => Ok((language, version)),
+        _ => Err(Stop::Unspelled),
+    }
+}
+
+/// The next line, which has to be that of the allowance.
+pub(crate) fn next_window<S: ItemSource>(feed: &mut Feed<S>) -> Result<Window, Stop>
+    requires { feed.old.line ≤ feed.old.steps.used }
+    ensures fed { IsFed (feed_of S.course feed.old) result (feed_of S.course feed.new) }
+    ensures took { TookForm item.Within (λ w. w) (feed_of S.course feed.old) result (feed_of S.course feed.new) }
+{
+    match next_line(feed)? {
+        Item::Within(window) => Ok(window),
         _ => Err(Stop::Unspelled),
     }
 }

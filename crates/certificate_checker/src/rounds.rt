@@ -3,18 +3,22 @@
 ghost use Rattle.std.specs.Prelude.{◌≡◌, ◌≤◌, ◌∷◌, [], ◌++◌, List, Option, length, map};
 ghost use Rattle.grouping_laws.specs.Grouping.{Grouping as GroupingValue};
 ghost use Rattle.county_codes.specs.declared.group.Group.{Group as GroupValue};
+ghost use Rattle.county_codes.specs.declared.window.Window.{Window as WindowValue};
+ghost use Rattle.certificate_languages.specs.declared.language.Language.{Language as LanguageValue};
 ghost use Rattle.proof_trees.specs.RoundValue.{round_of, target_of};
 ghost use Rattle.certificate_lines.specs.declared.item.Item.{Item as ItemValue};
 ghost use Rattle.certificate_lines.specs.declared.item.Item.TheVariants as item;
-ghost use Rattle.certificate_text.specs.Trees.{Certificate, items_of_target, items_of_tree, items_of_certificate};
+ghost use Rattle.certificate_text.specs.Trees.{Certificate, items_of_head, items_of_target, items_of_tree, items_of_certificate};
 ghost use Rattle.certificate_checker.specs.Feeding.{feed_of, IsFed};
 ghost use Rattle.certificate_checker.specs.Certificates.{AreTaken, round_items};
 
 use crate::feed::{Feed, Stop};
-use crate::forms::{next_group, next_head, next_limit, next_order, next_target};
-use certificate_lines::ItemSource;
-use county_codes::{Group, Grouping};
-use proof_trees::Round;
+use crate::forms::{
+    next_group, next_head, next_limit, next_order, next_target, next_window,
+};
+use certificate_lines::{ItemSource, Version};
+use county_codes::{Group, Grouping, Window};
+use proof_trees::{Language, Round};
 use std::alloc::Global;
 
 /// So many groups of a target.
@@ -58,6 +62,24 @@ fn read_target<S: ItemSource>(alloc: Global, feed: &mut Feed<S>) -> Result<Optio
     }
 }
 
+/// The language of the head, and the allowance on the second line where the head is of version 2.
+fn read_head<S: ItemSource>(feed: &mut Feed<S>) -> Result<(Language, Option<Window>), Stop>
+    requires { feed.old.line ≤ feed.old.steps.used }
+    ensures fed { IsFed (feed_of S.course feed.old) result (feed_of S.course feed.new) }
+    ensures taken { (language : LanguageValue) (window : Option WindowValue) (rest : List ItemValue)
+        → (feed_of S.course feed.old).course.items ≡ items_of_head language window ++ rest
+        → AreTaken (λ r. (r.0 ≡ language) × (r.1 ≡ window)) (items_of_head language window) rest (feed_of S.course feed.old) result (feed_of S.course feed.new) }
+{
+    let (language, version) = next_head(feed)?;
+    match version {
+        Version::One => Ok((language, None)),
+        Version::Two => match next_window(feed) {
+            Ok(window) => Ok((language, Some(window))),
+            Err(stop) => Err(stop),
+        },
+    }
+}
+
 /// The round of a certificate.
 pub(crate) fn read_round<S: ItemSource>(alloc: Global, feed: &mut Feed<S>) -> Result<Round, Stop>
     requires { feed.old.line ≤ feed.old.steps.used }
@@ -66,7 +88,7 @@ pub(crate) fn read_round<S: ItemSource>(alloc: Global, feed: &mut Feed<S>) -> Re
         → (feed_of S.course feed.old).course.items ≡ items_of_certificate c
         → AreTaken (λ round. round_of round ≡ c.round) (round_items c) (items_of_tree c.tree ++ item.End ∷ []) (feed_of S.course feed.old) result (feed_of S.course feed.new) }
 {
-    let language = next_head(feed)?;
+    let (language, window) = read_head(feed)?;
     let order = next_order(feed)?;
     let limit = next_limit(feed)?;
     let target = read_target(alloc, feed)?;
@@ -75,5 +97,6 @@ pub(crate) fn read_round<S: ItemSource>(alloc: Global, feed: &mut Feed<S>) -> Re
         limit,
         target,
         language,
+        window,
     })
 }

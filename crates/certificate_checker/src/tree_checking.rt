@@ -123,7 +123,7 @@ pub fn check_tree<C: CountySet>(
     let Ok(ordered) = judge_order(alloc, problem, round) else {
         return Err(AllocError);
     };
-    let Ok(wanted) = judge_target(alloc, problem, &round.target) else {
+    let Ok(wanted) = judge_target(alloc, problem, round) else {
         return Err(AllocError);
     };
     let mut state = copied_state(alloc, &ordered, state)?;

@@ -2,7 +2,7 @@ use Rattle.std.proofs.Common.{◌≡◌, ◌∷◌, [], Option, refl, sym, ap, s
 use Rattle.grouping_problem.specs.ProblemValue.{problem_of}
 use Rattle.proof_trees.specs.RoundValue.{round_of}
 use Rattle.certificate_lines.specs.declared.item.Item.TheVariants as item
-use Rattle.verdicts.specs.Lines.{group_lines}
+use Rattle.verdicts.specs.Lines.{window_line, group_lines}
 use Rattle.certificate_checker.specs.Readable.{IsReadable}
 use Rattle.certificate_checker.specs.Feeding.{feed_of}
 use Rattle.certificate_checker.proofs.ReadableTexts.{readable_of_fits}
@@ -16,7 +16,7 @@ pub returns-in-Err-judge_round-clause-judged : goal.returns-in-Err-judge_round-c
 returns-in-Err-judge_round-clause-judged g c cert fits items =
     let taken = c.in-Ok.ensures.taken cert items in
     let judged =
-    c.in-Err-judge_round.ensures.judged cert.tree (item.End ∷ []) (omega (arith, taken.2, c.requires.start.0, round_lines cert, ap (λ r. group_lines r.target) taken.0))
+    c.in-Err-judge_round.ensures.judged cert.tree (item.End ∷ []) (omega (arith, taken.2, c.requires.start.0, round_lines cert, ap (λ r. window_line r.window) taken.0, ap (λ r. group_lines r.target) taken.0))
     (subst (λ r. IsReadable r.language cert.tree) (sym taken.0) (readable_of_fits cert fits)) taken.1 in
     round_off (problem_of c.args.problem.now) cert (feed_of g.S.ItemSource.course c.args.feed.now) c.requires.start.1 (λ r. round_of r ≡ cert.round) (feed_of g.S.ItemSource.course c.read_round.new.feed) c.in-Ok.round taken c.in-Ok.ensures.fed (round_of c.in-Ok.round) taken.0 (feed_of g.S.ItemSource.course c.judge_round.new.feed) c.in-Err-judge_round.stop judged
 
@@ -24,7 +24,7 @@ pub returns-in-Err-next_end-clause-judged : goal.returns-in-Err-next_end-clause-
 returns-in-Err-next_end-clause-judged g c cert fits items =
     let taken = c.in-Ok.ensures.taken cert items in
     let judged =
-    c.in-Ok-judge_round.ensures.judged cert.tree (item.End ∷ []) (omega (arith, taken.2, c.requires.start.0, round_lines cert, ap (λ r. group_lines r.target) taken.0))
+    c.in-Ok-judge_round.ensures.judged cert.tree (item.End ∷ []) (omega (arith, taken.2, c.requires.start.0, round_lines cert, ap (λ r. window_line r.window) taken.0, ap (λ r. group_lines r.target) taken.0))
     (subst (λ r. IsReadable r.language cert.tree) (sym taken.0) (readable_of_fits cert fits)) taken.1 in
     end_off (problem_of c.args.problem.now) cert (feed_of g.S.ItemSource.course c.args.feed.now) c.requires.start.1 (λ r. round_of r ≡ cert.round) (feed_of g.S.ItemSource.course c.read_round.new.feed) c.in-Ok.round taken c.in-Ok.ensures.fed (round_of c.in-Ok.round) taken.0 (feed_of g.S.ItemSource.course c.judge_round.new.feed) judged c.in-Ok-judge_round.ensures.fed
     (feed_of g.S.ItemSource.course c.next_end.new.feed) c.in-Err-next_end.stop c.in-Err-next_end.ensures.took
@@ -33,7 +33,7 @@ pub returns-in-Ok-next_end-clause-judged : goal.returns-in-Ok-next_end-clause-ju
 returns-in-Ok-next_end-clause-judged g c cert fits items =
     let taken = c.in-Ok.ensures.taken cert items in
     let judged =
-    c.in-Ok-judge_round.ensures.judged cert.tree (item.End ∷ []) (omega (arith, taken.2, c.requires.start.0, round_lines cert, ap (λ r. group_lines r.target) taken.0))
+    c.in-Ok-judge_round.ensures.judged cert.tree (item.End ∷ []) (omega (arith, taken.2, c.requires.start.0, round_lines cert, ap (λ r. window_line r.window) taken.0, ap (λ r. group_lines r.target) taken.0))
     (subst (λ r. IsReadable r.language cert.tree) (sym taken.0) (readable_of_fits cert fits)) taken.1 in
     certificate_done (problem_of c.args.problem.now) cert (feed_of g.S.ItemSource.course c.args.feed.now) c.requires.start.1 (λ r. round_of r ≡ cert.round) (feed_of g.S.ItemSource.course c.read_round.new.feed) c.in-Ok.round taken c.in-Ok.ensures.fed (round_of c.in-Ok.round) taken.0 (feed_of g.S.ItemSource.course c.judge_round.new.feed) judged c.in-Ok-judge_round.ensures.fed
     c.in-Ok.round.target refl
