@@ -5,7 +5,9 @@ use Rattle.std.proofs.lemmas.Bool.Decides.{nat_tests}
 use Rattle.grouping_laws.specs.Sets.{digit, often}
 use Rattle.grouping_laws.specs.Problem.{Problem}
 use Rattle.grouping_laws.specs.Grouping.{Grouping, counts, sets_of, IsGreater, IsBest}
+use Rattle.grouping_laws.specs.Allowance.{HasWindow, named_window}
 use Rattle.grouping_laws.specs.GroupsFrom.{IsOrder}
+use Rattle.grouping_laws.proofs.AllowanceLemmas.{names_its_own}
 use Rattle.grouping_laws.proofs.Order.{greater_transitive}
 use Rattle.grouping_laws.proofs.Elements.{has_all, all_from_has}
 use Rattle.proof_trees.specs.Round.{Round}
@@ -26,8 +28,9 @@ use Rattle.shared_proofs.proofs.Standing.{stands_once}
 use Rattle.shared_proofs.proofs.Pieces.{numbered_once}
 use Rattle.shared_proofs.proofs.Opening.{opens_is, begins_numbered}
 
-pub begins_content : (p : Problem) (depth : ℕ) (b : Content) (target : Grouping) → IsOrder p b.round.order → b.round.target ≡ Some target → TargetFits p b.round.limit b.round.target → Begins p depth b → IsContent p b
-begins_content p depth b target order is fits begins = record {
+pub begins_content : (p : Problem) (depth : ℕ) (b : Content) (target : Grouping) → b.round.window ≡ named_window p → IsOrder p b.round.order → b.round.target ≡ Some target → TargetFits p b.round.limit b.round.target → Begins p depth b → IsContent p b
+begins_content p depth b target window order is fits begins = record {
+  window = window;
   order = order;
   target = target;
   target_is = is;
@@ -48,6 +51,7 @@ put_content : (p : Problem) (b : Content) (n : ℕ) (new : Skeleton) (last : ℕ
     → ((x : ℕ) → often x (pieces new) + digit (is_numbered b.last x) ≡ digit (n == x) + digit (is_numbered last x))
     → IsContent p (record b { skeleton = put n new b.skeleton; last = last })
 put_content p b n new last s is w sound count = record {
+  window = is.window;
   order = is.order;
   target = is.target;
   target_is = is.target_is;
@@ -157,17 +161,17 @@ change p depth b c event Budget l = nothing l
 change p depth b c event Memory l = nothing l
 
 -- the content of a new round
-renews_content : (p : Problem) (depth : ℕ) (b c : Content) (round : Round) (next : ℕ) (target : Grouping) → IsOrder p round.order → round.target ≡ Some target → TargetFits p round.limit round.target → Renews p depth b round next c → IsContent p c
-renews_content p depth b c round next target order is fits r =
-    begins_content p depth c target (subst (λ (z : Round). IsOrder p z.order) (sym r.round_is) order) (ap (λ (z : Round). z.target) r.round_is ∙ is) (subst (λ (z : Round). TargetFits p z.limit z.target) (sym r.round_is) fits) r.begins
+renews_content : (p : Problem) (depth : ℕ) (b c : Content) (round : Round) (next : ℕ) (target : Grouping) → round.window ≡ named_window p → IsOrder p round.order → round.target ≡ Some target → TargetFits p round.limit round.target → Renews p depth b round next c → IsContent p c
+renews_content p depth b c round next target window order is fits r =
+    begins_content p depth c target (ap (λ (z : Round). z.window) r.round_is ∙ window) (subst (λ (z : Round). IsOrder p z.order) (sym r.round_is) order) (ap (λ (z : Round). z.target) r.round_is ∙ is) (subst (λ (z : Round). TargetFits p z.limit z.target) (sym r.round_is) fits) r.begins
 
 changed_content : (p : Problem) (depth : ℕ) (b c : Content) → IsContent p b → Change p depth b c → IsContent p c
 changed_content p depth b c is (nothing e) = subst (IsContent p) (sym e) is
 changed_content p depth b c is (filled n tree f) = fills_content p b n tree c is f
 changed_content p depth b c is (divided n county limit first many f) = splits_content p b n county limit first many c is f
-changed_content p depth b c is (improved g next gain r) = renews_content p depth b c (record (b.round) { target = Some g }) next g is.order refl (gain.lawful, gain.small) r
+changed_content p depth b c is (improved g next gain r) = renews_content p depth b c (record (b.round) { target = Some g }) next g is.window is.order refl (gain.lawful, gain.small) r
 changed_content p depth b c is (widened next r) =
-    renews_content p depth b c (record (b.round) { limit = b.round.limit + 1 }) next is.target is.order is.target_is (wider_fits p b.round.limit b.round.target is.fits) r
+    renews_content p depth b c (record (b.round) { limit = b.round.limit + 1 }) next is.target is.window is.order is.target_is (wider_fits p b.round.limit b.round.target is.fits) r
 
 pub leads_content : (p : Problem) (depth : ℕ) (b c : Content) (event : Event) (reply : Reply) → IsContent p b → Leads p depth b event reply c → IsContent p c
 leads_content p depth b c event reply is l = changed_content p depth b c is (change p depth b c event reply l)
@@ -177,7 +181,7 @@ over_content p depth b c [] is l = subst (IsContent p) (sym l) is
 over_content p depth b c (first ∷ more) is l = over_content p depth l.0 c more (leads_content p depth b l.0 first.event first.reply is l.1) l.2
 
 content_certifies : (p : Problem) (b : Content) (tree : Tree) → IsContent p b → joined b.skeleton ≡ Some tree → IsCertificate p b.round tree
-content_certifies p b tree is e = record { order = is.order; target = is.fits; proof = joined_proves b.skeleton p b.round (empty_state p) tree is.skeleton e }
+content_certifies p b tree is e = record { window = subst (HasWindow p) (sym is.window) (names_its_own p); order = is.order; target = is.fits; proof = joined_proves b.skeleton p b.round (empty_state p) tree is.skeleton e }
 
 content_best : (p : Problem) (b : Content) (tree : Tree) (target : Grouping) → IsContent p b → joined b.skeleton ≡ Some tree → b.round.target ≡ Some target → IsBest p target
 content_best p b tree target is e k = subst (Conclusion p) k (certificate_shows p b.round tree (content_certifies p b tree is e))

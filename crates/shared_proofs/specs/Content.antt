@@ -2,6 +2,7 @@
 use Rattle.std.specs.Prelude.{ℕ, ◌+◌, ◌-◌, ◌≡◌, ◌≢◌, ◌≤◌, ◌<◌, true, List, [], ◌∷◌, length, All, Contains, Some, None, ◌⊎◌}
 use Rattle.grouping_laws.specs.Problem.{Problem}
 use Rattle.grouping_laws.specs.Grouping.{Grouping, Lawful, counts, sets_of, IsGreater}
+use Rattle.grouping_laws.specs.Allowance.{named_window}
 use Rattle.grouping_laws.specs.GroupsFrom.{IsOrder}
 use Rattle.proof_trees.specs.Round.{Wide, Round}
 use Rattle.proof_trees.specs.State.{State, empty_state, open_to, close, raise}
@@ -140,8 +141,9 @@ abbrev pub LeadsOver : Problem → ℕ → Content → List Answered → Content
 LeadsOver p depth b [] c = c ≡ b
 LeadsOver p depth b (first ∷ more) c = (between : Content) × Leads p depth b first.event first.reply between × LeadsOver p depth between more c
 
--- What stands at every moment.
+-- What stands at every moment. A round names the allowance that a certificate for the problem names.
 pub record IsContent (p : Problem) (b : Content) : Type 0 where
+  pub window : b.round.window ≡ named_window p
   pub order : IsOrder p b.round.order
   pub target : Grouping
   pub target_is : b.round.target ≡ Some target
