@@ -8,7 +8,7 @@ ghost use Rattle.command_runs.specs.ProblemCourse.{build_step, problem_in};
 use crate::end::End;
 use crate::files::{load_adjacency, load_counties, load_withdrawn};
 use command_words::ProblemWords;
-use county_codes::{County, CountyCode, Withdrawn};
+use county_codes::{County, CountyCode, Window, Withdrawn};
 use grouping_problem::Problem;
 use program_answers::{Refusal, refuse_problem};
 use shelves::Shelf;
@@ -21,11 +21,12 @@ pub(crate) fn build(
     pairs: &[(CountyCode, CountyCode)],
     withdrawn: &[Withdrawn],
     chamber: u16,
+    window: Window,
     end: &mut End,
 ) -> Result<Problem, Refusal>
-    ensures { (history : History) → Comes (λ p. p) result (build_step chamber counties.now pairs.now withdrawn.now history history) }
+    ensures { (history : History) → Comes (λ p. p) result (build_step chamber window counties.now pairs.now withdrawn.now history history) }
 {
-    match Problem::build(alloc, counties, pairs, withdrawn, chamber) {
+    match Problem::build_with(alloc, counties, pairs, withdrawn, chamber, window) {
         Ok(problem) => Ok(problem),
         Err(fault) => {
             end.note_problem(&fault);
@@ -55,6 +56,7 @@ pub(crate) fn load_problem<H: Shelf>(
         &pairs,
         &withdrawn,
         words.common.chamber,
+        words.common.window,
         end,
     )
 }

@@ -71,7 +71,7 @@ module _ (files : Files) where
   problem_lifts : (words : ProblemWords) → Lifts files (problem_in None words) (problem_in (Some files) words)
   problem_lifts words =
       lifts_bind files (counties_lift words.common) (λ counties. lifts_bind files (adjacency_lift (codes_of counties) words) (λ pairs. lifts_bind files (withdrawn_lift words.withdrawn) (λ withdrawn.
-      lifts_call files problem_answer (IsBuilt counties pairs withdrawn words.common.chamber))))
+      lifts_call files problem_answer (IsBuilt counties pairs withdrawn words.common.chamber words.common.window))))
 
   grouping_lifts : (name : List ℕ) → Lifts files (grouping_of None name) (grouping_of (Some files) name)
   grouping_lifts name = lifts_bind files (lifts_load files name) (λ text. lifts_call files (code_file_answer input.Grouping) (λ grouping. grouping_list text ≡ grouping))
@@ -84,7 +84,7 @@ module _ (files : Files) where
   assignments_lift name = lifts_bind files (lifts_load files name) (λ text. lifts_call files assignment_answer (λ lines. assignment_list text ≡ lines))
 
   size_lifts : (words : CommonWords) → Lifts files (size_course None words) (size_course (Some files) words)
-  size_lifts words = lifts_bind files (counties_lift words) (λ counties. lifts_bind files (lifts_call files problem_answer (IsBuilt counties [] [] words.chamber)) (λ v. lifts_value files (λ a. a ≡ success (size_text v))))
+  size_lifts words = lifts_bind files (counties_lift words) (λ counties. lifts_bind files (lifts_call files problem_answer (IsBuilt counties [] [] words.chamber words.window)) (λ v. lifts_value files (λ a. a ≡ success (size_text v))))
 
   judge_lifts : (words : JudgeWords) → Lifts files (judge_course None words) (judge_course (Some files) words)
   judge_lifts words = lifts_bind files (problem_lifts words.problem) (λ v. lifts_bind files (grouping_lifts words.grouping.now) (λ g. lifts_call files verdict_answer (IsJudged v g)))

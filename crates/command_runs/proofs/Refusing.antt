@@ -159,4 +159,4 @@ problem_refuses files words =
     bind_refuses _ _ (counties_refuse files words.common) (λ counties.
     bind_refuses _ _ (adjacency_refuses files (codes_of counties) words) (λ pairs.
     bind_refuses _ _ (withdrawn_refuses files words.withdrawn) (λ withdrawn.
-    call_refuses problem_answer (IsBuilt counties pairs withdrawn words.common.chamber) problem_status)))
+    call_refuses problem_answer (IsBuilt counties pairs withdrawn words.common.chamber words.common.window) problem_status)))

@@ -3,6 +3,7 @@ use Rattle.std.proofs.Common.{◌≡◌, ℕ, ◌+◌, List, [], Some, None, fil
 use Rattle.std.specs.Prelude.{Ok}
 use Rattle.std.proofs.lemmas.List.Sorted.{Contains-permutation, IsPermutation-sym}
 use Rattle.county_codes.specs.declared.county.County.{County}
+use Rattle.county_codes.specs.declared.window.Window.{Window}
 use Rattle.county_codes.specs.declared.withdrawn.Withdrawn.{Withdrawn}
 use Rattle.grouping_problem.specs.declared.fault.ProblemFault.{ProblemFault}
 use Rattle.grouping_problem.specs.ProblemValue.{ProblemValue, codes_of}
@@ -59,16 +60,16 @@ same_value v w counties withdrawn pairs people chamber seats tolerance scale = �
   scale = scale i;
 }
 
-module _ (counties : List County) (pairs : List (ℕ × ℕ)) (withdrawn : List Withdrawn) (chamber : ℕ) where
+module _ (counties : List County) (pairs : List (ℕ × ℕ)) (withdrawn : List Withdrawn) (chamber : ℕ) (window : Window) where
   abbrev left : List County
   left = filter (is_left withdrawn) counties
 
-  same_counties : (v w : ProblemValue) → IsProblemOf counties pairs withdrawn chamber v → IsProblemOf counties pairs withdrawn chamber w → v.counties ≡ w.counties
+  same_counties : (v w : ProblemValue) → IsProblemOf counties pairs withdrawn chamber window window v → IsProblemOf counties pairs withdrawn chamber window w → v.counties ≡ w.counties
   same_counties v w h k = one_list_of_counties v.counties w.counties h.by_code k.by_code
       (λ c there. Contains-permutation left w.counties c k.same (Contains-permutation v.counties left c (IsPermutation-sym left v.counties h.same) there))
       (λ c there. Contains-permutation left v.counties c h.same (Contains-permutation w.counties left c (IsPermutation-sym left w.counties k.same) there))
 
-  one_problem : (v w : ProblemValue) → IsProblemOf counties pairs withdrawn chamber v → IsProblemOf counties pairs withdrawn chamber w → v ≡ w
+  one_problem : (v w : ProblemValue) → IsProblemOf counties pairs withdrawn chamber window window v → IsProblemOf counties pairs withdrawn chamber window w → v ≡ w
   one_problem v w h k =
       let same : v.counties ≡ w.counties = same_counties v w h k in
       let taken : v.seats_left + seats_in withdrawn ≡ chamber = h.seats_left in
@@ -82,11 +83,11 @@ module _ (counties : List County) (pairs : List (ℕ × ℕ)) (withdrawn : List 
       (h.tolerance ∙ sym k.tolerance)
       (h.scale ∙ sym k.scale)
 
-  none_or_some : (fault : ProblemFault) → problem_fault counties pairs withdrawn chamber ≡ None → problem_fault counties pairs withdrawn chamber ≡ Some fault → ⊥
+  none_or_some : (fault : ProblemFault) → problem_fault counties pairs withdrawn chamber window ≡ None → problem_fault counties pairs withdrawn chamber window ≡ Some fault → ⊥
   none_or_some fault e f = let no : None ≡ Some fault = sym e ∙ f in cc
 
-  built_again : Repeats (build_step chamber counties pairs withdrawn) (build_step chamber counties pairs withdrawn)
-  built_again = call_repeats problem_answer (IsBuilt counties pairs withdrawn chamber) (IsBuilt counties pairs withdrawn chamber)
+  built_again : Repeats (build_step chamber window counties pairs withdrawn) (build_step chamber window counties pairs withdrawn)
+  built_again = call_repeats problem_answer (IsBuilt counties pairs withdrawn chamber window) (IsBuilt counties pairs withdrawn chamber window)
       (λ v w h k. one_problem w v k.1 h.1)
       (λ v fault h k. none_or_some fault h.0 k)
 
@@ -120,10 +121,12 @@ module _ (files others : Files) (words other : ProblemWords) (same : HasSameProb
       value_repeats (AreLinked pairs links) (AreLinked pairs links) (λ x y h k. one_linked pairs links y x k h)))
 
   build_repeats : (counties : List County) (pairs : List (ℕ × ℕ)) (withdrawn : List Withdrawn)
-      → Repeats (build_step words.common.chamber counties pairs withdrawn) (build_step other.common.chamber counties pairs withdrawn)
+      → Repeats (build_step words.common.chamber words.common.window counties pairs withdrawn) (build_step other.common.chamber other.common.window counties pairs withdrawn)
   build_repeats counties pairs withdrawn =
-      subst (λ (chamber : ℕ). Repeats (build_step words.common.chamber counties pairs withdrawn) (build_step chamber counties pairs withdrawn))
-      same.chamber (built_again counties pairs withdrawn words.common.chamber)
+      subst (λ (window : Window). Repeats (build_step words.common.chamber words.common.window counties pairs withdrawn) (build_step other.common.chamber window counties pairs withdrawn))
+      same.window
+      (subst (λ (chamber : ℕ). Repeats (build_step words.common.chamber words.common.window counties pairs withdrawn) (build_step chamber words.common.window counties pairs withdrawn))
+      same.chamber (built_again counties pairs withdrawn words.common.chamber words.common.window))
 
   -- the problem is had again
   pub problem_repeats : Repeats (problem_in (Some files) words) (problem_in (Some others) other)

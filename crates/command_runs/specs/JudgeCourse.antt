@@ -23,7 +23,7 @@ use Rattle.command_runs.specs.PlanCourse.{blocks_of, assignments_of}
 
 -- `size`: the size table of the counties, without pairs and withdrawn sets
 abbrev pub size_course : Option Files → CommonWords → Course Answered
-size_course files words = counties_of files words >>= λ counties. build_step words.chamber counties [] [] >>= λ v. value_step (λ a. a ≡ success (size_text v))
+size_course files words = counties_of files words >>= λ counties. build_step words.chamber words.window counties [] [] >>= λ v. value_step (λ a. a ≡ success (size_text v))
 
 -- the report of a lawful grouping, or the fault of one that isn't
 abbrev pub IsJudged : ProblemValue → Grouping → Result Answered GroupingFault → Type 0

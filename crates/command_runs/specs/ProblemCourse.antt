@@ -2,6 +2,7 @@
 use Rattle.std.specs.Prelude.{◌≡◌, ℕ, List, [], Option, Some, None, Result, Ok, Err}
 use Rattle.std.specs.Borrow.{Bor}
 use Rattle.county_codes.specs.declared.county.County.{County}
+use Rattle.county_codes.specs.declared.window.Window.{Window}
 use Rattle.county_codes.specs.declared.withdrawn.Withdrawn as county
 use Rattle.grouping_problem.specs.declared.fault.ProblemFault.{ProblemFault}
 use Rattle.grouping_problem.specs.ProblemValue.{ProblemValue, codes_of}
@@ -64,19 +65,19 @@ adjacency_of files listed words =
     pairs_of files listed words.adjacency.now >>= λ pairs. links_of files words.links >>= λ links. value_step (AreLinked pairs links)
 
 -- the problem that is built, or its fault
-abbrev pub IsBuilt : List County → List (ℕ × ℕ) → List county.Withdrawn → ℕ → Result ProblemValue ProblemFault → Type 0
-IsBuilt counties pairs withdrawn chamber (Ok v) = (problem_fault counties pairs withdrawn chamber ≡ None) × IsProblemOf counties pairs withdrawn chamber v
-IsBuilt counties pairs withdrawn chamber (Err fault) = problem_fault counties pairs withdrawn chamber ≡ Some fault
+abbrev pub IsBuilt : List County → List (ℕ × ℕ) → List county.Withdrawn → ℕ → Window → Result ProblemValue ProblemFault → Type 0
+IsBuilt counties pairs withdrawn chamber window (Ok v) = (problem_fault counties pairs withdrawn chamber window ≡ None) × IsProblemOf counties pairs withdrawn chamber window v
+IsBuilt counties pairs withdrawn chamber window (Err fault) = problem_fault counties pairs withdrawn chamber window ≡ Some fault
 
 -- the step that builds the problem
-abbrev pub build_step : ℕ → List County → List (ℕ × ℕ) → List county.Withdrawn → Course ProblemValue
-build_step chamber counties pairs withdrawn = call_step problem_answer (IsBuilt counties pairs withdrawn chamber)
+abbrev pub build_step : ℕ → Window → List County → List (ℕ × ℕ) → List county.Withdrawn → Course ProblemValue
+build_step chamber window counties pairs withdrawn = call_step problem_answer (IsBuilt counties pairs withdrawn chamber window)
 
 -- The problem: its files are loaded and read one after the other, the counties first, then adjacency, links and withdrawn sets, and
 -- then it is built.
 abbrev pub problem_in : Option Files → ProblemWords → Course ProblemValue
 problem_in files words =
-    counties_of files words.common >>= λ counties. adjacency_of files (codes_of counties) words >>= λ pairs. withdrawn_of files words.withdrawn >>= build_step words.common.chamber counties pairs
+    counties_of files words.common >>= λ counties. adjacency_of files (codes_of counties) words >>= λ pairs. withdrawn_of files words.withdrawn >>= build_step words.common.chamber words.common.window counties pairs
 
 -- the grouping of a file
 abbrev pub grouping_of : Option Files → List ℕ → Course groups.Grouping

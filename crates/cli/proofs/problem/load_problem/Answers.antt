@@ -13,7 +13,7 @@ use Rattle.cli.proofs.problem.load_problem.Goals as goal
 
 -- the problem, where the counties and the pairs are known
 with_pairs : Option Files → ProblemWords → List County → List (ℕ × ℕ) → Course ProblemValue
-with_pairs files words counties pairs = withdrawn_of files words.withdrawn >>= build_step words.common.chamber counties pairs
+with_pairs files words counties pairs = withdrawn_of files words.withdrawn >>= build_step words.common.chamber words.common.window counties pairs
 
 -- the problem, where the counties are known
 with_counties : Option Files → ProblemWords → List County → Course ProblemValue
@@ -49,7 +49,7 @@ returns-in_err-withdrawn-clause-course g c =
     let met = subst (λ (f : Option Files). Meets c.in_err-withdrawn.field-0.0 (λ a. withdrawn_of f c.args.words.withdrawn then after (Err a))) same c.in_err-withdrawn.ensures.course in
     went_on (λ p. p) c.from_residual-in_err-withdrawn.result (counties_of files c.args.words.common) (with_counties files c.args.words) counties before between after c.in_ok-counties.ensures.course
     (went_on (λ p. p) c.from_residual-in_err-withdrawn.result (adjacency_of files (codes_of counties) c.args.words) (with_pairs files c.args.words counties) pairs between then after joined
-    (handed_on (λ p. p) c.in_err-withdrawn.field-0.0 c.from_residual-in_err-withdrawn.result (withdrawn_of files c.args.words.withdrawn) (build_step c.args.words.common.chamber counties pairs) then after c.from_residual-in_err-withdrawn.ensures.1 met))
+    (handed_on (λ p. p) c.in_err-withdrawn.field-0.0 c.from_residual-in_err-withdrawn.result (withdrawn_of files c.args.words.withdrawn) (build_step c.args.words.common.chamber c.args.words.common.window counties pairs) then after c.from_residual-in_err-withdrawn.ensures.1 met))
 
 pub returns-clause-course : goal.returns-clause-course
 unfolding with_pairs with_counties
@@ -60,6 +60,7 @@ returns-clause-course g c =
     let then = g.H.Shelf.history c.load_adjacency.new.shelf in
     let after = g.H.Shelf.history c.load_withdrawn.new.shelf in
     let chamber = c.args.words.common.chamber in
+    let window = c.args.words.common.window in
     let counties = c.in_ok-counties.counties.items in
     let pairs = c.in_ok-pairs.pairs.items in
     let sets = c.in_ok-withdrawn.withdrawn.items in
@@ -67,9 +68,9 @@ returns-clause-course g c =
     let joined = subst (λ (listed : List County). adjacency_of files (codes_of listed) c.args.words between then (Ok pairs)) c.deref.ensures.value told in
     let same = subst (λ (f : Option Files). g.H.Shelf.contents c.load_adjacency.new.shelf ≡ f) c.load_counties.ensures.same c.load_adjacency.ensures.same in
     let withdrawn = subst (λ (f : Option Files). withdrawn_of f c.args.words.withdrawn then after (Ok sets)) same c.in_ok-withdrawn.ensures.course in
-    let by_counties = subst (λ (listed : List County). Comes (λ p. p) c.build.result (build_step chamber listed c.deref-3.result.now c.deref-4.result.now after after)) c.deref-2.ensures.value (c.build.ensures after) in
-    let by_pairs = subst (λ (joining : List (ℕ × ℕ)). Comes (λ p. p) c.build.result (build_step chamber counties joining c.deref-4.result.now after after)) c.deref-3.ensures.value by_counties in
-    let by_sets = subst (λ (taken : List Withdrawn). Comes (λ p. p) c.build.result (build_step chamber counties pairs taken after after)) c.deref-4.ensures.value by_pairs in
+    let by_counties = subst (λ (listed : List County). Comes (λ p. p) c.build.result (build_step chamber window listed c.deref-3.result.now c.deref-4.result.now after after)) c.deref-2.ensures.value (c.build.ensures after) in
+    let by_pairs = subst (λ (joining : List (ℕ × ℕ)). Comes (λ p. p) c.build.result (build_step chamber window counties joining c.deref-4.result.now after after)) c.deref-3.ensures.value by_counties in
+    let by_sets = subst (λ (taken : List Withdrawn). Comes (λ p. p) c.build.result (build_step chamber window counties pairs taken after after)) c.deref-4.ensures.value by_pairs in
     went_on (λ p. p) c.build.result (counties_of files c.args.words.common) (with_counties files c.args.words) counties before between after c.in_ok-counties.ensures.course
     (went_on (λ p. p) c.build.result (adjacency_of files (codes_of counties) c.args.words) (with_pairs files c.args.words counties) pairs between then after joined
-    (went_on (λ p. p) c.build.result (withdrawn_of files c.args.words.withdrawn) (build_step chamber counties pairs) sets then after after withdrawn by_sets))
+    (went_on (λ p. p) c.build.result (withdrawn_of files c.args.words.withdrawn) (build_step chamber window counties pairs) sets then after after withdrawn by_sets))

@@ -12,7 +12,7 @@ use Rattle.cli.proofs.size.size.Goals as goal
 
 -- the table of counties
 of_counties : ℕ → List County → Course Answered
-of_counties chamber counties = build_step chamber counties [] [] >>= λ v. value_step (λ a. a ≡ success (size_text v))
+of_counties chamber window counties = build_step chamber window counties [] [] >>= λ v. value_step (λ a. a ≡ success (size_text v))
 
 pub returns-in_err-problem-clause-course : goal.returns-in_err-problem-clause-course
 unfolding of_counties
@@ -21,9 +21,9 @@ returns-in_err-problem-clause-course g c =
     let before = g.H.Shelf.history c.args.shelf.now in
     let after = g.H.Shelf.history c.load_counties.new.shelf in
     let counties = c.in_ok-counties.counties.items in
-    let met = subst (λ (listed : List County). Meets c.in_err-problem.field-0.0 (λ a. build_step c.args.words.chamber listed [] [] after after (Err a))) c.deref.ensures.value (c.in_err-problem.ensures after) in
-    went_on answer_of c.from_residual-in_err-problem.result (counties_of files c.args.words) (of_counties c.args.words.chamber) counties before after after c.in_ok-counties.ensures.course
-    (handed_on answer_of c.in_err-problem.field-0.0 c.from_residual-in_err-problem.result (build_step c.args.words.chamber counties [] []) (λ v. value_step (λ a. a ≡ success (size_text v))) after after c.from_residual-in_err-problem.ensures.1 met)
+    let met = subst (λ (listed : List County). Meets c.in_err-problem.field-0.0 (λ a. build_step c.args.words.chamber c.args.words.window listed [] [] after after (Err a))) c.deref.ensures.value (c.in_err-problem.ensures after) in
+    went_on answer_of c.from_residual-in_err-problem.result (counties_of files c.args.words) (of_counties c.args.words.chamber c.args.words.window) counties before after after c.in_ok-counties.ensures.course
+    (handed_on answer_of c.in_err-problem.field-0.0 c.from_residual-in_err-problem.result (build_step c.args.words.chamber c.args.words.window counties [] []) (λ v. value_step (λ a. a ≡ success (size_text v))) after after c.from_residual-in_err-problem.ensures.1 met)
 
 pub returns-clause-course : goal.returns-clause-course
 unfolding of_counties
@@ -32,7 +32,7 @@ returns-clause-course g c =
     let before = g.H.Shelf.history c.args.shelf.now in
     let after = g.H.Shelf.history c.load_counties.new.shelf in
     let counties = c.in_ok-counties.counties.items in
-    let given = subst (λ (listed : List County). build_step c.args.words.chamber listed [] [] after after (Ok c.in_ok-problem.problem)) c.deref.ensures.value (c.in_ok-problem.ensures after) in
+    let given = subst (λ (listed : List County). build_step c.args.words.chamber c.args.words.window listed [] [] after after (Ok c.in_ok-problem.problem)) c.deref.ensures.value (c.in_ok-problem.ensures after) in
     let text : success c.in_ok-text.text.items ≡ success (size_text c.in_ok-problem.problem) = ap success c.in_ok-text.ensures in
-    came (counties_of files c.args.words) (of_counties c.args.words.chamber) counties before after after (Ok (success c.in_ok-text.text.items)) c.in_ok-counties.ensures.course
-    (came (build_step c.args.words.chamber counties [] []) (λ v. value_step (λ a. a ≡ success (size_text v))) c.in_ok-problem.problem after after after (Ok (success c.in_ok-text.text.items)) given (refl, text))
+    came (counties_of files c.args.words) (of_counties c.args.words.chamber c.args.words.window) counties before after after (Ok (success c.in_ok-text.text.items)) c.in_ok-counties.ensures.course
+    (came (build_step c.args.words.chamber c.args.words.window counties [] []) (λ v. value_step (λ a. a ≡ success (size_text v))) c.in_ok-problem.problem after after after (Ok (success c.in_ok-text.text.items)) given (refl, text))
