@@ -64,12 +64,12 @@ module _ (counties : List County) (pairs : List (ℕ × ℕ)) (withdrawn : List 
   abbrev left : List County
   left = filter (is_left withdrawn) counties
 
-  same_counties : (v w : ProblemValue) → IsProblemOf counties pairs withdrawn chamber window window v → IsProblemOf counties pairs withdrawn chamber window w → v.counties ≡ w.counties
+  same_counties : (v w : ProblemValue) → IsProblemOf counties pairs withdrawn chamber window v → IsProblemOf counties pairs withdrawn chamber window w → v.counties ≡ w.counties
   same_counties v w h k = one_list_of_counties v.counties w.counties h.by_code k.by_code
       (λ c there. Contains-permutation left w.counties c k.same (Contains-permutation v.counties left c (IsPermutation-sym left v.counties h.same) there))
       (λ c there. Contains-permutation left v.counties c h.same (Contains-permutation w.counties left c (IsPermutation-sym left w.counties k.same) there))
 
-  one_problem : (v w : ProblemValue) → IsProblemOf counties pairs withdrawn chamber window window v → IsProblemOf counties pairs withdrawn chamber window w → v ≡ w
+  one_problem : (v w : ProblemValue) → IsProblemOf counties pairs withdrawn chamber window v → IsProblemOf counties pairs withdrawn chamber window w → v ≡ w
   one_problem v w h k =
       let same : v.counties ≡ w.counties = same_counties v w h k in
       let taken : v.seats_left + seats_in withdrawn ≡ chamber = h.seats_left in

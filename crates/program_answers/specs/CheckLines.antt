@@ -5,7 +5,7 @@ use Rattle.certificate_lines.specs.declared.fault.TextKind.TheVariants as text
 use Rattle.grouping_judge.specs.declared.grouping_fault.GroupingFault.{GroupingFault}
 use Rattle.grouping_judge.specs.declared.grouping_fault.GroupingFault.TheVariants as verdict
 use Rattle.certificate_checker.specs.declared.fault.CheckFault.{CheckFault}
-use Rattle.certificate_checker.specs.declared.fault.CheckFault.TheVariants.{Text, WrongOrder, LimitTooSmall, TargetFault, WrongCounty, MissingGroup, StrayGroup, LightGroup, BoundOver, BoundLength, NotStuck, SeatsOpen, BoundWithoutTarget, NoLeaf}
+use Rattle.certificate_checker.specs.declared.fault.CheckFault.TheVariants.{Text, WrongWindow, WrongOrder, LimitTooSmall, TargetFault, WrongCounty, MissingGroup, StrayGroup, LightGroup, BoundOver, BoundLength, NotStuck, SeatsOpen, BoundWithoutTarget, NoLeaf}
 use Rattle.program_answers.specs.Answer.{Answered}
 
 -- the word of a kind of fault of a certificate's text
@@ -34,6 +34,7 @@ grouping_kind_word verdict.Memory = codes "Memory"
 -- the words of a fault of a certificate: for a fault of its text or its target, that fault's word behind it
 abbrev pub check_words : CheckFault → List ℕ
 check_words (Text fault) = codes "Text " ++ text_kind_word fault.kind
+check_words WrongWindow = codes "WrongWindow"
 check_words WrongOrder = codes "WrongOrder"
 check_words LimitTooSmall = codes "LimitTooSmall"
 check_words (TargetFault fault) = codes "TargetFault " ++ grouping_kind_word fault

@@ -59,6 +59,7 @@ fn push_check_fault(out: &mut Vec<u8>, fault: CheckFault) -> Result<(), AllocErr
 {
     match fault {
         CheckFault::Text(text) => push_two_words(out, b"Text ", word_of_text_kind(text.kind)),
+        CheckFault::WrongWindow => push_word(out, b"WrongWindow"),
         CheckFault::WrongOrder => push_word(out, b"WrongOrder"),
         CheckFault::LimitTooSmall => push_word(out, b"LimitTooSmall"),
         CheckFault::TargetFault(fault) => {

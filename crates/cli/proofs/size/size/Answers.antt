@@ -1,6 +1,7 @@
 use Rattle.std.proofs.Common.{◌≡◌, ℕ, List, [], refl, subst, ap}
 use Rattle.std.specs.Prelude.{Ok, Err}
 use Rattle.county_codes.specs.declared.county.County.{County}
+use Rattle.county_codes.specs.declared.window.Window.{Window}
 use Rattle.grouping_report.specs.SizeTable.{size_text}
 use Rattle.program_answers.specs.Answer.{Answered}
 use Rattle.program_answers.specs.Answers.{answer_of, Meets}
@@ -11,7 +12,7 @@ use Rattle.command_runs.proofs.RunLemmas.{handed_on, went_on, came}
 use Rattle.cli.proofs.size.size.Goals as goal
 
 -- the table of counties
-of_counties : ℕ → List County → Course Answered
+of_counties : ℕ → Window → List County → Course Answered
 of_counties chamber window counties = build_step chamber window counties [] [] >>= λ v. value_step (λ a. a ≡ success (size_text v))
 
 pub returns-in_err-problem-clause-course : goal.returns-in_err-problem-clause-course
