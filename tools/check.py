@@ -2,12 +2,12 @@
 """A second checker of certificates, in plain Python: for whoever doesn't trust the proof tool and reads this file in its place.
 
 usage: check.py --geo FILE --segment FILE --chamber SEATS --adjacency FILE --certificate FILE
-                [--state CODE] [--links FILE] [--withdrawn FILE] [--budget STEPS]
+                [--state CODE] [--links FILE] [--withdrawn FILE] [--part PART] [--of WHOLE] [--budget STEPS]
 
 It reads the files of `countygroups check` and prints the same text with the same exit status. It has no budget: `--budget` is taken and ignored.
 
 What it shares with the program: nothing. What is a proof it has from `docs/definitions.md`, whose words it uses, and the texts from
-`docs/formats.md`, with the order of the faults ("Which fault"). It reads both kinds of certificate, plain and wide, of version 1.
+`docs/formats.md`, with the order of the faults ("Which fault"). It reads both kinds of certificate, plain and wide, of both versions.
 What it trusts: Python, its whole numbers without limit, and the files that it is given. No number is rounded.
 
 How it goes: the files are read (`read_..`), the problem is built (`Problem`), and the text of the certificate becomes a list of its lines
@@ -23,7 +23,7 @@ import re
 import sys
 
 LINE_BYTES, TEXT_LINES, FILE_BYTES = 65_536, 16_777_216, 1_073_741_824
-MOST_COUNTIES, MOST_NUMBER = 128, 4_294_967_295
+MOST_COUNTIES, MOST_NUMBER = 256, 4_294_967_295
 
 
 class End(Exception):
@@ -159,15 +159,16 @@ def read_withdrawn(text):
 class Problem:
     """The counties with their people and neighbours, and the seats."""
 
-    def __init__(self, listed, pairs, withdrawn, chamber):
-        """`pairs` are those that are adjacent, of two listed counties or of two that a link adds."""
+    def __init__(self, listed, pairs, withdrawn, chamber, window):
+        """The people of a district may miss the ideal population by a fraction of it, `window`. `pairs` are those that are adjacent, of two listed counties or of two that a link adds."""
         gone = [code for _, codes in withdrawn for code in codes]
         unknown = [code for code in gone if code not in listed]
         twice = [code for place, code in enumerate(gone) if code in gone[:place]]
         foreign = sorted(sorted(pair) for pair in pairs if not all(code in listed for code in pair))
-        self.total, self.chamber = sum(listed.values()), chamber
+        self.total, self.chamber, self.window = sum(listed.values()), chamber, window
         self.seats_left = chamber - sum(seats for seats, _ in withdrawn)
         faults = [
+            (2 * window[0] > window[1], "BadWindow"),
             (len(listed) > MOST_COUNTIES, "TooManyCounties"),
             (self.total == 0, "NoPeople"),
             (unknown, f"UnknownWithdrawn {unknown[:1]}"),
@@ -187,10 +188,11 @@ class Problem:
 
     @functools.lru_cache(maxsize=None)
     def seats_of(self, people):
-        """The least and the greatest number of seats k that the people suit, or None: at least 19 and at most 21 twentieths of k ideal
-        districts, where the ideal district has total / chamber people."""
-        scaled = 20 * people * self.chamber
-        least, most = max(1, -(-scaled // (21 * self.total))), scaled // (19 * self.total)
+        """The least and the greatest number of seats k that the people suit, or None: they miss k ideal districts by no more than the
+        allowance, where the ideal district has total / chamber people."""
+        part, whole = self.window
+        scaled = whole * people * self.chamber
+        least, most = max(1, -(-scaled // ((whole + part) * self.total))), scaled // ((whole - part) * self.total)
         return (least, most) if least <= most else None
 
     def is_connected(self, codes):
@@ -259,8 +261,9 @@ def weight(word):
 
 
 # What the words of a line behind its first are: one each, and then the last so many times.
-HEADS = {b"county-groups certificate 1": False, b"county-groups wide certificate 1": True}
+HEADS = {b"county-groups %scertificate %d" % (b"wide " * is_wide, version): (is_wide, version) for is_wide in (False, True) for version in (1, 2)}
 FORMS = {
+    "window": ([number(0, 500), number(1, 1000)], None, 0, 0),
     "order": ([], code, 0, MOST_COUNTIES),
     "limit": ([number(0, MOST_COUNTIES)], None, 0, 0),
     "target": ([target], None, 0, 0),
@@ -297,7 +300,8 @@ class Lines:
         piece = self.piece()
         if piece not in HEADS:
             raise text_fault("BadHead", self.line)
-        self.is_wide = HEADS[piece]
+        self.is_wide, version = HEADS[piece]
+        return version
 
     def next(self, *wanted):
         """The form of the next line, which is one of those wanted, and the values of its words."""
@@ -315,14 +319,16 @@ class Lines:
             values = [read(word) for read, word in zip(once + [repeated] * (len(words) - len(once)), words)]
         except ValueError as fault:
             raise text_fault(fault, self.line) from None
+        if form == "window" and 2 * values[0] > values[1]:
+            raise text_fault("BadNumber", self.line)
         if form == "weigh" and any(one[0] >= other[0] for one, other in zip(values[1:], values[2:])):
             raise text_fault("NotCanonical", self.line)
         return form, values
 
 
-# The target is None, or the seats and the codes of each group. The tree is a list of lines: number, form and values of each. The values of a
+# The window is None if none is named. The target is None, or the seats and the codes of each group. The tree is a list of lines: number, form and values of each. The values of a
 # bound line are the lines that belong to it: form, values and number of each.
-Certificate = collections.namedtuple("Certificate", "is_wide order limit target tree")
+Certificate = collections.namedtuple("Certificate", "is_wide window order limit target tree")
 
 
 def read_tree(lines, counties):
@@ -351,7 +357,7 @@ def read_tree(lines, counties):
 
 def read_certificate(text):
     lines = Lines(text)
-    lines.head()
+    window = lines.next("window")[1] if lines.head() == 2 else None
     order = lines.next("order")[1]
     limit = lines.next("limit")[1][0]
     groups = lines.next("target")[1][0]
@@ -363,7 +369,7 @@ def read_certificate(text):
     lines.next("end")
     if lines.line + 1 < len(lines.pieces) or lines.pieces[-1]:
         raise text_fault("AfterEnd", lines.line + 1)
-    return Certificate(lines.is_wide, order, limit, target, tree)
+    return Certificate(lines.is_wide, window, order, limit, target, tree)
 
 
 # ---- whether a certificate is a proof ----
@@ -573,13 +579,16 @@ def judge_tree(state, tree):
 
 def judge_certificate(problem, certificate):
     """Ends the run if the certificate is no proof. Else its target is best, or no grouping is lawful if it has none."""
+    line, window = (1, (1, 20)) if certificate.window is None else (2, certificate.window)
+    if window[0] * problem.window[1] != problem.window[0] * window[1]:
+        raise no("WrongWindow", line)
     if sorted(certificate.order) != sorted(problem.people):
-        raise no("WrongOrder", 2)
+        raise no("WrongOrder", line + 1)
     if any(len(codes) > certificate.limit for _, codes in certificate.target or []):
-        raise no("LimitTooSmall", 3)
+        raise no("LimitTooSmall", line + 2)
     fault = certificate.target is not None and problem.fault_of(certificate.target)
     if fault:
-        raise no(f"TargetFault {fault}", 4)
+        raise no(f"TargetFault {fault}", line + 3)
     its_round = Round(problem, certificate)
     judge_tree(State(its_round, [], sum(its_round.bit.values()), {}), certificate.tree)
 
@@ -589,7 +598,9 @@ def judge_certificate(problem, certificate):
 
 def report(problem, grouping):
     """The text of a best grouping, or that there is none."""
-    text = f"people {problem.total}\nchamber {problem.chamber}\nseats left {problem.seats_left}\ncounties {len(problem.people)}\n"
+    part, whole = problem.window
+    text = f"people {problem.total}\nchamber {problem.chamber}\n" + f"window {part} {whole}\n" * (part * 20 != whole)
+    text += f"seats left {problem.seats_left}\ncounties {len(problem.people)}\n"
     if grouping is None:
         return text + "answer impossible\n"
     sizes = [len(codes) for _, codes in grouping]
@@ -617,13 +628,13 @@ def load(name):
 
 def options_of(words):
     """The options of the command, or the end of the run: each has one value and stands once."""
-    ranges = {"chamber": (1, 1000), "state": (0, 99), "budget": (0, 2**64 - 1)}
+    ranges = {"chamber": (1, 1000), "state": (0, 99), "part": (0, 500), "of": (1, 1000), "budget": (0, 2**64 - 1)}
     required = ["geo", "segment", "chamber", "adjacency", "certificate"]
     options, waiting = {}, list(words)
     while waiting:
         name, equals, value = waiting.pop(0).partition("=")
         name = name[2:] if name.startswith("--") else ""
-        if name in options or name not in [*required, "state", "links", "withdrawn", "budget"] or not equals and not waiting:
+        if name in options or name not in [*required, "state", "links", "withdrawn", "part", "of", "budget"] or not equals and not waiting:
             raise End("", 2)
         value = value if equals else waiting.pop(0)
         if name in ranges:
@@ -631,7 +642,7 @@ def options_of(words):
         options[name] = value
     if None in options.values() or not all(name in options for name in required):
         raise End("", 2)
-    return {"state": 37, **options}
+    return {"state": 37, "part": 1, "of": 20, **options}
 
 
 def answer(words, load):
@@ -644,7 +655,7 @@ def answer(words, load):
         links = read_links(load(options["links"])) if "links" in options else {}
         withdrawn = read_withdrawn(load(options["withdrawn"])) if "withdrawn" in options else []
         adjacent = {it for it in pairs if all(code in listed for code in it)} - {*links} | {it for it in links if links[it]}
-        problem = Problem(listed, {it for it in adjacent if len(it) == 2}, withdrawn, options["chamber"])
+        problem = Problem(listed, {it for it in adjacent if len(it) == 2}, withdrawn, options["chamber"], (options["part"], options["of"]))
         certificate = read_certificate(load(options["certificate"]))
         judge_certificate(problem, certificate)
     except End as end:
