@@ -7,6 +7,7 @@ use crate::shown::start_of;
 use certificate_checker::CheckFault;
 use certificate_lines::TextKind;
 use cli::FileOption;
+use county_codes::Window;
 use field_lines::{Fields, field_at, number_in};
 use grouping_problem::Problem;
 use std::alloc::AllocError;
@@ -53,6 +54,35 @@ fn target_seats(text: &[u8]) -> u64 {
     seats
 }
 
+/// The allowance of a line `window PART WHOLE`.
+fn window_on(line: &[u8]) -> Option<Window> {
+    let part = number_in(field_at(line, b' ', 1)?, 0, 500)?;
+    let whole = number_in(field_at(line, b' ', 2)?, 1, 1_000)?;
+    Some(Window {
+        part: part as u16,
+        whole: whole as u16,
+    })
+}
+
+/// The allowance that a certificate is for: that of its second line, or one twentieth if it names none.
+fn window_in(text: &[u8]) -> Window {
+    let line = whole_line(text, 2).unwrap_or(&[]);
+    match field_at(line, b' ', 0) {
+        Some(b"window") => window_on(line).unwrap_or(Window::twentieth()),
+        _ => Window::twentieth(),
+    }
+}
+
+/// Names the allowance of a certificate, and that of the problem.
+fn explain_windows(out: &mut String, text: &[u8], problem: &Problem) -> Result<(), AllocError> {
+    let (named, asked) = (window_in(text), problem.window());
+    writeln!(
+        out,
+        "countygroups: the certificate is for the allowance {}/{}, and --part and --of ask for {}/{}",
+        named.part, named.whole, asked.part, asked.whole
+    )
+}
+
 /// Says what was done to the text on its way, or what else helps.
 fn explain_help(
     out: &mut String,
@@ -73,8 +103,12 @@ fn explain_help(
             "countygroups: the lines of {file} end in CR LF: the file was changed on its way, so get it again byte for byte"
         );
     }
-    if let CheckFault::TargetFault(_) = fault {
-        explain_chamber(out, FileOption::Certificate, target_seats(text), problem)?;
+    match fault {
+        CheckFault::TargetFault(_) => {
+            explain_chamber(out, FileOption::Certificate, target_seats(text), problem)?
+        }
+        CheckFault::WrongWindow => explain_windows(out, text, problem)?,
+        _ => {}
     }
     out.push_str(
         "countygroups: see that the other options are those that it was made with, or make it again with `countygroups solve --certificate FILE`\n",

@@ -179,6 +179,9 @@ pub(crate) fn explain_problem(
     fault: &ProblemFault,
 ) -> Result<(), AllocError> {
     let file = options.file(match fault {
+        ProblemFault::BadWindow => {
+            return writeln!(out, "countygroups: --part and --of: {fault}");
+        }
         ProblemFault::EmptyWithdrawn(_)
         | ProblemFault::UnknownWithdrawn(_)
         | ProblemFault::WithdrawnTwice(_)
