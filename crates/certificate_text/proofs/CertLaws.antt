@@ -4,7 +4,7 @@ use Rattle.county_codes.specs.declared.window.Window.{Window}
 use Rattle.grouping_laws.specs.Grouping.{Grouping}
 use Rattle.certificate_lines.specs.Lines as line
 use Rattle.certificate_lines.specs.Lines.{most}
-use Rattle.certificate_lines.specs.Items.{by_words, wanted_after, in_front, certificate_items}
+use Rattle.certificate_lines.specs.Items.{by_words, in_front, certificate_items}
 use Rattle.certificate_lines.specs.Rest.{Rest, lines_of, IsMemory, TakesLine, FaultOf}
 use Rattle.certificate_lines.specs.Reads.{items_at, Reads, Refuses}
 use Rattle.certificate_text.specs.Trees.{items_of_head, items_of_target}
@@ -23,24 +23,6 @@ refuses_with a more x fault h mem later = ap (λ (w : List Wanted). items_at w x
 pub refused : (text : List ℕ) (start : Rest) → start ≡ record { number = 1; text = text } → (fault : TextFault) → Refuses (want.Head ∷ []) start fault → (IsMemory fault → ⊥) → certificate_items text ≡ Err fault
 refused text start is fault h mem = ap (items_at (want.Head ∷ [])) (sym is) ∙ h mem []
 
--- a fault of the order's line, and of the limit's
-module _ (text : List ℕ) (start a : Rest) (is : start ≡ record { number = 1; text = text }) (language : Language) (window : Option Window) (head : Reads (want.Head ∷ []) start (items_of_head language window) (want.Order language ∷ []) a) where
-  pub order_fault : (fault : TextFault) → ((IsMemory fault → ⊥) → FaultOf (by_words line.order_on) a.number (lines_of a) fault) → (IsMemory fault → ⊥) → certificate_items text ≡ Err fault
-  order_fault fault h =
-      refused text start is fault (reads_refuse (want.Head ∷ []) (want.Order language ∷ []) start a (items_of_head language window) fault head
-      (refuses_line (want.Order language) (by_words line.order_on) item.Order (λ piece. refl) a fault h))
-
-  order_read : (cs : List ℕ) (b : Rest) → TakesLine (by_words line.order_on) cs a b → Reads (want.Head ∷ []) start (items_of_head language window ++ item.Order cs ∷ []) (wanted_after (want.Order language) (item.Order cs)) b
-  order_read cs b order =
-      reads_then (want.Head ∷ []) (want.Order language ∷ []) (wanted_after (want.Order language) (item.Order cs)) start a b (items_of_head language window) (item.Order cs ∷ []) head
-      (reads_line (want.Order language) (by_words line.order_on) item.Order (λ piece. refl) cs a b order)
-
-  pub limit_fault : (cs : List ℕ) (b : Rest) → TakesLine (by_words line.order_on) cs a b → (fault : TextFault) → ((IsMemory fault → ⊥) → FaultOf (by_words line.limit_on) b.number (lines_of b) fault)
-      → (IsMemory fault → ⊥) → certificate_items text ≡ Err fault
-  limit_fault cs b order fault h =
-      refused text start is fault (reads_refuse (want.Head ∷ []) (wanted_after (want.Order language) (item.Order cs)) start b (items_of_head language window ++ item.Order cs ∷ []) fault (order_read cs b order)
-      (refuses_with (want.Limit ∷ []) (want.Target ∷ want.Tree language (length cs) ∷ want.End ∷ []) b fault (refuses_line want.Limit (by_words line.limit_on) item.Limit (λ piece. refl) b fault h)))
-
 module _ (text : List ℕ) (start a b c : Rest) (is : start ≡ record { number = 1; text = text }) (language : Language) (window : Option Window) (cs : List ℕ) (limit : ℕ)
     (head : Reads (want.Head ∷ []) start (items_of_head language window) (want.Order language ∷ []) a) (order : TakesLine (by_words line.order_on) cs a b) (limited : TakesLine (by_words line.limit_on) limit b c) where
   abbrev after_limit : List Wanted
@@ -52,7 +34,8 @@ module _ (text : List ℕ) (start a b c : Rest) (is : start ≡ record { number 
   head_read : Reads (want.Head ∷ []) start head_items after_limit c
   head_read =
       reads_then (want.Head ∷ []) (want.Limit ∷ after_limit) after_limit start b c (items_of_head language window ++ item.Order cs ∷ []) (item.Limit limit ∷ [])
-      (order_read text start a is language window head cs b order)
+      (reads_then (want.Head ∷ []) (want.Order language ∷ []) (want.Limit ∷ after_limit) start a b (items_of_head language window) (item.Order cs ∷ []) head
+      (reads_line (want.Order language) (by_words line.order_on) item.Order (λ piece. refl) cs a b order))
       (reads_with (want.Limit ∷ []) [] after_limit b c (item.Limit limit ∷ []) (reads_line want.Limit (by_words line.limit_on) item.Limit (λ piece. refl) limit b c limited))
 
   pub target_fault : (fault : TextFault) → Refuses (want.Target ∷ []) c fault → (IsMemory fault → ⊥) → certificate_items text ≡ Err fault

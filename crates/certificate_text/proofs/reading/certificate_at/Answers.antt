@@ -6,7 +6,7 @@ use Rattle.certificate_text.specs.Trees.{tree_of, items_of_head, items_of_tree, 
 use Rattle.certificate_lines.specs.declared.item.Item.{Item}
 use Rattle.certificate_lines.specs.declared.item.Item.TheVariants as item
 use Rattle.certificate_lines.proofs.ReadLaws.{order_taken}
-use Rattle.certificate_text.proofs.CertLaws.{refused, order_fault, limit_fault, parts_in_turn, target_fault, tree_fault, end_fault, after_fault, certificate_read}
+use Rattle.certificate_text.proofs.CertLaws.{refused, parts_in_turn, target_fault, tree_fault, end_fault, after_fault, certificate_read}
 use Rattle.certificate_text.proofs.reading.certificate_at.Goals as goal
 
 pub overflow_cast-as_slice : goal.overflow_cast-as_slice
@@ -17,19 +17,8 @@ overflow_cast-as_slice c =
 
 pub returns-in_err-language : goal.returns-in_err-language
 returns-in_err-language c =
-    let p = err_from_is_err_and c.from_residual-in_err-language.result c.from_residual-in_err-language.ensures.1 in
+    let p = err_from_is_err_and c.from_residual.result c.from_residual.ensures.1 in
     rw (p.1, p.2) (refused c.args.text.now c.new-cursor.result c.new-cursor.ensures _ c.in_err-language.ensures.fault)
-
-pub returns-in_err-order : goal.returns-in_err-order
-returns-in_err-order c =
-    let p = err_from_is_err_and c.from_residual-in_err-order.result c.from_residual-in_err-order.ensures.1 in
-    rw (p.1, p.2) (order_fault c.args.text.now c.new-cursor.result c.head_at.new.cursor c.new-cursor.ensures c.in_ok-language.language c.in_ok-language.window c.in_ok-language.ensures.read _ c.in_err-order.ensures)
-
-pub returns-in_err-limit : goal.returns-in_err-limit
-returns-in_err-limit c =
-    let p = err_from_is_err_and c.from_residual-in_err-limit.result c.from_residual-in_err-limit.ensures.1 in
-    rw (p.1, p.2)
-    (limit_fault c.args.text.now c.new-cursor.result c.head_at.new.cursor c.new-cursor.ensures c.in_ok-language.language c.in_ok-language.window c.in_ok-language.ensures.read c.in_ok-order.order c.order.new.self c.in_ok-order.ensures _ c.in_err-limit.ensures)
 
 pub returns-in_err-target : goal.returns-in_err-target
 returns-in_err-target c =
