@@ -1,5 +1,5 @@
 -- The first lines are read: the head, and the allowance if one is named.
-use Rattle.std.proofs.Common.{◌≡◌, [], ◌∷◌, Option, Some, None, refl, subst}
+use Rattle.std.proofs.Common.{◌≡◌, [], ◌∷◌, Some, None, refl, subst}
 use Rattle.county_codes.specs.declared.window.Window.{Window}
 use Rattle.certificate_lines.specs.Lines as line
 use Rattle.certificate_lines.specs.Items.{by_words, head_in, headed, wanted_after}

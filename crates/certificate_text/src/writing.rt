@@ -18,9 +18,9 @@ ghost use Rattle.certificate_lines.specs.declared.fault.WriteFault.TheVariants a
 use crate::certificate::Certificate;
 use crate::tree::{Leaf, Take, Tree};
 use certificate_lines::{
-    Allowance, MOST, Version, WriteFault, levels_after, push_allowance, push_branch, push_code_line,
-    push_group, push_head, push_limit, push_number_line, push_order, push_take, push_target_line,
-    push_window,
+    Allowance, MOST, Version, WriteFault, levels_after, push_allowance, push_branch,
+    push_code_line, push_group, push_head, push_limit, push_number_line, push_order, push_take,
+    push_target_line, push_window,
 };
 use county_codes::{Group, Grouping, Window};
 use proof_trees::Language;
