@@ -9,12 +9,12 @@ use Rattle.field_lines.specs.Raw.{RawLine}
 use Rattle.certificate_lines.specs.Words.{line_bytes, line_words, code, pair}
 use Rattle.certificate_lines.specs.Lines as line
 use Rattle.certificate_lines.specs.Lines.{most, begins, named, counted, number_at, code_at, each, ascend, order_on, limit_on, target_on, group_on, branch_on, stuck_on, bound_on, opening_on, take_on, weigh_on, allowance_on}
-use Rattle.certificate_lines.specs.Items.{by_words, head_in, seen, taken, item_on, wanted_after, in_front, items_from}
+use Rattle.certificate_lines.specs.Items.{by_words, head_in, headed, seen, taken, item_on, wanted_after, in_front, items_from}
 use Rattle.certificate_lines.specs.Rest.{fault_at}
 use Rattle.certificate_lines.specs.Spelling.{five_digits, item_words}
 use Rattle.certificate_lines.specs.Fits.{AreCodes, IsSet, Fits, AllFit}
 use Rattle.certificate_lines.proofs.WordLaws.{bind_ok}
-use Rattle.certificate_lines.proofs.FormLaws.{counted_ok, number_at_ok, code_at_ok, codes_ok, weights_ok, order_few, length_map}
+use Rattle.certificate_lines.proofs.FormLaws.{counted_ok, number_at_ok, code_at_ok, codes_ok, weights_ok, order_few, window_fits, length_map}
 use Rattle.certificate_lines.proofs.TextLaws.{item_ok, seen_ok, in_front_ok}
 use Rattle.certificate_lines.specs.declared.fault.TextKind.{TextKind}
 use Rattle.certificate_lines.specs.declared.fault.TextKind.TheVariants.{BadWord, NotCanonical, CutShort, TooDeep}
@@ -28,7 +28,7 @@ use Rattle.certificate_lines.specs.declared.item.Allowance.TheVariants.{Room, We
 use Rattle.certificate_lines.specs.declared.item.Opening.{Opening}
 use Rattle.certificate_lines.specs.declared.item.Opening.TheVariants.{Branch, Stuck, Seats, Bound}
 use Rattle.certificate_lines.specs.declared.item.Item.{Item}
-use Rattle.certificate_lines.specs.declared.item.Item.TheVariants.{Head, Order, Limit, Target, Grouped, Opens, Allows, End}
+use Rattle.certificate_lines.specs.declared.item.Item.TheVariants.{Within, Order, Limit, Target, Grouped, Opens, Allows, End}
 use Rattle.certificate_lines.specs.declared.item.Wanted.{Wanted}
 use Rattle.certificate_lines.specs.declared.item.Wanted.TheVariants as want
 
@@ -237,8 +237,9 @@ allows_fits left piece item h =
 -- an item that is read fits
 pub item_fits : (wanted : Wanted) (piece : RawLine) (item : Item) → item_on wanted piece ≡ Ok item → Fits wanted item
 item_fits want.Head piece item h =
-    let s = seen_ok Head (head_in piece.bytes piece.ended) item h in
+    let s = seen_ok headed (head_in piece.bytes piece.ended) item h in
     subst (λ (i : Item). Fits want.Head i) s.view_is tt
+item_fits (want.Window language) piece item h = said_fits (want.Window language) line.window_on Within piece item window_fits h
 item_fits (want.Order language) piece item h = said_fits (want.Order language) line.order_on Order piece item (λ words cs e. (order_few words cs e, order_codes words cs e)) h
 item_fits want.Limit piece item h = said_fits want.Limit line.limit_on Limit piece item limit_fits h
 item_fits want.Target piece item h = said_fits want.Target line.target_on Target piece item target_fits h

@@ -1,19 +1,21 @@
 -- What each form of line is read as, and how that is written: a line that is read is the item's, word by word.
-use Rattle.std.proofs.Common.{◌≡◌, ℕ, ◌+◌, ◌<◌, ◌≤◌, ◌^◌, ◌&&◌, cond, Bool, true, false, List, [], ◌∷◌, length, map, drop, codes, Option, Some, None, Ok, Err, refl, ap, subst, ◌∙◌, arith, lit<}
+use Rattle.std.proofs.Common.{◌≡◌, ℕ, ◌+◌, ◌*◌, ◌<◌, ◌≤◌, ◌^◌, ◌&&◌, cond, Bool, true, false, List, [], ◌∷◌, length, map, drop, codes, Option, Some, None, Ok, Err, refl, ap, subst, ◌∙◌, arith, lit<}
 use Rattle.std.specs.Prelude.{nat_le, nat_lt}
 use Rattle.std.specs.Fmt.{decimal}
 use Rattle.std.specs.List.{AllByRecursion}
 use Rattle.std.specs.Cmp.Lexicographic.{bytes_decides}
-use Rattle.std.proofs.lemmas.Bool.{and_parts, leb-true}
+use Rattle.std.proofs.lemmas.Bool.{and_parts, and_from, le-leb, leb-true}
 use Rattle.field_lines.specs.Chain.{◌>>=◌}
+use Rattle.county_codes.specs.Windows.{is_window}
 use Rattle.county_codes.specs.declared.group.Group.{Group}
+use Rattle.county_codes.specs.declared.window.Window.{Window}
 use Rattle.certificate_lines.specs.Words.{number, code, pair}
-use Rattle.certificate_lines.specs.Lines.{most, begins, named, counted, number_at, code_at, each, ascend, order_on, limit_on, target_on, group_on, branch_on, stuck_on, bound_on, opening_on, take_on, weigh_on, allowance_on, end_on}
+use Rattle.certificate_lines.specs.Lines.{most, begins, named, counted, number_at, code_at, each, ascend, window_on, order_on, limit_on, target_on, group_on, branch_on, stuck_on, bound_on, opening_on, take_on, weigh_on, allowance_on, end_on}
 use Rattle.certificate_lines.specs.Spelling.{five_digits, weight_word, item_words}
 use Rattle.certificate_lines.specs.Items.{taken}
 use Rattle.certificate_lines.specs.Fits.{FitsWeight}
 use Rattle.certificate_lines.proofs.WordLaws.{bind_ok, number_ok, code_ok, pair_ok, each_ok}
-use Rattle.certificate_lines.specs.declared.fault.TextKind.TheVariants.{BadWord, NotCanonical, TooDeep}
+use Rattle.certificate_lines.specs.declared.fault.TextKind.TheVariants.{BadWord, BadNumber, NotCanonical, TooDeep}
 use Rattle.certificate_languages.specs.declared.language.Language.{Language}
 use Rattle.certificate_languages.specs.declared.language.Language.TheVariants.{Plain, Wide}
 use Rattle.certificate_lines.specs.declared.weights.Weight.{Weight}
@@ -21,7 +23,7 @@ use Rattle.certificate_lines.specs.declared.item.Allowance.{Allowance}
 use Rattle.certificate_lines.specs.declared.item.Allowance.TheVariants.{Room, Weigh}
 use Rattle.certificate_lines.specs.declared.item.Opening.{Opening}
 use Rattle.certificate_lines.specs.declared.item.Opening.TheVariants.{Branch, Stuck, Seats, Bound as BoundLeaf}
-use Rattle.certificate_lines.specs.declared.item.Item.TheVariants.{Order, Limit, Target, Grouped, Opens, Allows, End}
+use Rattle.certificate_lines.specs.declared.item.Item.TheVariants.{Within, Order, Limit, Target, Grouped, Opens, Allows, End}
 
 -- which way a test went
 begins_ok : (name : List ℕ) (words : List (List ℕ)) → begins name words ≡ true → words ≡ name ∷ drop 1 words
@@ -93,6 +95,45 @@ empty [] few = refl
 empty (word ∷ words) few = absurd (omega (arith, few))
 
 -- the forms
+half_go : (part whole : ℕ) (w : Window) (t : Bool) → nat_le (2 * part) whole ≡ t → cond t (Ok (record { part = part; whole = whole })) (Err BadNumber) ≡ Ok w
+    → ◌≡◌ {A = Window} (record { part = part; whole = whole }) w × (2 * part ≤ whole)
+half_go part whole w true e h = (cc, leb-true (2 * part) whole e)
+half_go part whole w false e h = cc
+
+pub window_ok : (line : List (List ℕ)) (w : Window) → window_on line ≡ Ok w → line ≡ item_words (Within w)
+unfolding window_on
+window_ok line w h =
+    let a = bind_ok (named (codes "window") line) _ w h in
+    let b = bind_ok (counted 2 2 a.value) _ w a.then in
+    let p = bind_ok (number_at 0 500 b.value) _ w b.then in
+    let q = bind_ok (number_at 1 1000 p.value.1) _ w p.then in
+    let few = counted_ok 2 2 a.value b.value b.first in
+    let m = number_at_ok 0 500 (lit< tt) b.value p.value p.first in
+    let n = number_at_ok 1 1000 (lit< tt) p.value.1 q.value q.first in
+    let same = (half_go p.value.0 q.value.0 w _ refl q.then).0 in
+    let long : length b.value ≡ length p.value.1 + 1 = omega (arith, ap length {y = decimal p.value.0 ∷ p.value.1} m.words_are) in
+    let less : length p.value.1 ≡ length q.value.1 + 1 = omega (arith, ap length {y = decimal q.value.0 ∷ q.value.1} n.words_are) in
+    let none : q.value.1 ≡ [] = empty q.value.1 (omega (arith, few.to, long, less)) in
+    named_ok (codes "window") line a.value a.first
+    ∙ ap (λ (ws : List (List ℕ)). codes "window" ∷ ws) (few.same ∙ m.words_are ∙ ap (λ (ws : List (List ℕ)). decimal p.value.0 ∷ ws) (n.words_are ∙ ap (λ (ws : List (List ℕ)). decimal q.value.0 ∷ ws) none))
+    ∙ ap (λ (v : Window). item_words (Within v)) same
+
+-- an allowance that was read is in its range
+pub window_fits : (line : List (List ℕ)) (w : Window) → window_on line ≡ Ok w → is_window w ≡ true
+unfolding window_on
+window_fits line w h =
+    let a = bind_ok (named (codes "window") line) _ w h in
+    let b = bind_ok (counted 2 2 a.value) _ w a.then in
+    let p = bind_ok (number_at 0 500 b.value) _ w b.then in
+    let q = bind_ok (number_at 1 1000 p.value.1) _ w p.then in
+    let n = number_at_ok 1 1000 (lit< tt) p.value.1 q.value q.first in
+    let half = half_go p.value.0 q.value.0 w _ refl q.then in
+    let whole = q.value.0 in
+    let low = le-leb 1 whole n.from in
+    let high = le-leb whole 1000 n.to in
+    let few = le-leb (2 * p.value.0) whole half.1 in
+    subst (λ (v : Window). is_window v ≡ true) half.0 (and_from (nat_le 1 whole) (nat_le whole 1000 && nat_le (2 * p.value.0) whole) low (and_from (nat_le whole 1000) (nat_le (2 * p.value.0) whole) high few))
+
 pub order_ok : (line : List (List ℕ)) (cs : List ℕ) → order_on line ≡ Ok cs → line ≡ item_words (Order cs)
 unfolding order_on
 order_ok line cs h =

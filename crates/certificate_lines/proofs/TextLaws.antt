@@ -1,5 +1,5 @@
 -- A text whose items are read is the text of those items.
-use Rattle.std.proofs.Common.{◌≡◌, ℕ, ◌+◌, cond, Bool, true, false, List, [], ◌∷◌, ◌++◌, codes, Result, Ok, Err, refl, ap, sym, subst, ◌∙◌, not}
+use Rattle.std.proofs.Common.{◌≡◌, ℕ, ◌+◌, cond, Bool, true, false, List, [], ◌∷◌, ◌++◌, Result, Ok, Err, refl, ap, sym, subst, ◌∙◌, not}
 use Rattle.std.specs.Prelude.{nat_lt, nat_eq, length}
 use Rattle.std.specs.List.{join_with_byte}
 use Rattle.std.specs.Cmp.Lexicographic.{pointwise, bytes_decides}
@@ -9,18 +9,20 @@ use Rattle.field_lines.specs.Raw.{RawLine, raw_lines_from, bytes_of, text_of as 
 use Rattle.field_lines.proofs.TextLemmas.{text_of-raw_lines}
 use Rattle.certificate_lines.specs.Words.{words_of, line_bytes, line_words, is_canonical}
 use Rattle.certificate_lines.specs.Lines as line
-use Rattle.certificate_lines.specs.Items.{by_words, head_in, seen, taken, item_on, wanted_after, in_front, items_from}
+use Rattle.certificate_lines.specs.Items.{by_words, head_in, headed, seen, taken, item_on, wanted_after, in_front, items_from}
 use Rattle.certificate_lines.specs.Rest.{fault_at}
 use Rattle.certificate_lines.specs.Spelling.{item_words, item_line, text_of}
 use Rattle.certificate_lines.proofs.WordLaws.{bind_ok}
-use Rattle.certificate_lines.proofs.FormLaws.{order_ok, limit_ok, target_ok, group_ok, opening_ok, take_ok, allowance_ok, end_ok}
+use Rattle.certificate_lines.proofs.FormLaws.{window_ok, order_ok, limit_ok, target_ok, group_ok, opening_ok, take_ok, allowance_ok, end_ok}
 use Rattle.certificate_lines.specs.declared.fault.TextKind.{TextKind}
-use Rattle.certificate_lines.specs.declared.fault.TextKind.TheVariants.{BadWord, BadHead, NotCanonical, CutShort}
+use Rattle.certificate_lines.specs.declared.fault.TextKind.TheVariants.{BadWord, NotCanonical, CutShort}
 use Rattle.certificate_lines.specs.declared.fault.TextFault.{TextFault}
 use Rattle.certificate_languages.specs.declared.language.Language.{Language}
 use Rattle.certificate_languages.specs.declared.language.Language.TheVariants.{Plain, Wide}
+use Rattle.certificate_lines.specs.declared.item.Version.{Version}
+use Rattle.certificate_lines.specs.declared.item.Version.TheVariants.{One, Two}
 use Rattle.certificate_lines.specs.declared.item.Item.{Item}
-use Rattle.certificate_lines.specs.declared.item.Item.TheVariants.{Head, Order, Limit, Target, Grouped, Opens, Allows, End}
+use Rattle.certificate_lines.specs.declared.item.Item.TheVariants.{Within, Order, Limit, Target, Grouped, Opens, Allows, End}
 use Rattle.certificate_lines.specs.declared.item.Wanted.{Wanted}
 use Rattle.certificate_lines.specs.declared.item.Wanted.TheVariants as want
 
@@ -77,26 +79,29 @@ by_words_ok read view piece item law h =
     let is : w.value ≡ item_words item = law w.value s.value w.then ∙ ap item_words s.view_is in
     record { ended = l.0; bytes = ap (λ (ws : List (List ℕ)). join_with_byte 32 ws) (sym is) ∙ l.1 }
 
-head_go : (bytes : List ℕ) (language : Language) (p q : Bool) → pointwise nat_eq bytes (codes "county-groups certificate 1") ≡ p → pointwise nat_eq bytes (codes "county-groups wide certificate 1") ≡ q
-    → cond p (Ok Plain) (cond q (Ok Wide) (Err BadHead)) ≡ Ok language → join_with_byte 32 (item_words (Head language)) ≡ bytes
-head_go bytes language true q e f h =
-    let same : Plain ≡ language = cc in
-    subst (λ (l : Language). join_with_byte 32 (item_words (Head l)) ≡ bytes) same (sym ((bytes_decides bytes (codes "county-groups certificate 1")).0 e))
-head_go bytes language false true e f h =
-    let same : Wide ≡ language = cc in
-    subst (λ (l : Language). join_with_byte 32 (item_words (Head l)) ≡ bytes) same (sym ((bytes_decides bytes (codes "county-groups wide certificate 1")).0 f))
-head_go bytes language false false e f h = cc
+module _ (bytes : List ℕ) (head : Language × Version) where
+  abbrev IsHead : Type 0
+  IsHead = join_with_byte 32 (item_words (headed head)) ≡ bytes
 
-head_ok : (bytes : List ℕ) (language : Language) → line.head_on bytes ≡ Ok language → join_with_byte 32 (item_words (Head language)) ≡ bytes
-unfolding line.head_on
-head_ok bytes language h = head_go bytes language _ _ refl refl h
+  -- this head stands there, or the others are left
+  one_head : (is : Language × Version) (others : Result (Language × Version) TextKind) (t : Bool) → pointwise nat_eq bytes (join_with_byte 32 (item_words (headed is))) ≡ t
+      → (others ≡ Ok head → IsHead) → cond t (Ok is) others ≡ Ok head → IsHead
+  one_head is others true e later h =
+      let same : is ≡ head = cc in
+      subst (λ (l : Language × Version). join_with_byte 32 (item_words (headed l)) ≡ bytes) same (sym ((bytes_decides bytes (join_with_byte 32 (item_words (headed is)))).0 e))
+  one_head is others false e later h = later h
+
+  head_ok : line.head_on bytes ≡ Ok head → IsHead
+  unfolding line.head_on
+  head_ok h = one_head (Plain, One) _ _ refl (one_head (Wide, One) _ _ refl (one_head (Plain, Two) _ _ refl (one_head (Wide, Two) _ _ refl (λ none. cc (none))))) h
 
 pub item_ok : (wanted : Wanted) (piece : RawLine) (item : Item) → item_on wanted piece ≡ Ok item → LineIs piece item
 item_ok want.Head piece item h =
-    let s = seen_ok Head (head_in piece.bytes piece.ended) item h in
+    let s = seen_ok headed (head_in piece.bytes piece.ended) item h in
     let b = bind_ok (line_bytes piece.bytes piece.ended) line.head_on s.value s.first in
     let l = line_bytes_ok piece.bytes b.value piece.ended b.first in
     record { ended = l.0; bytes = ap (λ (i : Item). join_with_byte 32 (item_words i)) (sym s.view_is) ∙ head_ok b.value s.value b.then ∙ sym l.1 }
+item_ok (want.Window language) piece item h = by_words_ok line.window_on Within piece item window_ok h
 item_ok (want.Order language) piece item h = by_words_ok line.order_on Order piece item order_ok h
 item_ok want.Limit piece item h = by_words_ok line.limit_on Limit piece item limit_ok h
 item_ok want.Target piece item h = by_words_ok line.target_on Target piece item target_ok h

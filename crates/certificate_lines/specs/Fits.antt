@@ -2,6 +2,7 @@
 use Rattle.std.specs.Prelude.{◌≡◌, ℕ, ◌<◌, ◌≤◌, true, List, [], ◌∷◌, ◌++◌, length, Some, None}
 use Rattle.std.specs.List.{AllByRecursion, join_with_byte}
 use Rattle.field_lines.specs.Fault.{most_bytes}
+use Rattle.county_codes.specs.Windows.{is_window}
 use Rattle.certificate_lines.specs.Lines.{most, ascend}
 use Rattle.certificate_lines.specs.Items.{wanted_after}
 use Rattle.certificate_lines.specs.Spelling.{item_words}
@@ -10,7 +11,7 @@ use Rattle.certificate_lines.specs.declared.weights.Weight.{Weight}
 use Rattle.certificate_lines.specs.declared.item.Allowance.TheVariants.{Room, Weigh}
 use Rattle.certificate_lines.specs.declared.item.Opening.TheVariants.{Branch, Stuck, Seats, Bound}
 use Rattle.certificate_lines.specs.declared.item.Item.{Item}
-use Rattle.certificate_lines.specs.declared.item.Item.TheVariants.{Head, Order, Limit, Target, Grouped, Opens, Takes, Mark, Allows, End}
+use Rattle.certificate_lines.specs.declared.item.Item.TheVariants.{Head, Within, Order, Limit, Target, Grouped, Opens, Takes, Mark, Allows, End}
 use Rattle.certificate_lines.specs.declared.item.Wanted.{Wanted}
 use Rattle.certificate_lines.specs.declared.item.Wanted.TheVariants as want
 
@@ -38,7 +39,8 @@ pub record AreWeights (quota : ℕ) (weights : List Weight) : Type 0 where
 
 -- the item may stand where this is wanted, and its numbers are in their ranges
 abbrev pub Fits : Wanted → Item → Type 0
-Fits want.Head (Head language) = Unit {0}
+Fits want.Head (Head language version) = Unit {0}
+Fits (want.Window language) (Within window) = is_window window ≡ true
 Fits (want.Order language) (Order county_codes) = (length county_codes ≤ most) × AreCodes county_codes
 Fits want.Limit (Limit limit) = limit ≤ most
 Fits want.Target (Target None) = Unit {0}

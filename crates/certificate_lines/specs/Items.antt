@@ -10,9 +10,11 @@ use Rattle.certificate_lines.specs.declared.fault.TextKind.{TextKind}
 use Rattle.certificate_lines.specs.declared.fault.TextKind.TheVariants.{CutShort, AfterEnd}
 use Rattle.certificate_lines.specs.declared.fault.TextFault.{TextFault}
 use Rattle.certificate_languages.specs.declared.language.Language.{Language}
+use Rattle.certificate_lines.specs.declared.item.Version.{Version}
+use Rattle.certificate_lines.specs.declared.item.Version.TheVariants.{One, Two}
 use Rattle.certificate_lines.specs.declared.item.Opening.TheVariants as opening
 use Rattle.certificate_lines.specs.declared.item.Item.{Item}
-use Rattle.certificate_lines.specs.declared.item.Item.TheVariants.{Head, Order, Limit, Target, Grouped, Opens, Takes, Mark, Allows, End}
+use Rattle.certificate_lines.specs.declared.item.Item.TheVariants.{Head, Within, Order, Limit, Target, Grouped, Opens, Takes, Mark, Allows, End}
 use Rattle.certificate_lines.specs.declared.item.Wanted.{Wanted}
 use Rattle.certificate_lines.specs.declared.item.Wanted.TheVariants as want
 
@@ -23,7 +25,7 @@ by_words read piece = do
   read words
 
 -- what the head says; any other first line is a bad head
-abbrev pub head_in : List ℕ → Bool → Result Language TextKind
+abbrev pub head_in : List ℕ → Bool → Result (Language × Version) TextKind
 head_in bytes ended = do
   first ← line_bytes bytes ended
   line.head_on first
@@ -38,9 +40,14 @@ abbrev pub taken : Option (List ℕ) → Item
 taken (Some county_codes) = Takes county_codes
 taken None = Mark
 
+-- a head
+abbrev pub headed : Language × Version → Item
+headed head = Head head.0 head.1
+
 -- the item on a line, where something is wanted
 abbrev pub item_on : Wanted → RawLine → Result Item TextKind
-item_on want.Head piece = seen Head (head_in piece.bytes piece.ended)
+item_on want.Head piece = seen headed (head_in piece.bytes piece.ended)
+item_on (want.Window language) piece = seen Within (by_words line.window_on piece)
 item_on (want.Order language) piece = seen Order (by_words line.order_on piece)
 item_on want.Limit piece = seen Limit (by_words line.limit_on piece)
 item_on want.Target piece = seen Target (by_words line.target_on piece)
@@ -59,7 +66,9 @@ allowances_wanted n = if nat_lt 0 n then want.Allowances n ∷ [] else []
 
 -- what is wanted in the place of what was wanted, after an item
 abbrev pub wanted_after : Wanted → Item → List Wanted
-wanted_after want.Head (Head language) = want.Order language ∷ []
+wanted_after want.Head (Head language One) = want.Order language ∷ []
+wanted_after want.Head (Head language Two) = want.Window language ∷ []
+wanted_after (want.Window language) (Within window) = want.Order language ∷ []
 wanted_after (want.Order language) (Order county_codes) = want.Limit ∷ want.Target ∷ want.Tree language (length county_codes) ∷ want.End ∷ []
 wanted_after want.Target (Target (Some groups)) = groups_wanted groups
 wanted_after (want.Groups left) item = groups_wanted (left - 1)

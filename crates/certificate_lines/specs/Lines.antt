@@ -1,15 +1,19 @@
 -- What each line says, by the words on it: the first word names the form, the number of words is tested next, and then
 -- the words are read from the left.
-use Rattle.std.specs.Prelude.{ℕ, ◌+◌, ◌<◌, ◌&&◌, nat_eq, nat_lt, nat_le, Bool, true, false, List, [], ◌∷◌, length, drop, codes, Option, Some, None, Result, Ok, Err, if◌then◌else◌}
+use Rattle.std.specs.Prelude.{ℕ, ◌+◌, ◌*◌, ◌<◌, ◌&&◌, nat_eq, nat_lt, nat_le, Bool, true, false, List, [], ◌∷◌, length, drop, codes, Option, Some, None, Result, Ok, Err, if◌then◌else◌}
 use Rattle.std.specs.Cmp.Lexicographic.{pointwise}
 use Rattle.field_lines.specs.Chain.{◌>>=◌}
+use Rattle.county_codes.specs.Limits.{most_counties}
 use Rattle.county_codes.specs.declared.group.Group.{Group}
+use Rattle.county_codes.specs.declared.window.Window.{Window}
 use Rattle.certificate_lines.specs.Words.{number, code, pair}
 use Rattle.certificate_lines.specs.declared.fault.TextKind.{TextKind}
-use Rattle.certificate_lines.specs.declared.fault.TextKind.TheVariants.{BadHead, BadWord, NotCanonical, TooDeep}
+use Rattle.certificate_lines.specs.declared.fault.TextKind.TheVariants.{BadHead, BadWord, BadNumber, NotCanonical, TooDeep}
 use Rattle.certificate_languages.specs.declared.language.Language.{Language}
 use Rattle.certificate_languages.specs.declared.language.Language.TheVariants.{Plain, Wide}
 use Rattle.certificate_lines.specs.declared.weights.Weight.{Weight}
+use Rattle.certificate_lines.specs.declared.item.Version.{Version}
+use Rattle.certificate_lines.specs.declared.item.Version.TheVariants.{One, Two}
 use Rattle.certificate_lines.specs.declared.item.Allowance.{Allowance}
 use Rattle.certificate_lines.specs.declared.item.Allowance.TheVariants.{Room, Weigh}
 use Rattle.certificate_lines.specs.declared.item.Opening.{Opening}
@@ -17,7 +21,7 @@ use Rattle.certificate_lines.specs.declared.item.Opening.TheVariants.{Branch, St
 
 -- how many counties, groups, lines of a bound and levels of branches there may be
 abbrev pub most : ℕ
-most = 128
+most = most_counties
 
 -- the first word is this one
 abbrev pub begins : List ℕ → List (List ℕ) → Bool
@@ -59,11 +63,22 @@ abbrev pub ascend : List Weight → Bool
 ascend (a ∷ b ∷ ws) = nat_lt a.county b.county && ascend (b ∷ ws)
 ascend _ = true
 
-unfoldable pub head_on : List ℕ → Result Language TextKind
+unfoldable pub head_on : List ℕ → Result (Language × Version) TextKind
 head_on bytes =
-    if pointwise nat_eq bytes (codes "county-groups certificate 1") then Ok Plain
-    else if pointwise nat_eq bytes (codes "county-groups wide certificate 1") then Ok Wide
+    if pointwise nat_eq bytes (codes "county-groups certificate 1") then Ok (Plain, One)
+    else if pointwise nat_eq bytes (codes "county-groups wide certificate 1") then Ok (Wide, One)
+    else if pointwise nat_eq bytes (codes "county-groups certificate 2") then Ok (Plain, Two)
+    else if pointwise nat_eq bytes (codes "county-groups wide certificate 2") then Ok (Wide, Two)
     else Err BadHead
+
+-- the allowance: a fraction of at most a half
+unfoldable pub window_on : List (List ℕ) → Result Window TextKind
+window_on line = do
+  words ← named (codes "window") line
+  words ← counted 2 2 words
+  part ← number_at 0 500 words
+  whole ← number_at 1 1000 part.1
+  if nat_le (2 * part.0) whole.0 then Ok (record { part = part.0; whole = whole.0 }) else Err BadNumber
 
 unfoldable pub order_on : List (List ℕ) → Result (List ℕ) TextKind
 order_on line = do

@@ -3,10 +3,11 @@ use Rattle.std.specs.Prelude.{ℕ, ◌+◌, ◌/◌, ◌%◌, List, [], ◌∷�
 use Rattle.std.specs.List.{flat_map, join_with_byte}
 use Rattle.certificate_languages.specs.declared.language.Language.TheVariants.{Plain, Wide}
 use Rattle.certificate_lines.specs.declared.weights.Weight.{Weight}
+use Rattle.certificate_lines.specs.declared.item.Version.TheVariants.{One, Two}
 use Rattle.certificate_lines.specs.declared.item.Allowance.TheVariants.{Room, Weigh}
 use Rattle.certificate_lines.specs.declared.item.Opening.TheVariants.{Branch, Stuck, Seats, Bound}
 use Rattle.certificate_lines.specs.declared.item.Item.{Item}
-use Rattle.certificate_lines.specs.declared.item.Item.TheVariants.{Head, Order, Limit, Target, Grouped, Opens, Takes, Mark, Allows, End}
+use Rattle.certificate_lines.specs.declared.item.Item.TheVariants.{Head, Within, Order, Limit, Target, Grouped, Opens, Takes, Mark, Allows, End}
 
 -- the five digits of a county's code
 abbrev pub five_digits : ℕ → List ℕ
@@ -18,8 +19,11 @@ weight_word w = five_digits w.county ++ 58 ∷ decimal w.weight
 
 -- the words of an item
 abbrev pub item_words : Item → List (List ℕ)
-item_words (Head Plain) = codes "county-groups" ∷ codes "certificate" ∷ codes "1" ∷ []
-item_words (Head Wide) = codes "county-groups" ∷ codes "wide" ∷ codes "certificate" ∷ codes "1" ∷ []
+item_words (Head Plain One) = codes "county-groups" ∷ codes "certificate" ∷ codes "1" ∷ []
+item_words (Head Wide One) = codes "county-groups" ∷ codes "wide" ∷ codes "certificate" ∷ codes "1" ∷ []
+item_words (Head Plain Two) = codes "county-groups" ∷ codes "certificate" ∷ codes "2" ∷ []
+item_words (Head Wide Two) = codes "county-groups" ∷ codes "wide" ∷ codes "certificate" ∷ codes "2" ∷ []
+item_words (Within window) = codes "window" ∷ decimal window.part ∷ decimal window.whole ∷ []
 item_words (Order county_codes) = codes "order" ∷ map five_digits county_codes
 item_words (Limit limit) = codes "limit" ∷ decimal limit ∷ []
 item_words (Target None) = codes "target" ∷ codes "none" ∷ []

@@ -8,13 +8,14 @@ ghost use Rattle.certificate_lines.specs.Reads.{EndsUnless};
 ghost use Rattle.certificate_lines.specs.Items.{by_words, head_in};
 
 use crate::fault::{TextFault, TextKind};
-use crate::item::{Allowance, Opening};
+use crate::item::{Allowance, Opening, Version};
 use crate::lines::{
     allowance_on, end_on, group_on, head_on, limit_on, opening_on, order_on, take_on, target_on,
+    window_on,
 };
 use crate::words::{Words, bytes_of_line};
 use certificate_languages::Language;
-use county_codes::{Codes, Group};
+use county_codes::{Codes, Group, Window};
 use field_lines::split_piece;
 use std::alloc::Global;
 use std::marker::Model;
@@ -37,8 +38,8 @@ pub fn push_on<T: Drop>(items: &mut Vec<T>, item: T, line: u64) -> Result<(), Te
     }
 }
 
-/// The language that the first line names, from its bytes without LF, and whether an LF ended them.
-fn head_of(bytes: &[u8], ended: bool) -> Result<Language, TextKind>
+/// The language and the version that the first line names, from its bytes without LF, and whether an LF ended them.
+fn head_of(bytes: &[u8], ended: bool) -> Result<(Language, Version), TextKind>
     ensures { result ≡ head_in bytes.now ended }
 {
     head_on(bytes_of_line(bytes, ended)?)
@@ -120,7 +121,7 @@ impl<'a> Cursor<'a> {
     }
 
     /// The head.
-    pub fn head(&mut self) -> Result<Language, TextFault>
+    pub fn head(&mut self) -> Result<(Language, Version), TextFault>
         ensures { ReadsLine (λ r. r) (λ p. head_in p.bytes p.ended) self.old result self.new }
     {
         let line = self.number;
@@ -131,7 +132,18 @@ impl<'a> Cursor<'a> {
             });
         };
         match head_of(bytes, ended) {
-            Ok(language) => Ok(language),
+            Ok(head) => Ok(head),
+            Err(kind) => Err(TextFault { kind, line }),
+        }
+    }
+
+    /// The allowance.
+    pub fn window(&mut self) -> Result<Window, TextFault>
+        ensures { ReadsLine (λ r. r) (by_words line.window_on) self.old result self.new }
+    {
+        let (mut words, line) = self.next_words()?;
+        match window_on(&mut words) {
+            Ok(window) => Ok(window),
             Err(kind) => Err(TextFault { kind, line }),
         }
     }

@@ -2,7 +2,7 @@ ghost use Rattle.std.specs.Prelude.{◌≡◌, IfOk};
 
 use crate::weights::Weights;
 use certificate_languages::Language;
-use county_codes::{Codes, CountyCode, Group};
+use county_codes::{Codes, CountyCode, Group, Window};
 use std::alloc::AllocError;
 
 /// A line of a bound leaf: how many groups of one size there may still be.
@@ -52,11 +52,24 @@ pub enum Opening {
     Bound(u16),
 }
 
+/// The version that a head names.
+///
+/// A certificate of version 2 names its allowance on the second line. One of version 1 has no such line: its allowance is a twentieth.
+#[derive(Clone, Copy, Debug, PartialEq, Eq)]
+pub enum Version {
+    /// Version 1.
+    One,
+    /// Version 2.
+    Two,
+}
+
 /// What a line says.
 #[derive(Debug, Drop)]
 pub enum Item {
     /// The head of a certificate.
-    Head(Language),
+    Head(Language, Version),
+    /// The allowance.
+    Within(Window),
     /// The counties in their order.
     Order(Codes),
     /// The greatest size of a group of the target.
@@ -82,6 +95,8 @@ pub enum Item {
 pub enum Wanted {
     /// The head.
     Head,
+    /// The allowance.
+    Window(Language),
     /// The order.
     Order(Language),
     /// The limit.

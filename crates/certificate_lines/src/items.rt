@@ -5,11 +5,13 @@ ghost use Rattle.field_lines.specs.Raw.{raw_lines};
 ghost use Rattle.certificate_lines.specs.Lines.{most};
 ghost use Rattle.certificate_lines.specs.Rest.{IsMemory};
 ghost use Rattle.certificate_lines.specs.Courses.{Course, certificate_course, tree_course, course_from, course_left, IsNextItem, IsNextLine, TakesItem};
+ghost use Rattle.certificate_lines.specs.Items.{wanted_after};
+ghost use Rattle.certificate_lines.specs.declared.item.Item.TheVariants as item;
 ghost use Rattle.certificate_lines.specs.declared.item.Wanted.TheVariants as want;
 
 use crate::cursor::{Cursor, ended, push_on};
 use crate::fault::{TextFault, TextKind};
-use crate::item::{Item, Opening, Wanted};
+use crate::item::{Item, Opening, Version, Wanted};
 use crate::lines::levels_after;
 use certificate_languages::Language;
 use std::alloc::{AllocError, Global};
@@ -29,13 +31,36 @@ pub trait ItemSource {
         ensures { IsNextItem (course self.old) result (course self.new) };
 }
 
+/// What is wanted after a head.
+fn after_head(language: Language, version: Version) -> Wanted
+    ensures { result ∷ [] ≡ wanted_after want.Head (item.Head language version) }
+{
+    match version {
+        Version::One => Wanted::Order(language),
+        Version::Two => Wanted::Window(language),
+    }
+}
+
 /// The head, where it is wanted.
 fn head_item(cursor: &mut Cursor, stack: &mut Vec<Wanted>) -> Result<Item, TextFault>
     ensures { TakesItem want.Head cursor.old stack.old.items result cursor.new stack.new.items }
 {
-    let language = cursor.head()?;
+    let (language, version) = cursor.head()?;
+    push_on(stack, after_head(language, version), cursor.number())?;
+    Ok(Item::Head(language, version))
+}
+
+/// The allowance, where it is wanted.
+fn window_item(
+    cursor: &mut Cursor,
+    stack: &mut Vec<Wanted>,
+    language: Language,
+) -> Result<Item, TextFault>
+    ensures { TakesItem (want.Window language) cursor.old stack.old.items result cursor.new stack.new.items }
+{
+    let window = cursor.window()?;
     push_on(stack, Wanted::Order(language), cursor.number())?;
-    Ok(Item::Head(language))
+    Ok(Item::Within(window))
 }
 
 /// Puts what is wanted after the order on the stack, for an order of so many counties.
@@ -206,6 +231,7 @@ fn item_at(
 {
     match wanted {
         Wanted::Head => head_item(cursor, stack),
+        Wanted::Window(language) => window_item(cursor, stack, language),
         Wanted::Order(language) => order_item(alloc, cursor, stack, language),
         Wanted::Limit => limit_item(cursor),
         Wanted::Target => target_item(cursor, stack),

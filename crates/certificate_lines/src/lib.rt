@@ -2,7 +2,7 @@
 //!
 //! ```
 //! let mut items = Items::of_certificate(alloc, text)?;
-//! items.next_item()        // Ok(Some(Item::Head(Language::Plain)))
+//! items.next_item()        // Ok(Some(Item::Head(Language::Plain, Version::One)))
 //! ```
 #![tactic(auto)]
 
@@ -17,16 +17,17 @@ mod words;
 mod writing_lines;
 mod writing_words;
 
+pub use county_codes::Window;
 pub use cursor::{Cursor, ended, push_on};
 pub use fault::{TextFault, TextKind, WriteFault};
-pub use item::{Allowance, Item, Opening, Wanted};
+pub use item::{Allowance, Item, Opening, Version, Wanted};
 pub use items::{ItemSource, Items};
 pub use lines::{MOST, levels_after};
 pub use weights::{Weight, Weights};
 pub use words::Words;
 pub use writing_lines::{
     push_allowance, push_branch, push_group, push_head, push_limit, push_order, push_take,
-    push_target_line,
+    push_target_line, push_window,
 };
 pub use writing_words::{
     push_code_and_number_line, push_code_line, push_codes_line, push_number_and_weights,

@@ -3,39 +3,68 @@
 ghost use Rattle.std.specs.Prelude.{◌≡◌, ℕ, nat_lt, None, Ok, Err, IfOk, if◌then◌else◌};
 ghost use Rattle.field_lines.specs.Values.{GivesUnless};
 ghost use Rattle.certificate_languages.specs.Levels.{after_raise};
-ghost use Rattle.certificate_lines.specs.Lines.{head_on, order_on, limit_on, target_on, group_on, branch_on, stuck_on, bound_on, opening_on, take_on, weigh_on, allowance_on, end_on, ascend, HasLevel};
+ghost use Rattle.certificate_lines.specs.Lines.{head_on, window_on, order_on, limit_on, target_on, group_on, branch_on, stuck_on, bound_on, opening_on, take_on, weigh_on, allowance_on, end_on, ascend, HasLevel};
 ghost use Rattle.certificate_lines.specs.declared.fault.TextKind.TheVariants.{Memory, TooDeep};
 ghost use Rattle.certificate_lines.specs.declared.item.Opening.TheVariants.{Branch};
 ghost use Rattle.certificate_languages.specs.declared.language.Language.TheVariants.{Plain, Wide};
 
 use crate::fault::TextKind;
-use crate::item::{Allowance, Opening};
+use crate::item::{Allowance, Opening, Version};
 use crate::weights::Weight;
 use crate::words::Words;
 use certificate_languages::Language;
-use county_codes::{Codes, CountyCode, Group};
+use county_codes::{Codes, CountyCode, Group, MAX_COUNTIES, Window};
 use std::alloc::Global;
 
 /// How many counties, groups, lines of a bound and levels of branches there may be.
-pub const MOST: u32 = 128;
+pub const MOST: u32 = MAX_COUNTIES as u32;
 
-/// The first line of a plain certificate.
-pub(crate) const PLAIN_HEAD: &[u8] = b"county-groups certificate 1";
+/// The first line of a plain certificate of version 1.
+pub(crate) const PLAIN_HEAD_ONE: &[u8] = b"county-groups certificate 1";
 
-/// The first line of a wide certificate.
-pub(crate) const WIDE_HEAD: &[u8] = b"county-groups wide certificate 1";
+/// The first line of a wide certificate of version 1.
+pub(crate) const WIDE_HEAD_ONE: &[u8] = b"county-groups wide certificate 1";
 
-/// The language that the first line names.
+/// The first line of a plain certificate of version 2.
+pub(crate) const PLAIN_HEAD_TWO: &[u8] = b"county-groups certificate 2";
+
+/// The first line of a wide certificate of version 2.
+pub(crate) const WIDE_HEAD_TWO: &[u8] = b"county-groups wide certificate 2";
+
+/// The language and the version that the first line names.
 #[tactic(auto, unfolding(crate::specs::Lines::head_on))]
-pub(crate) fn head_on(bytes: &[u8]) -> Result<Language, TextKind>
+pub(crate) fn head_on(bytes: &[u8]) -> Result<(Language, Version), TextKind>
     ensures { result ≡ head_on bytes.now }
 {
-    if bytes == PLAIN_HEAD {
-        Ok(Language::Plain)
-    } else if bytes == WIDE_HEAD {
-        Ok(Language::Wide)
+    if bytes == PLAIN_HEAD_ONE {
+        Ok((Language::Plain, Version::One))
+    } else if bytes == WIDE_HEAD_ONE {
+        Ok((Language::Wide, Version::One))
+    } else if bytes == PLAIN_HEAD_TWO {
+        Ok((Language::Plain, Version::Two))
+    } else if bytes == WIDE_HEAD_TWO {
+        Ok((Language::Wide, Version::Two))
     } else {
         Err(TextKind::BadHead)
+    }
+}
+
+/// The allowance: a fraction of at most a half.
+#[tactic(auto, unfolding(crate::specs::Lines::window_on))]
+pub(crate) fn window_on(words: &mut Words) -> Result<Window, TextKind>
+    ensures { result ≡ window_on words.old }
+{
+    words.named(b"window")?;
+    words.counted(2, 2)?;
+    let part = words.number(0, 500)?;
+    let whole = words.number(1, 1000)?;
+    if 2 * part <= whole {
+        Ok(Window {
+            part: part as u16,
+            whole: whole as u16,
+        })
+    } else {
+        Err(TextKind::BadNumber)
     }
 }
 

@@ -1,7 +1,8 @@
 //! Each form of line, written where its values have a spelling.
 
-ghost use Rattle.std.specs.Prelude.{◌≡◌, ◌<◌, ◌≤◌, ◌&&◌, nat_le, ℕ, List, [], ◌∷◌, ◌++◌, length, Option, Some, None, OnOk};
+ghost use Rattle.std.specs.Prelude.{true, ◌≡◌, ◌<◌, ◌≤◌, ◌&&◌, nat_le, ℕ, List, [], ◌∷◌, ◌++◌, length, Option, Some, None, OnOk};
 ghost use Rattle.std.specs.List.{list_all};
+ghost use Rattle.county_codes.specs.Windows.{is_window};
 ghost use Rattle.certificate_lines.specs.Fits.{Fits, IsSet, AreCodes, AreWeights};
 ghost use Rattle.certificate_lines.specs.Lines.{most, ascend};
 ghost use Rattle.certificate_lines.specs.Spelling.{item_line};
@@ -12,27 +13,49 @@ ghost use Rattle.certificate_lines.specs.declared.item.Opening.TheVariants as op
 ghost use Rattle.certificate_lines.specs.declared.item.Wanted.TheVariants as want;
 
 use crate::fault::WriteFault;
-use crate::item::Allowance;
-use crate::lines::{MOST, PLAIN_HEAD, WIDE_HEAD, ascend};
+use crate::item::{Allowance, Version};
+use crate::lines::{MOST, PLAIN_HEAD_ONE, PLAIN_HEAD_TWO, WIDE_HEAD_ONE, WIDE_HEAD_TWO, ascend};
 use crate::weights::Weight;
 use crate::writing_words::{
     push_code_and_number_line, push_code_line, push_codes_line, push_number_and_codes_line,
-    push_number_and_weights, push_number_line,
+    push_number_and_weights, push_number_line, push_two_numbers_line,
 };
 use certificate_languages::Language;
-use county_codes::{CountyCode, Group};
+use county_codes::{CountyCode, Group, Window};
 use field_lines::MAX_LINE;
 use std::alloc::AllocError;
 
 /// Appends the head.
-pub fn push_head(out: &mut Vec<u8>, language: Language) -> Result<(), AllocError>
-    ensures { OnOk result (out.new.items ≡ out.old.items ++ item_line (item.Head language)) }
+pub fn push_head(out: &mut Vec<u8>, language: Language, version: Version) -> Result<(), AllocError>
+    ensures { OnOk result (out.new.items ≡ out.old.items ++ item_line (item.Head language version)) }
 {
-    out.extend_from_slice(match language {
-        Language::Plain => PLAIN_HEAD,
-        Language::Wide => WIDE_HEAD,
+    out.extend_from_slice(match (language, version) {
+        (Language::Plain, Version::One) => PLAIN_HEAD_ONE,
+        (Language::Wide, Version::One) => WIDE_HEAD_ONE,
+        (Language::Plain, Version::Two) => PLAIN_HEAD_TWO,
+        (Language::Wide, Version::Two) => WIDE_HEAD_TWO,
     })?;
     out.extend_from_slice(b"\n")
+}
+
+/// Appends the allowance.
+///
+/// # Errors
+///
+/// `NoSpelling` where it is out of its range, or `Memory`.
+pub fn push_window(out: &mut Vec<u8>, window: Window) -> Result<(), WriteFault>
+    ensures { WritesLine (is_window window ≡ true) (item.Within window) out.old.items result out.new.items }
+{
+    if !window.is_in_range() {
+        return Err(WriteFault::NoSpelling);
+    }
+    push_two_numbers_line(
+        out,
+        b"window ",
+        u32::from(window.part),
+        u32::from(window.whole),
+    )?;
+    Ok(())
 }
 
 /// Whether a line, a target or a leaf may have so many.

@@ -96,6 +96,22 @@ pub fn push_number_line(out: &mut Vec<u8>, name: &[u8], number: u32) -> Result<(
     out.extend_from_slice(b"\n")
 }
 
+/// Appends a line of a name and two numbers. A name ends with a blank here.
+pub(crate) fn push_two_numbers_line(
+    out: &mut Vec<u8>,
+    name: &[u8],
+    first: u32,
+    second: u32,
+) -> Result<(), AllocError>
+    ensures { OnOk result (out.new.items ≡ out.old.items ++ (name.now ++ (decimal first ++ 32 ∷ (decimal second ++ 10 ∷ [])))) }
+{
+    out.extend_from_slice(name)?;
+    push_number(out, first)?;
+    out.extend_from_slice(b" ")?;
+    push_number(out, second)?;
+    out.extend_from_slice(b"\n")
+}
+
 /// Appends a line of a name and codes, each after a blank.
 pub fn push_codes_line(
     out: &mut Vec<u8>,

@@ -5,6 +5,7 @@ pub mod BackLaws
 pub mod SpellLaws
 pub mod TextBack
 pub mod CertLaws
+pub mod HeadLaws
 pub mod PrefixLaws
 pub mod FrontLaws
 pub mod GiveLaws

@@ -1,5 +1,5 @@
 -- What fits is read from its spelling.
-use Rattle.std.proofs.Common.{◌≡◌, ℕ, ◌+◌, ◌<◌, ◌≤◌, ◌^◌, ◌==◌, cond, Bool, true, false, List, [], ◌∷◌, ◌++◌, length, map, codes, Some, None, Ok, refl, ap, subst, ◌∙◌, arith, lit<}
+use Rattle.std.proofs.Common.{◌≡◌, ℕ, ◌+◌, ◌<◌, ◌≤◌, ◌*◌, ◌^◌, ◌==◌, cond, Bool, true, false, List, [], ◌∷◌, ◌++◌, length, map, codes, Some, None, Ok, refl, ap, subst, ◌∙◌, arith, lit<}
 use Rattle.std.specs.Prelude.{nat_le, nat_lt, nat_eq}
 use Rattle.std.specs.Fmt.{decimal}
 use Rattle.std.specs.List.{AllByRecursion, list_all, join_with_byte}
@@ -11,17 +11,20 @@ use Rattle.std.proofs.lemmas.List.Splits.{slice_split_none, slice_split_at}
 use Rattle.field_lines.specs.Chain.{◌>>=◌}
 use Rattle.field_lines.specs.Fault.{most_bytes}
 use Rattle.certificate_lines.specs.Words.{words_of, has_bytes, is_printable, is_canonical, line_bytes, line_words, code, pair}
-use Rattle.certificate_lines.specs.Lines.{most, begins, counted, number_at, code_at, each, order_on, limit_on, target_on, group_on, branch_on, stuck_on, bound_on, opening_on, take_on, weigh_on, allowance_on}
+use Rattle.certificate_lines.specs.Lines.{most, begins, counted, number_at, code_at, each, order_on, window_on, limit_on, target_on, group_on, branch_on, stuck_on, bound_on, opening_on, take_on, weigh_on, allowance_on}
 use Rattle.certificate_lines.specs.Spelling.{five_digits, weight_word, item_words}
 use Rattle.certificate_lines.specs.Fits.{AreCodes, IsSet, FitsWeight, AreWeights}
 use Rattle.certificate_text.proofs.BackLaws.{number_back, code_back, Digit, decimal_digits, pair_back, each_back}
 use Rattle.certificate_languages.specs.declared.language.Language.{Language}
 use Rattle.certificate_languages.specs.declared.language.Language.TheVariants.{Plain, Wide}
 use Rattle.certificate_lines.specs.declared.weights.Weight.{Weight}
+use Rattle.county_codes.specs.Windows.{is_window}
+use Rattle.county_codes.proofs.WindowLemmas.{in_range}
 use Rattle.county_codes.specs.declared.group.Group.{Group}
+use Rattle.county_codes.specs.declared.window.Window.{Window}
 use Rattle.certificate_lines.specs.declared.item.Allowance.TheVariants.{Weigh}
 use Rattle.certificate_lines.specs.declared.item.Opening.TheVariants.{Branch, Stuck, Bound}
-use Rattle.certificate_lines.specs.declared.item.Item.TheVariants.{Order, Limit, Target, Grouped, Opens, Takes, Allows}
+use Rattle.certificate_lines.specs.declared.item.Item.TheVariants.{Within, Order, Limit, Target, Grouped, Opens, Takes, Allows}
 
 -- a byte of a word: printed, and no blank
 pub record Shown (b : ℕ) : Type 0 where
@@ -105,6 +108,13 @@ weights_back ws fit = each_back pair weight_word FitsWeight (λ w f. pair_back w
 length_map : {X Y : Type 0} (f : X → Y) (xs : List X) → length (map f xs) ≡ length xs
 length_map f [] = refl
 length_map f (x ∷ xs) = omega (arith, length_map f xs)
+
+pub window_back : (w : Window) → is_window w ≡ true → window_on (item_words (Within w)) ≡ Ok w
+unfolding window_on
+window_back w fits =
+    let is = in_range w fits in
+    let half : nat_le (2 * w.part) w.whole ≡ true = le-leb (2 * w.part) w.whole is.half in
+    rw (number_at_back 0 500 w.part (decimal w.whole ∷ []) (omega arith) (omega (arith, is.half, is.few)) (lit< tt), number_at_back 1 1000 w.whole [] is.some is.few (lit< tt), half) refl
 
 pub order_back : (cs : List ℕ) → length cs ≤ most → AreCodes cs → order_on (item_words (Order cs)) ≡ Ok cs
 unfolding order_on

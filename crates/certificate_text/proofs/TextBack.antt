@@ -18,17 +18,22 @@ use Rattle.certificate_lines.specs.Spelling.{five_digits, weight_word, item_word
 use Rattle.certificate_lines.specs.Fits.{AreCodes, IsSet, FitsWeight, AreWeights, Fits, AllFit}
 use Rattle.certificate_lines.specs.Rest.{fault_at}
 use Rattle.certificate_text.proofs.BackLaws.{Digit, decimal_digits, code_digits}
-use Rattle.certificate_text.proofs.SpellLaws.{Shown, IsWord, Printed, printed_line, line_words_back, order_back, limit_back, group_back, take_back, plain_back, wide_back, stuck_back, bound_back, weigh_back, target_back}
+use Rattle.certificate_text.proofs.SpellLaws.{Shown, IsWord, Printed, printed_line, line_words_back, window_back, order_back, limit_back, group_back, take_back, plain_back, wide_back, stuck_back, bound_back, weigh_back, target_back}
 use Rattle.certificate_lines.specs.declared.fault.TextKind.{TextKind}
 use Rattle.certificate_lines.specs.declared.fault.TextFault.{TextFault}
 use Rattle.certificate_languages.specs.declared.language.Language.{Language}
 use Rattle.certificate_languages.specs.declared.language.Language.TheVariants.{Plain, Wide}
 use Rattle.certificate_lines.specs.declared.weights.Weight.{Weight}
+use Rattle.county_codes.specs.Windows.{is_window}
+use Rattle.county_codes.proofs.WindowLemmas.{in_range}
 use Rattle.county_codes.specs.declared.group.Group.{Group}
+use Rattle.county_codes.specs.declared.window.Window.{Window}
+use Rattle.certificate_lines.specs.declared.item.Version.{Version}
+use Rattle.certificate_lines.specs.declared.item.Version.TheVariants.{One, Two}
 use Rattle.certificate_lines.specs.declared.item.Allowance.TheVariants.{Room, Weigh}
 use Rattle.certificate_lines.specs.declared.item.Opening.TheVariants.{Branch, Stuck, Seats, Bound}
 use Rattle.certificate_lines.specs.declared.item.Item.{Item}
-use Rattle.certificate_lines.specs.declared.item.Item.TheVariants.{Head, Order, Limit, Target, Grouped, Opens, Takes, Mark, Allows, End}
+use Rattle.certificate_lines.specs.declared.item.Item.TheVariants.{Head, Within, Order, Limit, Target, Grouped, Opens, Takes, Mark, Allows, End}
 use Rattle.certificate_lines.specs.declared.item.Wanted.{Wanted}
 use Rattle.certificate_lines.specs.declared.item.Wanted.TheVariants as want
 
@@ -101,7 +106,7 @@ length_map f [] = refl
 length_map f (x ∷ xs) = omega (arith, length_map f xs)
 
 -- the same for few short words
-module _ {X : Type 0} (read : List (List ℕ) → Result X TextKind) (view : X → Item) (n : ℕ) (first : List ℕ) (words : List (List ℕ)) (x : X) (a : IsShort first) (b : AllByRecursion IsShort words) (few : length words ≤ 200) where
+module _ {X : Type 0} (read : List (List ℕ) → Result X TextKind) (view : X → Item) (n : ℕ) (first : List ℕ) (words : List (List ℕ)) (x : X) (a : IsShort first) (b : AllByRecursion IsShort words) (few : length words ≤ 1 + most) where
   few_short : length (join_with_byte 32 (first ∷ words)) ≤ most_bytes
   few_short = omega (arith, short_line first words a b, few)
 
@@ -111,10 +116,21 @@ module _ {X : Type 0} (read : List (List ℕ) → Result X TextKind) (view : X �
   few_said : read (first ∷ words) ≡ Ok x → seen view (by_words read (record { number = n; bytes = join_with_byte 32 (first ∷ words); ended = true })) ≡ Ok (view x)
   few_said h = said read view n first words x a.is_word (words_of_short words b) few_short h
 
+window_line : (n : ℕ) (language : Language) (w : Window) → is_window w ≡ true → IsLine n (want.Window language) (Within w)
+window_line n language w fits =
+    let is = in_range w fits in
+    let name = named_word (codes "window") refl (omega arith) (omega arith) in
+    let part = number_word w.part (omega (arith, is.half, is.few)) in
+    let whole = number_word w.whole (omega (arith, is.few)) in
+    record {
+      printed = few_printed line.window_on Within n (codes "window") (decimal w.part ∷ decimal w.whole ∷ []) w name (part, (whole, tt)) (omega arith);
+      read = few_said line.window_on Within n (codes "window") (decimal w.part ∷ decimal w.whole ∷ []) w name (part, (whole, tt)) (omega arith) (window_back w fits);
+    }
+
 order_line : (n : ℕ) (language : Language) (cs : List ℕ) → length cs ≤ most → AreCodes cs → IsLine n (want.Order language) (Order cs)
 order_line n language cs few small =
     let name = named_word (codes "order") refl (omega arith) (omega arith) in
-    let count : length (map five_digits cs) ≤ 200 = omega (arith, length_map five_digits cs, few) in
+    let count : length (map five_digits cs) ≤ 1 + most = omega (arith, length_map five_digits cs, few) in
     record {
       printed = few_printed line.order_on Order n (codes "order") (map five_digits cs) cs name (code_words cs small) count;
       read = few_said line.order_on Order n (codes "order") (map five_digits cs) cs name (code_words cs small) count (order_back cs few small);
@@ -133,7 +149,7 @@ group_line : (n left : ℕ) (g : Group) → g.seats ≤ 65535 → IsSet g.codes 
 group_line n left g seats set =
     let name = named_word (codes "group") refl (omega arith) (omega arith) in
     let word = number_word g.seats (omega (arith, seats)) in
-    let count : length (decimal g.seats ∷ map five_digits g.codes) ≤ 200 = omega (arith, length_map five_digits g.codes, set.few) in
+    let count : length (decimal g.seats ∷ map five_digits g.codes) ≤ 1 + most = omega (arith, length_map five_digits g.codes, set.few) in
     record {
       printed = few_printed line.group_on Grouped n (codes "group") (decimal g.seats ∷ map five_digits g.codes) g name (word, code_words g.codes set.small) count;
       read = few_said line.group_on Grouped n (codes "group") (decimal g.seats ∷ map five_digits g.codes) g name (word, code_words g.codes set.small) count (group_back g seats set);
@@ -142,7 +158,7 @@ group_line n left g seats set =
 take_line : (n : ℕ) (language : Language) (levels : ℕ) (cs : List ℕ) → IsSet cs → IsLine n (want.Takes language levels) (Takes cs)
 take_line n language levels cs set =
     let name = named_word (codes "take") refl (omega arith) (omega arith) in
-    let count : length (map five_digits cs) ≤ 200 = omega (arith, length_map five_digits cs, set.few) in
+    let count : length (map five_digits cs) ≤ 1 + most = omega (arith, length_map five_digits cs, set.few) in
     record {
       printed = few_printed line.take_on taken n (codes "take") (map five_digits cs) (Some cs) name (code_words cs set.small) count;
       read = few_said line.take_on taken n (codes "take") (map five_digits cs) (Some cs) name (code_words cs set.small) count (take_back cs set);
@@ -257,14 +273,17 @@ printed_by (b ∷ bytes) e =
     let ends = and_parts (nat_le 32 b) (nat_le b 126) parts.0 in
     (record { from = leb-true 32 b ends.0; to = leb-true b 126 ends.1 }, printed_by bytes parts.1)
 
-head_line : (n : ℕ) (language : Language) → IsLine n want.Head (Head language)
+head_line : (n : ℕ) (language : Language) (version : Version) → IsLine n want.Head (Head language version)
 unfolding line.head_on line_bytes is_printed
-head_line n Plain = record { printed = printed_by (join_with_byte 32 (item_words (Head Plain))) refl; read = refl }
-head_line n Wide = record { printed = printed_by (join_with_byte 32 (item_words (Head Wide))) refl; read = refl }
+head_line n Plain One = record { printed = printed_by (join_with_byte 32 (item_words (Head Plain One))) refl; read = refl }
+head_line n Wide One = record { printed = printed_by (join_with_byte 32 (item_words (Head Wide One))) refl; read = refl }
+head_line n Plain Two = record { printed = printed_by (join_with_byte 32 (item_words (Head Plain Two))) refl; read = refl }
+head_line n Wide Two = record { printed = printed_by (join_with_byte 32 (item_words (Head Wide Two))) refl; read = refl }
 
 -- the line of what fits is read
 pub fits_line : (n : ℕ) (wanted : Wanted) (item : Item) → Fits wanted item → IsLine n wanted item
-fits_line n want.Head (Head language) f = head_line n language
+fits_line n want.Head (Head language version) f = head_line n language version
+fits_line n (want.Window language) (Within w) f = window_line n language w f
 fits_line n (want.Order language) (Order cs) f = order_line n language cs f.0 f.1
 fits_line n want.Limit (Limit limit) f = limit_line n limit f
 fits_line n want.Target (Target None) f = none_line n

@@ -1,5 +1,5 @@
 -- The fault of a text is never that memory was refused or that a source could not be read.
-use Rattle.std.proofs.Common.{ℕ, ◌+◌, cond, ◌&&◌, not, Bool, true, false, List, [], ◌∷◌, ◌++◌, codes, length, drop, Option, Some, None, Result, Ok, Err}
+use Rattle.std.proofs.Common.{ℕ, ◌+◌, ◌*◌, cond, ◌&&◌, not, Bool, true, false, List, [], ◌∷◌, ◌++◌, codes, length, drop, Option, Some, None, Result, Ok, Err}
 use Rattle.std.specs.Prelude.{nat_lt, nat_le, nat_eq}
 use Rattle.std.specs.Option.{ok_or}
 use Rattle.std.specs.Cmp.Lexicographic.{pointwise}
@@ -13,7 +13,7 @@ use Rattle.certificate_languages.specs.declared.language.Language.TheVariants.{P
 use Rattle.certificate_lines.specs.Words.{is_numeral, has_leading_zero, is_canonical, words_of, line_bytes, line_words, number, code, halves, pair}
 use Rattle.certificate_lines.specs.Lines as line
 use Rattle.certificate_lines.specs.Lines.{most, begins, named, counted, number_at, code_at, each}
-use Rattle.certificate_lines.specs.Items.{by_words, head_in, seen, taken, item_on, wanted_after}
+use Rattle.certificate_lines.specs.Items.{by_words, head_in, headed, seen, taken, item_on, wanted_after}
 use Rattle.certificate_lines.specs.Courses.{Course, only_fault, first, course_from}
 use Rattle.certificate_lines.specs.Rest.{fault_at}
 use Rattle.certificate_lines.specs.declared.fault.TextKind.{TextKind}
@@ -88,7 +88,17 @@ each_said read h (word ∷ words) = bind_said (read word) _ (h word) (λ x. bind
 
 head_said : (bytes : List ℕ) → Said (line.head_on bytes)
 unfolding line.head_on
-head_said bytes = cond_said (pointwise nat_eq bytes (codes "county-groups certificate 1")) _ _ tt (cond_said (pointwise nat_eq bytes (codes "county-groups wide certificate 1")) _ _ tt tt)
+head_said bytes =
+    cond_said (pointwise nat_eq bytes (codes "county-groups certificate 1")) _ _ tt
+    (cond_said (pointwise nat_eq bytes (codes "county-groups wide certificate 1")) _ _ tt
+    (cond_said (pointwise nat_eq bytes (codes "county-groups certificate 2")) _ _ tt (cond_said (pointwise nat_eq bytes (codes "county-groups wide certificate 2")) _ _ tt tt)))
+
+window_said : (words : List (List ℕ)) → Said (line.window_on words)
+unfolding line.window_on
+window_said words =
+    bind_said (named (codes "window") words) _ (named_said (codes "window") words)
+    (λ ws. bind_said (counted 2 2 ws) _ (counted_said 2 2 ws)
+    (λ vs. bind_said (number_at 0 500 vs) _ (number_at_said 0 500 vs) (λ p. bind_said (number_at 1 1000 p.1) _ (number_at_said 1 1000 p.1) (λ q. cond_said (nat_le (2 * p.0) q.0) _ _ tt tt))))
 
 order_said : (words : List (List ℕ)) → Said (line.order_on words)
 unfolding line.order_on
@@ -170,7 +180,8 @@ by_words_said : {X : Type 0} (read : List (List ℕ) → Result X TextKind) (vie
 by_words_said read view piece h = seen_said view (by_words read piece) (bind_said (line_words piece.bytes piece.ended) read (words_said piece.bytes piece.ended) h)
 
 item_said : (wanted : Wanted) (piece : RawLine) → Said (item_on wanted piece)
-item_said want.Head piece = seen_said item.Head (head_in piece.bytes piece.ended) (bind_said (line_bytes piece.bytes piece.ended) line.head_on (bytes_said piece.bytes piece.ended) head_said)
+item_said want.Head piece = seen_said headed (head_in piece.bytes piece.ended) (bind_said (line_bytes piece.bytes piece.ended) line.head_on (bytes_said piece.bytes piece.ended) head_said)
+item_said (want.Window language) piece = by_words_said line.window_on item.Within piece window_said
 item_said (want.Order language) piece = by_words_said line.order_on item.Order piece order_said
 item_said want.Limit piece = by_words_said line.limit_on item.Limit piece limit_said
 item_said want.Target piece = by_words_said line.target_on item.Target piece target_said

@@ -1,11 +1,13 @@
 -- The trees and certificates that values of the code stand for, and the items that they are spelled by.
 use Rattle.std.specs.Prelude.{List, [], ◌∷◌, ◌++◌, map, length, Option, Some, None}
+use Rattle.county_codes.specs.declared.window.Window.{Window}
 use Rattle.grouping_laws.specs.Grouping.{Grouping}
-use Rattle.proof_trees.specs.Round.{Round}
+use Rattle.proof_trees.specs.Round.{Language, Round}
 use Rattle.proof_trees.specs.RoundValue.{round_of}
 use Rattle.proof_trees.specs.Tree.{Weight, Allowance, room, weigh, Leaf, stuck, seats, bound, Tree, leaf, branch, Takes, no_take, take}
 use Rattle.certificate_text.specs.declared.certificate.Certificate.{Certificate as DeclaredCertificate}
 use Rattle.certificate_lines.specs.declared.weights.Weight.{Weight as DeclaredWeight}
+use Rattle.certificate_lines.specs.declared.item.Version.TheVariants.{One, Two}
 use Rattle.certificate_lines.specs.declared.item.Allowance.{Allowance as DeclaredAllowance}
 use Rattle.certificate_lines.specs.declared.item.Allowance.TheVariants.{Room, Weigh}
 use Rattle.certificate_lines.specs.declared.item.Opening.TheVariants as opening
@@ -76,6 +78,11 @@ abbrev mutual
   items_of_takes no_take = []
   items_of_takes (take codes tree others) = item.Takes codes ∷ (items_of_tree tree ++ items_of_takes others)
 
+-- the head, and the allowance on the second line if one is named
+abbrev pub items_of_head : Language → Option Window → List Item
+items_of_head language None = item.Head language One ∷ []
+items_of_head language (Some window) = item.Head language Two ∷ item.Within window ∷ []
+
 -- the items of a target
 abbrev pub items_of_target : Option Grouping → List Item
 items_of_target None = item.Target None ∷ []
@@ -93,4 +100,5 @@ certificate_of c = record { round = round_of c.round; tree = tree_of c.tree }
 -- the items of a certificate
 abbrev pub items_of_certificate : Certificate → List Item
 items_of_certificate c =
-    item.Head c.round.language ∷ item.Order c.round.order ∷ item.Limit c.round.limit ∷ (items_of_target c.round.target ++ (items_of_tree c.tree ++ item.End ∷ []))
+    items_of_head c.round.language c.round.window
+    ++ (item.Order c.round.order ∷ item.Limit c.round.limit ∷ (items_of_target c.round.target ++ (items_of_tree c.tree ++ item.End ∷ [])))

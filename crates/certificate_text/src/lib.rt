@@ -11,8 +11,8 @@ mod writing;
 
 pub use certificate::Certificate;
 pub use certificate_lines::{
-    Allowance, Item, ItemSource, Items, Opening, TextFault, TextKind, Wanted, Weight, Weights,
-    Words, WriteFault,
+    Allowance, Item, ItemSource, Items, Opening, TextFault, TextKind, Version, Wanted, Weight,
+    Weights, Window, Words, WriteFault,
 };
 pub use laws::{
     certificates_have_one_text, items_and_texts_agree, items_come_in_turn, trees_have_one_text,

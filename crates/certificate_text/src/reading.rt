@@ -6,19 +6,21 @@ ghost use Rattle.field_lines.specs.Raw.{raw_lines};
 ghost use Rattle.certificate_lines.specs.declared.item.Wanted.{Wanted};
 ghost use Rattle.proof_trees.specs.Depth.{after_raise};
 ghost use Rattle.certificate_lines.specs.Lines.{most};
-ghost use Rattle.certificate_lines.specs.Reads.{ReadsAll, EndsUnless, Gives, IsUnlessMemory};
+ghost use Rattle.certificate_lines.specs.Reads.{Reads, Refuses, ReadsAll, EndsUnless, Gives, IsUnlessMemory};
 ghost use Rattle.certificate_lines.specs.Rest.{IsMemory};
 ghost use Rattle.certificate_text.specs.Spelled.{IsSpelling, IsTreeSpelling};
 ghost use Rattle.proof_trees.specs.Tree.{Tree as TreeValue};
-ghost use Rattle.certificate_text.specs.Trees.{tree_of, items_of_tree, list_of_takes, items_of_takes, items_of_target, Certificate as CertificateValue, certificate_of, items_of_certificate};
+ghost use Rattle.certificate_text.specs.Trees.{tree_of, items_of_tree, list_of_takes, items_of_takes, items_of_head, items_of_target, Certificate as CertificateValue, certificate_of, items_of_certificate};
 ghost use Rattle.proof_trees.specs.RoundValue.{target_of};
 ghost use Rattle.certificate_lines.specs.declared.item.Item.TheVariants as item;
 ghost use Rattle.certificate_lines.specs.declared.item.Wanted.TheVariants as want;
 
 use crate::certificate::Certificate;
 use crate::tree::{Branch, Leaf, Take, Tree};
-use certificate_lines::{Allowance, Cursor, Opening, TextFault, ended, levels_after, push_on};
-use county_codes::{Group, Grouping};
+use certificate_lines::{
+    Allowance, Cursor, Opening, TextFault, Version, ended, levels_after, push_on,
+};
+use county_codes::{Group, Grouping, Window};
 use proof_trees::{Language, Round};
 use std::alloc::Global;
 
@@ -121,6 +123,21 @@ fn tree_at(
     }
 }
 
+/// The language, and the allowance if one is named.
+fn head_at(cursor: &mut Cursor) -> Result<(Language, Option<Window>), TextFault>
+    ensures read { IfOk result (λ h. Reads (want.Head ∷ []) cursor.old (items_of_head h.0 h.1) (want.Order h.0 ∷ []) cursor.new) }
+    ensures fault { IfErr result (λ f. Refuses (want.Head ∷ []) cursor.old f) }
+{
+    let (language, version) = cursor.head()?;
+    match version {
+        Version::One => Ok((language, None)),
+        Version::Two => {
+            let window = cursor.window()?;
+            Ok((language, Some(window)))
+        }
+    }
+}
+
 /// The target, where there is one.
 fn target_at(alloc: Global, cursor: &mut Cursor) -> Result<Option<Grouping>, TextFault>
     ensures { ReadsAll (want.Target ∷ []) (λ t. items_of_target (target_of t)) [] cursor.old result cursor.new }
@@ -139,7 +156,7 @@ fn certificate_at(alloc: Global, text: &[u8]) -> Result<Certificate, TextFault>
     ensures { Gives (λ c. items_of_certificate (certificate_of c)) result (certificate_items text.now) }
 {
     let mut cursor = Cursor::new(text);
-    let language = cursor.head()?;
+    let (language, window) = head_at(&mut cursor)?;
     let order = cursor.order(alloc)?;
     let limit = cursor.limit()?;
     let target = target_at(alloc, &mut cursor)?;
@@ -152,6 +169,7 @@ fn certificate_at(alloc: Global, text: &[u8]) -> Result<Certificate, TextFault>
             limit,
             target,
             language,
+            window,
         },
         tree,
     })

@@ -7,7 +7,7 @@ ghost use Rattle.certificate_text.specs.Spelled.{IsSpelling, IsTreeSpelling};
 ghost use Rattle.certificate_lines.specs.Fits.{Fits, IsSet, AreCodes};
 ghost use Rattle.certificate_lines.specs.Lines.{most};
 ghost use Rattle.certificate_lines.specs.Writes.{WritesLine, Writes};
-ghost use Rattle.certificate_text.specs.Trees.{tree_of, items_of_tree, list_of_takes, items_of_takes, leaf_of, leaf_items, items_of_target, certificate_of};
+ghost use Rattle.certificate_text.specs.Trees.{tree_of, items_of_tree, list_of_takes, items_of_takes, leaf_of, leaf_items, items_of_head, items_of_target, certificate_of};
 ghost use Rattle.proof_trees.specs.RoundValue.{target_of};
 ghost use Rattle.certificate_languages.specs.declared.language.Language.{Language};
 ghost use Rattle.certificate_lines.specs.declared.item.Item.TheVariants as item;
@@ -18,12 +18,31 @@ ghost use Rattle.certificate_lines.specs.declared.fault.WriteFault.TheVariants a
 use crate::certificate::Certificate;
 use crate::tree::{Leaf, Take, Tree};
 use certificate_lines::{
-    Allowance, MOST, WriteFault, levels_after, push_allowance, push_branch, push_code_line,
-    push_group, push_head, push_limit, push_number_line, push_order, push_take, push_target_line,
+    Allowance, MOST, Version, WriteFault, levels_after, push_allowance, push_branch,
+    push_code_line, push_group, push_head, push_limit, push_number_line, push_order, push_take,
+    push_target_line, push_window,
 };
-use county_codes::{Group, Grouping};
+use county_codes::{Group, Grouping, Window};
 use proof_trees::Language;
 use std::alloc::Global;
+
+/// Appends the head, and the line of the allowance if one is named.
+fn push_head_lines(
+    out: &mut Vec<u8>,
+    language: Language,
+    window: Option<Window>,
+) -> Result<(), WriteFault>
+    ensures { Writes (want.Head ∷ []) (items_of_head language window) (want.Order language ∷ []) out.old.items result out.new.items }
+{
+    match window {
+        None => push_head(out, language, Version::One)?,
+        Some(window) => {
+            push_head(out, language, Version::Two)?;
+            push_window(out, window)?;
+        }
+    }
+    Ok(())
+}
 
 /// Appends the lines of the groups of a target.
 fn push_groups(out: &mut Vec<u8>, groups: &[Group]) -> Result<(), WriteFault>
@@ -146,7 +165,7 @@ pub fn write(alloc: Global, certificate: &Certificate) -> Result<Vec<u8>, WriteF
     let round = &certificate.round;
     let order = round.order.as_slice();
     let mut out = Vec::new(alloc);
-    push_head(&mut out, round.language)?;
+    push_head_lines(&mut out, round.language, round.window)?;
     push_order(&mut out, order)?;
     push_limit(&mut out, round.limit)?;
     push_target(&mut out, &round.target)?;

@@ -1,21 +1,23 @@
 -- That what is joined depends on what came, and not on the order in which it came.
 use Rattle.std.specs.Prelude.{ℕ, ◌≡◌, List, Some, ◌↔◌}
 use Rattle.grouping_laws.specs.Problem.{Problem}
+use Rattle.grouping_laws.specs.Allowance.{named_window}
 use Rattle.grouping_laws.specs.GroupsFrom.{IsOrder}
 use Rattle.grouping_laws.specs.Grouping.{Grouping}
 use Rattle.proof_trees.specs.State.{State, empty_state}
 use Rattle.proof_trees.specs.Tree.{Tree}
 use Rattle.proof_trees.specs.Certificate.{TargetFits}
-use Rattle.certificate_text.specs.Trees.{Certificate}
 use Rattle.certificate_text.specs.Spelled.{IsSpelling}
 use Rattle.shared_proofs.specs.Skeleton.{joined}
 use Rattle.shared_proofs.specs.Standing.{Held, Holds}
 use Rattle.shared_proofs.specs.Content.{Content, Begins, Answered, LeadsOver}
 
--- a board begins with a target that fits, and the events with their replies lead from there to this content
+-- a board begins with the allowance that a certificate for the problem names and with a target that fits, and the events with their
+-- replies lead from there to this content
 pub record IsReached (p : Problem) (log : List Answered) (content : Content) : Type 0 where
   pub depth : ℕ
   pub first : Content
+  pub window : first.round.window ≡ named_window p
   pub order : IsOrder p first.round.order
   pub target : Grouping
   pub target_is : first.round.target ≡ Some target

@@ -1,16 +1,19 @@
 -- Which items may stand where something is wanted.
-use Rattle.std.proofs.Common.{◌≡◌, ℕ, List, [], ◌∷◌, length, Option, Some, None, refl}
+use Rattle.std.proofs.Common.{◌≡◌, ℕ, List, [], ◌∷◌, ◌++◌, length, Option, Some, None, refl, ap}
 use Rattle.certificate_languages.specs.declared.language.Language.{Language}
 use Rattle.certificate_languages.specs.declared.language.Language.TheVariants.{Plain, Wide}
 use Rattle.county_codes.specs.declared.group.Group.{Group}
+use Rattle.county_codes.specs.declared.window.Window.{Window}
 use Rattle.certificate_lines.specs.Items.{taken}
 use Rattle.certificate_lines.specs.Fits.{Fits, AllFit}
+use Rattle.certificate_lines.specs.declared.item.Version.TheVariants.{One, Two}
 use Rattle.certificate_lines.specs.declared.item.Allowance.{Allowance}
 use Rattle.certificate_lines.specs.declared.item.Opening.{Opening}
 use Rattle.certificate_lines.specs.declared.item.Item.{Item}
 use Rattle.certificate_lines.specs.declared.item.Item.TheVariants as item
 use Rattle.certificate_lines.specs.declared.item.Wanted.{Wanted}
 use Rattle.certificate_lines.specs.declared.item.Wanted.TheVariants as want
+use Rattle.certificate_text.specs.Trees.{items_of_head}
 
 pub opens_only : (language : Language) (levels : ℕ) (i : Item) → Fits (want.Tree language levels) i → (o : Opening) × (i ≡ item.Opens o)
 opens_only Plain levels (item.Opens o) f = (o, refl)
@@ -31,9 +34,25 @@ pub allows_only : (left : ℕ) (i : Item) → Fits (want.Allowances left) i → 
 allows_only left (item.Allows a) f = (a, refl)
 allows_only left _ f = absurd f
 
-pub from_head : (items : List Item) → AllFit (want.Head ∷ []) items → (language : Language) × (later : List Item) × (items ≡ item.Head language ∷ later) × AllFit (want.Order language ∷ []) later
+pub from_window : (language : Language) (items : List Item) → AllFit (want.Window language ∷ []) items → (window : Window) × (later : List Item) × (items ≡ item.Within window ∷ later) × AllFit (want.Order language ∷ []) later
+from_window language [] f = absurd f
+from_window language (item.Within window ∷ later) f = (window, later, refl, f.1)
+from_window language (_ ∷ later) f = absurd f.0
+
+-- the head, and the allowance if one is named
+pub record HeadFound (items : List Item) : Type 0 where
+  pub language : Language
+  pub window : Option Window
+  pub later : List Item
+  pub are : items ≡ items_of_head language window ++ later
+  pub fits : AllFit (want.Order language ∷ []) later
+
+pub from_head : (items : List Item) → AllFit (want.Head ∷ []) items → HeadFound items
 from_head [] f = absurd f
-from_head (item.Head language ∷ later) f = (language, later, refl, f.1)
+from_head (item.Head language One ∷ later) f = record { language = language; window = None; later = later; are = refl; fits = f.1 }
+from_head (item.Head language Two ∷ later) f =
+    let named = from_window language later f.1 in
+    record { language = language; window = Some named.0; later = named.1; are = ap (λ (l : List Item). item.Head language Two ∷ l) named.2; fits = named.3 }
 from_head (_ ∷ later) f = absurd f.0
 
 pub from_order : (language : Language) (items : List Item) → AllFit (want.Order language ∷ []) items

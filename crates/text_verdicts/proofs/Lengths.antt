@@ -1,11 +1,13 @@
 -- A certificate has an item for each of its lines.
 use Rattle.std.proofs.Common.{◌≡◌, ◌+◌, [], ◌∷◌, ◌++◌, length, Option, Some, None, arith, length-append}
+use Rattle.county_codes.specs.declared.window.Window.{Window}
 use Rattle.grouping_laws.specs.Grouping.{Grouping}
+use Rattle.certificate_languages.specs.declared.language.Language.{Language}
 use Rattle.proof_trees.specs.Tree.{stuck, seats, bound, Tree, leaf, branch, Takes, no_take, take}
-use Rattle.verdicts.specs.Lines.{tree_lines, takes_lines, group_lines, certificate_lines}
+use Rattle.verdicts.specs.Lines.{window_line, tree_lines, takes_lines, group_lines, certificate_lines}
 use Rattle.certificate_lines.specs.declared.item.Item.TheVariants as item
 use Rattle.certificate_lines.proofs.FormLaws.{length_map}
-use Rattle.certificate_text.specs.Trees.{Certificate, declared_allowance, items_of_tree, items_of_takes, items_of_target, items_of_certificate}
+use Rattle.certificate_text.specs.Trees.{Certificate, declared_allowance, items_of_tree, items_of_takes, items_of_head, items_of_target, items_of_certificate}
 
 mutual
   pub tree_length : (t : Tree) → length (items_of_tree t) ≡ tree_lines t
@@ -23,6 +25,10 @@ pub target_length : (target : Option Grouping) → length (items_of_target targe
 target_length None = omega arith
 target_length (Some groups) = omega (arith, length_map item.Grouped groups)
 
+pub head_length : (language : Language) (window : Option Window) → length (items_of_head language window) ≡ window_line window
+head_length language None = omega arith
+head_length language (Some window) = omega arith
+
 pub certificate_length : (c : Certificate) → length (items_of_certificate c) ≡ certificate_lines c.round c.tree
 certificate_length c =
-    omega (arith, length-append (items_of_target c.round.target) (items_of_tree c.tree ++ item.End ∷ []), length-append (items_of_tree c.tree) (item.End ∷ []), target_length c.round.target, tree_length c.tree)
+    omega (arith, length-append (items_of_head c.round.language c.round.window) (item.Order c.round.order ∷ item.Limit c.round.limit ∷ (items_of_target c.round.target ++ (items_of_tree c.tree ++ item.End ∷ []))), head_length c.round.language c.round.window, length-append (items_of_target c.round.target) (items_of_tree c.tree ++ item.End ∷ []), length-append (items_of_tree c.tree) (item.End ∷ []), target_length c.round.target, tree_length c.tree)

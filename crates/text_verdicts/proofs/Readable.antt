@@ -1,6 +1,7 @@
 -- The trees of texts name limits as their language asks, no quota of theirs is 0, and the codes of their weights ascend.
 use Rattle.std.proofs.Common.{true, ℕ, zero, suc, ◌-◌, ◌≡◌, ◌≤◌, List, [], ◌∷◌, ◌++◌, length, map, Option, Some, None, refl, subst, append_assoc, arith}
 use Rattle.county_codes.specs.declared.group.Group.{Group}
+use Rattle.county_codes.specs.declared.window.Window.{Window}
 use Rattle.grouping_laws.specs.Grouping.{Grouping}
 use Rattle.certificate_languages.specs.declared.language.Language.{Language}
 use Rattle.certificate_languages.specs.declared.language.Language.TheVariants.{Plain, Wide}
@@ -16,7 +17,7 @@ use Rattle.certificate_lines.specs.declared.item.Opening.TheVariants as opening
 use Rattle.certificate_lines.specs.declared.item.Wanted.{Wanted}
 use Rattle.certificate_lines.specs.declared.item.Wanted.TheVariants as want
 use Rattle.certificate_lines.proofs.ReadLaws.{allowances_more, groups_more}
-use Rattle.certificate_text.specs.Trees.{Certificate, declared_weight, declared_allowance, items_of_tree, items_of_takes, items_of_target, items_of_certificate}
+use Rattle.certificate_text.specs.Trees.{Certificate, declared_weight, declared_allowance, items_of_tree, items_of_takes, items_of_head, items_of_target, items_of_certificate}
 
 -- the quota is no 0, and weights ascend
 abbrev pub IsFormedLine : Allowance → Type 0
@@ -100,7 +101,13 @@ pub target_over : (target : Option Grouping) (more : List Wanted) (rest : List I
 target_over None more rest f = f.1
 target_over (Some groups) more rest f = groups_over (length groups) groups more rest refl f.1
 
+-- what stands behind the head and the allowance fits
+head_over : (language : Language) (window : Option Window) (rest : List Item) → AllFit (want.Head ∷ []) (items_of_head language window ++ rest) → AllFit (want.Order language ∷ []) rest
+head_over language None rest f = f.1
+head_over language (Some window) rest f = f.1.1
+
 pub formed_of_fits : (c : Certificate) → AllFit (want.Head ∷ []) (items_of_certificate c) → IsFormed c.round.language c.tree
 formed_of_fits c f =
-    let behind = target_over c.round.target (want.Tree c.round.language (length c.round.order) ∷ want.End ∷ []) (items_of_tree c.tree ++ item.End ∷ []) f.1.1.1 in
+    let order = head_over c.round.language c.round.window (item.Order c.round.order ∷ item.Limit c.round.limit ∷ (items_of_target c.round.target ++ (items_of_tree c.tree ++ item.End ∷ []))) f in
+    let behind = target_over c.round.target (want.Tree c.round.language (length c.round.order) ∷ want.End ∷ []) (items_of_tree c.tree ++ item.End ∷ []) order.1.1 in
     (tree_formed c.round.language (length c.round.order) c.tree (want.End ∷ []) (item.End ∷ []) behind).0

@@ -4,6 +4,7 @@ use Rattle.grouping_laws.specs.Sets.{member}
 use Rattle.grouping_laws.specs.Problem.{Problem}
 use Rattle.grouping_laws.specs.Grouping.{Grouping, counts, sets_of}
 use Rattle.grouping_laws.specs.GroupsFrom.{IsOrder}
+use Rattle.grouping_laws.specs.Allowance.{HasWindow}
 use Rattle.proof_trees.specs.Round.{Round}
 use Rattle.proof_trees.specs.State.{State, close, raise, empty_state}
 use Rattle.proof_trees.specs.Groups.{AreGroupsAt, IsGroupAt, IsSetAt, IsSetWithin}
@@ -85,7 +86,7 @@ mutual
 certificate_costs : (p : Problem) (round : Round) (tree : Tree) → NotNone (Number (CertificateCosts p round tree))
 certificate_costs p round tree =
     then_some
-    (where_number (IsOrder p round.order × IsLargeEnough round.limit round.target × IsLawfulTarget p round.target) (TreeLooks tree p round (empty_state p)) (λ f. tree_looks tree p round (empty_state p)))
+    (where_number (HasWindow p round.window × IsOrder p round.order × IsLargeEnough round.limit round.target × IsLawfulTarget p round.target) (TreeLooks tree p round (empty_state p)) (λ f. tree_looks tree p round (empty_state p)))
     (λ n. here (3 * (certificate_lines round tree + 1 + n.0), (n.0, n.1, refl)))
 
 pub some_cost : (p : Problem) (text : List ℕ) → NotNone (Number (TextCosts p text))

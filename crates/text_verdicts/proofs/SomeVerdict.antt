@@ -5,6 +5,7 @@ use Rattle.grouping_laws.specs.Sets.{total, member}
 use Rattle.grouping_laws.specs.Problem.{Problem}
 use Rattle.grouping_laws.specs.Grouping.{Grouping, counts, sets_of}
 use Rattle.grouping_laws.specs.GroupsFrom.{IsOrder}
+use Rattle.grouping_laws.specs.Allowance.{HasWindow}
 use Rattle.grouping_laws.proofs.Elements.{all_from_has, contains_from_has}
 use Rattle.certificate_languages.specs.declared.language.Language.{Language}
 use Rattle.proof_trees.specs.Round.{Round}
@@ -16,13 +17,13 @@ use Rattle.proof_trees.specs.Leaves.{IsStuck, IsOffSeats}
 use Rattle.proof_trees.specs.Proving.{limit_of, CanBranch, NamesLimit}
 use Rattle.certificate_text.specs.Trees.{Certificate}
 use Rattle.certificate_text.specs.Spelled.{IsSpelling}
-use Rattle.verdicts.specs.Fault.{Fault, WrongOrder, LimitTooSmall, TargetFault, WrongCounty, MissingGroup, StrayGroup, LightGroup, BoundOver, BoundLength, NotStuck, SeatsOpen, BoundWithoutTarget, NoLeaf}
+use Rattle.verdicts.specs.Fault.{Fault, WrongWindow, WrongOrder, LimitTooSmall, TargetFault, WrongCounty, MissingGroup, StrayGroup, LightGroup, BoundOver, BoundLength, NotStuck, SeatsOpen, BoundWithoutTarget, NoLeaf}
 use Rattle.verdicts.specs.End.{End, fine, faulty, LinesEnd, LineEnds, Then}
 use Rattle.verdicts.specs.Leaves.{IsStuckFault, IsSeatsFault, NamesForeign, HasLightGroup, allowed, IsWithinTarget, IsLoss, IsEven, IsAllowanceFault, AllowancesEnd, BoundedEnds, BoundEnds, LeafEnds}
 use Rattle.verdicts.specs.Branches.{IsBranchFault, BranchEnds, IsNext, behind, IsTakeFault, TakeEnds, IsMarkFault}
-use Rattle.verdicts.specs.Lines.{group_lines}
+use Rattle.verdicts.specs.Lines.{window_line, group_lines}
 use Rattle.verdicts.specs.Trees.{TreeEnds, TakesEnd}
-use Rattle.verdicts.specs.Verdict.{IsOrderFault, IsLargeEnough, IsLimitFault, IsLawfulTarget, IsTargetFault, CertificateEnds, Verdict, verdict_of}
+use Rattle.verdicts.specs.Verdict.{IsWindowFault, IsOrderFault, IsLargeEnough, IsLimitFault, IsLawfulTarget, IsTargetFault, RestEnds, CertificateEnds, Verdict, verdict_of}
 use Rattle.text_verdicts.specs.TextVerdict.{IsTextVerdict}
 use Rattle.text_verdicts.proofs.Listings.{NotNone, here, then_some, either_way}
 use Rattle.text_verdicts.proofs.SomeCost.{groups_there}
@@ -169,17 +170,23 @@ target_or : (p : Problem) (target : Option Grouping) → NotNone (HoldsOr (IsLaw
 target_or p None = here (inl tt)
 target_or p (Some target) = then_some (lawful_or p target) (λ o. here (⊎_elim inl (λ f. inr (TargetFault f.0, (f.0, refl, f.1, f.2))) o))
 
-certificate_ends : (p : Problem) (round : Round) (tree : Tree) → IsFormed round.language tree → NotNone (Ends (CertificateEnds p round tree))
-certificate_ends p round tree formed =
+rest_ends : (p : Problem) (round : Round) (tree : Tree) (second : ℕ) → IsFormed round.language tree → NotNone (Ends (RestEnds p round tree second))
+rest_ends p round tree second formed =
     let fourth : ℕ → End → Type 0 = λ line. Then (LinesEnd (1 + group_lines round.target) (IsLawfulTarget p round.target) (IsTargetFault p round.target) line) (TreeEnds tree p round (empty_state p)) in
     let third : ℕ → End → Type 0 = λ line. Then (LineEnds (IsLargeEnough round.limit round.target) (IsLimitFault round.limit round.target) line) fourth in
-    then_ends (LineEnds (IsOrder p round.order) (IsOrderFault p round) 2) third
-    (lines_end 1 (IsOrder p round.order) (IsOrderFault p round) 2 (decided (IsOrder p round.order) (IsOrderFault p round) (λ never. here (WrongOrder, (refl, never)))))
+    then_ends (LineEnds (IsOrder p round.order) (IsOrderFault p round) second) third
+    (lines_end 1 (IsOrder p round.order) (IsOrderFault p round) second (decided (IsOrder p round.order) (IsOrderFault p round) (λ never. here (WrongOrder, (refl, never)))))
     (λ l f. then_ends (LineEnds (IsLargeEnough round.limit round.target) (IsLimitFault round.limit round.target) l) fourth
     (lines_end 1 (IsLargeEnough round.limit round.target) (IsLimitFault round.limit round.target) l (limit_or round.limit round.target))
     (λ m g. then_ends (LinesEnd (1 + group_lines round.target) (IsLawfulTarget p round.target) (IsTargetFault p round.target) m) (TreeEnds tree p round (empty_state p))
     (lines_end (1 + group_lines round.target) (IsLawfulTarget p round.target) (IsTargetFault p round.target) m (target_or p round.target))
     (λ n h. tree_ends tree p round (empty_state p) n formed)))
+
+certificate_ends : (p : Problem) (round : Round) (tree : Tree) → IsFormed round.language tree → NotNone (Ends (CertificateEnds p round tree))
+certificate_ends p round tree formed =
+    then_ends (LineEnds (HasWindow p round.window) (IsWindowFault p round) (window_line round.window)) (RestEnds p round tree)
+    (lines_end 1 (HasWindow p round.window) (IsWindowFault p round) (window_line round.window) (decided (HasWindow p round.window) (IsWindowFault p round) (λ never. here (WrongWindow, (refl, never)))))
+    (λ second h. rest_ends p round tree second formed)
 
 pub some_verdict : (p : Problem) (text : List ℕ) (c : Certificate) → IsSpelling text c → NotNone ((x : Verdict) × IsTextVerdict p text x)
 some_verdict p text c is = then_some (certificate_ends p c.round c.tree (formed_of_fits c is.fits)) (λ e. here (verdict_of c.round.target e.0, (c, is, (e.0, e.1, refl))))

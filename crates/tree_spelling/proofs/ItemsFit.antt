@@ -1,7 +1,9 @@
 -- Items whose numbers are in range fit where they are wanted, if branches aren't too deep.
 use Rattle.std.proofs.Common.{◌≡◌, ℕ, zero, suc, ◌-◌, ◌≤◌, List, [], ◌∷◌, ◌++◌, length, map, Option, Some, None, refl, sym, subst, append_assoc, arith}
 use Rattle.std.specs.List.{AllByRecursion}
+use Rattle.county_codes.specs.Windows.{FitsRange}
 use Rattle.county_codes.specs.declared.group.Group.{Group}
+use Rattle.county_codes.specs.declared.window.Window.{Window}
 use Rattle.grouping_laws.specs.Grouping.{Grouping}
 use Rattle.certificate_languages.specs.declared.language.Language.{Language}
 use Rattle.certificate_languages.specs.declared.language.Language.TheVariants.{Plain, Wide}
@@ -17,7 +19,7 @@ use Rattle.certificate_lines.specs.declared.item.Item.TheVariants as item
 use Rattle.certificate_lines.specs.declared.item.Wanted.{Wanted}
 use Rattle.certificate_lines.specs.declared.item.Wanted.TheVariants as want
 use Rattle.certificate_lines.proofs.ReadLaws.{allowances_more, groups_more}
-use Rattle.certificate_text.specs.Trees.{declared_allowance, items_of_tree, items_of_takes, items_of_target}
+use Rattle.certificate_text.specs.Trees.{declared_allowance, items_of_tree, items_of_takes, items_of_head, items_of_target}
 use Rattle.tree_spelling.specs.TreeItems.{FitsInTree, TargetHasLines}
 
 -- a branch fits where there are levels, and a leaf fits anywhere
@@ -96,3 +98,7 @@ groups_fit (suc n) (group ∷ groups) more rest many h f =
 pub target_fits : (target : Option Grouping) (more : List Wanted) (rest : List Item) → TargetHasLines target → AllFit more rest → AllFit (want.Target ∷ more) (items_of_target target ++ rest)
 target_fits None more rest h f = (tt, f)
 target_fits (Some groups) more rest h f = (h.few, groups_fit (length groups) groups more rest refl h.each f)
+
+pub head_fits : (language : Language) (window : Option Window) (rest : List Item) → FitsRange window → AllFit (want.Order language ∷ []) rest → AllFit (want.Head ∷ []) (items_of_head language window ++ rest)
+head_fits language None rest h f = (tt, f)
+head_fits language (Some w) rest h f = (tt, (h, f))

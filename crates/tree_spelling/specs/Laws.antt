@@ -1,6 +1,7 @@
 -- Which texts there are.
 use Rattle.std.specs.Prelude.{◌≡◌, ℕ, ◌≤◌, true, List, [], ◌∷◌, length}
 use Rattle.std.specs.List.{AllByRecursion}
+use Rattle.county_codes.specs.Windows.{FitsRange}
 use Rattle.grouping_laws.specs.Problem.{Problem}
 use Rattle.grouping_laws.specs.GroupsFrom.{IsOrder}
 use Rattle.proof_trees.specs.Round.{Round}
@@ -24,5 +25,5 @@ pub record ProofTreesHaveTexts : Type 0 where
   pub tree : (p : Problem) (round : Round) (s : State) (tree : Tree) → IsOrder p round.order → IsState p round s → Proves tree p round s → HasLines round.language tree
       → AllFit (want.Tree round.language (length round.order) ∷ []) (items_of_tree tree)
   -- a text spells a certificate
-  pub certificate : (p : Problem) (c : Certificate) → IsCertificate p c.round c.tree → length c.round.order ≤ most → AreCodes c.round.order → c.round.limit ≤ most → TargetHasLines c.round.target → HasLines c.round.language c.tree
-      → (text : List ℕ) × IsSpelling text c
+  pub certificate : (p : Problem) (c : Certificate) → IsCertificate p c.round c.tree → FitsRange c.round.window → length c.round.order ≤ most → AreCodes c.round.order → c.round.limit ≤ most → TargetHasLines c.round.target
+      → HasLines c.round.language c.tree → (text : List ℕ) × IsSpelling text c
