@@ -92,6 +92,7 @@ fn round_copy(alloc: Global, target: Option<Grouping>) -> Result<Round> {
         limit: 3,
         target,
         language: Language::Wide,
+        window: None,
     };
     Ok(round.copy()?)
 }

@@ -1,6 +1,7 @@
 //! Trees that are made here.
 
 ghost use Rattle.std.specs.Prelude.{◌<◌, ◌≤◌};
+ghost use Rattle.county_codes.specs.Limits.{most_counties};
 
 use anyhow::{Context, Result};
 use certificate_text::{
@@ -85,7 +86,7 @@ impl Dice {
         let county = self.code()?;
         let limit = match language {
             Language::Plain => None,
-            Language::Wide => Some(1 + self.roll(128) as u16),
+            Language::Wide => Some(1 + self.roll(256) as u16),
         };
         let mut takes = Vec::new(alloc);
         for _ in 0..self.roll(3) {
@@ -116,7 +117,7 @@ impl Dice {
 
 /// Whether a tree's text is read and written as the same text again.
 fn comes_back(alloc: Global, tree: &Tree, language: Language, levels: u16) -> Result<bool>
-    requires { levels ≤ 128 }
+    requires { levels ≤ most_counties }
 {
     let text = write_tree(alloc, tree, language, levels)?;
     let again = read_tree(alloc, &text, language, levels)?;

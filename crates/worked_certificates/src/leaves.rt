@@ -2,6 +2,7 @@
 
 ghost use Rattle.std.specs.Prelude.{◌≡◌, ◌≤◌, map, length, IfOk};
 ghost use Rattle.std.specs.Vec.{vec_items};
+ghost use Rattle.county_codes.specs.Limits.{most_counties};
 ghost use Rattle.county_regions.specs.Rows.{AreRows};
 ghost use Rattle.grouping_problem.specs.ProblemValue.{problem_of};
 ghost use Rattle.ordered_counties.specs.OrderedValue.{problem_at};
@@ -15,14 +16,14 @@ use anyhow::{Error, Result};
 use bound_proofs::find_leaf;
 use certificate_checker::{TreeVerdict, check_tree};
 use certificate_text::{Leaf, Tree};
-use county_codes::{Codes, Grouping, listed_codes};
+use county_codes::{Codes, Grouping, MAX_COUNTIES, listed_codes};
 use county_regions::neighbour_rows;
 use grouping_judge::judge;
 use grouping_problem::Problem;
 use known_groups::groups_of_size;
 use line_verdicts::first_state;
 use ordered_counties::{Ordered, Steps};
-use place_sets::{CountySet, MaskSet};
+use place_sets::{CountySet, MaskSet, fits_mask};
 use proof_trees::{Language, Round, State};
 use seat_lines::read_grouping;
 use std::alloc::Global;
@@ -110,7 +111,7 @@ fn checked<C: CountySet>(
 ) -> Result<String>
     requires fits { length round.now.order ≤ C.PLACES }
     requires order { IsOrder (problem_of problem.now) round.now.order }
-    requires small { round.now.limit ≤ 128 }
+    requires small { round.now.limit ≤ most_counties }
     requires target { IsLawfulTarget (problem_of problem.now) (target_of round.now.target) }
     requires placed { IsPlaced (length round.now.order) C.test state.now }
 {
@@ -130,7 +131,7 @@ fn first_leaf(alloc: Global, problem: &Problem, ordered: &Ordered, round: &Round
     requires few { length ordered.now.order ≤ 128 }
     requires same { ordered.now.order ≡ round.now.order }
     requires order { IsOrder (problem_of problem.now) round.now.order }
-    requires small { round.now.limit ≤ 128 }
+    requires small { round.now.limit ≤ most_counties }
     requires target { IsLawfulTarget (problem_of problem.now) (target_of round.now.target) }
 {
     let state: State<MaskSet> = first_state(alloc, ordered)?;
@@ -148,18 +149,21 @@ pub(crate) fn leaf_said(
     limit: u16,
     text: &[u8],
 ) -> Result<String> {
-    if limit > 128 {
-        return Err(Error::msg("a limit is at most 128"));
+    if usize::from(limit) > MAX_COUNTIES {
+        return Err(Error::msg("a limit is at most 256"));
     }
     let order = listed_codes(alloc, problem.counties())?;
     let target = target_in(alloc, problem, text)?;
     let ordered = Ordered::build(alloc, problem, &order)?;
-    let _places = ordered.places();
+    if !fits_mask(usize::from(ordered.places())) {
+        return Err(Error::msg("a mask has no room for so many counties"));
+    }
     let round = Round {
         order: Codes::new(order),
         limit,
         target,
         language: Language::Wide,
+        window: problem.named_window(),
     };
     first_leaf(alloc, problem, &ordered, &round)
 }

@@ -1,13 +1,14 @@
 //! Values that no text spells.
 
 ghost use Rattle.std.specs.Prelude.{◌≤◌};
+ghost use Rattle.county_codes.specs.Limits.{most_counties};
 
 use anyhow::{Context, Result};
 use certificate_text::{
     Allowance, Branch, Certificate, Leaf, Take, Tree, Weight, Weights, WriteFault, read, write,
     write_tree,
 };
-use county_codes::{Codes, CountyCode, Group};
+use county_codes::{Codes, CountyCode, Group, Window};
 use proof_trees::Language;
 use std::alloc::Global;
 use std::fmt::Display;
@@ -109,6 +110,14 @@ fn limited(alloc: Global, limit: u16) -> Result<String> {
     said(alloc, &name, write(alloc, &certificate))
 }
 
+/// A certificate that names this allowance.
+fn allowing(alloc: Global, window: Window) -> Result<String> {
+    let mut certificate = read(alloc, TEXT)?;
+    certificate.round.window = Some(window);
+    let name = format!(in alloc; "allowance {}/{}", window.part, window.whole)?;
+    said(alloc, &name, write(alloc, &certificate))
+}
+
 /// A certificate whose order has so many codes.
 fn ordered(alloc: Global, count: u32) -> Result<String> {
     let mut certificate = read(alloc, TEXT)?;
@@ -130,12 +139,29 @@ fn grouped(alloc: Global, count: u32) -> Result<String> {
     said(alloc, &name, write(alloc, &certificate))
 }
 
+/// Certificates that name an allowance: at the ends of its range, and past them.
+fn allowances(alloc: Global, lines: &mut Vec<String>) -> Result<()> {
+    for (part, whole) in [
+        (1, 20),
+        (500, 1_000),
+        (0, 1),
+        (3, 5),
+        (0, 0),
+        (1, 1_001),
+        (501, 1_000),
+    ] {
+        lines.push(allowing(alloc, Window { part, whole })?)?;
+    }
+    Ok(())
+}
+
 /// Certificates at a limit and one past it.
 fn certificates(alloc: Global, lines: &mut Vec<String>) -> Result<()> {
-    for limit in [128, 129] {
+    allowances(alloc, lines)?;
+    for limit in [256, 257] {
         lines.push(limited(alloc, limit)?)?;
     }
-    for count in [128, 129] {
+    for count in [256, 257] {
         lines.push(ordered(alloc, count)?)?;
     }
     for count in [1, 0] {
@@ -152,7 +178,7 @@ fn tree_said(
     language: Language,
     levels: u16,
 ) -> Result<String>
-    requires { levels ≤ 128 }
+    requires { levels ≤ most_counties }
 {
     said(alloc, name, write_tree(alloc, tree, language, levels))
 }
@@ -169,7 +195,7 @@ fn branch_said(
 
 /// A take of so many codes, in a tree of one level or none.
 fn take_said(alloc: Global, levels: u16, count: u32) -> Result<String>
-    requires { levels ≤ 128 }
+    requires { levels ≤ most_counties }
 {
     let name = format!(in alloc; "take of {count} codes, {levels} levels")?;
     tree_said(
@@ -186,13 +212,13 @@ fn branches(alloc: Global, lines: &mut Vec<String>) -> Result<()> {
     for language in [(Language::Plain, "plain"), (Language::Wide, "wide")] {
         for limit in [
             (None, "without a limit"),
-            (Some(128), "of at most 128"),
-            (Some(129), "of at most 129"),
+            (Some(256), "of at most 256"),
+            (Some(257), "of at most 257"),
         ] {
             lines.push(branch_said(alloc, language, limit)?)?;
         }
     }
-    for count in [128, 129, 0] {
+    for count in [256, 257, 0] {
         lines.push(take_said(alloc, 1, count)?)?;
     }
     lines.push(take_said(alloc, 0, 1)?)?;
@@ -219,7 +245,7 @@ fn weights_said(
 
 /// Lines of a bound leaf at a limit and one past it.
 fn bounds(alloc: Global, lines: &mut Vec<String>) -> Result<()> {
-    for count in [128, 129] {
+    for count in [256, 257] {
         lines.push(bound_said(alloc, count)?)?;
     }
     for (quota, weight, places, name) in [
