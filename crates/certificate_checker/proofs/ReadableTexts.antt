@@ -1,12 +1,13 @@
 -- The tree of a certificate that a text can spell is readable, and the certificate's limit and order are small.
-use Rattle.std.proofs.Common.{◌≤◌, List, [], ◌∷◌, length}
+use Rattle.std.proofs.Common.{◌≤◌, List, [], ◌∷◌, ◌++◌, length}
 use Rattle.county_codes.specs.Limits.{most_counties}
 use Rattle.certificate_languages.specs.declared.language.Language.{Language}
 use Rattle.proof_trees.specs.Tree.{Allowance, room, weigh, stuck, seats, bound, Tree, leaf, branch, Takes, no_take, take}
 use Rattle.certificate_lines.specs.Fits.{AllFit}
+use Rattle.certificate_lines.specs.declared.item.Item.TheVariants as item
 use Rattle.certificate_lines.specs.declared.item.Wanted.TheVariants as want
-use Rattle.certificate_text.specs.Trees.{Certificate, declared_allowance, items_of_certificate}
-use Rattle.text_verdicts.proofs.Readable.{IsFormedLine, AreFormedLines, IsFormed, AreFormed, formed_of_fits}
+use Rattle.certificate_text.specs.Trees.{Certificate, declared_allowance, items_of_target, items_of_tree, items_of_certificate}
+use Rattle.text_verdicts.proofs.Readable.{head_over, IsFormedLine, AreFormedLines, IsFormed, AreFormed, formed_of_fits}
 use Rattle.bound_verdicts.specs.Allowed.{IsSpelled}
 use Rattle.certificate_checker.specs.Readable.{AreSpelled, IsReadable, AreReadable}
 
@@ -32,8 +33,13 @@ mutual
 pub readable_of_fits : (c : Certificate) → AllFit (want.Head ∷ []) (items_of_certificate c) → IsReadable c.round.language c.tree
 readable_of_fits c f = tree_readable c.round.language c.tree (formed_of_fits c f)
 
+behind_head : (c : Certificate) → AllFit (want.Head ∷ []) (items_of_certificate c)
+    → AllFit (want.Order c.round.language ∷ []) (item.Order c.round.order ∷ item.Limit c.round.limit ∷ (items_of_target c.round.target ++ (items_of_tree c.tree ++ item.End ∷ [])))
+behind_head c f =
+    head_over c.round.language c.round.window (item.Order c.round.order ∷ item.Limit c.round.limit ∷ (items_of_target c.round.target ++ (items_of_tree c.tree ++ item.End ∷ []))) f
+
 pub limit_of_fits : (c : Certificate) → AllFit (want.Head ∷ []) (items_of_certificate c) → c.round.limit ≤ most_counties
-limit_of_fits c f = f.1.1.0
+limit_of_fits c f = (behind_head c f).1.0
 
 pub order_of_fits : (c : Certificate) → AllFit (want.Head ∷ []) (items_of_certificate c) → length c.round.order ≤ most_counties
-order_of_fits c f = f.1.0.0
+order_of_fits c f = (behind_head c f).0.0

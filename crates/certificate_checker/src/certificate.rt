@@ -209,6 +209,39 @@ fn judge_first<C: CountySet, S: ItemSource>(
     }
 }
 
+/// Judges a round whose allowance is fine, and the tree that begins on the next line.
+fn judge_behind<C: CountySet, S: ItemSource>(
+    alloc: Global,
+    problem: &Problem,
+    round: &Round,
+    feed: &mut Feed<S>,
+) -> Result<(), Stop>
+    requires fits { length problem.now.counties ≤ C.PLACES }
+    requires small { round.now.limit ≤ most_counties }
+    requires counted { feed.old.line ≤ feed.old.steps.used }
+    requires window { HasWindow (problem_of problem.now) round.now.window }
+    ensures fed { IsFed (feed_of S.course feed.old) result (feed_of S.course feed.new) }
+    ensures judged { (tree : Tree) (rest : List ItemValue)
+        → feed.old.line ≡ window_line round.now.window + 3 + group_lines (target_of round.now.target)
+        → IsReadable round.now.language tree
+        → (feed_of S.course feed.old).course.items ≡ items_of_tree tree ++ rest
+        → IsRoundJudged (problem_of problem.now) (round_of round.now) tree rest (feed_of S.course feed.old) result (feed_of S.course feed.new) }
+{
+    match judge_order(alloc, problem, round) {
+        Ok(ordered) => match judge_limit(round) {
+            Ok(()) => match judge_target(alloc, problem, round) {
+                Ok(wanted) => {
+                    let _problem = ordered.problem();
+                    judge_first::<C, S>(alloc, &ordered, round, wanted.as_ref(), feed)
+                }
+                Err(stop) => Err(stop),
+            },
+            Err(stop) => Err(stop),
+        },
+        Err(stop) => Err(stop),
+    }
+}
+
 /// Judges a round and the tree that begins on the next line.
 fn judge_round<C: CountySet, S: ItemSource>(
     alloc: Global,
@@ -226,12 +259,10 @@ fn judge_round<C: CountySet, S: ItemSource>(
         → (feed_of S.course feed.old).course.items ≡ items_of_tree tree ++ rest
         → IsRoundJudged (problem_of problem.now) (round_of round.now) tree rest (feed_of S.course feed.old) result (feed_of S.course feed.new) }
 {
-    judge_window(problem, round)?;
-    let ordered = judge_order(alloc, problem, round)?;
-    judge_limit(round)?;
-    let wanted = judge_target(alloc, problem, round)?;
-    let _problem = ordered.problem();
-    judge_first::<C, S>(alloc, &ordered, round, wanted.as_ref(), feed)
+    match judge_window(problem, round) {
+        Ok(()) => judge_behind::<C, S>(alloc, problem, round, feed),
+        Err(stop) => Err(stop),
+    }
 }
 
 /// Judges the certificate whose lines are to come: its target, where it has no fault.

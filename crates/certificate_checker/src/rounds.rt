@@ -70,13 +70,13 @@ fn read_head<S: ItemSource>(feed: &mut Feed<S>) -> Result<(Language, Option<Wind
         → (feed_of S.course feed.old).course.items ≡ items_of_head language window ++ rest
         → AreTaken (λ r. (r.0 ≡ language) × (r.1 ≡ window)) (items_of_head language window) rest (feed_of S.course feed.old) result (feed_of S.course feed.new) }
 {
-    let (language, version) = next_head(feed)?;
-    match version {
-        Version::One => Ok((language, None)),
-        Version::Two => match next_window(feed) {
+    match next_head(feed) {
+        Ok((language, Version::One)) => Ok((language, None)),
+        Ok((language, Version::Two)) => match next_window(feed) {
             Ok(window) => Ok((language, Some(window))),
             Err(stop) => Err(stop),
         },
+        Err(stop) => Err(stop),
     }
 }
 

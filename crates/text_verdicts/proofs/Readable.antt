@@ -102,7 +102,7 @@ target_over None more rest f = f.1
 target_over (Some groups) more rest f = groups_over (length groups) groups more rest refl f.1
 
 -- what stands behind the head and the allowance fits
-head_over : (language : Language) (window : Option Window) (rest : List Item) → AllFit (want.Head ∷ []) (items_of_head language window ++ rest) → AllFit (want.Order language ∷ []) rest
+pub head_over : (language : Language) (window : Option Window) (rest : List Item) → AllFit (want.Head ∷ []) (items_of_head language window ++ rest) → AllFit (want.Order language ∷ []) rest
 head_over language None rest f = f.1
 head_over language (Some window) rest f = f.1.1
 

@@ -1,15 +1,16 @@
-use Rattle.std.proofs.Common.{◌≤◌, ◌∷◌, [], length, sym, ap, subst}
+use Rattle.std.proofs.Common.{◌≤◌, ◌+◌, ◌∷◌, [], length, sym, ap, subst}
 use Rattle.grouping_laws.specs.GroupsFrom.{IsOrder}
 use Rattle.grouping_problem.specs.ProblemValue.{problem_of}
 use Rattle.proof_trees.specs.RoundValue.{round_of, target_of}
 use Rattle.proof_trees.specs.State.{empty_state}
+use Rattle.verdicts.specs.Lines.{window_line}
 use Rattle.verdicts.specs.Verdict.{IsTargetFault}
 use Rattle.verdicts.specs.Work.{a_tree}
 use Rattle.certificate_checker.specs.Feeding.{feed_of}
 use Rattle.certificate_checker.specs.Judging.{IsJudged}
 use Rattle.certificate_checker.proofs.Targets.{order_fits}
 use Rattle.certificate_checker.proofs.Whole.{target_ends, round_stops, round_judged}
-use Rattle.certificate_checker.proofs.certificate.judge_round.Goals as goal
+use Rattle.certificate_checker.proofs.certificate.judge_behind.Goals as goal
 
 pub judge_first-requires-clause-fits : goal.judge_first-requires-clause-fits
 judge_first-requires-clause-fits g c =
@@ -19,11 +20,11 @@ judge_first-requires-clause-fits g c =
 
 pub returns-in-Ok-judge_target-clause-judged : goal.returns-in-Ok-judge_target-clause-judged
 returns-in-Ok-judge_target-clause-judged g c tree rest line readable items =
-    round_judged (problem_of c.args.problem.now) (round_of c.args.round.now) tree c.in-Ok.ensures.order c.in-Ok-judge_limit.ensures c.in-Ok-judge_target.ensures.0 (feed_of g.S.ItemSource.course c.args.feed.now) line rest (feed_of g.S.ItemSource.course c.judge_first.new.feed) c.judge_first.result
+    round_judged (problem_of c.args.problem.now) (round_of c.args.round.now) tree c.requires.window c.in-Ok.ensures.order c.in-Ok-judge_limit.ensures c.in-Ok-judge_target.ensures.0 (feed_of g.S.ItemSource.course c.args.feed.now) line rest (feed_of g.S.ItemSource.course c.judge_first.new.feed) c.judge_first.result
     (subst (λ v. IsJudged (problem_of v) (round_of c.args.round.now) (a_tree tree (empty_state (problem_of v)) ∷ []) [] rest (feed_of g.S.ItemSource.course c.args.feed.now) c.judge_first.result (feed_of g.S.ItemSource.course c.judge_first.new.feed))
     (ap (λ o. o.problem) c.in-Ok.ensures.value) (c.judge_first.ensures.judged tree rest readable items))
 
 pub returns-in-Ok-judge_limit-clause-judged : goal.returns-in-Ok-judge_limit-clause-judged
 returns-in-Ok-judge_limit-clause-judged g c tree rest line readable items =
-    round_stops (problem_of c.args.problem.now) (round_of c.args.round.now) tree (IsTargetFault (problem_of c.args.problem.now) (target_of c.args.round.now.target)) 4 rest (feed_of g.S.ItemSource.course c.args.feed.now) (feed_of g.S.ItemSource.course c.args.feed.now) c.in-Err-judge_target.stop c.in-Err-judge_target.ensures
-    (target_ends (problem_of c.args.problem.now) (round_of c.args.round.now) tree c.in-Ok.ensures.order c.in-Ok-judge_limit.ensures)
+    round_stops (problem_of c.args.problem.now) (round_of c.args.round.now) tree (IsTargetFault (problem_of c.args.problem.now) (target_of c.args.round.now.target)) (window_line c.args.round.now.window + 3) rest (feed_of g.S.ItemSource.course c.args.feed.now) (feed_of g.S.ItemSource.course c.args.feed.now) c.in-Err-judge_target.stop c.in-Err-judge_target.ensures
+    (target_ends (problem_of c.args.problem.now) (round_of c.args.round.now) tree c.requires.window c.in-Ok.ensures.order c.in-Ok-judge_limit.ensures)
