@@ -15,7 +15,7 @@ use crate::verdict::Verdict;
 use certificate_lines::{ItemSource, Items};
 use grouping_problem::Problem;
 use ordered_counties::Steps;
-use place_sets::{CountySet, MaskSet, WideSet, fits_mask};
+use place_sets::{CountySet, MaskSet, Places, fits_mask};
 use std::alloc::{AllocError, Global};
 
 /// What was found, unless a fault of the text stands behind it, which comes first.
@@ -106,6 +106,6 @@ pub fn check(
     if fits_mask(problem.counties().len()) {
         check_over::<MaskSet>(alloc, problem, text, budget)
     } else {
-        check_over::<WideSet>(alloc, problem, text, budget)
+        check_over::<Places>(alloc, problem, text, budget)
     }
 }
