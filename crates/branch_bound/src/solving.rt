@@ -3,18 +3,19 @@
 ghost use Rattle.std.specs.Prelude.{◌≡◌, ℕ, ◌≤◌, ◌<◌, Some, None, length, All, IfOk, OnOk, IsErrOf};
 ghost use Rattle.std.specs.List.Sorted.{IsStrictlyIncreasing};
 ghost use Rattle.county_codes.specs.Limits.{most_counties};
+ghost use Rattle.county_codes.specs.Windows.{FitsRange};
 ghost use Rattle.certificate_lines.specs.Fits.{AreCodes};
 ghost use Rattle.county_regions.specs.Rows.{AreRows};
 ghost use Rattle.grouping_problem.specs.ProblemValue.{problem_of};
 ghost use Rattle.ordered_counties.specs.OrderedValue.{problem_at};
 ghost use Rattle.certificate_languages.specs.declared.language.Language.TheVariants.{Plain, Wide};
-ghost use Rattle.proof_trees.specs.RoundValue.{round_of};
+ghost use Rattle.proof_trees.specs.RoundValue.{round_of, target_of};
 ghost use Rattle.proof_trees.specs.Leaves.{IsStuck, IsOffSeats};
 ghost use Rattle.proof_trees.specs.State.{empty_state};
 ghost use Rattle.line_verdicts.specs.Placed.{state_at, IsPlaced};
 ghost use Rattle.fitting_groups.specs.declared.stop.Stop.{Stop};
 ghost use Rattle.branch_bound.specs.Searching.{IsOutcome, IsProof};
-ghost use Rattle.branch_bound.specs.Solving.{IsTarget, IsFirst};
+ghost use Rattle.branch_bound.specs.Solving.{round_over, IsTarget, IsFirst};
 ghost use Rattle.bound_leaves.specs.GivenLeaf.{IsGiven};
 ghost use Rattle.branch_bound.specs.Answered.{IsAnswer, Certifies, NamesBest, HasCompleteTree, SaysWhether};
 
@@ -32,7 +33,7 @@ use fitting_groups::Stop;
 use grouping_problem::Problem;
 use line_verdicts::first_state;
 use ordered_counties::{OrderFault, Ordered, Steps};
-use place_sets::{CountySet, Places};
+use place_sets::{CountySet, MaskSet, Places, fits_mask};
 use proof_trees::{Language, Round, State};
 use std::alloc::{AllocError, Global};
 
@@ -77,21 +78,26 @@ fn order_of(alloc: Global, ordered: &Ordered) -> Result<Codes, AllocError>
     Ok(Codes::new(codes))
 }
 
-/// The round of a target, up to groups of so many counties.
+/// A round of the search, up to groups of so many counties. It names the problem's allowance.
+///
+/// If it has no target, it looks for any lawful grouping.
 fn round_for(
     alloc: Global,
     ordered: &Ordered,
-    target: &Grouping,
     limit: u16,
+    target: Option<Grouping>,
+    language: Language,
 ) -> Result<Round, AllocError>
-    ensures value { IfOk result (λ round. round_of round ≡ record { order = ordered.now.order; limit = limit; target = Some target.now.groups.items; language = Wide }) }
+    ensures value { IfOk result (λ round. round_of round ≡ round_over (problem_of ordered.now.problem) ordered.now.order limit (target_of target) language) }
     ensures codes { IfOk result (λ round. AreCodes round.order) }
+    ensures range { IfOk result (λ round. FitsRange round.window) }
 {
     Ok(Round {
         order: order_of(alloc, ordered)?,
         limit,
-        target: Some(target.copy()?),
-        language: Language::Wide,
+        target,
+        language,
+        window: ordered.problem().named_window(),
     })
 }
 
@@ -139,14 +145,14 @@ fn prove_round<C: CountySet>(
         result
         (IsOutcome
         (problem_of ordered.now.problem)
-        (record { order = ordered.now.order; limit = limit; target = Some target.now.groups.items; language = Wide })
+        (round_over (problem_of ordered.now.problem) ordered.now.order limit (Some target.now.groups.items) Wide)
         (empty_state (problem_of ordered.now.problem))) }
     ensures counted { OnOk result (steps.old.used < steps.new.used) }
     ensures within { OnOk result (steps.new.used ≤ steps.new.limit) }
     ensures limit { steps.new.limit ≡ steps.old.limit }
     ensures stopped { IsErrOf result Stop.StepLimit → steps.new.used ≡ steps.new.limit }
 {
-    let round = round_for(alloc, ordered, target, limit)?;
+    let round = round_for(alloc, ordered, limit, Some(target.copy()?), Language::Wide)?;
     let outcome = prove_first(alloc, ordered, near, &round, steps);
     let _used = steps.used();
     outcome
@@ -166,14 +172,14 @@ fn best(
     requires order { IsStrictlyIncreasing ordered.now.order }
     requires tree { IsProof
         (problem_of ordered.now.problem)
-        (record { order = ordered.now.order; limit = limit; target = Some target.groups.items; language = Wide })
+        (round_over (problem_of ordered.now.problem) ordered.now.order limit (Some target.groups.items) Wide)
         (empty_state (problem_of ordered.now.problem))
         tree }
     ensures answer { IfOk result (λ answer. (allowed : ℕ) → 1 ≤ allowed → IsAnswer (problem_of ordered.now.problem) allowed answer) }
     ensures complete { IfOk result (HasCompleteTree (problem_of ordered.now.problem)) }
 {
     let _places = ordered.places();
-    let round = round_for(alloc, ordered, &target, limit)?;
+    let round = round_for(alloc, ordered, limit, Some(target.copy()?), Language::Wide)?;
     Ok(Answer::Best(target, Certificate { round, tree }))
 }
 
@@ -219,23 +225,11 @@ fn improve<C: CountySet>(
     }
 }
 
-/// The round without a target of a problem of which a lawful grouping is looked for: groups of no size are closed.
-fn first_round(alloc: Global, ordered: &Ordered) -> Result<Round, AllocError>
-    ensures value { IfOk result (λ round. round_of round ≡ record { order = ordered.now.order; limit = 0; target = None; language = Plain }) }
-    ensures codes { IfOk result (λ round. AreCodes round.order) }
-{
-    Ok(Round {
-        order: order_of(alloc, ordered)?,
-        limit: 0,
-        target: None,
-        language: Language::Plain,
-    })
-}
-
 /// The certificate that no grouping is lawful, by a leaf that is valid where nothing is closed.
 fn impossible(alloc: Global, ordered: &Ordered, round: Round, leaf: Leaf) -> Certificate
-    requires value { round_of round ≡ record { order = ordered.now.order; limit = 0; target = None; language = Plain } }
+    requires value { round_of round ≡ round_over (problem_of ordered.now.problem) ordered.now.order 0 None Plain }
     requires codes { AreCodes round.order }
+    requires range { FitsRange round.window }
     requires leaf { IsGiven (problem_of ordered.now.problem) (round_of round) (empty_state (problem_of ordered.now.problem)) leaf }
     ensures { Certifies (problem_of ordered.now.problem) Plain None result }
 {
@@ -257,7 +251,7 @@ fn parts_found<C: CountySet>(
     requires rows { AreRows C C.test (problem_at ordered.now) (length ordered.now.order) near.now }
     requires placed { IsPlaced (length ordered.now.order) C.test state.now }
     requires empty { state_at ordered.now.order C.test state.now ≡ empty_state (problem_of ordered.now.problem) }
-    requires value { round_of round.now ≡ record { order = ordered.now.order; limit = 0; target = None; language = Plain } }
+    requires value { round_of round.now ≡ round_over (problem_of ordered.now.problem) ordered.now.order 0 None Plain }
     requires no_stuck { (c : ℕ) → ¬ IsStuck (problem_of ordered.now.problem) (state_at ordered.now.order C.test state.now) c }
     requires no_seats { ¬ IsOffSeats (problem_of ordered.now.problem) (state_at ordered.now.order C.test state.now) }
     ensures { IfOk result (IsFirst (problem_of ordered.now.problem) ordered.now.order) }
@@ -267,7 +261,8 @@ fn parts_found<C: CountySet>(
     Ok(First::Found(found))
 }
 
-/// The first lawful grouping, or a certificate that none is lawful, by a state at which nothing is closed.
+/// The first lawful grouping, or a certificate that none is lawful, by a state at which nothing is closed. The round is
+/// one without a target, in which groups of no size are closed.
 fn first_at<C: CountySet>(
     alloc: Global,
     ordered: &Ordered,
@@ -280,7 +275,7 @@ fn first_at<C: CountySet>(
     requires empty { state_at ordered.now.order C.test state.now ≡ empty_state (problem_of ordered.now.problem) }
     ensures { IfOk result (IsFirst (problem_of ordered.now.problem) ordered.now.order) }
 {
-    let round = first_round(alloc, ordered)?;
+    let round = round_for(alloc, ordered, 0, None, Language::Plain)?;
     match whole_leaf(alloc, ordered, near, &round, state) {
         Ok(Some(leaf)) => Ok(First::Impossible(impossible(alloc, ordered, round, leaf))),
         Ok(None) => parts_found(alloc, ordered, near, &round, state),
@@ -370,6 +365,8 @@ pub fn solve(alloc: Global, problem: &Problem, step_limit: u64) -> Result<Answer
     ensures complete { IfOk result (HasCompleteTree (problem_of problem.now)) }
     ensures impossible { IfOk result (SaysWhether (problem_of problem.now) step_limit) }
 {
-    let _counties = problem.counties();
+    if fits_mask(problem.counties().len()) {
+        return solve_over::<MaskSet>(alloc, problem, step_limit);
+    }
     solve_over::<Places>(alloc, problem, step_limit)
 }

@@ -13,3 +13,4 @@ pub mod ReadableTexts
 pub mod Targets
 pub mod Answering
 pub mod TreeAnswering
+pub mod HeadsRead

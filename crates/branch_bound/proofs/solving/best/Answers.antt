@@ -23,6 +23,7 @@ returns c =
           c.requires.large
           c.in_ok-round.ensures.value
           c.in_ok-round.ensures.codes
+          c.in_ok-round.ensures.range
           c.requires.tree;
       complete = best_complete (problem_of ordered.problem) ordered.order c.args.limit c.args.target c.in_ok-round.round c.args.tree c.requires.target c.requires.large c.in_ok-round.ensures.value c.requires.tree;
     }

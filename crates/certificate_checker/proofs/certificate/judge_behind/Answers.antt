@@ -4,12 +4,12 @@ use Rattle.grouping_problem.specs.ProblemValue.{problem_of}
 use Rattle.proof_trees.specs.RoundValue.{round_of, target_of}
 use Rattle.proof_trees.specs.State.{empty_state}
 use Rattle.verdicts.specs.Lines.{window_line}
-use Rattle.verdicts.specs.Verdict.{IsTargetFault}
+use Rattle.verdicts.specs.Verdict.{IsOrderFault, IsLimitFault, IsTargetFault}
 use Rattle.verdicts.specs.Work.{a_tree}
 use Rattle.certificate_checker.specs.Feeding.{feed_of}
 use Rattle.certificate_checker.specs.Judging.{IsJudged}
 use Rattle.certificate_checker.proofs.Targets.{order_fits}
-use Rattle.certificate_checker.proofs.Whole.{target_ends, round_stops, round_judged}
+use Rattle.certificate_checker.proofs.Whole.{order_ends, limit_ends, target_ends, round_stops, round_judged}
 use Rattle.certificate_checker.proofs.certificate.judge_behind.Goals as goal
 
 pub judge_first-requires-clause-fits : goal.judge_first-requires-clause-fits
@@ -28,3 +28,13 @@ pub returns-in-Ok-judge_limit-clause-judged : goal.returns-in-Ok-judge_limit-cla
 returns-in-Ok-judge_limit-clause-judged g c tree rest line readable items =
     round_stops (problem_of c.args.problem.now) (round_of c.args.round.now) tree (IsTargetFault (problem_of c.args.problem.now) (target_of c.args.round.now.target)) (window_line c.args.round.now.window + 3) rest (feed_of g.S.ItemSource.course c.args.feed.now) (feed_of g.S.ItemSource.course c.args.feed.now) c.in-Err-judge_target.stop c.in-Err-judge_target.ensures
     (target_ends (problem_of c.args.problem.now) (round_of c.args.round.now) tree c.requires.window c.in-Ok.ensures.order c.in-Ok-judge_limit.ensures)
+
+pub returns-in-Ok-clause-judged : goal.returns-in-Ok-clause-judged
+returns-in-Ok-clause-judged g c tree rest line readable items =
+    round_stops (problem_of c.args.problem.now) (round_of c.args.round.now) tree (IsLimitFault c.args.round.now.limit (target_of c.args.round.now.target)) (window_line c.args.round.now.window + 2) rest (feed_of g.S.ItemSource.course c.args.feed.now) (feed_of g.S.ItemSource.course c.args.feed.now) c.in-Err-judge_limit.stop c.in-Err-judge_limit.ensures
+    (limit_ends (problem_of c.args.problem.now) (round_of c.args.round.now) tree c.requires.window c.in-Ok.ensures.order)
+
+pub returns-clause-judged : goal.returns-clause-judged
+returns-clause-judged g c tree rest line readable items =
+    round_stops (problem_of c.args.problem.now) (round_of c.args.round.now) tree (IsOrderFault (problem_of c.args.problem.now) (round_of c.args.round.now)) (window_line c.args.round.now.window + 1) rest (feed_of g.S.ItemSource.course c.args.feed.now) (feed_of g.S.ItemSource.course c.args.feed.now) c.in-Err.stop c.in-Err.ensures.order
+    (order_ends (problem_of c.args.problem.now) (round_of c.args.round.now) tree c.requires.window)
