@@ -71,7 +71,7 @@ head_on bytes =
     else if pointwise nat_eq bytes (codes "county-groups wide certificate 2") then Ok (Wide, Two)
     else Err BadHead
 
--- the allowance: a fraction of at most a half
+-- the allowance that a certificate names: a fraction of at most a half
 unfoldable pub window_on : List (List ℕ) → Result Window TextKind
 window_on line = do
   words ← named (codes "window") line

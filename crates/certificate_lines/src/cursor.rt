@@ -137,7 +137,7 @@ impl<'a> Cursor<'a> {
         }
     }
 
-    /// The allowance.
+    /// The allowance that the certificate names.
     pub fn window(&mut self) -> Result<Window, TextFault>
         ensures { ReadsLine (λ r. r) (by_words line.window_on) self.old result self.new }
     {

@@ -68,7 +68,7 @@ pub enum Version {
 pub enum Item {
     /// The head of a certificate.
     Head(Language, Version),
-    /// The allowance.
+    /// The allowance that the certificate names.
     Within(Window),
     /// The counties in their order.
     Order(Codes),
@@ -95,7 +95,7 @@ pub enum Item {
 pub enum Wanted {
     /// The head.
     Head,
-    /// The allowance.
+    /// The line that names the allowance.
     Window(Language),
     /// The order.
     Order(Language),

@@ -50,7 +50,7 @@ fn head_item(cursor: &mut Cursor, stack: &mut Vec<Wanted>) -> Result<Item, TextF
     Ok(Item::Head(language, version))
 }
 
-/// The allowance, where it is wanted.
+/// The line that names the allowance, where it is wanted.
 fn window_item(
     cursor: &mut Cursor,
     stack: &mut Vec<Wanted>,

@@ -49,7 +49,7 @@ pub(crate) fn head_on(bytes: &[u8]) -> Result<(Language, Version), TextKind>
     }
 }
 
-/// The allowance: a fraction of at most a half.
+/// The allowance that a certificate names: a fraction of at most a half.
 #[tactic(auto, unfolding(crate::specs::Lines::window_on))]
 pub(crate) fn window_on(words: &mut Words) -> Result<Window, TextKind>
     ensures { result ≡ window_on words.old }

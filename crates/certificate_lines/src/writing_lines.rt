@@ -38,11 +38,11 @@ pub fn push_head(out: &mut Vec<u8>, language: Language, version: Version) -> Res
     out.extend_from_slice(b"\n")
 }
 
-/// Appends the allowance.
+/// Appends the line that names the allowance.
 ///
 /// # Errors
 ///
-/// `NoSpelling` where it is out of its range, or `Memory`.
+/// `NoSpelling` where the allowance is out of its range, or `Memory`.
 pub fn push_window(out: &mut Vec<u8>, window: Window) -> Result<(), WriteFault>
     ensures { WritesLine (is_window window ≡ true) (item.Within window) out.old.items result out.new.items }
 {
