@@ -28,11 +28,13 @@ with_default text option = record option { defaults = text ∷ [] }
 abbrev pub of_steps : Rule → Rule
 of_steps option = with_default (codes "10000000") (record option { parser = Some (Unsigned 0 18446744073709551615) })
 
--- the options of each subcommand: the two files, the number of seats and the state
+-- the options of each subcommand: the two files, the number of seats, the state, and the two numbers of the allowance
 abbrev pub common_options : List Rule
 common_options = required (text_option (codes "geo")) ∷ required (text_option (codes "segment"))
     ∷ of_number 1 1000 (required (text_option (codes "chamber")))
-    ∷ with_default (codes "37") (of_number 0 99 (text_option (codes "state"))) ∷ []
+    ∷ with_default (codes "37") (of_number 0 99 (text_option (codes "state")))
+    ∷ with_default (codes "1") (of_number 0 500 (text_option (codes "part")))
+    ∷ with_default (codes "20") (of_number 1 1000 (text_option (codes "of"))) ∷ []
 
 -- the options that give a problem: those of each subcommand, the file of adjacency, and those of links and
 -- of withdrawn sets, which need not be given

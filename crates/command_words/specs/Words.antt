@@ -4,6 +4,7 @@ use Rattle.std.specs.Borrow.{Bor}
 use Rattle.std.specs.Option.{IsSomeAnd}
 use Rattle.clap.specs.Words.{Kinds, Row, Text, fault_of, first_of, subcommand_of, takes}
 use Rattle.clap.specs.Takes.{is_given}
+use Rattle.county_codes.specs.declared.window.Window.{Window}
 use Rattle.clap.specs.declared.error.kind.ErrorKind.{ErrorKind}
 use Rattle.clap.specs.declared.error.kind.ErrorKind.TheVariants.{DisplayHelp, DisplayVersion, OutOfMemory}
 use Rattle.command_words.specs.Command.{countygroups}
@@ -44,6 +45,17 @@ faults_of words = fault_of countygroups words
 abbrev pub GivesNumber : Text → List Row → ℕ → Type 0
 GivesNumber name rows n = IsSomeAnd (first_of name rows) (λ text. Spells text n)
 
+-- The values of a subcommand's options say which allowance is meant: a part, 0 to 500, of a whole, 1 to 1,000.
+-- If the words don't give the part, it is 1. If they don't give the whole, it is 20.
+-- The part may be more than half of the whole: that is no fault of the words.
+pub record SaysWindow (rows : List Row) (window : Window) : Type 0 where
+  pub part : GivesNumber (codes "part") rows window.part
+  pub most : window.part ≤ 500
+  pub default_part : is_given (codes "part") rows ≡ false → window.part ≡ 1
+  pub whole : GivesNumber (codes "of") rows window.whole
+  pub range : (1 ≤ window.whole) × (window.whole ≤ 1000)
+  pub default_whole : is_given (codes "of") rows ≡ false → window.whole ≡ 20
+
 -- the values of a subcommand's options say what those give that each subcommand has
 pub record SaysCommon (rows : List Row) (words : CommonWords) : Type 0 where
   pub geo : first_of (codes "geo") rows ≡ Some words.geo.now
@@ -53,6 +65,7 @@ pub record SaysCommon (rows : List Row) (words : CommonWords) : Type 0 where
   pub state : GivesNumber (codes "state") rows words.state
   pub code : words.state ≤ 99
   pub default : is_given (codes "state") rows ≡ false → words.state ≡ 37
+  pub window : SaysWindow rows words.window
 
 -- what the words give of an option that need not be given: its text, or none exactly where they don't give it
 abbrev pub GivesText : Text → List Row → Option (Bor Text) → Type 0

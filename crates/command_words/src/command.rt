@@ -198,6 +198,30 @@ fn state_option<'a>(alloc: Global) -> Arg<'a>
         .default_value("37")
 }
 
+/// `--part PART`, the part of the allowance: from 0 to 500, by default 1.
+fn part_option<'a>(alloc: Global) -> Arg<'a>
+    ensures rule { rule_of result ≡ with_default (codes "1") (of_number 0 500 (text_option (codes "part"))) }
+    ensures local { result.global ≡ false }
+{
+    let help =
+        "What part of the ideal population a district may miss, as a fraction PART/OF: 0 to 500";
+    text_option(alloc, "part", "PART", help)
+        .value_parser(value_parser!(u16).range(0..=500))
+        .default_value("1")
+}
+
+/// `--of OF`, the whole of the allowance: from 1 to 1000, by default 20.
+fn whole_option<'a>(alloc: Global) -> Arg<'a>
+    ensures rule { rule_of result ≡ with_default (codes "20") (of_number 1 1000 (text_option (codes "of"))) }
+    ensures local { result.global ≡ false }
+{
+    let help = "The OF of that fraction, at least twice PART: 1 to 1000. \
+        If neither is given, it is 1/20, five percent";
+    text_option(alloc, "of", "OF", help)
+        .value_parser(value_parser!(u16).range(1..=1000))
+        .default_value("20")
+}
+
 /// An option `--name STEPS`, from 0 to 18,446,744,073,709,551,615, by default 10,000,000.
 fn steps_option<'a>(alloc: Global, name: &'a str, help: &'a str) -> Arg<'a>
     ensures rule { rule_of result ≡ of_steps (text_option name.entry.now) }
@@ -228,7 +252,9 @@ fn with_common_options<'a>(alloc: Global, command: Command<'a>) -> Result<Comman
     let segment = file_option(alloc, "segment", "The PL 94-171 data segment 1");
     let made = with_option(made, segment);
     let made = with_option(made, chamber_option(alloc));
-    with_option(made, state_option(alloc))
+    let made = with_option(made, state_option(alloc));
+    let made = with_option(made, part_option(alloc));
+    with_option(made, whole_option(alloc))
 }
 
 /// The command with the options that give a problem.

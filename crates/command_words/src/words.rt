@@ -6,13 +6,14 @@ ghost use Rattle.clap.specs.Walk.{texts};
 ghost use Rattle.clap.specs.Words.{FailsBy, found_of, kind_of, rows_of, subcommand_rows_of};
 ghost use Rattle.command_words.specs.Command.{audit_options, board_options, check_options, common_options, judge_options, list_options, piece_options, problem_options, share_options, solve_options};
 ghost use Rattle.command_words.specs.Options.{HasCommand, HasValues};
-ghost use Rattle.command_words.specs.Words.{AreUnpaired, EndsFor, EndsTaken, GivesRound, GivesStored, IsLone, LacksLimit, Means, SaysAudit, SaysBoard, SaysCheck, SaysCommand, SaysCommon, SaysJudge, SaysList, SaysPiece, SaysProblem, SaysShare, SaysSolve, faults_of, subcommand_in, takes_words};
+ghost use Rattle.command_words.specs.Words.{AreUnpaired, EndsFor, EndsTaken, GivesRound, GivesStored, IsLone, LacksLimit, Means, SaysAudit, SaysBoard, SaysCheck, SaysCommand, SaysCommon, SaysJudge, SaysList, SaysPiece, SaysProblem, SaysShare, SaysSolve, SaysWindow, faults_of, subcommand_in, takes_words};
 ghost use Rattle.command_words.specs.declared.end.LoneOption.TheVariants.{Depth, NumberOrOut};
 
 use crate::command::program;
 use crate::end::{LoneOption, WordsEnd};
 use clap::error::ErrorKind;
 use clap::{ArgMatches, Error};
+use county_codes::Window;
 use std::alloc::Global;
 
 /// The words of the command line: a subcommand, with the values of its options.
@@ -47,6 +48,11 @@ pub struct CommonWords<'a> {
     pub chamber: u16,
     /// The state's FIPS code, from 0 to 99; 37 where the words give none.
     pub state: u8,
+    /// The allowance: a part, from 0 to 500, of a whole, from 1 to 1000.
+    ///
+    /// If the words give no part, it is 1. If they give no whole, it is 20.
+    /// The part may be more than half of the whole: a problem refuses such an allowance.
+    pub window: Window,
 }
 
 /// The options that give a problem: those of each subcommand, and the files of adjacency, links and withdrawn sets.
@@ -180,6 +186,17 @@ pub struct PieceWords<'a> {
     pub steps: u64,
 }
 
+/// The allowance that the values of the options say.
+fn window_words<'a>(found: &ArgMatches<'a>) -> Window
+    requires { HasValues common_options (rows_of (found_of found.now)) }
+    ensures { SaysWindow (rows_of (found_of found.now)) result }
+{
+    Window {
+        part: found.get_one::<u16>("part").unwrap(),
+        whole: found.get_one::<u16>("of").unwrap(),
+    }
+}
+
 /// What the values of the options say that each subcommand has.
 fn common_words<'a>(found: &ArgMatches<'a>) -> CommonWords<'a>
     requires { HasValues common_options (rows_of (found_of found.now)) }
@@ -190,6 +207,7 @@ fn common_words<'a>(found: &ArgMatches<'a>) -> CommonWords<'a>
         segment: found.get_str("segment").unwrap(),
         chamber: found.get_one::<u16>("chamber").unwrap(),
         state: found.get_one::<u8>("state").unwrap(),
+        window: window_words(found),
     }
 }
 

@@ -166,6 +166,7 @@ after_blank word = codes " " ++ word
 
 -- what is refused of a problem, with its codes or its set
 abbrev pub problem_words : ProblemFault → List ℕ
+problem_words problem.BadWindow = codes "BadWindow"
 problem_words problem.SeatsOutOfRange = codes "SeatsOutOfRange"
 problem_words problem.TooManyCounties = codes "TooManyCounties"
 problem_words (problem.DoubleCounty code) = codes "DoubleCounty" ++ after_blank (five_digits code)

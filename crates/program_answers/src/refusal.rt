@@ -264,6 +264,7 @@ fn push_problem(out: &mut Vec<u8>, fault: ProblemFault) -> Result<(), AllocError
     ensures { OnOk result (out.new.items ≡ out.old.items ++ problem_words fault) }
 {
     match fault {
+        ProblemFault::BadWindow => push_word(out, b"BadWindow"),
         ProblemFault::SeatsOutOfRange => push_word(out, b"SeatsOutOfRange"),
         ProblemFault::TooManyCounties => push_word(out, b"TooManyCounties"),
         ProblemFault::DoubleCounty(code) => push_word_code(out, b"DoubleCounty", code),

@@ -9,10 +9,10 @@ use Rattle.command_words.proofs.words.check_words.Goals as goal
 
 module _ (m : ArgMatches) (has : HasValues check_options (rows_of (found_of m))) where
   certificate : HasValue (rows_of (found_of m)) (filled (required (text_option (codes "certificate"))))
-  certificate = surely _ _ refl (has 7 (new_rule []) (lit< tt) refl)
+  certificate = surely _ _ refl (has 9 (new_rule []) (lit< tt) refl)
 
   budget : HasValue (rows_of (found_of m)) (filled (of_steps (text_option (codes "budget"))))
-  budget = surely _ _ refl (has 8 (new_rule []) (lit< tt) refl)
+  budget = surely _ _ refl (has 10 (new_rule []) (lit< tt) refl)
 
 pub problem_words-requires : goal.problem_words-requires
 problem_words-requires c = front_values problem_options (required (text_option (codes "certificate")) ∷ of_steps (text_option (codes "budget")) ∷ []) _ c.requires

@@ -63,4 +63,5 @@ returns c =
       state = number_given f _ (state m c.requires) c.unwrap-4.result code.2;
       code = code.1;
       default = λ none. is_37 c.unwrap-4.result (default_spells f _ (state m c.requires) (codes "37") c.unwrap-4.result none refl code.2);
+      window = c.window_words.ensures;
     }

@@ -8,7 +8,7 @@ use Rattle.command_words.proofs.ReadLemmas.{front_values, surely, text_is, text_
 use Rattle.command_words.proofs.words.judge_words.Goals as goal
 
 grouping : (m : ArgMatches) → HasValues judge_options (rows_of (found_of m)) → HasValue (rows_of (found_of m)) (filled (required (text_option (codes "grouping"))))
-grouping m has = surely _ _ refl (has 7 (new_rule []) (lit< tt) refl)
+grouping m has = surely _ _ refl (has 9 (new_rule []) (lit< tt) refl)
 
 pub problem_words-requires : goal.problem_words-requires
 problem_words-requires c = front_values problem_options (required (text_option (codes "grouping")) ∷ []) _ c.requires

@@ -9,13 +9,13 @@ use Rattle.command_words.proofs.words.solve_words.Goals as goal
 
 module _ (m : ArgMatches) (has : HasValues solve_options (rows_of (found_of m))) where
   steps : HasValue (rows_of (found_of m)) (filled (of_steps (text_option (codes "steps"))))
-  steps = surely _ _ refl (has 7 (new_rule []) (lit< tt) refl)
+  steps = surely _ _ refl (has 9 (new_rule []) (lit< tt) refl)
 
   certificate : HasValue (rows_of (found_of m)) (filled (text_option (codes "certificate"))) ⊎ HasNone (rows_of (found_of m)) (filled (text_option (codes "certificate")))
-  certificate = has 8 (new_rule []) (lit< tt) refl
+  certificate = has 10 (new_rule []) (lit< tt) refl
 
   out : HasValue (rows_of (found_of m)) (filled (text_option (codes "out"))) ⊎ HasNone (rows_of (found_of m)) (filled (text_option (codes "out")))
-  out = has 9 (new_rule []) (lit< tt) refl
+  out = has 11 (new_rule []) (lit< tt) refl
 
 pub problem_words-requires : goal.problem_words-requires
 problem_words-requires c =
