@@ -3,6 +3,7 @@
 ghost use Rattle.std.specs.Prelude.{◌≤◌};
 
 use adjacency_reader::read_pairs;
+use crate::room::room_for;
 use anyhow::{Error, Result};
 use connected_groups::{GroupList, groups_over};
 use county_codes::{County, CountyCode, listed_codes};
@@ -77,6 +78,7 @@ impl State {
 fn count_over<C: CountySet>(alloc: Global, ordered: &Ordered, limit: u16) -> Result<(usize, u64)>
     requires { 128 ≤ C.PLACES }
 {
+    room_for::<C>(ordered)?;
     let places = ordered.places();
     let near: Vec<C> = neighbour_rows(alloc, ordered)?;
     let mut steps = Steps::new(u64::MAX);

@@ -1,6 +1,7 @@
 //! The lawful groups from a place.
 ghost use Rattle.std.specs.Prelude.{◌≤◌};
 
+use crate::room::room_for;
 use crate::sketch::{ONE_AND_FIVE, RING_OF_FOUR, STRANDING_PATH, Sketch};
 use anyhow::{Error, Result};
 use connected_groups::{GroupList, Stop, groups_from};
@@ -73,6 +74,7 @@ fn show_groups<C: CountySet>(rt: &HostRuntime, ordered: &Ordered, search: Search
     requires { 128 ≤ C.PLACES }
 {
     let (place, limit, most) = search;
+    room_for::<C>(ordered)?;
     if place >= ordered.places() {
         return Ok(());
     }

@@ -17,6 +17,7 @@ mod numbers;
 mod orders;
 mod problems;
 mod regions;
+mod room;
 mod sets;
 mod shelf;
 mod sketch;

@@ -2,6 +2,7 @@
 ghost use Rattle.std.specs.Prelude.{◌≤◌};
 
 use crate::groups::show_places;
+use crate::room::room_for;
 use crate::sketch::RING_OF_FOUR;
 use anyhow::Result;
 use county_codes::listed_codes;
@@ -25,6 +26,7 @@ fn show_part<C: CountySet>(rt: &HostRuntime, ordered: &Ordered, out: &[u16]) -> 
     requires { 128 ≤ C.PLACES }
 {
     let alloc = rt.alloc();
+    room_for::<C>(ordered)?;
     let places = ordered.places();
     let near: Vec<C> = neighbour_rows(alloc, ordered)?;
     let mut region = C::empty(alloc)?;

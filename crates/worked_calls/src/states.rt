@@ -2,6 +2,7 @@
 ghost use Rattle.std.specs.Prelude.{◌≤◌, length};
 
 use crate::groups::show_places;
+use crate::room::room_for;
 use crate::sketch::{STRANDING_PATH, codes, grouping};
 use anyhow::Result;
 use county_codes::{Codes, Grouping, listed_codes};
@@ -35,7 +36,7 @@ fn show_state<C: CountySet>(rt: &HostRuntime, state: &State<C>) -> Result<()>
 /// Prints a state with its first county closed alone.
 fn show_closed<C: CountySet>(rt: &HostRuntime, state: State<C>) -> Result<()>
     requires fits { 128 ≤ C.PLACES }
-    requires few { length state.least.items ≤ 128 }
+    requires few { length state.least.items ≤ C.PLACES }
 {
     if state.least.len() > 0 {
         let group = C::empty(rt.alloc())?.with(rt.alloc(), 0)?;
@@ -47,7 +48,7 @@ fn show_closed<C: CountySet>(rt: &HostRuntime, state: State<C>) -> Result<()>
 /// Prints a state with its second county raised past 1.
 fn show_raised<C: CountySet>(rt: &HostRuntime, state: State<C>) -> Result<()>
     requires fits { 128 ≤ C.PLACES }
-    requires few { length state.least.items ≤ 128 }
+    requires few { length state.least.items ≤ C.PLACES }
 {
     let mut state = state;
     if state.least.len() > 1 {
@@ -61,6 +62,7 @@ fn show_raised<C: CountySet>(rt: &HostRuntime, state: State<C>) -> Result<()>
 fn show_states<C: CountySet>(rt: &HostRuntime, ordered: &Ordered) -> Result<()>
     requires { 128 ≤ C.PLACES }
 {
+    room_for::<C>(ordered)?;
     let _places = ordered.places();
     let state: State<C> = State::empty(rt.alloc(), ordered)?;
     show_state(rt, &state)?;
