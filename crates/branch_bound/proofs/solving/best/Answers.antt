@@ -1,11 +1,17 @@
-use Rattle.std.proofs.Common.{arith}
+use Rattle.std.proofs.Common.{◌≡◌, List, Some, ap, ◌∙◌, arith}
+use Rattle.county_codes.specs.declared.group.Group.{Group}
 use Rattle.grouping_problem.specs.ProblemValue.{problem_of}
+use Rattle.proof_trees.specs.Round.{Wide}
+use Rattle.proof_trees.specs.RoundValue.{round_of}
+use Rattle.branch_bound.specs.Solving.{round_over}
 use Rattle.branch_bound.proofs.Rounds.{best_answer, best_complete}
 use Rattle.branch_bound.proofs.solving.best.Goals as goal
 
 pub returns : goal.returns
 returns c =
     let ordered = c.args.ordered.now in
+    let of_target = λ (g : List Group). round_over (problem_of ordered.problem) ordered.order c.args.limit (Some g) Wide in
+    let value : round_of c.in_ok-round.round ≡ of_target c.args.target.groups.items = c.in_ok-round.ensures.value ∙ ap of_target c.in_ok-copy.ensures in
     record {
       answer =
           best_answer
@@ -21,9 +27,9 @@ returns c =
           c.requires.target
           c.requires.small
           c.requires.large
-          c.in_ok-round.ensures.value
+          value
           c.in_ok-round.ensures.codes
           c.in_ok-round.ensures.range
           c.requires.tree;
-      complete = best_complete (problem_of ordered.problem) ordered.order c.args.limit c.args.target c.in_ok-round.round c.args.tree c.requires.target c.requires.large c.in_ok-round.ensures.value c.requires.tree;
+      complete = best_complete (problem_of ordered.problem) ordered.order c.args.limit c.args.target c.in_ok-round.round c.args.tree c.requires.target c.requires.large value c.requires.tree;
     }
