@@ -19,7 +19,7 @@ use branch_bound::{Piece, prove_piece};
 use county_codes::Grouping;
 use grouping_problem::Problem;
 use ordered_counties::Steps;
-use place_sets::{CountySet, MaskSet, WideSet, fits_mask};
+use place_sets::{CountySet, MaskSet, Places, fits_mask};
 use proof_trees::State;
 use share_board::{Board, BoardFault, Event, Reply};
 use std::alloc::{AllocError, Global};
@@ -123,5 +123,5 @@ pub fn prove_waiting(
     if fits_mask(problem.counties().len()) {
         return prove_over::<MaskSet>(alloc, problem, grouping, shape, events, number, steps);
     }
-    prove_over::<WideSet>(alloc, problem, grouping, shape, events, number, steps)
+    prove_over::<Places>(alloc, problem, grouping, shape, events, number, steps)
 }

@@ -15,7 +15,7 @@ use crate::shared::Shared;
 use crate::taking::take_and_tell;
 use county_codes::Grouping;
 use grouping_problem::Problem;
-use place_sets::{CountySet, MaskSet, WideSet, fits_mask};
+use place_sets::{CountySet, MaskSet, Places, fits_mask};
 use share_board::{Board, BoardFault, Event};
 use std::alloc::Global;
 
@@ -68,5 +68,5 @@ pub fn share(
     if fits_mask(problem.counties().len()) {
         return share_over::<MaskSet>(alloc, problem, grouping, shape, events, budget);
     }
-    share_over::<WideSet>(alloc, problem, grouping, shape, events, budget)
+    share_over::<Places>(alloc, problem, grouping, shape, events, budget)
 }
