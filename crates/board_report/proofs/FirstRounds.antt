@@ -20,14 +20,14 @@ first_by_code p target limit language is up = record { order = λ c. often_membe
 
 -- a board that was opened with such an order
 pub opened_so : {C : Type 0} (test : C → ℕ → Bool) (p : Problem) (depth budget : ℕ) (target : Grouping) (limit : ℕ) (language : Language) (order : List ℕ) (r : Result (Board C) BoardFault) → order ≡ p.counties
-    → IfOk r (λ board. (b : Content) × IsOpening p depth (first_round target order limit language) b × IsOf test board b)
-    → MatchResult r (λ _. MayOpen p depth target (first_round target order limit language)) (IsBoardFault p depth budget target (first_round target order limit language))
+    → IfOk r (λ board. (b : Content) × IsOpening p depth (first_round p target order limit language) b × IsOf test board b)
+    → MatchResult r (λ _. MayOpen p depth target (first_round p target order limit language)) (IsBoardFault p depth budget target (first_round p target order limit language))
     → MatchResult r (λ board. (b : Content) × IsOpening p depth (round_by_code p target limit language) b × IsOf test board b) (IsBoardFault p depth budget target (round_by_code p target limit language))
-opened_so test p depth budget target limit language order (Ok board) e opens may = subst (λ z. (b : Content) × IsOpening p depth (first_round target z limit language) b × IsOf test board b) e opens
-opened_so test p depth budget target limit language order (Err fault) e opens may = subst (λ z. IsBoardFault p depth budget target (first_round target z limit language) fault) e may
+opened_so test p depth budget target limit language order (Ok board) e opens may = subst (λ z. (b : Content) × IsOpening p depth (first_round p target z limit language) b × IsOf test board b) e opens
+opened_so test p depth budget target limit language order (Err fault) e opens may = subst (λ z. IsBoardFault p depth budget target (first_round p target z limit language) fault) e may
 
 pub order_so : {C : Type 0} (test : C → ℕ → Bool) (p : Problem) (depth : ℕ) (target : Grouping) (limit : ℕ) (language : Language) (order : List ℕ) (r : Result (Board C) BoardFault) → order ≡ p.counties
-    → IfOk r (λ board. (b : Content) × IsOpening p depth (first_round target order limit language) b × IsOf test board b) → IfOk r (λ board. board.round.order ≡ p.counties)
+    → IfOk r (λ board. (b : Content) × IsOpening p depth (first_round p target order limit language) b × IsOf test board b) → IfOk r (λ board. board.round.order ≡ p.counties)
 order_so test p depth target limit language order (Ok board) e opens = ap (λ (z : Round). z.order) (opens.2.round ∙ opens.1.round_is) ∙ e
 order_so test p depth target limit language order (Err fault) e opens = tt
 

@@ -11,8 +11,8 @@ use Rattle.share_board.specs.Rounds.{first_round}
 pub record IsFirstRound (p : Problem) (target : Grouping) (limit : ℕ) (language : Language) (round : Round) : Type 0 where
   pub order : IsOrder p round.order
   pub ascending : IsStrictlyIncreasing round.order
-  pub is : round ≡ first_round target round.order limit language
+  pub is : round ≡ first_round p target round.order limit language
 
 -- the round of a problem whose counties are listed so
 abbrev pub round_by_code : Problem → Grouping → ℕ → Language → Round
-round_by_code p target limit language = first_round target p.counties limit language
+round_by_code p target limit language = first_round p target p.counties limit language

@@ -19,7 +19,7 @@ use branch_bound::{Piece, prove_piece};
 use county_codes::Grouping;
 use grouping_problem::Problem;
 use ordered_counties::Steps;
-use place_sets::{CountySet, Places};
+use place_sets::{CountySet, MaskSet, Places, fits_mask};
 use proof_trees::State;
 use share_board::{Board, BoardFault, Event, Reply};
 use std::alloc::{AllocError, Global};
@@ -120,6 +120,8 @@ pub fn prove_waiting(
     // A text spells the event that gives the answer to the board.
     ensures text { IfOk result (λ r. IfSome r (HasText shape.language (length problem.now.counties) number)) }
 {
-    let _counties = problem.counties();
+    if fits_mask(problem.counties().len()) {
+        return prove_over::<MaskSet>(alloc, problem, grouping, shape, events, number, steps);
+    }
     prove_over::<Places>(alloc, problem, grouping, shape, events, number, steps)
 }

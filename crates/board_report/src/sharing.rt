@@ -15,7 +15,7 @@ use crate::shared::Shared;
 use crate::taking::take_and_tell;
 use county_codes::Grouping;
 use grouping_problem::Problem;
-use place_sets::{CountySet, Places};
+use place_sets::{CountySet, MaskSet, Places, fits_mask};
 use share_board::{Board, BoardFault, Event};
 use std::alloc::Global;
 
@@ -65,6 +65,8 @@ pub fn share(
         (IsShared (problem_of problem.now) shape.depth budget round (map event_of events.items))
         (IsBoardFault (problem_of problem.now) shape.depth budget grouping.now.groups.items round) }
 {
-    let _counties = problem.counties();
+    if fits_mask(problem.counties().len()) {
+        return share_over::<MaskSet>(alloc, problem, grouping, shape, events, budget);
+    }
     share_over::<Places>(alloc, problem, grouping, shape, events, budget)
 }

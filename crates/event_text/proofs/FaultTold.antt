@@ -7,7 +7,7 @@ use Rattle.field_lines.specs.Fault.{most_bytes}
 use Rattle.certificate_languages.specs.declared.language.Language.{Language}
 use Rattle.certificate_languages.specs.declared.language.Language.TheVariants.{Plain, Wide}
 use Rattle.field_lines.specs.Chain.{◌>>=◌}
-use Rattle.certificate_lines.specs.Items.{item_on, wanted_after, in_front, items_from, seen}
+use Rattle.certificate_lines.specs.Items.{item_on, headed, wanted_after, in_front, items_from, seen}
 use Rattle.certificate_lines.specs.Words.{line_bytes}
 use Rattle.certificate_lines.specs.Lines.{head_on}
 use Rattle.certificate_lines.specs.Rest.{fault_at}
@@ -15,7 +15,8 @@ use Rattle.certificate_lines.specs.declared.fault.TextFault.{TextFault}
 use Rattle.certificate_lines.specs.declared.fault.TextKind.{TextKind}
 use Rattle.certificate_lines.specs.declared.fault.TextKind.TheVariants.{AfterEnd, CutShort, BadHead, BadWord}
 use Rattle.certificate_lines.specs.declared.item.Item.{Item}
-use Rattle.certificate_lines.specs.declared.item.Item.TheVariants.{Head}
+use Rattle.certificate_lines.specs.declared.item.Version.{Version}
+use Rattle.certificate_lines.specs.declared.item.Version.TheVariants.{One, Two}
 use Rattle.certificate_lines.specs.declared.item.Wanted.{Wanted}
 use Rattle.certificate_lines.specs.declared.item.Wanted.TheVariants as want
 use Rattle.certificate_text.proofs.TextBack.{line_by}
@@ -60,18 +61,20 @@ bytes_other bytes ended = cond_other (nat_lt most_bytes (length bytes)) (Err Bad
 head_on_other : (bytes : List ℕ) → Other (head_on bytes)
 unfolding head_on
 head_on_other bytes =
-    cond_other (pointwise nat_eq bytes (codes "county-groups certificate 1")) (Ok Plain) (cond (pointwise nat_eq bytes (codes "county-groups wide certificate 1")) (Ok Wide) (Err BadHead)) (ok_other Plain)
-    (cond_other (pointwise nat_eq bytes (codes "county-groups wide certificate 1")) (Ok Wide) (Err BadHead) (ok_other Wide) (λ e. cc))
+    cond_other (pointwise nat_eq bytes (codes "county-groups certificate 1")) _ _ (ok_other (Plain, One))
+    (cond_other (pointwise nat_eq bytes (codes "county-groups wide certificate 1")) _ _ (ok_other (Wide, One))
+    (cond_other (pointwise nat_eq bytes (codes "county-groups certificate 2")) _ _ (ok_other (Plain, Two))
+    (cond_other (pointwise nat_eq bytes (codes "county-groups wide certificate 2")) _ _ (ok_other (Wide, Two)) (λ e. cc))))
 
 -- a first line that is no head has another fault
 head_other : (piece : RawLine) → Other (item_on want.Head piece)
 head_other piece = go (line_bytes piece.bytes piece.ended) (bytes_other piece.bytes piece.ended)
   where
-    seen_other : (r : Result Language TextKind) → Other r → Other (seen Head r)
-    seen_other (Ok language) a = ok_other (Head language)
+    seen_other : (r : Result (Language × Version) TextKind) → Other r → Other (seen headed r)
+    seen_other (Ok head) a = ok_other (headed head)
     seen_other (Err kind) a = λ e. a (cc (e))
 
-    go : (r : Result (List ℕ) TextKind) → Other r → Other (seen Head (r >>= head_on))
+    go : (r : Result (List ℕ) TextKind) → Other r → Other (seen headed (r >>= head_on))
     go (Ok bytes) a = seen_other (head_on bytes) (head_on_other bytes)
     go (Err kind) a = λ e. a (cc (e))
 
