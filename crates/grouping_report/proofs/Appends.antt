@@ -1,5 +1,5 @@
 -- What steps append one after the other, they append as one.
-use Rattle.std.proofs.Common.{◌≡◌, ◌∙◌, ◌+◌, ◌<◌, ◌++◌, ◌∷◌, [], ℕ, List, length, get_or, drop, Result, Ok, Err, OnOk, ap, sym, append_assoc, append-nil, decimal}
+use Rattle.std.proofs.Common.{◌≡◌, ◌∙◌, ◌+◌, ◌<◌, ◌++◌, ◌∷◌, [], ℕ, List, length, get_or, drop, Result, Ok, Err, OnOk, ap, sym, subst, append_assoc, append-nil, decimal}
 use Rattle.std.proofs.lemmas.List.{at_drop_more}
 use Rattle.std.specs.Result.{is_ok}
 use Rattle.std.specs.Bool.{if◌then◌else◌}
@@ -29,6 +29,13 @@ first_number old words n e = record { is = e }
 pub after_number : {old front mid : List ℕ} (words : List ℕ) (n : ℕ) {new : List ℕ} → Appended old front mid → new ≡ mid ++ with_number words n → Appended old (front ++ words ++ decimal n) new
 unfolding with_number
 after_number {old} {front} words n a e = record { is = (after (words ++ decimal n) a e).is ∙ ap (λ (l : List ℕ). old ++ l) (sym (append_assoc front words (decimal n))) }
+
+-- and a number that is known by another name
+pub first_number_of : (old words : List ℕ) {n : ℕ} (m : ℕ) {new : List ℕ} → n ≡ m → new ≡ old ++ with_number words n → Appended old (words ++ decimal m) new
+first_number_of old words m {new} same e = subst (λ (k : ℕ). Appended old (words ++ decimal k) new) same (first_number old words _ e)
+
+pub after_number_of : {old front mid : List ℕ} (words : List ℕ) {n : ℕ} (m : ℕ) {new : List ℕ} → n ≡ m → Appended old front mid → new ≡ mid ++ with_number words n → Appended old (front ++ words ++ decimal m) new
+after_number_of {old} {front} words m {new} same a e = subst (λ (k : ℕ). Appended old (front ++ words ++ decimal k) new) same (after_number words _ a e)
 
 -- what bytes were appended, where none were refused
 pub extended : {X E : Type 0} (r : Result X E) (new whole old : List ℕ) → new ≡ (if is_ok r then whole else old) → OnOk r (new ≡ whole)

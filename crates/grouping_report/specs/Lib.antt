@@ -1,4 +1,5 @@
 pub mod Digits
+pub mod FirstLines
 pub mod SizeTable
 pub mod Report
 pub mod Outcomes

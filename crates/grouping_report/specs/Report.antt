@@ -4,12 +4,12 @@ use Rattle.grouping_laws.specs.Problem.{Problem, people_of}
 use Rattle.grouping_problem.specs.ProblemValue.{ProblemValue, problem_of}
 use Rattle.grouping_laws.specs.Grouping.{Grouping, sets_of, counts}
 use Rattle.grouping_report.specs.Digits.{each_after}
+use Rattle.grouping_report.specs.FirstLines.{first_lines}
 
--- the people, the chamber, the seats left, and how many counties there are
+-- the people, the chamber, the allowance where it isn't one twentieth, the seats left, and how many counties there are
 unfoldable pub head_lines : ProblemValue → List ℕ
 head_lines v =
-    codes "people " ++ decimal v.total_people ++ codes "\nchamber " ++ decimal v.chamber ++ codes "\nseats left " ++ decimal v.seats_left
-    ++ codes "\ncounties " ++ decimal (length v.counties) ++ codes "\n"
+    first_lines v ++ codes "seats left " ++ decimal v.seats_left ++ codes "\ncounties " ++ decimal (length v.counties) ++ codes "\n"
 
 -- what the answer is
 abbrev pub answer_line : List ℕ → List ℕ

@@ -5,6 +5,7 @@ use Rattle.grouping_problem.specs.ProblemValue.{ProblemValue, problem_of}
 use Rattle.grouping_laws.specs.SeatWindow.{seat_run, people_bounds}
 use Rattle.county_codes.specs.declared.county.County.{County}
 use Rattle.grouping_report.specs.Digits.{five_digits}
+use Rattle.grouping_report.specs.FirstLines.{first_lines}
 
 -- the least and the greatest number of seats, or `none`
 abbrev pub run_text : Option (ℕ × ℕ) → List ℕ
@@ -19,15 +20,15 @@ bounds_text b = if nat_le b.0 b.1 then decimal b.0 ++ codes " to " ++ decimal b.
 unfoldable pub county_line : ℕ → ℕ → Option (ℕ × ℕ) → List ℕ
 county_line code people run = five_digits code ++ codes "|" ++ decimal people ++ codes "|" ++ run_text run ++ codes "\n"
 
--- the first three lines
-unfoldable pub head_text : ℕ → ℕ → ℕ × ℕ → List ℕ
-head_text people chamber bounds =
-    codes "people " ++ decimal people ++ codes "\nchamber " ++ decimal chamber ++ codes "\ndistrict " ++ bounds_text bounds ++ codes "\n"
+-- the line of the bounds of a district
+unfoldable pub district_line : ℕ × ℕ → List ℕ
+district_line bounds = codes "district " ++ bounds_text bounds ++ codes "\n"
 
 -- the lines of counties
 abbrev pub lines_text : ProblemValue → List County → List ℕ
 lines_text v counties = flat_map (λ k. county_line k.code k.people (seat_run (problem_of v) k.people)) counties
 
--- the size table of a problem
+-- the size table of a problem: its people, its chamber, its allowance where it isn't one twentieth, the bounds of a district, and
+-- the lines of its counties
 unfoldable pub size_text : ProblemValue → List ℕ
-size_text v = head_text v.total_people v.chamber (people_bounds (problem_of v) 1) ++ lines_text v v.counties
+size_text v = first_lines v ++ district_line (people_bounds (problem_of v) 1) ++ lines_text v v.counties

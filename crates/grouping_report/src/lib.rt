@@ -3,6 +3,7 @@
 
 mod faults;
 mod findings;
+mod first_lines;
 mod grouping;
 mod outcome;
 mod reports;

@@ -8,19 +8,20 @@ ghost use Rattle.grouping_report.specs.Report.{head_lines, answer_line, longest_
 ghost use Rattle.grouping_report.specs.Outcomes.{NamesLawful, outcome_text};
 
 use crate::faults::push_words_number;
+use crate::first_lines::push_first_lines;
 use crate::outcome::Outcome;
 use crate::text::{push_codes, push_number};
 use county_codes::{Group, Grouping};
 use grouping_problem::Problem;
 use std::alloc::{AllocError, Global};
 
-/// Appends the people, the chamber, the seats left and the number of counties. It fails only where a growth was refused.
+/// Appends the people, the chamber, the allowance, the seats left and the number of counties.
+/// If the allowance is one twentieth, it has no line. It fails only where a growth was refused.
 pub fn push_head(out: &mut Vec<u8>, problem: &Problem) -> Result<(), AllocError>
     ensures { OnOk result (out.new.items ≡ out.old.items ++ head_lines problem.now) }
 {
-    push_words_number(out, b"people ", problem.total_people())?;
-    push_words_number(out, b"\nchamber ", u64::from(problem.chamber()))?;
-    push_words_number(out, b"\nseats left ", u64::from(problem.seats_left()))?;
+    push_first_lines(out, problem)?;
+    push_words_number(out, b"seats left ", u64::from(problem.seats_left()))?;
     push_words_number(out, b"\ncounties ", problem.counties().len() as u64)?;
     out.extend_from_slice(b"\n")
 }
@@ -167,10 +168,13 @@ fn found_report(
     full_report(alloc, problem, &answer, grouping)
 }
 
-/// The report of a problem: its people, its chamber, the seats left and the number of its counties, and the answer. Where the
-/// outcome has a grouping, the counts of its groups by size from one county on follow, and each group with its number from 1,
-/// its seats, its people and its counties; where it is open and has none, the line `grouping none`. The grouping has to be lawful;
-/// that it is best, that none is lawful, or that so many steps were taken is reported as the outcome says it.
+/// The report of a problem: its people, its chamber, its allowance, the seats left and the number of its counties, and the answer.
+/// If the allowance is one twentieth, it has no line.
+/// If the outcome has a grouping, the counts of its groups by size from one county on follow. Then comes each group with its
+/// number from 1, its seats, its people and its counties. If it is open and has none, the line `grouping none` follows.
+///
+/// The grouping has to be lawful. That it is best, that none is lawful, or that so many steps were taken is reported as the
+/// outcome says it.
 ///
 /// # Errors
 ///

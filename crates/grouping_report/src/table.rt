@@ -1,8 +1,8 @@
 ghost use Rattle.std.specs.Prelude.{◌≡◌, ◌≤◌, ℕ, ◌++◌, OnOk, IfOk, decimal};
-ghost use Rattle.grouping_report.specs.SizeTable.{size_text, county_line, lines_text, run_text, bounds_text, head_text};
+ghost use Rattle.grouping_report.specs.SizeTable.{size_text, county_line, lines_text, run_text, bounds_text, district_line};
 ghost use Rattle.grouping_problem.specs.Building.{people_in};
 
-use crate::faults::push_words_number;
+use crate::first_lines::push_first_lines;
 use crate::text::{push_code, push_number};
 use county_codes::County;
 use grouping_problem::Problem;
@@ -48,18 +48,12 @@ fn push_county(out: &mut Vec<u8>, county: County, run: Option<(u16, u16)>) -> Re
     out.extend_from_slice(b"\n")
 }
 
-/// Appends the first three lines.
-fn push_head(
-    out: &mut Vec<u8>,
-    people: u64,
-    chamber: u16,
-    bounds: (u64, u64),
-) -> Result<(), AllocError>
-    ensures { OnOk result (out.new.items ≡ out.old.items ++ head_text people chamber bounds) }
+/// Appends the line of the bounds of a district.
+#[tactic(auto, unfolding(crate::specs::SizeTable::district_line))]
+fn push_district(out: &mut Vec<u8>, bounds: (u64, u64)) -> Result<(), AllocError>
+    ensures { OnOk result (out.new.items ≡ out.old.items ++ district_line bounds) }
 {
-    push_words_number(out, b"people ", people)?;
-    push_words_number(out, b"\nchamber ", u64::from(chamber))?;
-    out.extend_from_slice(b"\ndistrict ")?;
+    out.extend_from_slice(b"district ")?;
     push_bounds(out, bounds)?;
     out.extend_from_slice(b"\n")
 }
@@ -85,17 +79,14 @@ fn push_counties(
 fn push_table(out: &mut Vec<u8>, problem: &Problem) -> Result<(), AllocError>
     ensures { OnOk result (out.new.items ≡ out.old.items ++ size_text problem.now) }
 {
-    push_head(
-        out,
-        problem.total_people(),
-        problem.chamber(),
-        problem.district_bounds(1),
-    )?;
+    push_first_lines(out, problem)?;
+    push_district(out, problem.district_bounds(1))?;
     push_counties(out, problem, problem.counties())
 }
 
-/// The size table of a problem: its people, its chamber, the bounds of a district, and for each county by
-/// code its people and the least and the greatest number of seats that they suit, or `none`.
+/// The size table of a problem: its people, its chamber, its allowance and the bounds of a district.
+/// For each county by code its people follow, and the least and the greatest number of seats that they suit, or `none`.
+/// If the allowance is one twentieth, it has no line.
 pub fn size_table(alloc: Global, problem: &Problem) -> Result<Vec<u8>, AllocError>
     ensures { IfOk result (λ v. v.items ≡ size_text problem.now) }
 {
