@@ -67,6 +67,7 @@ code_line_status file (lines.Lower fault) line = inl refl
 code_line_status file lines.Memory line = inr (inl refl)
 
 problem_status : (fault : ProblemFault) → IsRefusal (problem_answer fault)
+problem_status problem.BadWindow = inl refl
 problem_status problem.SeatsOutOfRange = inl refl
 problem_status problem.TooManyCounties = inl refl
 problem_status (problem.DoubleCounty code) = inl refl

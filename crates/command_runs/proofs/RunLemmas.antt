@@ -73,6 +73,7 @@ refused Memory refuse fault R n h k = tt
 
 -- the fault of a problem that was not built, where it isn't want of memory
 pub fault_stands : (stands : Option ProblemFault) (fault : ProblemFault) → (fault ≢ problem.Memory) → IsRefused stands (Err fault) → stands ≡ Some fault
+fault_stands stands problem.BadWindow n h = h
 fault_stands stands problem.SeatsOutOfRange n h = h
 fault_stands stands problem.TooManyCounties n h = h
 fault_stands stands (problem.DoubleCounty code) n h = h
