@@ -23,7 +23,7 @@ use Rattle.verdicts.specs.Verdict as said
 use Rattle.text_verdicts.specs.TextVerdict.{IsTextVerdict}
 use Rattle.text_verdicts.proofs.Verdicts.{best}
 use Rattle.text_verdicts.proofs.Spelling.{all_lines}
-use Rattle.verdicts.specs.Lines.{tree_lines, group_lines}
+use Rattle.verdicts.specs.Lines.{window_line, tree_lines, group_lines}
 use Rattle.complete_lists.specs.AllBest.{AreAllBest}
 use Rattle.complete_lists.specs.Complete.{IsComplete}
 use Rattle.complete_lists.specs.Ends.{wanted, ends}
@@ -50,10 +50,10 @@ module _ (p : Problem) (text : List ℕ) (c : CertificateHeld) (target : Groupin
     readable = readable_of_fits (certificate_of c) ready.spells.spelling.fits;
   }
 
-  pub line_is : first_line (round_of c.round) ≡ 5 + length target.groups.items
-  line_is = ap (λ t. 5 + group_lines t) ready.target_is
+  pub line_is : first_line (round_of c.round) ≡ window_line c.round.window + 4 + length target.groups.items
+  line_is = ap (λ t. window_line c.round.window + 4 + group_lines t) ready.target_is
 
-  pub few_lines : 5 + length target.groups.items + tree_lines (tree_of c.tree) ≤ length text
+  pub few_lines : window_line c.round.window + 4 + length target.groups.items + tree_lines (tree_of c.tree) ≤ length text
   few_lines =
       let l = all_lines text (certificate_of c) ready.spells.spelling in
       omega (arith, l.0, l.1, ap group_lines ready.target_is, count_by-le-length is_lf text)

@@ -7,7 +7,7 @@ use Rattle.proof_trees.specs.Round.{Round}
 use Rattle.proof_trees.specs.State.{State, close, raise}
 use Rattle.proof_trees.specs.Tree.{Leaf, stuck, seats, bound, Tree, leaf, branch, Takes, no_take, take}
 use Rattle.proof_trees.specs.Proving.{limit_of}
-use Rattle.verdicts.specs.Lines.{tree_lines, takes_lines, group_lines}
+use Rattle.verdicts.specs.Lines.{window_line, tree_lines, takes_lines, group_lines}
 use Rattle.complete_lists.specs.Ends.{wanted, falls_short}
 use Rattle.complete_lists.specs.Complete.{IsComplete, EachIsComplete}
 use Rattle.best_groupings.specs.declared.gap.Gap.{Gap}
@@ -38,6 +38,6 @@ abbrev mutual
       IsFirstGap tree p round (close codes s) (line + 1) gap at
       ⊎ (IsComplete tree p round (close codes s) × IsFirstGapIn others p round s (line + 1 + tree_lines tree) gap at)
 
--- the line of a certificate on which its tree begins: head, order, limit and target stand before it
+-- the line of a certificate on which its tree begins: head, allowance if one is named, order, limit and target stand before it
 abbrev pub first_line : Round → ℕ
-first_line round = 5 + group_lines round.target
+first_line round = window_line round.window + 4 + group_lines round.target

@@ -1,7 +1,8 @@
 //! The list of all best groupings, by the text of a certificate.
 
-ghost use Rattle.std.specs.Prelude.{ℕ, IfOk};
+ghost use Rattle.std.specs.Prelude.{◌≡◌, ◌+◌, ◌≤◌, ℕ, IfOk};
 ghost use Rattle.grouping_problem.specs.ProblemValue.{problem_of};
+ghost use Rattle.verdicts.specs.Lines.{window_line};
 ghost use Rattle.verdicts.specs.Verdict as said;
 ghost use Rattle.text_verdicts.specs.TextVerdict.{IsTextVerdict};
 ghost use Rattle.best_groupings.specs.Answered.{IsReady, IsListing, ListsAllBest};
@@ -15,7 +16,19 @@ use certificate_text::{Certificate, read};
 use county_codes::Grouping;
 use grouping_judge::{Counts, judge};
 use grouping_problem::Problem;
+use proof_trees::Round;
 use std::alloc::{AllocError, Global};
+
+/// The line behind that of the target, if the target has no group: an allowance that is named has a line of its own.
+fn line_behind(round: &Round) -> u64
+    ensures value { result ≡ window_line round.now.window + 4 }
+    ensures small { result ≤ 6 }
+{
+    match round.window {
+        Some(_) => 6,
+        None => 5,
+    }
+}
 
 /// The listing of the certificate that a text spells, with its target and the counts of the target.
 fn listing_of(
@@ -39,7 +52,7 @@ fn listing_of(
     };
     let position = Position::first(alloc, problem)?;
     let mut found = Found {
-        line: 5 + target.groups.len() as u64,
+        line: line_behind(&certificate.round) + target.groups.len() as u64,
         list: Vec::new(alloc),
     };
     match put_tree(&ground, position, &certificate.tree, &mut found) {

@@ -40,7 +40,7 @@ returns-in-Err-Open-clause-listing c = λ budget.
     let p = problem_of c.args.problem.now in
     let r = round_of c.args.certificate.now.round in
     let tree = tree_of c.args.certificate.now.tree in
-    let gap = opened p (IsComplete tree p r (empty_state p)) (IsFirstGap tree p r (empty_state p) (5 + c.len.result)) (ends tree p r (empty_state p)) (tree_lines tree) (record { line = 5 + c.len.result; list = c.new.result }) c.put_tree.new.found c.in-Err-Open.field-0 c.in-Err-Open.gap c.in-Err-Open.line c.in-Err-Open.field-0-is
+    let gap = opened p (IsComplete tree p r (empty_state p)) (IsFirstGap tree p r (empty_state p) (c.line_behind.result + c.len.result)) (ends tree p r (empty_state p)) (tree_lines tree) (record { line = c.line_behind.result + c.len.result; list = c.new.result }) c.put_tree.new.found c.in-Err-Open.field-0 c.in-Err-Open.gap c.in-Err-Open.line c.in-Err-Open.field-0-is
     (c.in-Err-Open.ensures.walked (empty_state p) (c.in_ok-position.ensures, begins p c.args.text.now c.args.certificate.now c.args.target.now c.args.wanted.now c.requires.ready)) in
-    let line : 5 + c.len.result ≡ first_line r = omega (arith, line_is p c.args.text.now c.args.certificate.now c.args.target.now c.args.wanted.now c.requires.ready) in
+    let line : c.line_behind.result + c.len.result ≡ first_line r = omega (arith, c.line_behind.ensures.value, line_is p c.args.text.now c.args.certificate.now c.args.target.now c.args.wanted.now c.requires.ready) in
     (certificate_of c.args.certificate.now, c.requires.ready.spells, subst (λ z. IsFirstGap (tree_of c.args.certificate.now.tree) p r (empty_state p) z c.in-Err-Open.gap c.in-Err-Open.line) line gap)
