@@ -13,7 +13,7 @@ use Rattle.certificate_lines.specs.Lines.{head_on}
 use Rattle.certificate_lines.specs.Rest.{fault_at}
 use Rattle.certificate_lines.specs.declared.fault.TextFault.{TextFault}
 use Rattle.certificate_lines.specs.declared.fault.TextKind.{TextKind}
-use Rattle.certificate_lines.specs.declared.fault.TextKind.TheVariants.{AfterEnd, CutShort, BadHead, BadWord}
+use Rattle.certificate_lines.specs.declared.fault.TextKind.TheVariants.{AfterEnd, CutShort, BadWord}
 use Rattle.certificate_lines.specs.declared.item.Item.{Item}
 use Rattle.certificate_lines.specs.declared.item.Version.{Version}
 use Rattle.certificate_lines.specs.declared.item.Version.TheVariants.{One, Two}
