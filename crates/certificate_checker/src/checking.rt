@@ -78,7 +78,7 @@ pub fn check_over<C: CountySet>(
     ensures best { IfOk result (NamesBest (problem_of problem.now)) }
     ensures impossible { IfOk result (ShowsImpossible (problem_of problem.now)) }
 {
-    let items = Items::of_certificate(alloc, text)?;
+    let items = Items::of_certificate(alloc, text);
     check_source::<C, Items>(alloc, problem, items, budget)
 }
 

@@ -53,7 +53,7 @@ fn fault_in(
     requires { places ≤ most }
     ensures { IfOk result (λ fault. fault ≡ (tree_course language places lines.now).fault) }
 {
-    let mut items = Items::of_tree(alloc, lines, language, places)?;
+    let mut items = Items::of_tree(alloc, lines, language, places);
     first_fault(&mut items)
 }
 
@@ -82,7 +82,7 @@ fn check_lines<C: CountySet>(
         return Ok(TreeVerdict::Fault(CheckFault::Text(fault)));
     }
     let mut feed = Feed {
-        source: Items::of_tree(alloc, lines, round.language, places)?,
+        source: Items::of_tree(alloc, lines, round.language, places),
         line: 0,
         steps: Steps::new(budget),
     };

@@ -3,5 +3,6 @@ pub mod FormLaws
 pub mod TextLaws
 pub mod FitsLaws
 pub mod ReadLaws
+pub mod StackLaws
 pub mod EachLaws
 pub mod WordsWritten

@@ -8,3 +8,4 @@ pub mod Fits
 pub mod Reads
 pub mod Writes
 pub mod Courses
+pub mod Stacks

@@ -91,9 +91,10 @@ pub enum Item {
 }
 
 /// What is wanted next. A level is one more branch that may stand inside those that are open.
-#[derive(Clone, Copy, Debug, PartialEq, Eq)]
+#[derive(Clone, Copy, Debug, Default, PartialEq, Eq)]
 pub enum Wanted {
     /// The head.
+    #[default]
     Head,
     /// The line that names the allowance.
     Window(Language),

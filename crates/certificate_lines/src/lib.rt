@@ -1,7 +1,7 @@
 //! The lines of a certificate: one spelling for each, read word by word and written.
 //!
 //! ```
-//! let mut items = Items::of_certificate(alloc, text)?;
+//! let mut items = Items::of_certificate(alloc, text);
 //! items.next_item()        // Ok(Some(Item::Head(Language::Plain, Version::One)))
 //! ```
 #![tactic(auto)]

@@ -4,7 +4,7 @@
 //!
 //! ```
 //! let text = tree_lines(alloc, &tree)?;
-//! let mut items = Items::of_tree(alloc, text.as_slice(), language, counties)?;
+//! let mut items = Items::of_tree(alloc, text.as_slice(), language, counties);
 //! ```
 //!
 //! The definitions stand in `specs/`: `TreeFault`, and `Ranges`.

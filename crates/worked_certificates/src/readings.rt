@@ -41,7 +41,7 @@ fn fault_said(alloc: Global, fault: TextFault, met: Option<TextFault>) -> Result
 
 /// A tree, read, copied and written, for an order of three counties.
 fn tree(alloc: Global, bytes: &[u8], language: Language) -> Result<String> {
-    let (lines, met) = count_items(&mut Items::of_tree(alloc, bytes, language, 3)?);
+    let (lines, met) = count_items(&mut Items::of_tree(alloc, bytes, language, 3));
     match read_tree(alloc, bytes, language, 3) {
         Ok(tree) => {
             let again = write_tree(alloc, &tree.copy()?, language, 3)?;

@@ -4,8 +4,8 @@ use Rattle.certificate_checker.proofs.checking.check_over.Goals as goal
 
 pub returns-clause-best : goal.returns-clause-best
 returns-clause-best g c =
-    names_best (problem_of c.args.problem.now) c.args.text.now c.args.budget c.check_source.result (c.check_source.ensures c.args.text.now c.in_ok-items.ensures)
+    names_best (problem_of c.args.problem.now) c.args.text.now c.args.budget c.check_source.result (c.check_source.ensures c.args.text.now c.of_certificate-items.ensures)
 
 pub returns-clause-impossible : goal.returns-clause-impossible
 returns-clause-impossible g c =
-    shows_impossible (problem_of c.args.problem.now) c.args.text.now c.args.budget c.check_source.result (c.check_source.ensures c.args.text.now c.in_ok-items.ensures)
+    shows_impossible (problem_of c.args.problem.now) c.args.text.now c.args.budget c.check_source.result (c.check_source.ensures c.args.text.now c.of_certificate-items.ensures)

@@ -16,8 +16,8 @@ returns g c tree is numbers =
     let s = state_at c.args.ordered.now.order g.C.CountySet.test c.args.state.now in
     let same : tree_course c.args.round.now.language c.places-places.result c.args.lines.now ≡ tree_course c.args.round.now.language (length c.args.round.now.order) (lines_of_tree tree) =
     ap (λ n. tree_course c.args.round.now.language n c.args.lines.now) (c.places-places.ensures.value ∙ ap length c.requires.order) ∙ ap (tree_course c.args.round.now.language (length c.args.round.now.order)) is in
-    let start : FeedValue = record { course = c.in_ok-of_tree.field-0; line = 0; limit = c.new.result.limit; used = c.new.result.used } in
+    let start : FeedValue = record { course = c.of_tree.result; line = 0; limit = c.new.result.limit; used = c.new.result.used } in
     let none : (tree_course c.args.round.now.language (length c.args.round.now.order) (lines_of_tree tree)).fault ≡ None =
     sym (ap (λ (z : Course). z.fault) same) ∙ (sym c.in_ok-fault.ensures ∙ c.in_default.is) in
     subst (λ n. IfOk c.said_of.result (IsTreeAnswer p round s tree n)) c.new.ensures.limit
-    (tree_said p round s tree start (feed_of (λ z. z) c.judge_placed-judged.new.feed) refl c.new.ensures.used numbers (c.in_ok-of_tree.ensures ∙ same) none c.judge_placed-judged.result c.said_of.result c.judge_placed-judged.ensures.judged c.said_of.ensures)
+    (tree_said p round s tree start (feed_of (λ z. z) c.judge_placed-judged.new.feed) refl c.new.ensures.used numbers (c.of_tree.ensures ∙ same) none c.judge_placed-judged.result c.said_of.result c.judge_placed-judged.ensures.judged c.said_of.ensures)

@@ -5,21 +5,21 @@ use Rattle.certificate_lines.specs.declared.item.Item.TheVariants as item
 use Rattle.certificate_lines.specs.declared.item.Wanted.{Wanted}
 use Rattle.certificate_lines.specs.declared.item.Wanted.TheVariants as want
 use Rattle.certificate_lines.proofs.ReadLaws.{took_line, stacked_one, groups_more}
-use Rattle.certificate_lines.proofs.items.group_item.Goals.{then-left-gt1+in_ok-push_on, else-left-gt1}
+use Rattle.certificate_lines.proofs.items.group_item.Goals.{then-left-gt1, else-left-gt1}
 use Rattle.certificate_lines.proofs.items.group_item.Goals as goal
 
-pub returns : goal.returns
-returns c =
+pub returns-clause-taken : goal.returns-clause-taken
+returns-clause-taken c =
     let left = c.args.left in
     let below = c.args.stack.now.items in
     let line = took_line (want.Groups left) (by_words line.group_on) item.Grouped (λ p. refl) c.in_ok-group.group c.args.cursor.now c.group.new.self c.in_ok-group.ensures in
     elim c.if-left-gt1.branch [
-      | then-left-gt1+in_ok-push_on w ↦
+      | then-left-gt1 w ↦
           let some : 0 < left - 1 = omega arith in
           rw w.stack-is (record {
             line = line;
             stacked =
-                stacked_one below w.push_on.new.items.items (want.Groups (left - 1)) w.in_ok-push_on.ensures.pushed
+                stacked_one below w.push.new.self.items (want.Groups (left - 1)) w.push.ensures.items
                 ∙ ap (λ (l : List Wanted). l ++ reverse below) (sym (groups_more (left - 1) some));
           })
       | else-left-gt1 w ↦

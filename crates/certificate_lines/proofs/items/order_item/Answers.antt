@@ -13,12 +13,12 @@ overflow_cast-levels c =
     let same : length c.as_slice.result.now ≡ length c.in_ok-order.order = ap length c.as_slice.ensures in
     omega (arith, few, same)
 
-pub returns : goal.returns
-returns c =
+pub returns-clause-taken : goal.returns-clause-taken
+returns-clause-taken c =
     let language = c.args.language in
     let order = c.in_ok-order.order in
     let same : length c.as_slice.result.now ≡ length order = ap length c.as_slice.ensures in
     record {
       line = took_line (want.Order language) (by_words line.order_on) item.Order (λ p. refl) order c.args.cursor.now c.order.new.self c.in_ok-order.ensures;
-      stacked = rw (sym same) (stacked_four c.args.stack.now.items c.want_after_order.new.stack.items want.End (want.Tree language (length c.as_slice.result.now)) want.Target want.Limit c.in_ok-want_after_order.ensures.wanted);
+      stacked = rw (sym same) (stacked_four c.args.stack.now.items c.want_after_order.new.stack.items want.End (want.Tree language (length c.as_slice.result.now)) want.Target want.Limit c.want_after_order.ensures);
     }
