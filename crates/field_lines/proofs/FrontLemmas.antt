@@ -54,17 +54,17 @@ split_on (x ∷ xs) ys first more none is =
     ∙ ap (onto_first x) (split_on xs ys first more (λ (k d : ℕ) (lt : k < length xs). none (suc k) d (omega arith)) is)
 
 -- a piece that begins with these bytes
-record BeginsWith (bytes : List ℕ) (n : ℕ) (pieces : List RawLine) : Type 0 where
-  more : List ℕ
-  lf : Bool
-  rest : List RawLine
-  is : pieces ≡ record { number = n; bytes = bytes ++ more; ended = lf } ∷ rest
+pub record BeginsWith (bytes : List ℕ) (n : ℕ) (pieces : List RawLine) : Type 0 where
+  pub more : List ℕ
+  pub lf : Bool
+  pub rest : List RawLine
+  pub is : pieces ≡ record { number = n; bytes = bytes ++ more; ended = lf } ∷ rest
 
 begins_by : (bytes : List ℕ) (n : ℕ) (first : List ℕ) (more : List (List ℕ)) → 1 ≤ length bytes → BeginsWith bytes n (numbered n ((bytes ++ first) ∷ more))
 begins_by bytes n first [] some = record { more = first; lf = false; rest = []; is = numbered-last n (bytes ++ first) (λ z. omega (arith, z, some, length-append bytes first)) }
 begins_by bytes n first (next ∷ more) some = record { more = first; lf = true; rest = numbered (n + 1) (next ∷ more); is = refl }
 
-begins_with : (bytes : List ℕ) (n : ℕ) (later : List ℕ) → HasNoLf bytes → 1 ≤ length bytes → BeginsWith bytes n (raw_lines_from n (bytes ++ later))
+pub begins_with : (bytes : List ℕ) (n : ℕ) (later : List ℕ) → HasNoLf bytes → 1 ≤ length bytes → BeginsWith bytes n (raw_lines_from n (bytes ++ later))
 begins_with bytes n later none some =
     let parts = parts_of is_lf later in
     subst (λ (ps : List (List ℕ)). BeginsWith bytes n (numbered n ps)) (sym (split_on bytes later parts.first parts.more none parts.is)) (begins_by bytes n parts.first parts.more some)

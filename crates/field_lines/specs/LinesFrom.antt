@@ -99,3 +99,9 @@ IsNextRead old given_before failed_before answer new given_after failed_after = 
 abbrev pub IsNext : LinesLeft → List ℕ → Bool → Result (Option (ℕ × Bor (List ℕ))) LineFault → LinesLeft → List ℕ → Bool → Type 0
 IsNext old given_before failed_before answer new given_after failed_after =
     old.fault ≡ None → IsNextFrom old given_before failed_before (line_answered answer) new given_after failed_after
+
+-- What a reading of a whole text comes to, of a cut that holds for the bytes that the source gave meanwhile.
+pub record ReadsText (cut : List ℕ → Cut) (given_before given_after : List ℕ) (Holds : Cut → Type 0) : Type 0 where
+  pub pulled : List ℕ
+  pub given : given_after ≡ given_before ++ pulled
+  pub holds : Holds (cut pulled)

@@ -7,7 +7,7 @@ use crate::lines::{fault_at, line_in};
 use crate::pulled::PulledBytes;
 use crate::source::Source;
 use crate::taken::{TakenLine, TakenPiece};
-use std::alloc::{AllocError, Global};
+use std::alloc::Global;
 use std::marker::Model;
 
 /// Takes the piece of a number, unless it is at fault. `None` at the end.
@@ -99,15 +99,19 @@ impl LineReader {
     ///
     /// # Errors
     ///
-    /// Where memory was refused.
-    pub fn new(alloc: Global) -> Result<Self, AllocError>
-        ensures { IfOk result (λ r. r ≡ nothing_read) }
+    /// `Memory` where memory was refused.
+    pub fn new(alloc: Global) -> Result<Self, LineFault>
+        ensures made { IfOk result (λ r. r ≡ nothing_read) }
+        ensures refused { IfErr result (λ f. f ≡ LineFault.Memory) }
     {
-        Ok(LineReader {
-            pulled: PulledBytes::new(alloc)?,
-            number: 1,
-            fault: None,
-        })
+        match PulledBytes::new(alloc) {
+            Ok(pulled) => Ok(LineReader {
+                pulled,
+                number: 1,
+                fault: None,
+            }),
+            Err(_) => Err(LineFault::Memory),
+        }
     }
 
     /// The next line that isn't blank, with its number, which counts from 1, lent until the next call. `None` at the end
