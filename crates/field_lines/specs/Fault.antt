@@ -17,3 +17,10 @@ line_of_fault (LineTooLong number) = number
 line_of_fault TooManyLines = 16777217
 line_of_fault (ReadFault number) = number
 line_of_fault Memory = 0
+
+-- a text has this fault, whoever reads it
+abbrev pub IsOfText : LineFault → Type 0
+IsOfText (LineTooLong number) = Unit {0}
+IsOfText TooManyLines = Unit {0}
+IsOfText (ReadFault number) = ⊥
+IsOfText Memory = ⊥

@@ -1,0 +1,61 @@
+ghost use Rattle.std.specs.Prelude.{ℕ, Bool, false, List, [], ◌≤◌, ◌+◌, IfOk, IfErr, IfSome, length};
+ghost use Rattle.std.specs.Borrow.{sem};
+ghost use Rattle.std.specs.Io.BufRead.{Rests};
+ghost use Rattle.field_lines.specs.Fault.{most_lines, most_bytes, line_of_fault};
+ghost use Rattle.field_lines.specs.LinesFrom.{LinesLeft, lines_of_cut, lines_held, IsNext};
+
+use crate::fault::LineFault;
+use crate::line_reader::LineReader;
+use crate::lines::Lines;
+use crate::source::Source;
+
+/// The lines of a cut text, whether it stands in memory or is pulled from a source: one body reads both.
+pub trait LinesFrom<F> {
+    /// All bytes that were given so far.
+    ghost given: { F → List ℕ };
+
+    /// Whether the last pull answered an error.
+    ghost is_failed: { F → Bool };
+
+    /// The lines that are left.
+    ghost left: { Self → LinesLeft };
+
+    /// The next line that isn't blank, with its number, which counts from 1, lent until the next call. `None` at the end
+    /// of the text.
+    ///
+    /// # Errors
+    ///
+    /// As `LineReader::next_line`.
+    fn next_from(&mut self, from: &mut F) -> Result<Option<(u32, &[u8])>, LineFault>
+        ensures number { IfOk result (λ next. IfSome next (λ l. (1 ≤ l.0) × (l.0 ≤ most_lines))) }
+        ensures bytes { IfOk result (λ next. IfSome next (λ l. (1 ≤ length l.1.now) × (length l.1.now ≤ most_bytes))) }
+        ensures fault { IfErr result (λ f. (1 ≤ line_of_fault f) × (line_of_fault f ≤ most_lines + 1)) }
+        ensures* next { sem 𝓛 (Rests Self.row self.entry (λ new. IsNext (left self.old) (given from.old) (is_failed from.old) result (left new) (given from.new) (is_failed from.new))) };
+}
+
+/// Nothing is pulled: the text stands in memory.
+impl LinesFrom<()> for Lines<'_> {
+    ghost given = { λ _. [] };
+
+    ghost is_failed = { λ _. false };
+
+    ghost left = { lines_of_cut };
+
+    fn next_from(&mut self, _from: &mut ()) -> Result<Option<(u32, &[u8])>, LineFault> {
+        let next = self.next_line();
+        let _left = &*self;
+        next
+    }
+}
+
+impl<S: Source> LinesFrom<S> for LineReader {
+    ghost given = { λ s. S.given s };
+
+    ghost is_failed = { λ s. S.is_failed s };
+
+    ghost left = { lines_held };
+
+    fn next_from(&mut self, from: &mut S) -> Result<Option<(u32, &[u8])>, LineFault> {
+        self.next_line(from)
+    }
+}

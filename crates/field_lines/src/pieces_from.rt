@@ -1,0 +1,56 @@
+ghost use Rattle.std.specs.Prelude.{ℕ, Bool, false, List, []};
+ghost use Rattle.std.specs.Borrow.{sem};
+ghost use Rattle.std.specs.Io.BufRead.{Rests};
+ghost use Rattle.field_lines.specs.PiecesFrom.{PiecesLeft, pieces_of_text, pieces_left, IsNextOf};
+
+use crate::fault::LineFault;
+use crate::raw::{Piece, RawLines};
+use crate::raw_reader::RawReader;
+use crate::source::Source;
+
+/// The pieces of a text, whether it stands in memory or is pulled from a source: one body reads both.
+pub trait PiecesFrom<F> {
+    /// All bytes that were given so far.
+    ghost given: { F → List ℕ };
+
+    /// Whether the last pull answered an error.
+    ghost is_failed: { F → Bool };
+
+    /// The pieces that are left.
+    ghost left: { Self → PiecesLeft };
+
+    /// The next piece, lent until the next call. `None` at the end of the text.
+    ///
+    /// # Errors
+    ///
+    /// As `RawReader::next_piece`. A text in memory has none.
+    fn next_from(&mut self, from: &mut F) -> Result<Option<Piece<'_>>, LineFault>
+        ensures* next { sem 𝓛 (Rests Self.row self.entry (λ new. IsNextOf (left self.old) (given from.old) (is_failed from.old) result (left new) (given from.new) (is_failed from.new))) };
+}
+
+/// Nothing is pulled: the text stands in memory.
+impl PiecesFrom<()> for RawLines<'_> {
+    ghost given = { λ _. [] };
+
+    ghost is_failed = { λ _. false };
+
+    ghost left = { pieces_of_text };
+
+    fn next_from(&mut self, _from: &mut ()) -> Result<Option<Piece<'_>>, LineFault> {
+        let next = self.next_piece();
+        let _left = &*self;
+        Ok(next)
+    }
+}
+
+impl<S: Source> PiecesFrom<S> for RawReader {
+    ghost given = { λ s. S.given s };
+
+    ghost is_failed = { λ s. S.is_failed s };
+
+    ghost left = { pieces_left };
+
+    fn next_from(&mut self, from: &mut S) -> Result<Option<Piece<'_>>, LineFault> {
+        self.next_piece(from)
+    }
+}

@@ -1,0 +1,125 @@
+ghost use Rattle.std.specs.Prelude.{◌≡◌};
+ghost use Rattle.field_lines.specs.ReadPiece.{raw_fault_at, TakesRaw};
+
+use crate::fault::LineFault;
+use crate::lines::MAX_LINE;
+use crate::pulled::PulledBytes;
+use crate::raw::Piece;
+use crate::source::Source;
+use crate::taken::TakenPiece;
+use std::alloc::Global;
+use std::marker::Model;
+
+/// What is wrong with a piece of a number, if anything is: it is too long, or its number is the last that there is.
+fn raw_fault_at(number: u64, length: usize) -> Option<LineFault>
+    ensures { result ≡ raw_fault_at number length }
+{
+    if length > MAX_LINE {
+        Some(LineFault::LineTooLong(number))
+    } else if number == u64::MAX {
+        Some(LineFault::Memory)
+    } else {
+        None
+    }
+}
+
+/// Takes the piece of a number, unless it is at fault. `None` at the end.
+fn take_raw<S: Source>(
+    pulled: &mut PulledBytes,
+    number: u64,
+    source: &mut S,
+) -> Result<Option<TakenPiece>, LineFault>
+    ensures { TakesRaw number pulled.old (S.given source.old) (S.is_failed source.old) result pulled.new (S.given source.new) (S.is_failed source.new) }
+{
+    let Ok(front) = pulled.front(source) else {
+        return Err(LineFault::ReadFault(number));
+    };
+    let Some(front) = front else {
+        return Ok(None);
+    };
+    match raw_fault_at(number, front.length) {
+        Some(fault) => Err(fault),
+        None => Ok(Some(pulled.take_piece(front))),
+    }
+}
+
+/// The pieces of a text that is pulled from a source, as `RawLines` gives them of a text in memory, where each has at most
+/// `MAX_LINE` bytes. It holds and moves bytes as `LineReader` does.
+#[derive(Drop)]
+pub struct RawReader {
+    pulled: PulledBytes,
+    number: u64,
+    fault: Option<LineFault>,
+}
+
+impl Model for RawReader {
+    ghost use Rattle.field_lines.specs.LinesFrom.{Held};
+
+    /// The bytes that are held, whether the source has ended, the number of the next piece, and the fault that was
+    /// answered.
+    ghost Value = { Held };
+
+    ghost view = { λ r. record { bytes = r.pulled.bytes; ended = r.pulled.ended; number = r.number; fault = r.fault } };
+}
+
+impl RawReader {
+    ghost use Rattle.std.specs.Prelude.{◌≡◌, ◌≤◌, IfOk, IfErr, IfSome, length};
+    ghost use Rattle.std.specs.Borrow.{sem};
+    ghost use Rattle.std.specs.Io.BufRead.{Rests};
+    ghost use Rattle.field_lines.specs.Fault.{most_bytes};
+    ghost use Rattle.field_lines.specs.LinesFrom.{nothing_read};
+    ghost use Rattle.field_lines.specs.PiecesFrom.{IsRawRead};
+    ghost use Rattle.field_lines.specs.contracts.raw_reader.RawReader.{the_row};
+
+    /// A reader that has pulled nothing.
+    ///
+    /// # Errors
+    ///
+    /// `Memory` where memory was refused.
+    pub fn new(alloc: Global) -> Result<Self, LineFault>
+        ensures made { IfOk result (λ r. r ≡ nothing_read) }
+        ensures refused { IfErr result (λ f. f ≡ LineFault.Memory) }
+    {
+        match PulledBytes::new(alloc) {
+            Ok(pulled) => Ok(RawReader {
+                pulled,
+                number: 1,
+                fault: None,
+            }),
+            Err(_) => Err(LineFault::Memory),
+        }
+    }
+
+    /// The next piece, lent until the next call. `None` at the end of the text, then and at each later call. Each call is
+    /// lent the same source.
+    ///
+    /// # Errors
+    ///
+    /// `LineTooLong` at a piece of more than `MAX_LINE` bytes; `ReadFault` where the source failed, with the piece that was
+    /// being read; `Memory` at piece 18,446,744,073,709,551,615. Each later call answers the same fault, and pulls nothing.
+    pub fn next_piece<S: Source>(&mut self, source: &mut S) -> Result<Option<Piece<'_>>, LineFault>
+        ensures bytes { IfOk result (λ next. IfSome next (λ p. length p.bytes.now ≤ most_bytes)) }
+        ensures* next { sem 𝓛 (Rests the_row self.entry (λ new. IsRawRead self.old (S.given source.old) (S.is_failed source.old) result new (S.given source.new) (S.is_failed source.new))) }
+    {
+        if let Some(fault) = self.fault {
+            return Err(fault);
+        }
+        let number = self.number;
+        match take_raw(&mut self.pulled, number, source) {
+            Ok(Some(piece)) => {
+                self.number = number + 1;
+                let bytes = self.pulled.taken(piece.from, piece.to);
+                Ok(Some(Piece {
+                    number,
+                    bytes,
+                    ended: piece.ended,
+                }))
+            }
+            Ok(None) => Ok(None),
+            Err(fault) => {
+                self.fault = Some(fault);
+                Err(fault)
+            }
+        }
+    }
+}
