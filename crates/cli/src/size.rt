@@ -26,15 +26,7 @@ pub(crate) fn size<H: Shelf>(
     ensures kept { H.stored shelf.new ≡ H.stored shelf.old }
 {
     let counties = load_counties(alloc, words, shelf, end)?;
-    let problem = build(
-        alloc,
-        &counties,
-        &[],
-        &[],
-        words.chamber,
-        words.window,
-        end,
-    )?;
+    let problem = build(alloc, &counties, &[], &[], words.chamber, words.window, end)?;
     let text = size_table(alloc, &problem)?;
     end.note(Ending::Done);
     Ok(Answer { text, status: 0 })

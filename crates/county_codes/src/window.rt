@@ -37,6 +37,7 @@ impl Window {
     pub fn same_as(self, other: Window) -> bool
         ensures { result ≡ same_window self other }
     {
-        u32::from(self.part) * u32::from(other.whole) == u32::from(other.part) * u32::from(self.whole)
+        u32::from(self.part) * u32::from(other.whole)
+            == u32::from(other.part) * u32::from(self.whole)
     }
 }

@@ -292,9 +292,7 @@ impl Problem {
         }
         let listed = listed_codes(alloc, counties)?;
         let taken = withdrawn_codes(alloc, withdrawn)?;
-        let totals = totals_of(
-            counties, &listed, pairs, withdrawn, &taken, chamber, window,
-        )?;
+        let totals = totals_of(counties, &listed, pairs, withdrawn, &taken, chamber, window)?;
         Ok(with_totals(
             alloc, counties, pairs, withdrawn, &taken, totals, chamber, window,
         )?)

@@ -41,12 +41,7 @@ fn most_seats(people: u64, total: u64, chamber: u16, window: Window) -> u64
 }
 
 /// The least and the greatest number of seats that the people suit.
-pub(crate) fn seats_for(
-    people: u64,
-    total: u64,
-    chamber: u16,
-    window: Window,
-) -> Option<(u16, u16)>
+pub(crate) fn seats_for(people: u64, total: u64, chamber: u16, window: Window) -> Option<(u16, u16)>
     requires within { people ≤ total }
     requires some { 0 < total }
     requires fits { total ≤ 2 ^ 40 }

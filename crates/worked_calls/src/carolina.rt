@@ -2,8 +2,8 @@
 //! House have, out of how many connected sets, by each form of sets.
 ghost use Rattle.std.specs.Prelude.{◌≤◌};
 
-use adjacency_reader::read_pairs;
 use crate::room::room_for;
+use adjacency_reader::read_pairs;
 use anyhow::{Error, Result};
 use connected_groups::{GroupList, groups_over};
 use county_codes::{County, CountyCode, listed_codes};
