@@ -95,10 +95,7 @@ fn judge_limit(round: &Round) -> Result<(), Stop>
     match &round.target {
         Some(target) => {
             if has_larger(&target.groups, round.limit) {
-                return Err(Stop::Fault(
-                    CheckFault::LimitTooSmall,
-                    window_line(round) + 2,
-                ));
+                return Err(Stop::Fault(CheckFault::LimitTooSmall, window_line(round) + 2));
             }
             Ok(())
         }

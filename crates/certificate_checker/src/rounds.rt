@@ -13,9 +13,7 @@ ghost use Rattle.certificate_checker.specs.Feeding.{feed_of, IsFed};
 ghost use Rattle.certificate_checker.specs.Certificates.{AreTaken, round_items};
 
 use crate::feed::{Feed, Stop};
-use crate::forms::{
-    next_group, next_head, next_limit, next_order, next_target, next_window,
-};
+use crate::forms::{next_group, next_head, next_limit, next_order, next_target, next_window};
 use certificate_lines::{ItemSource, Version};
 use county_codes::{Group, Grouping, Window};
 use proof_trees::{Language, Round};
