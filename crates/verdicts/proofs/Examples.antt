@@ -28,21 +28,22 @@ strayed_strays =
         2,
         (c.window, refl),
         inr (
-        3,
-        (c.order, refl),
-        inr (
-          4,
-          (c.target.1, refl),
+          3,
+          (c.order, refl),
           inr (
-            6,
-            (c.target.0, refl),
+            4,
+            (c.target.1, refl),
             inr (
-              7,
-              ((c.proof.0, c.proof.1), refl),
-              (path ∷ [], c.proof.2, inl (inl (inr (refl, λ k. not_alone (has_from_contains (path ∷ []) (37001 ∷ []) k)), refl))),
+              6,
+              (c.target.0, refl),
+              inr (
+                7,
+                ((c.proof.0, c.proof.1), refl),
+                (path ∷ [], c.proof.2, inl (inl (inr (refl, λ k. not_alone (has_from_contains (path ∷ []) (37001 ∷ []) k)), refl))),
+              ),
             ),
           ),
         ),
-      )),
+      ),
       refl,
     )
