@@ -212,7 +212,7 @@ pub(crate) fn read_areas_from<G: Source, S: Source>(
 }
 
 /// The fault of memory that was refused.
-fn no_memory() -> Pl94Fault
+pub(crate) fn no_memory() -> Pl94Fault
     ensures { IsMemory result }
 {
     Pl94Fault {
