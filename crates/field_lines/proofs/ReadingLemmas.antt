@@ -36,11 +36,11 @@ module _ {R : Type 0} (start now new : LinesLeft) (g h i : List ℕ) (d e : Bool
       ∙ both_same pulled [] stays (λ is. refl)
       ∙ ap (λ (l : List ℕ). Whole (start.cut l)) (append-nil (s.pulled ++ pulled))
 
-  -- what the text comes to, by what the bytes come to that were pulled up to now
-  pub record Comes (value : R) : Type 0 where
+  -- what the bytes come to that were pulled up to now, under a condition
+  pub record Comes (P : Type 0) (value : R) : Type 0 where
     pub pulled : List ℕ
     pub given : i ≡ g ++ pulled
-    pub is : Whole (start.cut pulled) ≡ value
+    pub is : P → Whole (start.cut pulled) ≡ value
 
   module _ (r : ℕ × Bor (List ℕ)) (next : IsNext now h d (Ok (Some r)) new i e) where
     -- a line is added
@@ -56,37 +56,37 @@ module _ {R : Type 0} (start now new : LinesLeft) (g h i : List ℕ) (d e : Bool
         }
 
     -- the line ends the reading
-    pub reads_stop : (value : R) → ((c : Cut) → Now (in_front (line_of r) c) ≡ value) → Comes value
-    reads_stop value ends =
+    pub reads_stop : (P : Type 0) (value : R) → (P → (c : Cut) → Now (in_front (line_of r) c) ≡ value) → Comes P value
+    reads_stop P value ends =
         let n = next s.sound in
         record {
           pulled = s.pulled ++ n.pulled;
           given = both_given n.pulled n.given;
-          is = sym (all_same n.pulled n.end) ∙ ap (λ (l : List ℕ). Now (now.cut l)) (sym (append-nil n.pulled)) ∙ ap Now (n.answers [] (λ is. refl)) ∙ ends (new.cut []);
+          is = λ p. sym (all_same n.pulled n.end) ∙ ap (λ (l : List ℕ). Now (now.cut l)) (sym (append-nil n.pulled)) ∙ ap Now (n.answers [] (λ is. refl)) ∙ ends p (new.cut []);
         }
 
     pub works_more : e ≡ false
     works_more = (next s.sound).failed s.works
 
   -- no line is left
-  pub reads_end : IsNext now h d (Ok None) new i e → Comes (Now (no_line None))
-  reads_end next =
+  pub reads_end : (P : Type 0) → IsNext now h d (Ok None) new i e → Comes P (Now (no_line None))
+  reads_end P next =
       let n = next s.sound in
-      record { pulled = s.pulled ++ n.pulled; given = both_given n.pulled n.given; is = sym (all_same n.pulled n.end) ∙ ap Now n.answers.1 }
+      record { pulled = s.pulled ++ n.pulled; given = both_given n.pulled n.given; is = λ p. sym (all_same n.pulled n.end) ∙ ap Now n.answers.1 }
 
   pub works_end : IsNext now h d (Ok None) new i e → e ≡ false
   works_end next = (next s.sound).failed s.works
 
   -- the text has a fault
-  pub reads_fault : (fault : LineFault) → IsOfText fault → IsNext now h d (Err fault) new i e → Comes (Now (no_line (Some fault)))
-  reads_fault (LineTooLong line) of next =
+  pub reads_fault : (P : Type 0) (fault : LineFault) → IsOfText fault → IsNext now h d (Err fault) new i e → Comes P (Now (no_line (Some fault)))
+  reads_fault P (LineTooLong line) of next =
       let n = next s.sound in
-      record { pulled = s.pulled ++ n.pulled; given = both_given n.pulled n.given; is = sym (all_same n.pulled n.end) ∙ ap (λ (l : List ℕ). Now (now.cut l)) (sym (append-nil n.pulled)) ∙ ap Now (n.answers [] (λ is. refl)) }
-  reads_fault TooManyLines of next =
+      record { pulled = s.pulled ++ n.pulled; given = both_given n.pulled n.given; is = λ p. sym (all_same n.pulled n.end) ∙ ap (λ (l : List ℕ). Now (now.cut l)) (sym (append-nil n.pulled)) ∙ ap Now (n.answers [] (λ is. refl)) }
+  reads_fault P TooManyLines of next =
       let n = next s.sound in
-      record { pulled = s.pulled ++ n.pulled; given = both_given n.pulled n.given; is = sym (all_same n.pulled n.end) ∙ ap (λ (l : List ℕ). Now (now.cut l)) (sym (append-nil n.pulled)) ∙ ap Now (n.answers [] (λ is. refl)) }
-  reads_fault (ReadFault line) of next = absurd of
-  reads_fault Memory of next = absurd of
+      record { pulled = s.pulled ++ n.pulled; given = both_given n.pulled n.given; is = λ p. sym (all_same n.pulled n.end) ∙ ap (λ (l : List ℕ). Now (now.cut l)) (sym (append-nil n.pulled)) ∙ ap Now (n.answers [] (λ is. refl)) }
+  reads_fault P (ReadFault line) of next = absurd of
+  reads_fault P Memory of next = absurd of
 
   pub works_fault : (fault : LineFault) → IsOfText fault → IsNext now h d (Err fault) new i e → e ≡ false
   works_fault (LineTooLong line) of next = (next s.sound).failed s.works

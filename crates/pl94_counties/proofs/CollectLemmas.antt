@@ -6,13 +6,13 @@ use Rattle.std.specs.Ordering.{nat_cmp, is_eq, match_ordering}
 use Rattle.std.specs.Cmp.{ranked, unsigned_tied}
 use Rattle.std.specs.List.{cons_option}
 use Rattle.std.specs.BTreeMap.{insert_entry}
-use Rattle.field_lines.specs.Cut.{Line, cut}
+use Rattle.field_lines.specs.Cut.{Cut, Line, cut}
 use Rattle.field_lines.specs.declared.fault.LineFault.{LineFault}
 use Rattle.pl94_counties.specs.declared.fault.Pl94Kind.{Pl94Kind}
 use Rattle.pl94_counties.specs.declared.fault.Pl94Kind.TheVariants.{TooMany}
 use Rattle.pl94_counties.specs.declared.fault.File.{File}
 use Rattle.pl94_counties.specs.declared.fault.Pl94Fault.{Pl94Fault}
-use Rattle.pl94_counties.specs.Numbered.{people_of, Given, Rule, people_by_number, has_number, by_number, entries_on, entry_of, line_fault, first_fault, at_line, unless_fault, with_given, cut_fault}
+use Rattle.pl94_counties.specs.Numbered.{people_of, Given, Rule, people_in, people_by_number, has_number, by_number, entries_on, entry_of, line_fault, first_fault, at_line, unless_fault, with_given, cut_fault}
 use Rattle.std.proofs.lemmas.List.{append-nil}
 use Rattle.std.proofs.lemmas.List.Elements.{filter_map-append}
 use Rattle.std.proofs.lemmas.List.Sums.{fold-append}
@@ -136,6 +136,10 @@ module _ (read : List ℕ → Given) (rule : Rule) (file : File) (fault : Option
   pub collected_after : (before ls : List Line) → After before ls
   collected_after before [] = after_nil fault before
   collected_after before (l ∷ ls) = after_line before l ls (collected_after (before ++ l ∷ []) ls) (read l.bytes) refl
+
+-- a loop that has found nothing yet answers what the cut gives
+pub collected_in : (read : List ℕ → Given) (rule : Rule) (file : File) (c : Cut) → collect_from read rule file [] c.lines c.fault ≡ people_in read rule file c
+collected_in read rule file c = collected_after read rule file c.fault [] c.lines
 
 pub collected : (read : List ℕ → Given) (rule : Rule) (file : File) (text : List ℕ) → collect_from read rule file [] (cut text).lines (cut text).fault ≡ people_by_number read rule file text
 collected read rule file text = collected_after read rule file (cut text).fault [] (cut text).lines

@@ -1,9 +1,10 @@
 -- The faults of the county list are those that texts can have.
-use Rattle.std.proofs.Common.{◌≡◌, ◌≢◌, ℕ, Bool, true, false, List, [], ◌∷◌, ◌++◌, Option, Some, None, Result, Ok, Err, nat_lt, length, if◌then◌else◌, refl, subst}
+use Rattle.std.proofs.Common.{◌≡◌, ◌≢◌, ℕ, Bool, true, false, List, [], ◌∷◌, ◌++◌, Option, Some, None, Result, Ok, Err, nat_lt, length, if◌then◌else◌, refl, ap, ◌∙◌, subst}
 use Rattle.std.specs.List.{slice_get, filter_map, cons_option}
 use Rattle.field_lines.specs.Raw.{RawLine, raw_lines}
 use Rattle.field_lines.specs.Fault.{most_lines, most_bytes}
-use Rattle.field_lines.specs.Cut.{Line, cut, fault_in}
+use Rattle.field_lines.specs.Cut.{Cut, Line, cut, fault_in}
+use Rattle.field_lines.specs.Chain.{◌>>=◌}
 use Rattle.field_lines.specs.declared.fault.LineFault.{LineFault}
 use Rattle.field_lines.specs.declared.fault.LineFault.TheVariants.{LineTooLong, TooManyLines}
 use Rattle.pl94_counties.specs.declared.fault.Pl94Kind.{Pl94Kind}
@@ -15,9 +16,9 @@ use Rattle.pl94_counties.specs.declared.geo.Area.{Area}
 use Rattle.pl94_counties.specs.declared.geo.Area.TheVariants as areas
 use Rattle.pl94_counties.specs.Fields.{field, small_number, GeoFields, geo_fields}
 use Rattle.pl94_counties.specs.Numbered.{Given, Rule, people_of, has_number, is_full, by_number, line_fault, at_line, entries_on, first_fault, cut_fault, unless_fault, people_by_number}
-use Rattle.pl94_counties.specs.Segment.{record_on, record_rule, record_list}
+use Rattle.pl94_counties.specs.Segment.{record_on, record_rule, record_list, record_list_in}
 use Rattle.pl94_counties.specs.Geo.{area_code, rule_of, is_line_of, joined, area_on}
-use Rattle.pl94_counties.specs.Areas.{found_list}
+use Rattle.pl94_counties.specs.Areas.{found_list, found_list_in, no_areas, some_areas, area_list_in, area_list}
 use Rattle.pl94_counties.specs.OfText.{IsOfText}
 use Rattle.pl94_counties.proofs.LawLemmas.{record_of_numbers, record_in_fields, with_people, joined_of}
 
@@ -36,7 +37,7 @@ of_fields None b kind is = is_kind TooFewFields kind is tt
 of_fields (Some x) None kind is = is_kind TooFewFields kind is tt
 of_fields (Some x) (Some y) kind is = of_numbers (small_number x) (small_number y) kind is
 
-of_record : (line : List ℕ) (kind : Pl94Kind) → record_on line ≡ Err kind → IsOfText kind
+pub of_record : (line : List ℕ) (kind : Pl94Kind) → record_on line ≡ Err kind → IsOfText kind
 unfolding record_on
 of_record line kind is = of_fields (field 5 line) (field 6 line) kind is
 
@@ -62,7 +63,7 @@ module _ (area : Area) (state : ℕ) (records : List (ℕ × ℕ)) (kind : Pl94K
   of_geo_fields None is = is_kind TooFewFields kind is tt
   of_geo_fields (Some g) is = of_choice g (is_line_of area state g) is
 
-  of_area : (line : List ℕ) → area_on area state records line ≡ Err kind → IsOfText kind
+  pub of_area : (line : List ℕ) → area_on area state records line ≡ Err kind → IsOfText kind
   unfolding area_on
   of_area line is = of_geo_fields (geo_fields line) is
 
@@ -141,10 +142,69 @@ unless_memory fault given answers of TooMany is = tt
 pub of_segment : (text : List ℕ) (fault : Pl94Fault) → (fault.kind ≢ Memory → record_list text ≡ Err fault) → IsOfText fault.kind
 of_segment text fault answers = unless_memory fault (record_list text) answers (of_text record_on record_rule Segment1 text fault of_record tt) fault.kind refl
 
-of_rule : (area : Area) → IsOfText (rule_of area).double
+pub of_rule : (area : Area) → IsOfText (rule_of area).double
 of_rule areas.County = tt
 of_rule areas.Block = tt
 
 pub of_geo : (area : Area) (state : ℕ) (records : List (ℕ × ℕ)) (text : List ℕ) (fault : Pl94Fault) → (fault.kind ≢ Memory → found_list area state records text ≡ Err fault) → IsOfText fault.kind
 of_geo area state records text fault answers = unless_memory fault (found_list area state records text) answers
     (of_text (area_on area state records) (rule_of area) Geo text fault (λ (line : List ℕ) (kind : Pl94Kind) (is : area_on area state records line ≡ Err kind). of_area area state records kind line is) (of_rule area)) fault.kind refl
+
+-- ---- both texts
+module _ (area : Area) (geo segment1 : List ℕ) (state : ℕ) where
+  abbrev after_found : Result (List (ℕ × ℕ)) Pl94Fault → Result (List (ℕ × ℕ)) Pl94Fault
+  after_found found = found >>= (λ es. some_areas area es)
+
+  abbrev after_records : Result (List (ℕ × ℕ)) Pl94Fault → Result (List (ℕ × ℕ)) Pl94Fault
+  after_records records = records >>= (λ rs. after_found (found_list area state rs geo))
+
+  -- what stands behind areas that are found
+  pub record Found (entries : List (ℕ × ℕ)) : Type 0 where
+    pub records : List (ℕ × ℕ)
+    pub records_are : record_list segment1 ≡ Ok records
+    pub found_are : found_list area state records geo ≡ Ok entries
+
+  some_found : (found entries : List (ℕ × ℕ)) → some_areas area found ≡ Ok entries → found ≡ entries
+  some_found [] entries is = absurd cc
+  some_found (e ∷ es) entries is = cc
+
+  found_by : (records : List (ℕ × ℕ)) → record_list segment1 ≡ Ok records → (entries : List (ℕ × ℕ)) (r : Result (List (ℕ × ℕ)) Pl94Fault) → found_list area state records geo ≡ r → after_found r ≡ Ok entries → Found entries
+  found_by records are entries (Err fault) gives is = absurd cc
+  found_by records are entries (Ok found) gives is =
+      let same : found ≡ entries = some_found found entries is in
+      record { records = records; records_are = are; found_are = gives ∙ ap (λ (es : List (ℕ × ℕ)). Ok es) same }
+
+  records_by : (entries : List (ℕ × ℕ)) (r : Result (List (ℕ × ℕ)) Pl94Fault) → record_list segment1 ≡ r → after_records r ≡ Ok entries → Found entries
+  records_by entries (Err fault) gives is = absurd cc
+  records_by entries (Ok records) gives is = found_by records gives entries (found_list area state records geo) refl is
+
+  pub areas_found : (entries : List (ℕ × ℕ)) → area_list area geo segment1 state ≡ Ok entries → Found entries
+  areas_found entries is = records_by entries (record_list segment1) refl is
+
+  none_of_text : (area : Area) → IsOfText (no_areas area)
+  none_of_text areas.County = tt
+  none_of_text areas.Block = tt
+
+  some_faulty : (found : List (ℕ × ℕ)) (fault : Pl94Fault) → some_areas area found ≡ Err fault → IsOfText fault.kind
+  some_faulty [] fault is = let same : ◌≡◌ {A = Pl94Fault} (record { kind = no_areas area; file = Geo; line = 0 }) fault = cc in subst (λ (f : Pl94Fault). IsOfText f.kind) same (none_of_text area)
+  some_faulty (e ∷ es) fault is = absurd cc
+
+  found_faulty : (records : List (ℕ × ℕ)) (fault : Pl94Fault) (r : Result (List (ℕ × ℕ)) Pl94Fault) → found_list area state records geo ≡ r → after_found r ≡ Err fault → IsOfText fault.kind
+  found_faulty records fault (Err f) gives is =
+      let same : f ≡ fault = cc in
+      of_geo area state records geo fault (λ other. gives ∙ ap (λ (g : Pl94Fault). Err g) same)
+  found_faulty records fault (Ok found) gives is = some_faulty found fault is
+
+  records_faulty : (fault : Pl94Fault) (r : Result (List (ℕ × ℕ)) Pl94Fault) → record_list segment1 ≡ r → after_records r ≡ Err fault → IsOfText fault.kind
+  records_faulty fault (Err f) gives is =
+      let same : f ≡ fault = cc in
+      of_segment segment1 fault (λ other. gives ∙ ap (λ (g : Pl94Fault). Err g) same)
+  records_faulty fault (Ok records) gives is = found_faulty records fault (found_list area state records geo) refl is
+
+  pub of_areas : (fault : Pl94Fault) → (fault.kind ≢ Memory → area_list area geo segment1 state ≡ Err fault) → IsOfText fault.kind
+  of_areas fault answers = unless_memory fault (area_list area geo segment1 state) answers (records_faulty fault (record_list segment1) refl) fault.kind refl
+
+-- a fault of segment 1 is the first of both
+pub segment_stops : (area : Area) (geo segment1 : Cut) (state : ℕ) (fault : Pl94Fault) → record_list_in segment1 ≡ Err fault → area_list_in area geo segment1 state ≡ Err fault
+segment_stops area geo segment1 state fault is =
+    ap (λ (r : Result (List (ℕ × ℕ)) Pl94Fault). r >>= (λ records. found_list_in area state records geo >>= (λ found. some_areas area found))) is

@@ -6,7 +6,7 @@ use Rattle.std.specs.Option.{option_map}
 use Rattle.std.specs.Ordering.{nat_cmp}
 use Rattle.std.specs.BTreeMap.{is_at, insert_entry}
 use Rattle.field_lines.specs.Fault.{line_of_fault}
-use Rattle.field_lines.specs.Cut.{Line, cut}
+use Rattle.field_lines.specs.Cut.{Cut, Line, cut}
 use Rattle.field_lines.specs.Values as values
 use Rattle.field_lines.specs.declared.fault.LineFault.{LineFault}
 use Rattle.pl94_counties.specs.declared.fault.Pl94Kind.{Pl94Kind}
@@ -104,7 +104,10 @@ fault_on file f = record { kind = f.0; file = file; line = f.1 }
 abbrev pub unless_fault : File → Option (Pl94Kind × ℕ) → Option LineFault → List (ℕ × ℕ) → Result (List (ℕ × ℕ)) Pl94Fault
 unless_fault file first fault entries = values.unless_fault (option_map (fault_on file) first) (option_map (cut_fault file) fault) entries
 
+-- the people by number of a cut, or its first fault
+abbrev pub people_in : (List ℕ → Given) → Rule → File → Cut → Result (List (ℕ × ℕ)) Pl94Fault
+people_in read rule file c = unless_fault file (first_fault read rule [] c.lines) c.fault (by_number (entries_on read c.lines))
+
 -- the people by number of a whole text, or its first fault
 abbrev pub people_by_number : (List ℕ → Given) → Rule → File → List ℕ → Result (List (ℕ × ℕ)) Pl94Fault
-people_by_number read rule file text =
-    unless_fault file (first_fault read rule [] (cut text).lines) (cut text).fault (by_number (entries_on read (cut text).lines))
+people_by_number read rule file text = people_in read rule file (cut text)

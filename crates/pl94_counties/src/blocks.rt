@@ -1,16 +1,18 @@
-ghost use Rattle.std.specs.Prelude.{◌≡◌, ◌≤◌, ◌<◌, ◌^◌, IfOk, IfErr, map, All, length};
+ghost use Rattle.std.specs.Prelude.{◌≡◌, ◌≤◌, false, ◌<◌, ◌^◌, IfOk, IfErr, map, All, length};
 ghost use Rattle.std.specs.List.Sorted.{IsStrictlyIncreasing};
 ghost use Rattle.field_lines.specs.Values.{GivesUnless};
 ghost use Rattle.field_lines.specs.Cut.{cut};
 ghost use Rattle.pl94_counties.specs.Numbered.{IsMemory};
 ghost use Rattle.pl94_counties.specs.Joined.{IsJoined, IsListed};
 ghost use Rattle.pl94_counties.specs.OfText.{IsOfText};
+ghost use Rattle.pl94_counties.specs.Readers.{ReadsBoth, read_failed};
 ghost use Rattle.pl94_counties.specs.Counties.{block_of, block_list};
 ghost use Rattle.pl94_counties.specs.declared.geo.Area.TheVariants as areas;
 
-use crate::areas::read_areas;
+use crate::areas::{no_memory, read_areas, read_areas_from};
 use crate::fault::{File, Pl94Fault, Pl94Kind};
 use crate::geo::Area;
+use field_lines::Source;
 use std::alloc::{AllocError, Global};
 use std::collections::BTreeMap;
 
@@ -65,4 +67,34 @@ pub fn read_blocks(
         line: 0,
     })?;
     Ok(blocks)
+}
+
+/// The blocks of a state by code, with their people, as `read_blocks` gives them, from the sources of geo and of segment
+/// 1. Neither has failed. Segment 1 is read first, and geo only where segment 1 has no fault.
+///
+/// # Errors
+///
+/// As `read_blocks`, for the bytes that the sources gave. Where one failed, the fault is `Lower(ReadFault)`, with its file
+/// and the line that was being read.
+pub fn read_blocks_from<G: Source, S: Source>(
+    alloc: Global,
+    geo: &mut G,
+    segment1: &mut S,
+    state: u8,
+) -> Result<Vec<Block>, Pl94Fault>
+    requires digits { state ≤ 99 }
+    requires geo_works { G.is_failed geo.old ≡ false }
+    requires segment1_works { S.is_failed segment1.old ≡ false }
+    ensures reads { ReadsBoth (λ v. v.items) (G.given geo.old) (G.given geo.new) (S.given segment1.old) (S.given segment1.new) result (λ g s. block_list g s state) }
+    ensures geo_failed { G.is_failed geo.new ≡ read_failed File.Geo result }
+    ensures segment1_failed { S.is_failed segment1.new ≡ read_failed File.Segment1 result }
+{
+    let found = match read_areas_from(alloc, Area::Block, geo, segment1, state) {
+        Ok(found) => found,
+        Err(fault) => return Err(fault),
+    };
+    match list(alloc, &found) {
+        Ok(blocks) => Ok(blocks),
+        Err(_) => Err(no_memory()),
+    }
 }

@@ -1,4 +1,4 @@
-ghost use Rattle.std.specs.Prelude.{◌≡◌, ◌≤◌, IfOk, IfErr, map, All};
+ghost use Rattle.std.specs.Prelude.{◌≡◌, ◌≤◌, false, IfOk, IfErr, map, All};
 ghost use Rattle.std.specs.List.{filter_map};
 ghost use Rattle.std.specs.List.Sorted.{IsStrictlyIncreasing};
 ghost use Rattle.field_lines.specs.Values.{GivesUnless};
@@ -6,13 +6,15 @@ ghost use Rattle.field_lines.specs.Cut.{cut};
 ghost use Rattle.pl94_counties.specs.Numbered.{IsMemory};
 ghost use Rattle.pl94_counties.specs.Joined.{IsJoined, IsListed};
 ghost use Rattle.pl94_counties.specs.OfText.{IsOfText};
+ghost use Rattle.pl94_counties.specs.Readers.{ReadsBoth, read_failed};
 ghost use Rattle.pl94_counties.specs.Counties.{county_of, county_in, county_list};
 ghost use Rattle.pl94_counties.specs.declared.geo.Area.TheVariants as areas;
 
-use crate::areas::read_areas;
+use crate::areas::{no_memory, read_areas, read_areas_from};
 use crate::fault::{File, Pl94Fault, Pl94Kind};
 use crate::geo::Area;
 use county_codes::{County, CountyCode};
+use field_lines::Source;
 use std::alloc::{AllocError, Global};
 use std::collections::BTreeMap;
 
@@ -69,4 +71,34 @@ pub fn read_counties(
         line: 0,
     })?;
     Ok(counties)
+}
+
+/// The counties of a state by code, with their people, as `read_counties` gives them, from the sources of geo and of
+/// segment 1. Neither has failed. Segment 1 is read first, and geo only where segment 1 has no fault.
+///
+/// # Errors
+///
+/// As `read_counties`, for the bytes that the sources gave. Where one failed, the fault is `Lower(ReadFault)`, with its
+/// file and the line that was being read.
+pub fn read_counties_from<G: Source, S: Source>(
+    alloc: Global,
+    geo: &mut G,
+    segment1: &mut S,
+    state: u8,
+) -> Result<Vec<County>, Pl94Fault>
+    requires digits { state ≤ 99 }
+    requires geo_works { G.is_failed geo.old ≡ false }
+    requires segment1_works { S.is_failed segment1.old ≡ false }
+    ensures reads { ReadsBoth (λ v. v.items) (G.given geo.old) (G.given geo.new) (S.given segment1.old) (S.given segment1.new) result (λ g s. county_list g s state) }
+    ensures geo_failed { G.is_failed geo.new ≡ read_failed File.Geo result }
+    ensures segment1_failed { S.is_failed segment1.new ≡ read_failed File.Segment1 result }
+{
+    let found = match read_areas_from(alloc, Area::County, geo, segment1, state) {
+        Ok(found) => found,
+        Err(fault) => return Err(fault),
+    };
+    match list(alloc, &found) {
+        Ok(counties) => Ok(counties),
+        Err(_) => Err(no_memory()),
+    }
 }
