@@ -1,5 +1,6 @@
 //! States of proof trees, and rounds.
 ghost use Rattle.std.specs.Prelude.{◌≤◌, length};
+ghost use Rattle.county_codes.specs.Limits.{most_counties};
 
 use crate::groups::show_places;
 use crate::room::room_for;
@@ -36,7 +37,8 @@ fn show_state<C: CountySet>(rt: &HostRuntime, state: &State<C>) -> Result<()>
 /// Prints a state with its first county closed alone.
 fn show_closed<C: CountySet>(rt: &HostRuntime, state: State<C>) -> Result<()>
     requires fits { 128 ≤ C.PLACES }
-    requires few { length state.least.items ≤ C.PLACES }
+    requires room { length state.least.items ≤ C.PLACES }
+    requires few { length state.least.items ≤ most_counties }
 {
     if state.least.len() > 0 {
         let group = C::empty(rt.alloc())?.with(rt.alloc(), 0)?;
@@ -48,7 +50,8 @@ fn show_closed<C: CountySet>(rt: &HostRuntime, state: State<C>) -> Result<()>
 /// Prints a state with its second county raised past 1.
 fn show_raised<C: CountySet>(rt: &HostRuntime, state: State<C>) -> Result<()>
     requires fits { 128 ≤ C.PLACES }
-    requires few { length state.least.items ≤ C.PLACES }
+    requires room { length state.least.items ≤ C.PLACES }
+    requires few { length state.least.items ≤ most_counties }
 {
     let mut state = state;
     if state.least.len() > 1 {
