@@ -1,5 +1,5 @@
 -- What is kept and what is passed over.
-use Rattle.std.proofs.Common.{◌≡◌, ℕ, Bool, true, false, List, [], refl, sym, ◌∙◌}
+use Rattle.std.proofs.Common.{◌≡◌, ℕ, Bool, true, false, not, List, [], refl, sym, ◌∙◌}
 use Rattle.std.specs.Prelude.{IsTrue, ◌↔◌}
 use Rattle.std.proofs.lemmas.Bool.{false≢true}
 use Rattle.place_lists.specs.PlaceSets.{places_of}
@@ -37,3 +37,16 @@ kept_test language p n limit exact s keep set free kept d h whole test = go kept
     go true e b f = (d (places_of n set) x.connected x.in_order).1 (test.0 e) ∙ sym e
     go false e false f = f ∙ sym e
     go false e true f = absurd (false≢true (sym e ∙ test.1 ((d (places_of n set) x.connected x.in_order).0 f)))
+
+-- nothing is kept where no set from the places in reach may grow into one that fits
+pub none_grows : (language : Language) (p : Problem) (n limit : ℕ) (exact : Bool) (s : State) (keep : List ℕ → Bool) (set free reach : ℕ → Bool) (may : Bool) → Decides language p n limit exact s keep → not may ≡ true
+    → ((g : List ℕ) → IsExtension p n limit set free g → IsExtension p n limit set reach g) → ((g : List ℕ) → IsExtension p n limit set reach g → IsAsked exact limit g → Fits language p s g → IsTrue may) → AreKept p n limit keep set free []
+none_grows language p n limit exact s keep set free reach may d none all grows = none_kept p n limit keep set free (λ g x. go g x (keep g) refl)
+  where
+    off : (b : Bool) → not b ≡ true → b ≡ true → ⊥
+    off true e k = false≢true e
+    off false e k = false≢true k
+
+    go : (g : List ℕ) → IsExtension p n limit set free g → (b : Bool) → keep g ≡ b → b ≡ false
+    go g x false e = refl
+    go g x true e = let f = (d g x.connected x.in_order).0 e in absurd (off may none (grows g (all g x) f.1 f.0))

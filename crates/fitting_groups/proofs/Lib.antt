@@ -3,3 +3,8 @@ pub mod Keeping
 pub mod Deciding
 pub mod Starting
 pub mod Sizes
+pub mod PeopleBounds
+pub mod SeatWindows
+pub mod Reach
+pub mod RestPeople
+pub mod PeopleRows

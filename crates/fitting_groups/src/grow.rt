@@ -1,49 +1,42 @@
-ghost use Rattle.std.specs.Prelude.{◌≡◌, ℕ, ◌+◌, ◌-◌, ◌*◌, ◌^◌, Bool, List, [], true, ◌<◌, ◌≤◌, ◌&&◌, not, ◌==◌, nat_lt, MatchOption, MatchResult, OnOk, IfOk, IsTrue, ◌↔◌, IsErrOf, length};
+ghost use Rattle.std.specs.Prelude.{◌≡◌, ℕ, ◌+◌, ◌-◌, ◌*◌, ◌^◌, Bool, List, [], true, false, ◌<◌, ◌≤◌, ◌&&◌, not, ◌==◌, nat_lt, MatchOption, MatchResult, OnOk, IfOk, IsTrue, ◌↔◌, IsErrOf, length};
 ghost use Rattle.grouping_laws.specs.Problem.{Connected, people_of};
 ghost use Rattle.place_lists.specs.PlaceSets.{places_of};
 ghost use Rattle.grouping_laws.specs.Places.{places_below};
-ghost use Rattle.grouping_laws.specs.SeatWindow.{people_bounds};
 ghost use Rattle.ordered_counties.specs.OrderedValue.{problem_at};
 ghost use Rattle.county_regions.specs.Rows.{AreRows};
 ghost use Rattle.growing_sets.specs.Growing.{IsGrowth, IsFront, IsCandidate, IsMove, IsWhole, AreKept};
-ghost use Rattle.growing_sets.specs.Listing.{HasMost, IsListed, HasStepped};
+ghost use Rattle.growing_sets.specs.Listing.{IsListed, HasStepped};
 ghost use Rattle.proof_trees.specs.StateValue.{state_of};
 ghost use Rattle.proof_trees.specs.Fitting.{Fits};
 ghost use Rattle.fitting_groups.specs.Keeping.{Decides, IsAsked};
+ghost use Rattle.fitting_groups.specs.People.{AreTables};
 ghost use Rattle.fitting_groups.specs.declared.stop.Stop.{Stop};
 
+use crate::ground::{Ground, Growth};
+use crate::passing::is_passed_over;
 use crate::stop::Stop;
 use ordered_counties::{Ordered, Steps};
 use place_sets::CountySet;
-use proof_trees::{Language, State};
-use state_tests::{fits, strands};
+use state_tests::fits;
 use std::alloc::{AllocError, Global};
 
-/// What a search looks at: the problem by places, for each place the places adjacent to it, the language and the
-/// state that groups are to fit, how many places a set may have, whether only sets of so many are asked for, the
-/// fewest people that suit a seat, and at least as many people as any place has that may join a set.
-#[derive(Drop)]
-pub(crate) struct Ground<'a, 'b, C> {
-    pub(crate) ordered: &'a Ordered<'b>,
-    pub(crate) near: &'a [C],
-    pub(crate) language: Language,
-    pub(crate) state: &'a State<C>,
-    pub(crate) limit: u16,
-    pub(crate) exact: bool,
-    pub(crate) least: u64,
-    pub(crate) most: u32,
+/// The first place of the set that has as many people as any of its places.
+fn most_populous<C: CountySet>(ordered: &Ordered, set: &C) -> Option<u16>
+    requires { (x : ℕ) → C.test set.now x ≡ true → x < length ordered.now.order }
+    ensures { MatchOption result ((x : ℕ) → C.test set.now x ≡ false) (λ c. C.test set.now c ≡ true) }
+{
+    let mut found = set.next(0)?;
+    let mut from = u32::from(found) + 1;
+    while let Some(place) = set.next(from) {
+        if ordered.people(found) < ordered.people(place) {
+            found = place;
+        }
+        from = u32::from(place) + 1;
+    }
+    Some(found)
 }
 
-/// Where a search stands: a set and its people, the free places that are adjacent to the set, and all free places.
-#[derive(Drop)]
-pub(crate) struct Growth<C> {
-    pub(crate) set: C,
-    pub(crate) people: u64,
-    pub(crate) front: C,
-    pub(crate) free: C,
-}
-
-/// The first place of the front, if the set may have one more.
+/// The place of the front with the most people, if the set may have one more place.
 fn next_place<C: CountySet>(ground: &Ground<C>, growth: &Growth<C>) -> Option<u16>
     requires growth { IsGrowth (problem_at ground.now.ordered.now) (length ground.now.ordered.now.order) ground.now.limit (C.test growth.now.set) (C.test growth.now.free) }
     requires front { IsFront (problem_at ground.now.ordered.now) (C.test growth.now.set) (C.test growth.now.free) (C.test growth.now.front) }
@@ -56,22 +49,7 @@ fn next_place<C: CountySet>(ground: &Ground<C>, growth: &Growth<C>) -> Option<u1
     if growth.set.size() >= u32::from(ground.limit) {
         return None;
     }
-    growth.front.next(0)
-}
-
-/// Whether the set has too few people for a seat, whatever free places join it.
-fn stays_small<C: CountySet>(ground: &Ground<C>, set: &C, people: u64) -> bool
-    requires growth { length (places_of (length ground.now.ordered.now.order) (C.test set.now)) ≤ ground.now.limit }
-    requires below { (x : ℕ) → C.test set.now x ≡ true → x < length ground.now.ordered.now.order }
-    requires bound { people ≤ 2 ^ 40 }
-    ensures { result
-        ≡ nat_lt
-        (people + (ground.now.limit - length (places_of (length ground.now.ordered.now.order) (C.test set.now))) * ground.now.most)
-        ground.now.least }
-{
-    let most = u64::from(ground.most);
-    let room = u64::from(ground.limit) - u64::from(set.size());
-    people + room * most < ground.least
+    most_populous(ground.ordered, &growth.front)
 }
 
 /// Takes a step.
@@ -135,44 +113,6 @@ fn is_kept<C: CountySet>(
         people,
     )?;
     Ok(fit)
-}
-
-/// Whether nothing can come of a growth: the set stays below the fewest people that suit a seat, or it leaves a part
-/// behind that can't be filled.
-fn is_passed_over<C: CountySet>(
-    alloc: Global,
-    ground: &Ground<C>,
-    growth: &Growth<C>,
-) -> Result<bool, AllocError>
-    requires fits { length ground.now.ordered.now.order ≤ C.PLACES }
-    requires rows { AreRows C C.test (problem_at ground.now.ordered.now) (length ground.now.ordered.now.order) ground.now.near.now }
-    requires places { length ground.now.state.now.least.items ≡ length ground.now.ordered.now.order }
-    requires rest { (x : ℕ) → C.test ground.now.state.now.rest x ≡ true → x < length ground.now.ordered.now.order }
-    requires growth { IsGrowth (problem_at ground.now.ordered.now) (length ground.now.ordered.now.order) ground.now.limit (C.test growth.now.set) (C.test growth.now.free) }
-    requires people { growth.now.people ≡ people_of (problem_at ground.now.ordered.now) (places_of (length ground.now.ordered.now.order) (C.test growth.now.set)) }
-    requires total { people_of (problem_at ground.now.ordered.now) (places_below (length ground.now.ordered.now.order)) ≤ ground.now.ordered.now.problem.total_people }
-    requires bound { ground.now.ordered.now.problem.total_people ≤ 2 ^ 40 }
-    requires least { ground.now.least ≡ (people_bounds (problem_at ground.now.ordered.now) 1).0 }
-    requires most { HasMost (problem_at ground.now.ordered.now) (C.test growth.now.free) ground.now.most }
-    ensures { IfOk
-        result
-        (λ passed. IsTrue passed
-        → (keep : List ℕ → Bool)
-        → Decides ground.now.language (problem_at ground.now.ordered.now) (length ground.now.ordered.now.order) ground.now.limit ground.now.exact (state_of C.test ground.now.state.now) keep
-        → AreKept (problem_at ground.now.ordered.now) (length ground.now.ordered.now.order) ground.now.limit keep (C.test growth.now.set) (C.test growth.now.free) []) }
-{
-    if stays_small(ground, &growth.set, growth.people) {
-        return Ok(true);
-    }
-    strands(
-        alloc,
-        ground.ordered,
-        ground.near,
-        ground.language,
-        ground.state,
-        &growth.set,
-        &growth.free,
-    )
 }
 
 /// Puts a connected set, which has so many people, behind the groups if it is kept.
@@ -299,8 +239,7 @@ fn without_place<C: CountySet>(growth: Growth<C>, place: u16) -> Growth<C>
 
 /// Puts the connected sets that have all of a set, else only free places, and that are kept, behind the
 /// groups. The front has the free places that are adjacent to the set. A step is taken for each connected set that
-/// is met; sets that stay below the fewest people that suit a seat, and sets that leave a part behind that can't be
-/// filled, are passed over.
+/// is met; `is_passed_over` says which sets are passed over.
 pub(crate) fn grow<C: CountySet>(
     alloc: Global,
     ground: &Ground<C>,
@@ -317,8 +256,7 @@ pub(crate) fn grow<C: CountySet>(
     requires people { growth.people ≡ people_of (problem_at ground.now.ordered.now) (places_of (length ground.now.ordered.now.order) (C.test growth.set)) }
     requires total { people_of (problem_at ground.now.ordered.now) (places_below (length ground.now.ordered.now.order)) ≤ ground.now.ordered.now.problem.total_people }
     requires bound { ground.now.ordered.now.problem.total_people ≤ 2 ^ 40 }
-    requires least { ground.now.least ≡ (people_bounds (problem_at ground.now.ordered.now) 1).0 }
-    requires most { HasMost (problem_at ground.now.ordered.now) (C.test growth.free) ground.now.most }
+    requires tables { AreTables ground.now.language (problem_at ground.now.ordered.now) (length ground.now.ordered.now.order) ground.now.limit (C.test ground.now.state.now.rest) (C.test growth.free) ground.now.tables.now }
     ensures listed { OnOk
         result
         ((keep : List ℕ → Bool)

@@ -3,10 +3,15 @@
 //! serves.
 #![tactic(auto)]
 
+mod ground;
 mod grow;
 mod lists;
+mod passing;
+mod people;
 mod sorting;
 mod stop;
+mod tables;
+mod windows;
 
 pub use lists::{groups_at, groups_of};
 pub use stop::Stop;

@@ -3,17 +3,20 @@ ghost use Rattle.grouping_laws.specs.Places.{places_below};
 ghost use Rattle.ordered_counties.specs.OrderedValue.{problem_at};
 ghost use Rattle.county_regions.specs.Rows.{AreRows};
 ghost use Rattle.growing_sets.specs.Growing.{only, IsFront};
-ghost use Rattle.growing_sets.specs.Listing.{lists_of, AreBelow, HasMost, IsListed, HasStepped, OneStepEach};
+ghost use Rattle.growing_sets.specs.Listing.{lists_of, AreBelow, IsListed, HasStepped, OneStepEach};
 ghost use Rattle.proof_trees.specs.Round.{Round};
 ghost use Rattle.proof_trees.specs.State.{open_to};
 ghost use Rattle.proof_trees.specs.StateValue.{state_of};
 ghost use Rattle.proof_trees.specs.Groups.{IsSetAt, AreGroupsAt, IsSetWithin, AreGroupsOf};
 ghost use Rattle.fitting_groups.specs.Keeping.{Decides, others};
+ghost use Rattle.fitting_groups.specs.People.{AreTables};
 ghost use Rattle.fitting_groups.specs.declared.stop.Stop.{Stop};
 
-use crate::grow::{Ground, Growth, grow};
+use crate::ground::{Ground, Growth};
+use crate::grow::grow;
 use crate::sorting::sorted;
 use crate::stop::Stop;
+use crate::tables::{Tables, make_tables};
 use ordered_counties::{Ordered, Steps};
 use place_sets::CountySet;
 use proof_trees::{Language, State};
@@ -26,20 +29,6 @@ fn only_place<C: CountySet>(alloc: Global, place: u16) -> Result<C, AllocError>
     ensures { IfOk result (λ s. (x : ℕ) → C.test s x ≡ only place x) }
 {
     C::empty(alloc)?.with(alloc, place)
-}
-
-/// The greatest people of a place of the set; 0 where there is none.
-fn most_in<C: CountySet>(ordered: &Ordered, set: &C) -> u32
-    requires { (x : ℕ) → C.test set.now x ≡ true → x < length ordered.now.order }
-    ensures { HasMost (problem_at ordered.now) (C.test set.now) result }
-{
-    let mut most = 0;
-    let mut from = 0;
-    while let Some(place) = set.next(from) {
-        most = most.max(ordered.people(place));
-        from = u32::from(place) + 1;
-    }
-    most
 }
 
 /// The growth that begins with the place alone, in the region.
@@ -83,6 +72,7 @@ fn search<C: CountySet>(
     place: u16,
     limit: u16,
     exact: bool,
+    tables: &Tables,
     steps: &mut Steps,
     groups: &mut Vec<C>,
 ) -> Result<(), Stop>
@@ -93,6 +83,7 @@ fn search<C: CountySet>(
     requires some { 1 ≤ limit }
     requires below { (x : ℕ) → C.test region x ≡ true → x < length ordered.now.order }
     requires there { C.test region place ≡ true }
+    requires tables { AreTables language (problem_at ordered.now) (length ordered.now.order) limit (C.test state.now.rest) (C.test region) tables.now }
     ensures listed { OnOk
         result
         ((keep : List ℕ → Bool)
@@ -104,8 +95,7 @@ fn search<C: CountySet>(
     ensures stopped { IsErrOf result Stop.StepLimit → steps.new.used ≡ steps.new.limit }
 {
     let _places = ordered.places();
-    let problem = ordered.problem();
-    let _at_most = problem.total_people();
+    let _at_most = ordered.problem().total_people();
     let growth = start(alloc, ordered, near, region, place)?;
     let ground = Ground {
         ordered,
@@ -114,8 +104,7 @@ fn search<C: CountySet>(
         state,
         limit,
         exact,
-        least: problem.district_bounds(1).0,
-        most: most_in(ordered, &growth.free),
+        tables,
     };
     grow(alloc, &ground, growth, steps, groups)
 }
@@ -158,9 +147,11 @@ pub fn groups_at<C: CountySet>(
 {
     let _places = ordered.places();
     let region = open_places(alloc, state, limit)?;
+    let tables = make_tables(alloc, ordered, language, state, &region, limit)?;
     let mut sets = Vec::new(alloc);
     search(
-        alloc, ordered, near, language, state, region, place, limit, false, steps, &mut sets,
+        alloc, ordered, near, language, state, region, place, limit, false, &tables, steps,
+        &mut sets,
     )?;
     Ok(sorted(sets)?)
 }
@@ -198,11 +189,13 @@ pub fn groups_of<C: CountySet>(
 {
     let _places = ordered.places();
     let mut region = open_places(alloc, state, size)?;
+    let tables = make_tables(alloc, ordered, language, state, &region, size)?;
     let mut sets = Vec::new(alloc);
     while let Some(place) = region.next(0) {
         let left = region.copy(alloc)?;
         search(
-            alloc, ordered, near, language, state, left, place, size, true, steps, &mut sets,
+            alloc, ordered, near, language, state, left, place, size, true, &tables, steps,
+            &mut sets,
         )?;
         region = region.without(place);
     }

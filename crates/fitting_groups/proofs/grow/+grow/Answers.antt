@@ -2,15 +2,16 @@ use Rattle.std.proofs.Common.{◌≡◌, ℕ, refl, sym, ap, ◌∙◌, subst, l
 use Rattle.std.proofs.lemmas.Result.{IfOk-from_err}
 use mathlib.Core.Path.{fun_ext}
 use Rattle.growing_sets.specs.Growing.{IsGrowth, IsMove, IsFront}
-use Rattle.growing_sets.specs.Listing.{HasMost, IsListed, HasStepped}
+use Rattle.growing_sets.specs.Listing.{IsListed, HasStepped}
 use Rattle.growing_sets.proofs.Fronts.{skipped_front}
 use Rattle.growing_sets.proofs.Growing.{skipped_growth, fewer_free}
 use Rattle.growing_sets.proofs.Listing.{on_ok, listed_none, listed_fork, stepped_none, stepped_taken, stepped_fork}
-use Rattle.growing_sets.proofs.People.{fewer_most}
 use Rattle.grouping_laws.specs.Problem.{people_of}
 use Rattle.place_lists.specs.PlaceSets.{places_of}
 use Rattle.ordered_counties.specs.OrderedValue.{problem_at}
 use Rattle.fitting_groups.specs.declared.stop.Stop.TheVariants.{StepLimit}
+use Rattle.fitting_groups.specs.People.{AreTables}
+use Rattle.fitting_groups.proofs.PeopleBounds.{moved_tables}
 use Rattle.fitting_groups.proofs.Failing.{refused_not_stopped, handed_on}
 use Rattle.fitting_groups.proofs.grow.+grow.Goals as goal
 
@@ -58,9 +59,10 @@ grow-requires g t c κs within =
     let free = c.in-Some.ensures.0.is_free in
     let m = c.in_ok-joined-in-Some.ensures.moved in
     let fewer = fewer_free p n limit (test growth.set) (test growth.free) more less place c.requires.growth free m in
-    let most : HasMost p less c.args.ground.now.most = fewer_most p (test growth.set) (test growth.free) more less place c.args.ground.now.most m c.requires.most in
+    let ground = c.args.ground.now in
+    let tables : AreTables ground.language p n limit (test ground.state.now.rest) less ground.tables.now = moved_tables ground.language p n limit (test ground.state.now.rest) (test growth.set) (test growth.free) more less place ground.tables.now m c.requires.tables in
     let joined = c.in_ok-joined-in-Some.ensures in
-    (first_of (omega (arith, fewer), search (rules, fewer)), (within, (c.requires.fits, (c.requires.rows, (c.requires.places, (c.requires.rest, (joined.growth, (joined.front, (joined.people, (c.requires.total, (c.requires.bound, (c.requires.least, most))))))))))))
+    (first_of (omega (arith, fewer), search (rules, fewer)), (within, (c.requires.fits, (c.requires.rows, (c.requires.places, (c.requires.rest, (joined.growth, (joined.front, (joined.people, (c.requires.total, (c.requires.bound, tables)))))))))))
 
 pub grow-requires-in-Some : goal.grow-requires-in-Some
 grow-requires-in-Some g t c κs within =
@@ -79,11 +81,12 @@ grow-requires-in-Some g t c κs within =
     let set = c.without_place-others.ensures.set in
     let h : IsGrowth p n limit (test growth.set) rest = skipped_growth p n limit (test growth.set) (test growth.free) more rest place c.requires.growth n2 in
     let fewer = fewer_free p n limit (test growth.set) (test growth.free) more rest place c.requires.growth free n2 in
-    let most : HasMost p rest c.args.ground.now.most = fewer_most p (test growth.set) (test growth.free) more rest place c.args.ground.now.most n2 c.requires.most in
+    let ground = c.args.ground.now in
+    let tables : AreTables ground.language p n limit (test ground.state.now.rest) rest ground.tables.now = moved_tables ground.language p n limit (test ground.state.now.rest) (test growth.set) (test growth.free) more rest place ground.tables.now n2 c.requires.tables in
     let front : IsFront p (test growth.set) rest (test c.without_place-others.result.front) =
     skipped_front p (test growth.set) (test growth.free) (test growth.front) more rest (test c.without_place-others.result.front) place n2 c.requires.front c.without_place-others.ensures.front in
     let people : c.without_place-others.result.people ≡ people_of p (places_of n (test c.without_place-others.result.set)) = c.without_place-others.ensures.people ∙ (c.requires.people ∙ ap (λ (z : g.row.C.Denot). people_of p (places_of n (test z))) (sym set)) in
-    (first_of (omega (arith, fewer), search (rules, fewer)), (within, (c.requires.fits, (c.requires.rows, (c.requires.places, (c.requires.rest, (subst (λ (z : g.row.C.Denot). IsGrowth p n limit (test z) rest) (sym set) h, (subst (λ (z : g.row.C.Denot). IsFront p (test z) rest (test c.without_place-others.result.front)) (sym set) front, (people, (c.requires.total, (c.requires.bound, (c.requires.least, most))))))))))))
+    (first_of (omega (arith, fewer), search (rules, fewer)), (within, (c.requires.fits, (c.requires.rows, (c.requires.places, (c.requires.rest, (subst (λ (z : g.row.C.Denot). IsGrowth p n limit (test z) rest) (sym set) h, (subst (λ (z : g.row.C.Denot). IsFront p (test z) rest (test c.without_place-others.result.front)) (sym set) front, (people, (c.requires.total, (c.requires.bound, tables)))))))))))
 
 pub returns-in_ok-grow-in-Some-clause-steps : goal.returns-in_ok-grow-in-Some-clause-steps
 returns-in_ok-grow-in-Some-clause-steps g t c =

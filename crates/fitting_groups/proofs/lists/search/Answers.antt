@@ -1,5 +1,6 @@
-use Rattle.std.proofs.Common.{◌≡◌, ℕ, Bool, refl, ap, ◌∙◌, sym, subst, length}
+use Rattle.std.proofs.Common.{◌≡◌, ℕ, ◌==◌, Bool, not, refl, ap, ◌∙◌, sym, subst, length}
 use mathlib.Core.Path.{fun_ext}
+use Rattle.std.proofs.lemmas.Bool.{and_parts}
 use Rattle.std.proofs.lemmas.Result.{IfOk-from_err}
 use Rattle.grouping_laws.specs.Problem.{people_of}
 use Rattle.place_lists.specs.PlaceSets.{places_of}
@@ -11,6 +12,7 @@ use Rattle.growing_sets.proofs.People.{people_only}
 use Rattle.growing_sets.proofs.Listing.{on_ok, stepped_none}
 use Rattle.proof_trees.proofs.RegionGrowthLemmas.{regions_are_grown}
 use Rattle.fitting_groups.specs.Keeping.{others}
+use Rattle.fitting_groups.proofs.PeopleBounds.{fewer_tables}
 use Rattle.fitting_groups.proofs.Failing.{refused_not_stopped}
 use Rattle.fitting_groups.proofs.lists.search.Goals as goal
 
@@ -83,5 +85,11 @@ returns-in_err-growth-clause-steps g c =
 pub grow-requires-clause-front : goal.grow-requires-clause-front
 grow-requires-clause-front g c = c.in_ok-growth.ensures.front
 
-pub grow-requires-clause-most : goal.grow-requires-clause-most
-grow-requires-clause-most g c = c.most_in.ensures
+pub grow-requires-clause-tables : goal.grow-requires-clause-tables
+grow-requires-clause-tables g c =
+    let test = g.C.CountySet.test in
+    let p = problem_at c.args.ordered.now in
+    let n = length c.args.ordered.now.order in
+    let free = test c.in_ok-growth.growth.free in
+    fewer_tables c.args.language p n c.args.limit (test c.args.state.now.rest) (test c.args.region) free c.args.tables.now
+    (λ x e. (and_parts (test c.args.region x) (not (x == c.args.place)) (sym (c.in_ok-growth.ensures.free x) ∙ e)).0) c.requires.tables

@@ -1,0 +1,16 @@
+use Rattle.std.proofs.Common.{◌≡◌, ℕ, Bool, true, sym, subst, length, arith, rules}
+use Rattle.ordered_counties.specs.OrderedValue.{problem_at}
+use Rattle.fitting_groups.specs.People.{AreByPeople}
+use Rattle.fitting_groups.proofs.PeopleBounds.{least_joins}
+use Rattle.fitting_groups.proofs.passing.fewest_more.Goals as goal
+
+pub returns-clause-least : goal.returns-clause-least
+returns-clause-least g c =
+    let p = problem_at c.args.ground.now.ordered.now in
+    let n = length c.args.ground.now.ordered.now.order in
+    let reach = g.C.CountySet.test c.args.reach.now in
+    let are : AreByPeople p n reach c.deref.result.now = subst (AreByPeople p n reach) (sym c.deref.ensures.value) c.requires.places in
+    let exact : c.args.ground.now.exact ≡ true = search (rules, c.if-not-ground.false) in
+    λ joins within size.
+    let least = least_joins p n reach c.deref.result.now are reach (λ x e. e) c.requires.below joins within c.args.more (omega (arith, size exact)) in
+    omega (arith, c.first_people.ensures.sum, least)

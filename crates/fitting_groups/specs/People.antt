@@ -1,0 +1,35 @@
+-- What a search knows of people: the places of a region by their people, and the people that suit numbers of seats.
+use Rattle.std.specs.Prelude.{ℕ, ◌≡◌, ◌<◌, ◌≤◌, ◌==◌, Bool, true, List, Option, Some, None, All, Contains, length, ⊤}
+use Rattle.std.specs.List.Sorted.{IsNonDecreasingBy}
+use Rattle.grouping_laws.specs.Sets.{digit, total}
+use Rattle.grouping_laws.specs.Problem.{Problem, Suits, people_of}
+use Rattle.place_lists.specs.PlaceSets.{places_of}
+use Rattle.certificate_languages.specs.declared.language.Language.{Language}
+use Rattle.certificate_languages.specs.declared.language.Language.TheVariants.{Wide}
+use Rattle.fitting_groups.specs.declared.tables.Tables.{Tables}
+
+-- places below n with their people, the fewest people first, each place of the region once
+pub record AreByPeople (p : Problem) (n : ℕ) (region : ℕ → Bool) (places : List (ℕ × ℕ)) : Type 0 where
+  pub each : All (λ r. (r.0 ≡ p.people r.1) × (r.1 < n)) places
+  pub once : (c : ℕ) → region c ≡ true → total (λ (r : ℕ × ℕ). digit (r.1 == c)) places ≡ 1
+  pub rising : IsNonDecreasingBy (λ (r : ℕ × ℕ). r.0) places
+  pub few : length places ≤ 65536
+
+-- some window of the list has so many people
+abbrev pub HasWindow : List (ℕ × ℕ) → ℕ → Type 0
+HasWindow windows people = (w : ℕ × ℕ) × Contains windows w × (w.0 ≤ people) × (people ≤ w.1)
+
+-- any number of people that suits some number of seats, up to a greatest one, is in a window of the list
+abbrev pub AreWindows : Problem → ℕ → List (ℕ × ℕ) → Type 0
+AreWindows p greatest windows = (people seats : ℕ) → people ≤ greatest → Suits p people seats → HasWindow windows people
+
+-- in a wide language the people of the rest, where the rest has more places than the limit; else nothing
+abbrev pub IsDivided : Language → Problem → ℕ → ℕ → (ℕ → Bool) → Option ℕ → Type 0
+IsDivided language p n limit rest None = ⊤
+IsDivided language p n limit rest (Some all) = (language ≡ Wide) × (all ≡ people_of p (places_of n rest)) × (limit < length (places_of n rest))
+
+-- what is made once for a state: the places of a region by people, the windows up to the people of the rest, and these people
+pub record AreTables (language : Language) (p : Problem) (n limit : ℕ) (rest region : ℕ → Bool) (tables : Tables) : Type 0 where
+  pub by_people : AreByPeople p n region tables.by_people.items
+  pub windows : AreWindows p (people_of p (places_of n rest)) tables.windows.items
+  pub divided : IsDivided language p n limit rest tables.rest_people

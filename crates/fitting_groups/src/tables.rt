@@ -1,0 +1,66 @@
+ghost use Rattle.std.specs.Prelude.{◌≡◌, ℕ, true, ◌<◌, ◌≤◌, length, IfOk};
+ghost use Rattle.place_lists.specs.PlaceSets.{places_of};
+ghost use Rattle.ordered_counties.specs.OrderedValue.{problem_at};
+ghost use Rattle.fitting_groups.specs.People.{AreTables, IsDivided};
+
+use crate::people::places_by_people;
+use crate::windows::seat_windows;
+use ordered_counties::Ordered;
+use place_sets::CountySet;
+use proof_trees::{Language, State};
+use state_tests::people_in;
+use std::alloc::{AllocError, Global};
+
+/// What is made once for a state: the places that may join a set with their people, the fewest people first; the
+/// least and the greatest number of people of each number of seats; and the people of the rest, if any group leaves
+/// a part of it that suits some number of seats.
+#[derive(Drop)]
+pub(crate) struct Tables {
+    pub(crate) by_people: Vec<(u32, u16)>,
+    pub(crate) windows: Vec<(u64, u64)>,
+    pub(crate) rest_people: Option<u64>,
+}
+
+/// The people of the rest, if the language is wide and no group of at most `limit` counties has all of the rest.
+fn divided_people<C: CountySet>(
+    ordered: &Ordered,
+    language: Language,
+    state: &State<C>,
+    limit: u16,
+) -> Option<u64>
+    requires { (x : ℕ) → C.test state.now.rest x ≡ true → x < length ordered.now.order }
+    ensures { IsDivided language (problem_at ordered.now) (length ordered.now.order) limit (C.test state.now.rest) result }
+{
+    match language {
+        Language::Plain => None,
+        Language::Wide => {
+            if state.rest.size() <= u32::from(limit) {
+                return None;
+            }
+            Some(people_in(ordered, &state.rest))
+        }
+    }
+}
+
+/// The tables for a state and a region of its rest.
+pub(crate) fn make_tables<C: CountySet>(
+    alloc: Global,
+    ordered: &Ordered,
+    language: Language,
+    state: &State<C>,
+    region: &C,
+    limit: u16,
+) -> Result<Tables, AllocError>
+    requires fits { length ordered.now.order ≤ C.PLACES }
+    requires rest { (x : ℕ) → C.test state.now.rest x ≡ true → x < length ordered.now.order }
+    requires below { (x : ℕ) → C.test region.now x ≡ true → x < length ordered.now.order }
+    ensures { IfOk
+        result
+        (λ t. AreTables language (problem_at ordered.now) (length ordered.now.order) limit (C.test state.now.rest) (C.test region.now) t) }
+{
+    Ok(Tables {
+        by_people: places_by_people(alloc, ordered, region)?,
+        windows: seat_windows(alloc, ordered, people_in(ordered, &state.rest))?,
+        rest_people: divided_people(ordered, language, state, limit),
+    })
+}
