@@ -9,4 +9,5 @@ mod sorting;
 mod stop;
 
 pub use lists::{groups_at, groups_of};
+pub use sorting::sorted;
 pub use stop::Stop;

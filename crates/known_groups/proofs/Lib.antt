@@ -3,3 +3,4 @@ pub mod Those
 pub mod LivePlaces
 pub mod KeptSteps
 pub mod Closing
+pub mod PartFits

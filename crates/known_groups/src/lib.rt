@@ -11,6 +11,6 @@ mod part_lists;
 mod size_groups;
 
 pub use kept_groups::{groups_apart, groups_having, groups_lacking, live_groups};
-pub use laws::known_serves;
+pub use laws::{known_serves, parts_serve};
 pub use part_lists::PartLists;
 pub use size_groups::groups_of_size;
