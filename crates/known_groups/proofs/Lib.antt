@@ -4,3 +4,4 @@ pub mod LivePlaces
 pub mod KeptSteps
 pub mod Closing
 pub mod PartFits
+pub mod PartSteps

@@ -1,5 +1,5 @@
 -- Lists of the groups of a part by itself, kept for each state whose rest has the part.
-use Rattle.std.specs.Prelude.{ℕ, ◌≡◌, Bool, All}
+use Rattle.std.specs.Prelude.{ℕ, ◌≡◌, Bool, List, ◌++◌, All}
 use Rattle.grouping_laws.specs.Problem.{Problem}
 use Rattle.grouping_laws.specs.Places.{places_below}
 use Rattle.growing_sets.specs.Listing.{AreBelow, lists_of}
@@ -10,11 +10,27 @@ use Rattle.known_groups.specs.Alone.{alone}
 use Rattle.known_groups.specs.declared.part_lists.PartList.{PartList}
 use Rattle.known_groups.specs.declared.part_lists.PartLists.{PartLists}
 
--- All groups of the list's size that fit its part by itself in a wide language, sorted by lists of places. They name no round, so
--- they serve each one.
+-- All groups of the size that fit the region by itself in a wide language, sorted by lists of places. They name nothing of a round but
+-- its order.
+abbrev pub AreGroupsAlone : Problem → ℕ → (ℕ → Bool) → ℕ → List (List ℕ) → Type 0
+AreGroupsAlone p n region size groups = (round : Round) → round.order ≡ places_below n → round.language ≡ Wide → AreGroupsOf p round (alone region size) size groups
+
+-- the list has all groups of its size that fit its part by itself
 pub record IsPartList {C : Type 0} (test : C → ℕ → Bool) (p : Problem) (n : ℕ) (list : PartList C) : Type 0 where
-  pub groups : (round : Round) → round.order ≡ places_below n → round.language ≡ Wide → AreGroupsOf p round (alone (test list.part) list.size) list.size (lists_of n test list.groups.items)
+  pub groups : AreGroupsAlone p n (test list.part) list.size (lists_of n test list.groups.items)
   pub below : AreBelow n test list.groups.items
+
+-- the list is that of the part and the size
+pub record IsListFor {C : Type 0} (test : C → ℕ → Bool) (part : C) (size : ℕ) (list : PartList C) : Type 0 where
+  pub same_part : (x : ℕ) → test list.part x ≡ test part x
+  pub same_size : list.size ≡ size
+
+-- all groups of the size that fit the part by itself are put behind the sets that were there
+pub record ArePut {C : Type 0} (test : C → ℕ → Bool) (p : Problem) (n : ℕ) (part : C) (size : ℕ) (old new : List C) : Type 0 where
+  pub found : List (List ℕ)
+  pub more : lists_of n test new ≡ lists_of n test old ++ found
+  pub groups : AreGroupsAlone p n (test part) size found
+  pub below : AreBelow n test old → AreBelow n test new
 
 -- each list that is kept is one of its part and its size
 abbrev pub AreListsOf : {C : Type 0} → (C → ℕ → Bool) → Problem → ℕ → PartLists C → Type 0
