@@ -5,3 +5,4 @@ pub mod KeptSteps
 pub mod Closing
 pub mod PartFits
 pub mod PartSteps
+pub mod PartGroups

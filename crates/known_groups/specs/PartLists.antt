@@ -1,12 +1,13 @@
 -- Lists of the groups of a part by itself, kept for each state whose rest has the part.
-use Rattle.std.specs.Prelude.{ℕ, ◌≡◌, Bool, List, ◌++◌, All}
+use Rattle.std.specs.Prelude.{ℕ, ◌≡◌, ◌≢◌, Bool, List, ◌++◌, length, filter, All, AllPairs, Contains, ◌↔◌}
+use Rattle.grouping_laws.specs.Sets.{member}
 use Rattle.grouping_laws.specs.Problem.{Problem}
 use Rattle.grouping_laws.specs.Places.{places_below}
 use Rattle.growing_sets.specs.Listing.{AreBelow, lists_of}
 use Rattle.certificate_languages.specs.declared.language.Language.TheVariants.{Wide}
 use Rattle.proof_trees.specs.Round.{Round}
 use Rattle.proof_trees.specs.Groups.{AreGroupsOf}
-use Rattle.known_groups.specs.Alone.{alone}
+use Rattle.known_groups.specs.Alone.{alone, FitsPart}
 use Rattle.known_groups.specs.declared.part_lists.PartList.{PartList}
 use Rattle.known_groups.specs.declared.part_lists.PartLists.{PartLists}
 
@@ -31,6 +32,18 @@ pub record ArePut {C : Type 0} (test : C → ℕ → Bool) (p : Problem) (n : �
   pub more : lists_of n test new ≡ lists_of n test old ++ found
   pub groups : AreGroupsAlone p n (test part) size found
   pub below : AreBelow n test old → AreBelow n test new
+
+-- a group of the size that fits one of the parts by itself, its places in order
+pub record IsPartGroup (p : Problem) (n size : ℕ) (parts : List (List ℕ)) (g : List ℕ) : Type 0 where
+  pub fits : FitsPart p parts size g
+  pub in_order : filter (member g) (places_below n) ≡ g
+  pub size_is : length g ≡ size
+
+-- the sets are all such groups, each once
+pub record ArePartGroups {C : Type 0} (test : C → ℕ → Bool) (p : Problem) (n size : ℕ) (parts groups : List C) : Type 0 where
+  pub each : (g : List ℕ) → Contains (lists_of n test groups) g ↔ IsPartGroup p n size (lists_of n test parts) g
+  pub once : AllPairs (λ g h. g ≢ h) (lists_of n test groups)
+  pub below : AreBelow n test groups
 
 -- each list that is kept is one of its part and its size
 abbrev pub AreListsOf : {C : Type 0} → (C → ℕ → Bool) → Problem → ℕ → PartLists C → Type 0
