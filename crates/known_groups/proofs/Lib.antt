@@ -6,3 +6,4 @@ pub mod Closing
 pub mod PartFits
 pub mod PartSteps
 pub mod PartGroups
+pub mod NextSize

@@ -1,5 +1,5 @@
 -- The groups of parts, found part by part and sorted, are those of the state.
-use Rattle.std.proofs.Common.{◌≡◌, ℕ, ◌+◌, ◌*◌, ◌≤◌, ◌<◌, Bool, true, List, [], ◌∷◌, ◌++◌, map, take, drop, filter, length, get_or, refl, sym, ap, ◌∙◌, subst, arith, ◌⊎◌, inl, inr, ⊎_elim, AllPairs, Contains, None}
+use Rattle.std.proofs.Common.{◌≡◌, ℕ, ◌+◌, ◌*◌, ◌≤◌, ◌<◌, Bool, true, List, [], ◌∷◌, ◌++◌, map, take, drop, filter, length, get_or, refl, sym, ap, ◌∙◌, subst, arith, ◌⊎◌, inl, inr, ⊎_elim, All, AllPairs, Contains, None}
 use mathlib.Core.Path.{fun_ext}
 use Rattle.std.specs.Cmp.Lexicographic.{slice_cmp}
 use Rattle.std.specs.Ordering.{nat_cmp, is_lt}
@@ -213,3 +213,7 @@ found_groups C test p n size s parts found groups is next are_parts are moved so
       in_order = subst (λ z. filter (member g) z ≡ g) order f.in_order;
       size_is = f.size;
     }))
+
+-- parts inside a region have only places that the region has
+pub parts_below : (C : Type 0) (test : C → ℕ → Bool) (n : ℕ) (region : ℕ → Bool) (parts : List C) → ((x : ℕ) → region x ≡ true → x < n) → All (λ s. (x : ℕ) → test s x ≡ true → region x ≡ true) parts → AreBelow n test parts
+parts_below C test n region parts below inside = λ k d l x e. below x (inside k d l x e)

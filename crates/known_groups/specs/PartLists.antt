@@ -6,8 +6,9 @@ use Rattle.grouping_laws.specs.Places.{places_below}
 use Rattle.growing_sets.specs.Listing.{AreBelow, lists_of}
 use Rattle.certificate_languages.specs.declared.language.Language.TheVariants.{Wide}
 use Rattle.proof_trees.specs.Round.{Round}
+use Rattle.proof_trees.specs.State.{State}
 use Rattle.proof_trees.specs.Groups.{AreGroupsOf}
-use Rattle.known_groups.specs.Alone.{alone, FitsPart}
+use Rattle.known_groups.specs.Alone.{alone, IsNextSize, FitsPart}
 use Rattle.known_groups.specs.declared.part_lists.PartList.{PartList}
 use Rattle.known_groups.specs.declared.part_lists.PartLists.{PartLists}
 
@@ -44,6 +45,13 @@ pub record ArePartGroups {C : Type 0} (test : C → ℕ → Bool) (p : Problem) 
   pub each : (g : List ℕ) → Contains (lists_of n test groups) g ↔ IsPartGroup p n size (lists_of n test parts) g
   pub once : AllPairs (λ g h. g ≢ h) (lists_of n test groups)
   pub below : AreBelow n test groups
+
+-- The sets are the groups of the size that fit each state which has the region as its rest and of which the size is next, sorted by
+-- lists of places.
+abbrev pub AreNextGroups : {C : Type 0} → (C → ℕ → Bool) → Problem → ℕ → (ℕ → Bool) → ℕ → List C → Type 0
+AreNextGroups test p n region size groups =
+    (s : State) → s.rest ≡ region → IsNextSize p s size
+    → (round : Round) → round.order ≡ places_below n → round.language ≡ Wide → AreGroupsOf p round s size (lists_of n test groups)
 
 -- each list that is kept is one of its part and its size
 abbrev pub AreListsOf : {C : Type 0} → (C → ℕ → Bool) → Problem → ℕ → PartLists C → Type 0

@@ -1,22 +1,19 @@
 ghost use Rattle.std.specs.Prelude.{◌≡◌, ℕ, ◌*◌, ◌≤◌, ◌<◌, true, List, length, IfOk, IsErrOf, IsTrue, ◌⊎◌, ◌↔◌};
 ghost use Rattle.grouping_laws.specs.Sets.{stands};
-ghost use Rattle.grouping_laws.specs.Places.{places_below};
 ghost use Rattle.grouping_problem.specs.ProblemValue.{problem_of};
 ghost use Rattle.ordered_counties.specs.OrderedValue.{problem_at};
 ghost use Rattle.county_regions.specs.Rows.{AreRows};
 ghost use Rattle.growing_sets.specs.Listing.{AreBelow, lists_of};
 ghost use Rattle.certificate_languages.specs.declared.language.Language.TheVariants.{Wide};
-ghost use Rattle.proof_trees.specs.Round.{Round};
 ghost use Rattle.proof_trees.specs.RoundValue.{round_of};
-ghost use Rattle.proof_trees.specs.State.{State, IsState};
+ghost use Rattle.proof_trees.specs.State.{IsState};
 ghost use Rattle.proof_trees.specs.StateValue.{state_of};
 ghost use Rattle.proof_trees.specs.Fitting.{Fits};
 ghost use Rattle.proof_trees.specs.Leaves.{IsStuck};
 ghost use Rattle.proof_trees.specs.Groups.{AreGroupsOf};
 ghost use Rattle.fitting_groups.specs.declared.stop.Stop.{Stop};
 ghost use Rattle.line_verdicts.specs.Placed.{state_at, codes_of_sets, IsPlaced};
-ghost use Rattle.known_groups.specs.Alone.{IsNextSize};
-ghost use Rattle.known_groups.specs.PartLists.{ArePartGroups, AreListsOf};
+ghost use Rattle.known_groups.specs.PartLists.{ArePartGroups, AreNextGroups, AreListsOf};
 
 use crate::part_lists::PartLists;
 use county_regions::parts_of;
@@ -94,15 +91,7 @@ fn rest_groups<C: CountySet>(
     requires below { (x : ℕ) → C.test rest.now x ≡ true → x < length ordered.now.order }
     requires size { 1 ≤ size }
     requires lists { AreListsOf C.test (problem_at ordered.now) (length ordered.now.order) lists.old }
-    ensures groups { IfOk
-        result
-        (λ v. (s : State)
-        → s.rest ≡ C.test rest.now
-        → IsNextSize (problem_at ordered.now) s size
-        → (round : Round)
-        → round.order ≡ places_below (length ordered.now.order)
-        → round.language ≡ Wide
-        → AreGroupsOf (problem_at ordered.now) round s size (lists_of (length ordered.now.order) C.test v.items)) }
+    ensures groups { IfOk result (λ v. AreNextGroups C.test (problem_at ordered.now) (length ordered.now.order) (C.test rest.now) size v.items) }
     ensures below { IfOk result (λ v. AreBelow (length ordered.now.order) C.test v.items) }
     ensures lists { AreListsOf C.test (problem_at ordered.now) (length ordered.now.order) lists.new }
     ensures more { steps.old.used ≤ steps.new.used }
