@@ -1,5 +1,5 @@
 -- Where no smaller group fits, a group of a size leaves only parts of at least that size.
-use Rattle.std.proofs.Common.{◌≡◌, ℕ, ◌+◌, ◌*◌, ◌≤◌, ◌<◌, Bool, true, false, cond, not, ◌&&◌, List, [], ◌∷◌, ◌++◌, length, ◌==◌, refl, sym, ap, ◌∙◌, subst, arith, ◌⊎◌, inl, inr, ⊎_elim}
+use Rattle.std.proofs.Common.{◌≡◌, ℕ, ◌+◌, ◌*◌, ◌≤◌, ◌<◌, Bool, true, false, cond, not, List, [], ◌∷◌, ◌++◌, length, ◌==◌, refl, sym, ap, ◌∙◌, subst, arith, ◌⊎◌, inl, inr, ⊎_elim}
 use Rattle.std.proofs.lemmas.Bool.{and_from, false≢true, cases_lt}
 use Rattle.std.proofs.lemmas.List.{length-append}
 use Rattle.county_codes.specs.declared.group.Group.{Group}
@@ -17,7 +17,7 @@ use Rattle.grouping_laws.proofs.Seated.{seated_sets, seated_has, first_code, set
 use Rattle.certificate_languages.specs.declared.language.Language.TheVariants.{Wide}
 use Rattle.proof_trees.specs.Regions.{without}
 use Rattle.proof_trees.specs.State.{State}
-use Rattle.proof_trees.specs.Stuck.{CannotFill, StuckPart}
+use Rattle.proof_trees.specs.Stuck.{CannotFill}
 use Rattle.proof_trees.specs.Fitting.{Fits}
 use Rattle.proof_trees.specs.Leaves.{IsStuck}
 use Rattle.proof_trees.proofs.Completion.{open_rest, is_open}

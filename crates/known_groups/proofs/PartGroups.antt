@@ -13,7 +13,7 @@ use Rattle.grouping_laws.specs.Problem.{Problem, IsProblem}
 use Rattle.grouping_laws.specs.Parts.{AreParts}
 use Rattle.grouping_laws.specs.GroupsFrom.{IsLesser, IsBefore, place}
 use Rattle.grouping_laws.specs.Places.{places_below}
-use Rattle.grouping_laws.proofs.Elements.{Has, has_all, has_get, all_from_has, has_append, has_left, has_right, has_from_contains, contains_from_has}
+use Rattle.grouping_laws.proofs.Elements.{Has, has_all, has_get, has_append, has_left, has_right, has_from_contains, contains_from_has}
 use Rattle.grouping_laws.proofs.Seated.{first_code}
 use Rattle.growing_sets.specs.Growing.{sort_key}
 use Rattle.growing_sets.specs.Listing.{AreBelow, lists_of}
@@ -26,7 +26,7 @@ use Rattle.proof_trees.specs.Groups.{IsGroupOf, AreGroupsOf}
 use Rattle.proof_trees.proofs.Completion.{open_rest}
 use Rattle.proof_trees.proofs.SortedKeys.{keys_before}
 use Rattle.proof_trees.proofs.StateLemmas.{own_places}
-use Rattle.known_groups.specs.Alone.{alone, IsNextSize, FitsPart}
+use Rattle.known_groups.specs.Alone.{alone, IsNextSize}
 use Rattle.known_groups.specs.PartLists.{IsPartGroup, ArePartGroups, ArePut}
 use Rattle.known_groups.proofs.PartFits.{parts_serve}
 
@@ -50,16 +50,8 @@ stands_some c (x ∷ xs) g (inl k) e = omega (arith, often_some c x (subst (λ z
 stands_some c (x ∷ xs) g (inr h) e = omega (arith, stands_some c xs g h e)
 
 -- a round by places in the wide language
-wide_round : ℕ → Round
+abbrev wide_round : ℕ → Round
 wide_round n = record { order = places_below n; limit = 0; target = None; language = Wide; window = None }
-
-wide_order : (n : ℕ) → (wide_round n).order ≡ places_below n
-unfolding wide_round
-wide_order n = refl
-
-wide_wide : (n : ℕ) → (wide_round n).language ≡ Wide
-unfolding wide_round
-wide_wide n = refl
 
 pub none_found : (C : Type 0) (test : C → ℕ → Bool) (p : Problem) (n size : ℕ) → ArePartGroups test p n size [] []
 none_found C test p n size = record {
@@ -125,10 +117,7 @@ module _ (C : Type 0) (test : C → ℕ → Bool) (p : Problem) (n size : ℕ) (
         omega (arith, apart c, whole, split, total-append (often c) (lists_of n test (take (i + 1) parts)) (lists_of n test (drop (i + 1) parts)), ap (stands c) onward, total-append (often c) before (own ∷ []))
 
     of_part : AreGroupsOf p (wide_round n) (alone (test part) size) size put.found
-    of_part = put.groups (wide_round n) (wide_order n) (wide_wide n)
-
-    as_wide : (g : List ℕ) → Fits Wide p (alone (test part) size) g → Fits (wide_round n).language p (alone (test part) size) g
-    as_wide g f = subst (λ l. Fits l p (alone (test part) size) g) (sym (wide_wide n)) f
+    of_part = put.groups (wide_round n) refl refl
 
     new_found : (g : List ℕ) → Has put.found g → IsPartGroup p n size (before ++ own ∷ []) g
     new_found g h =
@@ -137,10 +126,10 @@ module _ (C : Type 0) (test : C → ℕ → Bool) (p : Problem) (n size : ℕ) (
           fits = record {
             part = own;
             there = contains_from_has (before ++ own ∷ []) own (has_right before (own ∷ []) own (inl refl));
-            fits = subst (λ z. Fits Wide p (alone z size) g) (sym own_test) (subst (λ l. Fits l p (alone (test part) size) g) (wide_wide n) r.fits);
+            fits = subst (λ z. Fits Wide p (alone z size) g) (sym own_test) r.fits;
             room = room;
           };
-          in_order = subst (λ z. filter (member g) z ≡ g) (wide_order n) r.in_order;
+          in_order = r.in_order;
           size_is = r.size;
         }
 
@@ -157,8 +146,8 @@ module _ (C : Type 0) (test : C → ℕ → Bool) (p : Problem) (n size : ℕ) (
         at_one (inl k) = has_left (lists_of n test old) put.found g (has_from_contains (lists_of n test old) g ((are.each g).1 k))
         at_one (inr r) =
             let is : IsGroupOf p (wide_round n) (alone (test part) size) size g = record {
-              fits = as_wide g r.0;
-              in_order = subst (λ z. filter (member g) z ≡ g) (sym (wide_order n)) f.in_order;
+              fits = r.0;
+              in_order = f.in_order;
               size = f.size_is;
             } in
             has_right (lists_of n test old) put.found g (has_from_contains put.found g ((of_part.each g).1 is))
@@ -176,7 +165,7 @@ module _ (C : Type 0) (test : C → ℕ → Bool) (p : Problem) (n size : ℕ) (
     pub found_in : ArePartGroups test p n size (take (i + 1) parts) new
     found_in = record {
       each = λ g. subst (λ z. (Contains (lists_of n test new) g → IsPartGroup p n size z g) × (IsPartGroup p n size z g → Contains (lists_of n test new) g)) onward (into g, back g);
-      once = subst (AllPairs (λ g h. g ≡ h → ⊥)) (sym put.more) (distinct_pairs (lists_of n test old ++ put.found) (distinct_append (lists_of n test old) put.found (distinct_from_pairs (lists_of n test old) are.once) (distinct_from_pairs put.found (sorted_once (wide_round n).order put.found of_part.sorted)) one_part));
+      once = subst (AllPairs (λ g h. g ≡ h → ⊥)) (sym put.more) (distinct_pairs (lists_of n test old ++ put.found) (distinct_append (lists_of n test old) put.found (distinct_from_pairs (lists_of n test old) are.once) (distinct_from_pairs put.found (sorted_once (places_below n) put.found of_part.sorted)) one_part));
       below = put.below are.below;
     }
 

@@ -1,8 +1,9 @@
 -- What the calls that keep lists of groups of parts come to, step by step.
-use Rattle.std.proofs.Common.{◌≡◌, ℕ, ◌+◌, ◌≤◌, ◌<◌, Bool, true, List, [], ◌∷◌, ◌++◌, map, take, length, get_or, sym, ap, ◌∙◌, subst, arith, inl, inr, All}
+use Rattle.std.proofs.Common.{◌≡◌, ℕ, ◌+◌, ◌≤◌, ◌<◌, Bool, true, List, [], ◌∷◌, ◌++◌, map, take, length, get_or, refl, sym, ap, ◌∙◌, subst, arith, inl, inr, All}
 use mathlib.Core.Path.{fun_ext}
+use Rattle.std.proofs.Math.ListN.{set}
 use Rattle.std.proofs.lemmas.List.{append_assoc, map-append, map_push, take_more, take_all}
-use Rattle.std.proofs.lemmas.List.Elements.{All-append}
+use Rattle.std.proofs.lemmas.List.Elements.{All-append, All-set}
 use Rattle.grouping_laws.proofs.Elements.{Has, has_all, has_get, all_from_has}
 use Rattle.grouping_laws.specs.Problem.{Problem}
 use Rattle.growing_sets.specs.Listing.{AreBelow, lists_of}
@@ -66,3 +67,7 @@ put_list C test p n part size list old new for_it is more below = record {
 -- what holds of each of a list holds of one that stands there
 pub held_at : {S : Type 0} (P : S → Type 0) (list same : List S) (i : ℕ) (s : S) → same ≡ list → i < length same → s ≡ get_or same i s → All P list → P s
 held_at P list same i s e l at all = subst P (sym at) (subst (All P) (sym e) all i s l)
+
+-- where one of a list is changed, each still holds what held before
+pub held_changed : {S T : Type 0} (items : S → List T) (Q : T → Type 0) (list : List S) (i : ℕ) (old new : S) → old ≡ get_or list i old → i < length list → (All Q (items old) → All Q (items new)) → All (λ s. All Q (items s)) list → All (λ s. All Q (items s)) (set list i new)
+held_changed {S = S} items Q list i old new at l change all = All-set (λ (s : S). All Q (items s)) list i new (change (held_at (λ (s : S). All Q (items s)) list list i old refl l at all)) all

@@ -55,4 +55,4 @@ AreNextGroups test p n region size groups =
 
 -- each list that is kept is one of its part and its size
 abbrev pub AreListsOf : {C : Type 0} → (C → ℕ → Bool) → Problem → ℕ → PartLists C → Type 0
-AreListsOf test p n lists = All (λ shelf. All (IsPartList test p n) shelf.items) lists.shelves.items
+AreListsOf test p n lists = All (λ bucket. All (IsPartList test p n) bucket.items) lists.buckets.items

@@ -3,6 +3,10 @@
 //! It keeps one list, of the groups of one size, and knows that no smaller group fits. Where a group is closed,
 //! those that meet it go; where a county is raised past the size, those that have it go; and dead ones are left
 //! out where the list is tested. `specs/Known` has the definitions.
+//!
+//! Where no group is left, it lists the groups of the next size. They are those that fit the connected parts of the
+//! rest, each part by itself, so that lists of parts are kept for all states. `specs/Alone` and `specs/PartLists`
+//! have the definitions.
 #![tactic(auto)]
 
 mod kept_groups;

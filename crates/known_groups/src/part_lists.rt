@@ -14,12 +14,13 @@ use place_sets::CountySet;
 use proof_trees::{Language, State};
 use std::alloc::{AllocError, Global};
 
-/// How many shelves there are: a prime number, so that parts with many places in common stand apart.
-const SHELVES: u32 = 1021;
+/// How many buckets there are, a prime number.
+const BUCKETS: u32 = 1021;
 
-/// Where there are so many lists, or so many groups in them, the lists are emptied before one more is kept.
+/// Where so many lists are kept, all of them go before one more is kept.
 const MOST_LISTS: usize = 20_000;
 
+/// Where the lists have so many groups, all of them go before one more is kept.
 const MOST_GROUPS: usize = 200_000;
 
 /// All groups of one size that fit a connected part by itself, by their lists of places.
@@ -30,11 +31,10 @@ pub(crate) struct PartList<C> {
     pub(crate) groups: Vec<C>,
 }
 
-/// Lists of groups by part and size. A part has one list for all states whose rest has the part, so that it is made
-/// once.
+/// Lists of groups by part and size. A part has one list for all states whose rest has the part.
 #[derive(Drop)]
 pub struct PartLists<C> {
-    pub(crate) shelves: Vec<Vec<PartList<C>>>,
+    pub(crate) buckets: Vec<Vec<PartList<C>>>,
     pub(crate) lists: usize,
     pub(crate) groups: usize,
 }
@@ -48,12 +48,12 @@ impl<C: CountySet> PartList<C> {
     }
 }
 
-/// The list of the part and the size on the shelf, if it has one.
-fn find<'a, C: CountySet>(shelf: &'a [PartList<C>], part: &C, size: u16) -> Option<&'a PartList<C>>
+/// The list of the part and the size, if the bucket has it.
+fn find<'a, C: CountySet>(bucket: &'a [PartList<C>], part: &C, size: u16) -> Option<&'a PartList<C>>
     ensures is_for { IfSome result (λ list. IsListFor C.test part.now size list.now) }
-    ensures there { IfSome result (λ list. (p : Problem) (n : ℕ) → All (IsPartList C.test p n) shelf.now → IsPartList C.test p n list.now) }
+    ensures there { IfSome result (λ list. (p : Problem) (n : ℕ) → All (IsPartList C.test p n) bucket.now → IsPartList C.test p n list.now) }
 {
-    for list in shelf {
+    for list in bucket {
         if list.is_for(part, size) {
             return Some(list);
         }
@@ -61,15 +61,15 @@ fn find<'a, C: CountySet>(shelf: &'a [PartList<C>], part: &C, size: u16) -> Opti
     None
 }
 
-/// The shelf of a part and a size: a number made of all places of the part.
-fn shelf_of<C: CountySet>(part: &C, size: u16) -> usize {
-    let mut number = u32::from(size) % SHELVES;
+/// The bucket of a part and a size. Each place of the part counts for it.
+fn bucket_of<C: CountySet>(part: &C, size: u16) -> usize {
+    let mut hash = u32::from(size) % BUCKETS;
     let mut from = 0;
     while let Some(place) = part.next(from) {
-        number = (number * 31 + u32::from(place)) % SHELVES;
+        hash = (hash * 31 + u32::from(place)) % BUCKETS;
         from = u32::from(place) + 1;
     }
-    number as usize
+    hash as usize
 }
 
 /// Puts copies of the sets behind the groups.
@@ -162,50 +162,50 @@ impl<C: CountySet> PartLists<C> {
         ensures lists { (p : Problem) (n : ℕ) → AreListsOf C.test p n result }
     {
         PartLists {
-            shelves: Vec::new(alloc),
+            buckets: Vec::new(alloc),
             lists: 0,
             groups: 0,
         }
     }
 
-    /// Empties the lists where they are full.
+    /// Where the lists are full, none is kept any more.
     fn make_room(&mut self, alloc: Global)
         ensures lists { (p : Problem) (n : ℕ) → AreListsOf C.test p n self.old → AreListsOf C.test p n self.new }
         ensures room { self.new.lists < 20000 }
     {
         if self.lists >= MOST_LISTS || self.groups >= MOST_GROUPS {
-            self.shelves = Vec::new(alloc);
+            self.buckets = Vec::new(alloc);
             self.lists = 0;
             self.groups = 0;
         }
     }
 
-    /// Makes shelves up to that one.
-    fn make_shelf(&mut self, alloc: Global, at: usize) -> Result<(), AllocError>
+    /// Makes empty buckets until there is that one.
+    fn make_bucket(&mut self, alloc: Global, at: usize) -> Result<(), AllocError>
         ensures lists { (p : Problem) (n : ℕ) → AreListsOf C.test p n self.old → AreListsOf C.test p n self.new }
-        ensures shelf { OnOk result (at < length self.new.shelves.items) }
+        ensures bucket { OnOk result (at < length self.new.buckets.items) }
         ensures same { self.new.lists ≡ self.old.lists }
     {
-        while self.shelves.len() <= at {
-            self.shelves.push(Vec::new(alloc))?;
+        while self.buckets.len() <= at {
+            self.buckets.push(Vec::new(alloc))?;
         }
         Ok(())
     }
 
-    /// Keeps the list on the shelf.
+    /// Keeps the list in the bucket.
     fn keep(&mut self, alloc: Global, at: usize, list: PartList<C>) -> Result<(), AllocError>
         ensures { (p : Problem) (n : ℕ) → IsPartList C.test p n list → AreListsOf C.test p n self.old → AreListsOf C.test p n self.new }
     {
         self.make_room(alloc);
-        self.make_shelf(alloc, at)?;
+        self.make_bucket(alloc, at)?;
         self.lists += 1;
         self.groups = self.groups.saturating_add(list.groups.len());
-        let shelf = &mut self.shelves[at];
-        shelf.push(list)?;
+        let bucket = &mut self.buckets[at];
+        bucket.push(list)?;
         Ok(())
     }
 
-    /// Puts copies of the groups of the size that fit the part by itself behind the groups, where the list is kept.
+    /// Where the list of the part and the size is kept, puts copies of its groups behind the groups.
     fn put_kept(
         &self,
         alloc: Global,
@@ -217,10 +217,10 @@ impl<C: CountySet> PartLists<C> {
         ensures put { IfOk result (λ kept. IsTrue kept → (p : Problem) (n : ℕ) → AreListsOf C.test p n self.now → ArePut C.test p n part.now size groups.old.items groups.new.items) }
         ensures same { IfOk result (λ kept. ¬ IsTrue kept → groups.new.items ≡ groups.old.items) }
     {
-        let Some(shelf) = self.shelves.get(at) else {
+        let Some(bucket) = self.buckets.get(at) else {
             return Ok(false);
         };
-        match find(shelf, part, size) {
+        match find(bucket, part, size) {
             Some(list) => {
                 put_copies(alloc, &list.groups, groups)?;
                 Ok(true)
@@ -229,11 +229,10 @@ impl<C: CountySet> PartLists<C> {
         }
     }
 
-    /// Puts the groups of the size that fit the part by itself behind the groups: those of the list that is kept, or
-    /// of a list that is made and kept.
+    /// Puts the groups of the size that fit the part by itself behind the groups.
     ///
-    /// A step is taken for the look, and where the list is made, steps as by `groups_of`. A list that wasn't made to
-    /// its end is not kept.
+    /// Where no list of them is kept, one is made and kept. A list that wasn't made to its end is not kept. A step is
+    /// taken for the look. Where the list is made, steps are taken as by `groups_of`.
     pub(crate) fn put(
         &mut self,
         alloc: Global,
@@ -258,7 +257,7 @@ impl<C: CountySet> PartLists<C> {
         if !steps.tick() {
             return Err(Stop::StepLimit);
         }
-        let at = shelf_of(part, size);
+        let at = bucket_of(part, size);
         if self.put_kept(alloc, at, part, size, groups)? {
             return Ok(());
         }

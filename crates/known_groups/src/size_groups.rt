@@ -24,8 +24,8 @@ use proof_trees::{Round, State};
 use state_tests::open_places;
 use std::alloc::{AllocError, Global};
 
-/// Whether a part of so many counties may have a group of the size: it is the group, or what the group leaves of it
-/// has as many counties as the group or more.
+/// Whether a part of so many counties may have a group of the size. The group is the part, or leaves at least as many
+/// counties of it as it has.
 fn has_room(counties: u32, size: u16) -> bool
     ensures { IsTrue result ↔ ((counties ≡ size) ⊎ (2 * size ≤ counties)) }
 {
@@ -43,7 +43,7 @@ fn all_open<C: CountySet>(alloc: Global, state: &State<C>, size: u16) -> Result<
     Ok(state.rest.within(&open))
 }
 
-/// The groups of the size that fit one of the parts by itself, part by part. `lists` are kept from call to call.
+/// The groups of the size that fit one of the parts by itself, part by part.
 fn part_groups<C: CountySet>(
     alloc: Global,
     ordered: &Ordered,
@@ -75,8 +75,7 @@ fn part_groups<C: CountySet>(
     Ok(groups)
 }
 
-/// The groups of the size that fit each state which has the rest, and of which the size is next, by their lists of
-/// places.
+/// The groups of the size that fit a state with this rest, of which the size is next, by their lists of places.
 fn rest_groups<C: CountySet>(
     alloc: Global,
     ordered: &Ordered,
@@ -107,9 +106,9 @@ fn rest_groups<C: CountySet>(
 /// The groups of a size, in counties, that fit the state, each once, by their lists of places: what a search knows of
 /// the next size where no smaller group fits.
 ///
-/// `near` are the rows of the order (`neighbour_rows`), and `lists` are kept from call to call, in one order. Where
-/// each county of the rest may lie in a group of the size, a step is taken for each part of the rest that may have
-/// one. Steps are taken as by `groups_of` where a list is made, for a part or for the state. `StepLimit` comes only
+/// `near` are the rows of the order (`neighbour_rows`). `lists` are kept from call to call, for all calls with one
+/// order. Where each county of the rest may lie in a group of the size, a step is taken for each part that may have
+/// one. Where a list is made, of a part or of the state, steps are taken as by `groups_of`. `StepLimit` comes only
 /// where all steps are used, `Memory` only where a growth was refused.
 pub fn groups_of_size<C: CountySet>(
     alloc: Global,

@@ -1,10 +1,8 @@
-use Rattle.std.proofs.Common.{◌≡◌, ℕ, Bool, length, sym, ap, ◌∙◌, subst}
+use Rattle.std.proofs.Common.{◌≡◌, length, sym, ap, ◌∙◌, subst}
 use mathlib.Core.Path.{fun_ext}
 use Rattle.ordered_counties.specs.OrderedValue.{problem_at}
 use Rattle.growing_sets.specs.Listing.{lists_of}
-use Rattle.proof_trees.specs.State.{State}
 use Rattle.proof_trees.specs.Groups.{AreGroupsOf}
-use Rattle.proof_trees.specs.StateValue.{state_of}
 use Rattle.known_groups.specs.Alone.{alone}
 use Rattle.known_groups.proofs.part_lists.list_part.Goals as goal
 

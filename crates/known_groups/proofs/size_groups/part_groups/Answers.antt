@@ -1,9 +1,9 @@
-use Rattle.std.proofs.Common.{◌≡◌, ℕ, ◌+◌, ◌*◌, ◌≤◌, ◌<◌, true, length, take, get_or, sym, ap, ◌∙◌, subst, arith, ◌⊎◌}
+use Rattle.std.proofs.Common.{◌≡◌, ℕ, ◌+◌, ◌*◌, ◌≤◌, length, take, sym, ap, ◌∙◌, subst, arith, ◌⊎◌}
 use Rattle.std.proofs.lemmas.Bool.{false≢true}
 use Rattle.place_lists.specs.PlaceSets.{places_of}
 use Rattle.ordered_counties.specs.OrderedValue.{problem_at}
 use Rattle.known_groups.specs.PartLists.{ArePartGroups, AreListsOf}
-use Rattle.known_groups.proofs.PartGroups.{found_in, found_out, all_found, part_low}
+use Rattle.known_groups.proofs.PartGroups.{found_in, found_out, part_low}
 use Rattle.known_groups.proofs.size_groups.part_groups.Goals as goal
 use Rattle.known_groups.proofs.size_groups.part_groups.Goals.{then-has_room+in_ok-put, else-has_room}
 

@@ -1,4 +1,4 @@
-use Rattle.std.proofs.Common.{◌≡◌, ℕ, ◌≤◌, take, length}
+use Rattle.std.proofs.Common.{◌≡◌, ◌≤◌, take, length}
 use Rattle.ordered_counties.specs.OrderedValue.{problem_at}
 use Rattle.known_groups.specs.PartLists.{ArePartGroups, AreListsOf}
 use Rattle.known_groups.proofs.size_groups.part_groups.Given as goal

@@ -1,8 +1,7 @@
-use Rattle.std.proofs.Common.{◌≡◌, ℕ, ◌+◌, ◌≤◌, ◌<◌, true, length, List, sym, ap, ◌∙◌, subst, arith}
+use Rattle.std.proofs.Common.{◌≡◌, ℕ, ◌<◌, true, length, sym, ap, subst, arith}
 use Rattle.place_lists.proofs.Sums.{digit_one}
 use Rattle.grouping_laws.specs.Sets.{stands}
 use Rattle.grouping_laws.specs.Parts.{AreParts}
-use Rattle.grouping_laws.proofs.Elements.{has_all, all_from_has}
 use Rattle.ordered_counties.specs.OrderedValue.{problem_at}
 use Rattle.growing_sets.specs.Listing.{AreBelow, lists_of}
 use Rattle.growing_sets.proofs.Keys.{all_moved}

@@ -1,7 +1,7 @@
 use Rattle.std.proofs.Common.{◌≡◌, ℕ, ◌+◌, ◌-◌, length}
 use Rattle.grouping_laws.specs.Problem.{Problem}
 use Rattle.known_groups.specs.PartLists.{AreListsOf}
-use Rattle.known_groups.proofs.part_lists.PartLists.make_shelf.Given as goal
+use Rattle.known_groups.proofs.part_lists.PartLists.make_bucket.Given as goal
 
 abbrev pub invariant-loop-alloc : goal.invariant-loop-alloc
 invariant-loop-alloc g l = record {
@@ -10,4 +10,4 @@ invariant-loop-alloc g l = record {
 }
 
 abbrev pub decreases-loop-alloc : goal.decreases-loop-alloc
-decreases-loop-alloc g l = l.at + 1 - length l.self.shelves.items
+decreases-loop-alloc g l = l.at + 1 - length l.self.buckets.items

@@ -1,9 +1,9 @@
-use Rattle.std.proofs.Common.{ℕ, ◌-◌, ◌≤◌, ◌<◌}
-use Rattle.known_groups.proofs.part_lists.shelf_of.Given as goal
+use Rattle.std.proofs.Common.{◌-◌, ◌≤◌, ◌<◌}
+use Rattle.known_groups.proofs.part_lists.bucket_of.Given as goal
 
 abbrev pub invariant-loop-place : goal.invariant-loop-place
 invariant-loop-place g l = record {
-  number : l.number < 1021;
+  hash : l.hash < 1021;
   within : l.from ≤ g.C.CountySet.PLACES;
 }
 
