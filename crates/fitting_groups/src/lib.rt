@@ -14,4 +14,5 @@ mod tables;
 mod windows;
 
 pub use lists::{groups_at, groups_of};
+pub use sorting::sorted;
 pub use stop::Stop;

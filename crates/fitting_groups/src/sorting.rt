@@ -9,7 +9,7 @@ use place_sets::{CountySet, by_size_and_places};
 use std::alloc::AllocError;
 
 /// The sets by size, and sets of one size by their lists of places. No list of places is made.
-pub(crate) fn sorted<C: CountySet>(sets: Vec<C>) -> Result<Vec<C>, AllocError>
+pub fn sorted<C: CountySet>(sets: Vec<C>) -> Result<Vec<C>, AllocError>
     ensures same { IfOk result (λ v. IsPermutation sets.items v.items) }
     ensures sorted { IfOk
         result

@@ -1,2 +1,4 @@
+pub mod Alone
 pub mod Known
+pub mod PartLists
 pub mod Standing
