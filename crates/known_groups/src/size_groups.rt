@@ -103,6 +103,42 @@ fn rest_groups<C: CountySet>(
     Ok(sorted(groups)?)
 }
 
+/// The groups of a size, in counties, that fit the state, each once, by their lists of places, whatever smaller groups
+/// fit.
+///
+/// `near` are the rows of the order (`neighbour_rows`). Steps are taken as by `groups_of`. `StepLimit` comes only
+/// where all steps are used, `Memory` only where a growth was refused.
+pub fn all_groups_of_size<C: CountySet>(
+    alloc: Global,
+    ordered: &Ordered,
+    near: &[C],
+    round: &Round,
+    state: &State<C>,
+    size: u16,
+    steps: &mut Steps,
+) -> Result<Vec<C>, Stop>
+    requires fits { length ordered.now.order ≤ C.PLACES }
+    requires rows { AreRows C C.test (problem_at ordered.now) (length ordered.now.order) near.now }
+    requires placed { IsPlaced (length ordered.now.order) C.test state.now }
+    requires order { ordered.now.order ≡ round.now.order }
+    requires size { 1 ≤ size }
+    ensures groups { IfOk
+        result
+        (λ v. AreGroupsOf
+        (problem_of ordered.now.problem)
+        (round_of round.now)
+        (state_at ordered.now.order C.test state.now)
+        size
+        (codes_of_sets ordered.now.order C.test v.items)) }
+    ensures below { IfOk result (λ v. AreBelow (length ordered.now.order) C.test v.items) }
+    ensures more { steps.old.used ≤ steps.new.used }
+    ensures limit { steps.new.limit ≡ steps.old.limit }
+    ensures stopped { IsErrOf result Stop.StepLimit → steps.new.used ≡ steps.new.limit }
+{
+    let _places = ordered.places();
+    groups_of(alloc, ordered, near, round.language, state, size, steps)
+}
+
 /// The groups of a size, in counties, that fit the state, each once, by their lists of places: what a search knows of
 /// the next size where no smaller group fits.
 ///
@@ -148,6 +184,6 @@ pub fn groups_of_size<C: CountySet>(
     if all_open(alloc, state, size)? {
         rest_groups(alloc, ordered, near, &state.rest, size, lists, steps)
     } else {
-        groups_of(alloc, ordered, near, round.language, state, size, steps)
+        all_groups_of_size(alloc, ordered, near, round, state, size, steps)
     }
 }

@@ -20,7 +20,7 @@ use county_codes::{Codes, Grouping, MAX_COUNTIES, listed_codes};
 use county_regions::neighbour_rows;
 use grouping_judge::judge;
 use grouping_problem::Problem;
-use known_groups::groups_of_size;
+use known_groups::all_groups_of_size;
 use line_verdicts::first_state;
 use ordered_counties::{Ordered, Steps};
 use place_sets::{CountySet, MaskSet, fits_mask};
@@ -58,7 +58,7 @@ fn groups_by_size<C: CountySet>(
     let mut steps = Steps::new(ENOUGH);
     let mut lists = Vec::new(alloc);
     for below in 0..round.limit {
-        let groups = groups_of_size(alloc, ordered, near, round, state, below + 1, &mut steps)?;
+        let groups = all_groups_of_size(alloc, ordered, near, round, state, below + 1, &mut steps)?;
         lists.push(groups)?;
     }
     Ok(lists)

@@ -36,19 +36,3 @@ returns-then-branch-clause-groups g c =
     (λ v are. subst (λ z. AreGroupsOf p round (in_codes order t) size z) (map_twice (codes_at order) (λ (z : g.row.C.Denot). places_of (length order) (test z)) v.items)
     (groups_by_codes p order round (in_codes order t) t size (lists_of (length order) test v.items) c.requires.order whole at (λ r placed wide. are t refl next r placed (wide ∙ c.requires.wide))))
     c.rest_groups.ensures.groups
-
-pub returns-else-branch-clause-groups : goal.returns-else-branch-clause-groups
-returns-else-branch-clause-groups g c =
-    let test = g.C.CountySet.test in
-    let order = c.args.ordered.now.order in
-    let p = problem_of c.args.ordered.now.problem in
-    let t = state_of test c.args.state.now in
-    let size = c.args.size in
-    let round = round_of c.args.round.now in
-    let whole = c.places-places.ensures.order in
-    let at : IsStateAt order (in_codes order t) t = states_have_codes.there order t (order_once p order whole) c.requires.placed.rest in
-    IfOk-weaker c.groups_of.result
-    (λ v. (r : Round) → r.order ≡ places_below (length order) → r.language ≡ c.args.round.now.language → AreGroupsOf (problem_at c.args.ordered.now) r t size (lists_of (length order) test v.items))
-    (λ v. AreGroupsOf p round (in_codes order t) size (codes_of_sets order test v.items))
-    (λ v are. subst (λ z. AreGroupsOf p round (in_codes order t) size z) (map_twice (codes_at order) (λ (z : g.row.C.Denot). places_of (length order) (test z)) v.items) (groups_by_codes p order round (in_codes order t) t size (lists_of (length order) test v.items) c.requires.order whole at are))
-    c.groups_of.ensures.groups
