@@ -3,6 +3,8 @@
 ghost use Rattle.std.specs.Prelude.{◌≡◌, ℕ, ◌+◌, ◌≤◌, ◌<◌, List, [], length, All, IfOk, OnOk, IsErrOf, MatchOption, ⊤};
 ghost use Rattle.proof_trees.specs.Leaves.{IsStuck, IsOffSeats};
 ghost use Rattle.fitting_groups.specs.declared.stop.Stop.{Stop};
+ghost use Rattle.ordered_counties.specs.OrderedValue.{problem_at};
+ghost use Rattle.known_groups.specs.PartLists.{AreListsOf};
 ghost use Rattle.branch_bound.specs.Searching.{problem_in, round_in, state_in, IsGround, IsAt, IsEnd, IsVerdict, IsNext};
 
 use crate::ground::Ground;
@@ -13,7 +15,7 @@ use certificate_text::Leaf;
 use finished_groupings::finished_grouping;
 use fitting_groups::Stop;
 use group_weights::{county_of_choice, weigh};
-use known_groups::{groups_of_size, live_groups};
+use known_groups::{PartLists, groups_of_size, live_groups};
 use ordered_counties::Steps;
 use place_sets::CountySet;
 use std::alloc::AllocError;
@@ -22,6 +24,7 @@ use std::alloc::AllocError;
 fn next_size<C: CountySet>(
     ground: &Ground<C>,
     position: &Position<C>,
+    lists: &mut PartLists<C>,
     steps: &mut Steps,
 ) -> Result<Next<C>, Stop>
     requires ground { IsGround C.PLACES C.test ground.now }
@@ -29,8 +32,10 @@ fn next_size<C: CountySet>(
     requires none { position.now.groups.items ≡ [] }
     requires no_stuck { (c : ℕ) → ¬ IsStuck (problem_in ground.now) (state_in ground.now C.test position.now.state) c }
     requires no_seats { ¬ IsOffSeats (problem_in ground.now) (state_in ground.now C.test position.now.state) }
+    requires lists { AreListsOf C.test (problem_at ground.now.ordered.now) (length ground.now.ordered.now.order) lists.old }
     ensures none { position.now.groups.items ≡ [] }
     ensures next { IfOk result (IsNext C.test ground.now (state_in ground.now C.test position.now.state) position.now.size) }
+    ensures lists { AreListsOf C.test (problem_at ground.now.ordered.now) (length ground.now.ordered.now.order) lists.new }
     ensures more { steps.old.used ≤ steps.new.used }
     ensures limit { steps.new.limit ≡ steps.old.limit }
     ensures stopped { IsErrOf result Stop.StepLimit → steps.new.used ≡ steps.new.limit }
@@ -54,7 +59,7 @@ fn next_size<C: CountySet>(
     if let Some(leaf) = room_leaf(*alloc, ordered, round, state, *size + 1)? {
         return Ok(Next::Leaf(leaf));
     }
-    match groups_of_size(*alloc, ordered, near, round, state, *size + 1, steps) {
+    match groups_of_size(*alloc, ordered, near, round, state, *size + 1, lists, steps) {
         Ok(groups) => Ok(Next::Groups(groups)),
         Err(stop) => Err(stop),
     }
@@ -132,13 +137,16 @@ fn judge_groups<C: CountySet>(
 fn judge_sizes<C: CountySet>(
     ground: &Ground<C>,
     position: Position<C>,
+    lists: &mut PartLists<C>,
     steps: &mut Steps,
 ) -> Result<Verdict<C>, Stop>
     requires ground { IsGround C.PLACES C.test ground.now }
     requires at { IsAt C.test ground.now (state_in ground.now C.test position.state) position }
     requires no_stuck { (c : ℕ) → ¬ IsStuck (problem_in ground.now) (state_in ground.now C.test position.state) c }
     requires no_seats { ¬ IsOffSeats (problem_in ground.now) (state_in ground.now C.test position.state) }
+    requires lists { AreListsOf C.test (problem_at ground.now.ordered.now) (length ground.now.ordered.now.order) lists.old }
     ensures verdict { IfOk result (IsVerdict C.test ground.now (state_in ground.now C.test position.state)) }
+    ensures lists { AreListsOf C.test (problem_at ground.now.ordered.now) (length ground.now.ordered.now.order) lists.new }
     ensures more { steps.old.used ≤ steps.new.used }
     ensures limit { steps.new.limit ≡ steps.old.limit }
     ensures stopped { IsErrOf result Stop.StepLimit → steps.new.used ≡ steps.new.limit }
@@ -146,7 +154,7 @@ fn judge_sizes<C: CountySet>(
     let _places = ground.ordered.places();
     let mut position = position;
     while position.groups.is_empty() {
-        match next_size(ground, &position, steps) {
+        match next_size(ground, &position, lists, steps) {
             Ok(Next::Leaf(leaf)) => return Ok(Verdict::Leaf(leaf)),
             Ok(Next::Better(found)) => return Ok(Verdict::Better(found)),
             Ok(Next::Groups(groups)) => {
@@ -257,13 +265,16 @@ fn early_leaf<C: CountySet>(
 pub(crate) fn judge<C: CountySet>(
     ground: &Ground<C>,
     position: Position<C>,
+    lists: &mut PartLists<C>,
     steps: &mut Steps,
 ) -> Result<Verdict<C>, Stop>
     requires ground { IsGround C.PLACES C.test ground.now }
     requires at { IsAt C.test ground.now (state_in ground.now C.test position.state) position }
+    requires lists { AreListsOf C.test (problem_at ground.now.ordered.now) (length ground.now.ordered.now.order) lists.old }
     ensures verdict { IfOk result (IsVerdict C.test ground.now (state_in ground.now C.test position.state)) }
     ensures counted { OnOk result (steps.old.used < steps.new.used) }
     ensures left { OnOk result (steps.old.used < steps.old.limit) }
+    ensures lists { AreListsOf C.test (problem_at ground.now.ordered.now) (length ground.now.ordered.now.order) lists.new }
     ensures more { steps.old.used ≤ steps.new.used }
     ensures limit { steps.new.limit ≡ steps.old.limit }
     ensures stopped { IsErrOf result Stop.StepLimit → steps.new.used ≡ steps.new.limit }
@@ -274,7 +285,7 @@ pub(crate) fn judge<C: CountySet>(
     match early_leaf(ground, &position) {
         Ok(Some(leaf)) => Ok(Verdict::Leaf(leaf)),
         Ok(None) => match without_dead(ground, position, steps) {
-            Ok(position) => judge_sizes(ground, position, steps),
+            Ok(position) => judge_sizes(ground, position, lists, steps),
             Err(stop) => Err(stop),
         },
         Err(refused) => Err(refused.into()),

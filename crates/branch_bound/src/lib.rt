@@ -28,8 +28,10 @@ mod plain_search;
 mod position;
 mod search;
 mod solving;
+mod watcher;
 
 pub use answer::Answer;
 pub use piece::{Piece, Split};
 pub use pieces::prove_piece;
-pub use solving::{solve, solve_over};
+pub use solving::{solve, solve_over, solve_watched};
+pub use watcher::{NoWatcher, Watcher};

@@ -8,6 +8,8 @@ ghost use Rattle.proof_trees.specs.State.{State as StateValue};
 ghost use Rattle.grouping_laws.specs.Problem.{Problem as ProblemLaw};
 ghost use Rattle.grouping_laws.specs.GroupsFrom.{IsOrder};
 ghost use Rattle.grouping_problem.specs.ProblemValue.{problem_of};
+ghost use Rattle.ordered_counties.specs.OrderedValue.{problem_at};
+ghost use Rattle.known_groups.specs.PartLists.{AreListsOf};
 ghost use Rattle.line_verdicts.specs.Placed.{state_at, IsPlaced};
 ghost use Rattle.branch_bound.specs.PlainRounds.{IsPlainGround, IsStateOf};
 ghost use Rattle.branch_bound.specs.Searching.{problem_in, round_in, state_in, IsGround, IsAt, IsBetter, IsChoice, IsOutcome};
@@ -20,11 +22,13 @@ use crate::piece::{Piece, Split};
 use crate::plain_search::prove_plain;
 use crate::position::Position;
 use crate::search::prove;
+use crate::watcher::NoWatcher;
 use certificate_text::Tree;
 use county_codes::Grouping;
 use county_regions::neighbour_rows;
 use fitting_groups::Stop;
 use grouping_problem::Problem;
+use known_groups::PartLists;
 use line_verdicts::copied_state;
 use ordered_counties::{OrderFault, Ordered, Steps};
 use place_sets::CountySet;
@@ -87,11 +91,13 @@ fn branched_piece<C: CountySet>(
     ground: &Ground<C>,
     place: u16,
     at: Position<C>,
+    lists: &mut PartLists<C>,
     steps: &mut Steps,
 ) -> Result<Piece, AllocError>
     requires ground { IsGround C.PLACES C.test ground.now }
     requires at { IsAt C.test ground.now (state_in ground.now C.test at.state) at }
     requires choice { IsChoice C.test ground.now.ordered.now.order at.groups.items place }
+    requires lists { AreListsOf C.test (problem_at ground.now.ordered.now) (length ground.now.ordered.now.order) lists.old }
     ensures piece { IfOk result (IsPiece (problem_in ground.now) (round_in ground.now) (state_in ground.now C.test at.state)) }
     ensures limit { steps.new.limit ≡ steps.old.limit }
     ensures more { steps.old.used ≤ steps.new.used }
@@ -101,7 +107,7 @@ fn branched_piece<C: CountySet>(
         county: ground.ordered.code(place),
         limit: at.size,
     };
-    match prove(ground, at, steps) {
+    match prove(ground, at, lists, &mut NoWatcher, steps) {
         Ok(outcome) => Ok(piece_of(ground.round, outcome)),
         Err(Stop::StepLimit) => Ok(Piece::Open(Some(split))),
         Err(Stop::Memory) => Err(AllocError),
@@ -123,13 +129,14 @@ fn wide_piece<C: CountySet>(
     ensures open { IfOk result (λ piece. IsOpen piece → steps.new.used ≡ steps.new.limit) }
 {
     let position = begun(ground, state)?;
-    match judge(ground, position, steps) {
+    let mut lists = PartLists::new(ground.alloc);
+    match judge(ground, position, &mut lists, steps) {
         Ok(Verdict::Leaf(leaf)) => {
             let branches = Vec::new(ground.alloc);
             Ok(Piece::Proved(Tree { branches, leaf }))
         }
         Ok(Verdict::Better(found)) => Ok(found_piece(ground.round, found)),
-        Ok(Verdict::Branch(place, at)) => branched_piece(ground, place, at, steps),
+        Ok(Verdict::Branch(place, at)) => branched_piece(ground, place, at, &mut lists, steps),
         Err(Stop::StepLimit) => Ok(Piece::Open(None)),
         Err(Stop::Memory) => Err(AllocError),
     }

@@ -5,7 +5,8 @@ ghost use Rattle.county_codes.specs.Limits.{most_counties};
 ghost use Rattle.certificate_text.specs.declared.tree.Branch.{roll-Branch};
 ghost use Rattle.certificate_text.specs.declared.tree.Take.{Take as TakeHeld};
 ghost use Rattle.county_codes.specs.declared.group.Grouping.{Grouping as GroupingHeld};
-ghost use Rattle.ordered_counties.specs.OrderedValue.{code_at};
+ghost use Rattle.ordered_counties.specs.OrderedValue.{problem_at, code_at};
+ghost use Rattle.known_groups.specs.PartLists.{AreListsOf};
 ghost use Rattle.proof_trees.specs.Fitting.{Fits};
 ghost use Rattle.proof_trees.specs.Groups.{IsGroupAt};
 ghost use Rattle.proof_trees.specs.State.{State as StateValue, close, raise};
@@ -21,8 +22,10 @@ use crate::judging::judge;
 use crate::moves::{closed_position, codes_of, groups_to_take, raised_position};
 use crate::outcome::{Outcome, Raised, Taken, Takes, Verdict};
 use crate::position::Position;
+use crate::watcher::Watcher;
 use certificate_text::{Branch, Take, Tree};
 use fitting_groups::Stop;
+use known_groups::PartLists;
 use ordered_counties::Steps;
 use place_sets::CountySet;
 use std::alloc::AllocError;
@@ -131,37 +134,44 @@ fn raised_behind<C: CountySet>(
 
 /// The take of a group with its proof tree, or a better grouping found where the group is closed.
 #[cycle(proving)]
-fn prove_take<C: CountySet>(
+fn prove_take<C: CountySet, W: Watcher>(
     ground: &Ground<C>,
     position: &Position<C>,
     group: &C,
+    lists: &mut PartLists<C>,
+    watcher: &mut W,
     steps: &mut Steps,
 ) -> Result<Taken, Stop>
     requires ground { IsGround C.PLACES C.test ground.now }
     requires at { IsAt C.test ground.now (state_in ground.now C.test position.now.state) position.now }
     requires below { (x : ℕ) → C.test group.now x ≡ true → x < length ground.now.ordered.now.order }
     requires group { (c : ℕ) × IsGroupAt (problem_in ground.now) (round_in ground.now) (state_in ground.now C.test position.now.state) c position.now.size (codes_of_set ground.now.ordered.now.order C.test group.now) }
+    requires lists { AreListsOf C.test (problem_at ground.now.ordered.now) (length ground.now.ordered.now.order) lists.old }
     ensures taken { IfOk result (IsTaken (problem_in ground.now) (round_in ground.now) (state_in ground.now C.test position.now.state) (codes_of_set ground.now.ordered.now.order C.test group.now)) }
+    ensures lists { AreListsOf C.test (problem_at ground.now.ordered.now) (length ground.now.ordered.now.order) lists.new }
     ensures more { steps.old.used ≤ steps.new.used }
     ensures limit { steps.new.limit ≡ steps.old.limit }
     ensures stopped { IsErrOf result Stop.StepLimit → steps.new.used ≡ steps.new.limit }
 {
     let closed = closed_position(ground, position, group)?;
-    let outcome = prove(ground, closed, steps);
+    let outcome = prove(ground, closed, lists, watcher, steps);
     taken_of(ground, group, outcome)
 }
 
 /// The takes of a branch at the county at the place, or a better grouping found where the group of one is closed.
 #[cycle(proving)]
-fn prove_takes<C: CountySet>(
+fn prove_takes<C: CountySet, W: Watcher>(
     ground: &Ground<C>,
     position: &Position<C>,
     place: u16,
+    lists: &mut PartLists<C>,
+    watcher: &mut W,
     steps: &mut Steps,
 ) -> Result<Takes, Stop>
     requires ground { IsGround C.PLACES C.test ground.now }
     requires at { IsAt C.test ground.now (state_in ground.now C.test position.now.state) position.now }
     requires place { place < length ground.now.ordered.now.order }
+    requires lists { AreListsOf C.test (problem_at ground.now.ordered.now) (length ground.now.ordered.now.order) lists.old }
     ensures takes { IfOk
         result
         (AreTakesAt
@@ -170,6 +180,7 @@ fn prove_takes<C: CountySet>(
         (state_in ground.now C.test position.now.state)
         (code_at ground.now.ordered.now.order place)
         position.now.size) }
+    ensures lists { AreListsOf C.test (problem_at ground.now.ordered.now) (length ground.now.ordered.now.order) lists.new }
     ensures more { steps.old.used ≤ steps.new.used }
     ensures limit { steps.new.limit ≡ steps.old.limit }
     ensures stopped { IsErrOf result Stop.StepLimit → steps.new.used ≡ steps.new.limit }
@@ -177,7 +188,7 @@ fn prove_takes<C: CountySet>(
     let groups = groups_to_take(ground, position, place, steps)?;
     let mut takes = Vec::new(ground.alloc);
     'taking: for group in &groups {
-        let taken = prove_take(ground, position, group, steps);
+        let taken = prove_take(ground, position, group, lists, watcher, steps);
         match with_take(takes, taken) {
             Ok(Takes::Proved(more)) => takes = more,
             Ok(Takes::Better(found)) => return Ok(Takes::Better(found)),
@@ -194,15 +205,19 @@ fn prove_takes<C: CountySet>(
 ///
 /// `StepLimit` only where all steps are used, `Memory` only where a growth was refused.
 #[cycle(proving)]
-pub(crate) fn prove<C: CountySet>(
+pub(crate) fn prove<C: CountySet, W: Watcher>(
     ground: &Ground<C>,
     position: Position<C>,
+    lists: &mut PartLists<C>,
+    watcher: &mut W,
     steps: &mut Steps,
 ) -> Result<Outcome, Stop>
     requires ground { IsGround C.PLACES C.test ground.now }
     requires at { IsAt C.test ground.now (state_in ground.now C.test position.state) position }
+    requires lists { AreListsOf C.test (problem_at ground.now.ordered.now) (length ground.now.ordered.now.order) lists.old }
     ensures outcome { IfOk result (IsOutcome (problem_in ground.now) (round_in ground.now) (state_in ground.now C.test position.state)) }
     ensures counted { OnOk result (steps.old.used < steps.new.used) }
+    ensures lists { AreListsOf C.test (problem_at ground.now.ordered.now) (length ground.now.ordered.now.order) lists.new }
     ensures more { steps.old.used ≤ steps.new.used }
     ensures limit { steps.new.limit ≡ steps.old.limit }
     ensures stopped { IsErrOf result Stop.StepLimit → steps.new.used ≡ steps.new.limit }
@@ -210,11 +225,12 @@ pub(crate) fn prove<C: CountySet>(
     let mut position = position;
     let mut branches = Vec::new(ground.alloc);
     'branching: loop {
-        match judge(ground, position, steps) {
+        watcher.step(steps);
+        match judge(ground, position, lists, steps) {
             Ok(Verdict::Leaf(leaf)) => return Ok(Outcome::Proved(Tree { branches, leaf })),
             Ok(Verdict::Better(found)) => return Ok(Outcome::Better(found)),
             Ok(Verdict::Branch(place, at)) => {
-                let takes = prove_takes(ground, &at, place, steps);
+                let takes = prove_takes(ground, &at, place, lists, watcher, steps);
                 match raised_behind(ground, at, place, takes, &mut branches) {
                     Ok(Raised::At(next)) => position = next,
                     Ok(Raised::Better(found)) => return Ok(Outcome::Better(found)),

@@ -14,6 +14,7 @@ ghost use Rattle.proof_trees.specs.Leaves.{IsStuck, IsOffSeats};
 ghost use Rattle.proof_trees.specs.State.{empty_state};
 ghost use Rattle.line_verdicts.specs.Placed.{state_at, IsPlaced};
 ghost use Rattle.fitting_groups.specs.declared.stop.Stop.{Stop};
+ghost use Rattle.known_groups.specs.PartLists.{AreListsOf};
 ghost use Rattle.branch_bound.specs.Searching.{IsOutcome, IsProof};
 ghost use Rattle.branch_bound.specs.Solving.{round_over, IsTarget, IsFirst};
 ghost use Rattle.bound_leaves.specs.GivenLeaf.{IsGiven};
@@ -24,6 +25,7 @@ use crate::ground::Ground;
 use crate::moves::first_position;
 use crate::outcome::{First, Outcome};
 use crate::search::prove;
+use crate::watcher::{NoWatcher, Watcher};
 use bound_leaves::whole_leaf;
 use certificate_text::{Certificate, Leaf, Tree};
 use county_codes::{Codes, Grouping, listed_codes};
@@ -31,6 +33,7 @@ use county_regions::neighbour_rows;
 use finished_groupings::finished_grouping;
 use fitting_groups::Stop;
 use grouping_problem::Problem;
+use known_groups::PartLists;
 use line_verdicts::first_state;
 use ordered_counties::{OrderFault, Ordered, Steps};
 use place_sets::{CountySet, MaskSet, Places, fits_mask};
@@ -45,8 +48,7 @@ const FIRST_LIMIT: u16 = 2;
 fn limit_after(limit: u16) -> u16 {
     match limit {
         2 => 3,
-        3 => 4,
-        4 => 6,
+        3 => 6,
         _ => u16::MAX,
     }
 }
@@ -102,11 +104,13 @@ fn round_for(
 }
 
 /// The search of a round, from the state at which nothing is closed.
-fn prove_first<C: CountySet>(
+fn prove_first<C: CountySet, W: Watcher>(
     alloc: Global,
     ordered: &Ordered,
     near: &[C],
     round: &Round,
+    lists: &mut PartLists<C>,
+    watcher: &mut W,
     steps: &mut Steps,
 ) -> Result<Outcome, Stop>
     requires fits { length ordered.now.order ≤ C.PLACES }
@@ -114,8 +118,10 @@ fn prove_first<C: CountySet>(
     requires order { ordered.now.order ≡ round.now.order }
     requires small { round.now.limit ≤ most_counties }
     requires wide { round.now.language ≡ Wide }
+    requires lists { AreListsOf C.test (problem_at ordered.now) (length ordered.now.order) lists.old }
     ensures outcome { IfOk result (IsOutcome (problem_of ordered.now.problem) (round_of round.now) (empty_state (problem_of ordered.now.problem))) }
     ensures counted { OnOk result (steps.old.used < steps.new.used) }
+    ensures lists { AreListsOf C.test (problem_at ordered.now) (length ordered.now.order) lists.new }
     ensures limit { steps.new.limit ≡ steps.old.limit }
     ensures stopped { IsErrOf result Stop.StepLimit → steps.new.used ≡ steps.new.limit }
 {
@@ -126,21 +132,24 @@ fn prove_first<C: CountySet>(
         round,
     };
     let first = first_position(&ground)?;
-    prove(&ground, first, steps)
+    prove(&ground, first, lists, watcher, steps)
 }
 
 /// A round of the search: a proof tree of it, or a greater grouping.
-fn prove_round<C: CountySet>(
+fn prove_round<C: CountySet, W: Watcher>(
     alloc: Global,
     ordered: &Ordered,
     near: &[C],
     target: &Grouping,
     limit: u16,
+    lists: &mut PartLists<C>,
+    watcher: &mut W,
     steps: &mut Steps,
 ) -> Result<Outcome, Stop>
     requires fits { length ordered.now.order ≤ C.PLACES }
     requires rows { AreRows C C.test (problem_at ordered.now) (length ordered.now.order) near.now }
     requires small { limit ≤ most_counties }
+    requires lists { AreListsOf C.test (problem_at ordered.now) (length ordered.now.order) lists.old }
     ensures outcome { IfOk
         result
         (IsOutcome
@@ -149,11 +158,12 @@ fn prove_round<C: CountySet>(
         (empty_state (problem_of ordered.now.problem))) }
     ensures counted { OnOk result (steps.old.used < steps.new.used) }
     ensures within { OnOk result (steps.new.used ≤ steps.new.limit) }
+    ensures lists { AreListsOf C.test (problem_at ordered.now) (length ordered.now.order) lists.new }
     ensures limit { steps.new.limit ≡ steps.old.limit }
     ensures stopped { IsErrOf result Stop.StepLimit → steps.new.used ≡ steps.new.limit }
 {
     let round = round_for(alloc, ordered, limit, Some(target.copy()?), Language::Wide)?;
-    let outcome = prove_first(alloc, ordered, near, &round, steps);
+    let outcome = prove_first(alloc, ordered, near, &round, lists, watcher, steps);
     let _used = steps.used();
     outcome
 }
@@ -185,11 +195,12 @@ fn best(
 
 /// The answer that a search comes to from a lawful grouping: rounds with each greater grouping as the next target, and
 /// with larger and larger limits, until the limit is the size of the target's largest group.
-fn improve<C: CountySet>(
+fn improve<C: CountySet, W: Watcher>(
     alloc: Global,
     ordered: &Ordered,
     near: &[C],
     first: Grouping,
+    watcher: &mut W,
     steps: &mut Steps,
 ) -> Result<Answer, AllocError>
     requires fits { length ordered.now.order ≤ C.PLACES }
@@ -203,10 +214,14 @@ fn improve<C: CountySet>(
     let _places = ordered.places();
     let mut target = first;
     let mut cap = FIRST_LIMIT;
+    let mut lists = PartLists::new(alloc);
     loop {
         let largest = largest_size(&target);
         let limit = cap.min(largest);
-        match prove_round(alloc, ordered, near, &target, limit, steps) {
+        watcher.round(limit, &target);
+        match prove_round(
+            alloc, ordered, near, &target, limit, &mut lists, watcher, steps,
+        ) {
             Ok(Outcome::Proved(tree)) => {
                 if limit == largest {
                     return best(alloc, ordered, target, limit, tree);
@@ -298,9 +313,10 @@ fn first_found<C: CountySet>(
 }
 
 /// What a desk answers of counties in ascending order of their codes, where a step is left.
-fn solve_ordered<C: CountySet>(
+fn solve_ordered<C: CountySet, W: Watcher>(
     alloc: Global,
     ordered: &Ordered,
+    watcher: &mut W,
     steps: &mut Steps,
 ) -> Result<Answer, AllocError>
     requires fits { length ordered.now.order ≤ C.PLACES }
@@ -312,7 +328,7 @@ fn solve_ordered<C: CountySet>(
     let near: Vec<C> = neighbour_rows(alloc, ordered)?;
     match first_found(alloc, ordered, &near)? {
         First::Impossible(certificate) => Ok(Answer::Impossible(certificate)),
-        First::Found(found) => improve(alloc, ordered, &near, found, steps),
+        First::Found(found) => improve(alloc, ordered, &near, found, watcher, steps),
     }
 }
 
@@ -321,10 +337,11 @@ fn solve_ordered<C: CountySet>(
 /// # Errors
 ///
 /// Where memory was refused.
-pub fn solve_over<C: CountySet>(
+pub fn solve_over<C: CountySet, W: Watcher>(
     alloc: Global,
     problem: &Problem,
     step_limit: u64,
+    watcher: &mut W,
 ) -> Result<Answer, AllocError>
     requires fits { length problem.now.counties ≤ C.PLACES }
     ensures answer { IfOk result (IsAnswer (problem_of problem.now) step_limit) }
@@ -341,10 +358,33 @@ pub fn solve_over<C: CountySet>(
     }
     let order = listed_codes(alloc, problem.counties())?;
     match Ordered::build(alloc, problem, &order) {
-        Ok(ordered) => solve_ordered::<C>(alloc, &ordered, &mut steps),
+        Ok(ordered) => solve_ordered::<C, W>(alloc, &ordered, watcher, &mut steps),
         Err(OrderFault::Memory) => Err(AllocError),
         Err(OrderFault::WrongOrder) => unreachable!(),
     }
+}
+
+/// What `solve` says, where a watcher is told how far the search is: each round as it begins, and each state that is entered.
+/// What is promised holds for each watcher.
+///
+/// # Errors
+///
+/// Where memory was refused.
+pub fn solve_watched<W: Watcher>(
+    alloc: Global,
+    problem: &Problem,
+    step_limit: u64,
+    watcher: &mut W,
+) -> Result<Answer, AllocError>
+    ensures answer { IfOk result (IsAnswer (problem_of problem.now) step_limit) }
+    ensures best { IfOk result (NamesBest (problem_of problem.now)) }
+    ensures complete { IfOk result (HasCompleteTree (problem_of problem.now)) }
+    ensures impossible { IfOk result (SaysWhether (problem_of problem.now) step_limit) }
+{
+    if fits_mask(problem.counties().len()) {
+        return solve_over::<MaskSet, W>(alloc, problem, step_limit, watcher);
+    }
+    solve_over::<Places, W>(alloc, problem, step_limit, watcher)
 }
 
 /// The best grouping of a problem with its certificate, or that none is lawful with a certificate of that, or that it
@@ -365,8 +405,5 @@ pub fn solve(alloc: Global, problem: &Problem, step_limit: u64) -> Result<Answer
     ensures complete { IfOk result (HasCompleteTree (problem_of problem.now)) }
     ensures impossible { IfOk result (SaysWhether (problem_of problem.now) step_limit) }
 {
-    if fits_mask(problem.counties().len()) {
-        return solve_over::<MaskSet>(alloc, problem, step_limit);
-    }
-    solve_over::<Places>(alloc, problem, step_limit)
+    solve_watched(alloc, problem, step_limit, &mut NoWatcher)
 }

@@ -14,6 +14,7 @@ ghost use Rattle.cli.specs.CaseRun.{stored_text, WordsOver, IsCaseAnswer, IsWhol
 
 use crate::command::{deliver, words_answer};
 use crate::end::{End, Ending};
+use branch_bound::NoWatcher;
 use field_lines::{Piece, RawLines, Source};
 use program_answers::{Answer, MEMORY};
 use shelves::{MemoryFile, MemoryShelf, Sink, WholeFault, read_whole};
@@ -158,7 +159,7 @@ fn words_over_files(
     files.reverse();
     let mut shelf = MemoryShelf::new(alloc, files);
     let words = words_in(alloc, line)?;
-    let mut answer = words_answer(alloc, &words, &mut shelf, end)?;
+    let mut answer = words_answer(alloc, &words, &mut shelf, end, &mut NoWatcher)?;
     push_stored(&mut answer.text, shelf.stored_files())?;
     Ok(answer)
 }

@@ -16,17 +16,19 @@ use crate::piece::piece;
 use crate::share::share;
 use crate::size::size;
 use crate::solve::solve;
+use branch_bound::{NoWatcher, Watcher};
 use command_words::{CommandWords, WordsEnd, parse};
 use program_answers::{Answer, MEMORY, Refusal};
 use shelves::{Shelf, Sink};
 use std::alloc::{AllocError, Global};
 
 /// The answer of a command, or why it ends before.
-fn command_end<H: Shelf>(
+fn command_end<H: Shelf, V: Watcher>(
     alloc: Global,
     command: CommandWords<'_>,
     shelf: &mut H,
     end: &mut End,
+    watcher: &mut V,
 ) -> Result<Answer, Refusal>
     requires { HasState command }
     ensures { (stored : List File)
@@ -36,7 +38,7 @@ fn command_end<H: Shelf>(
     match command {
         CommandWords::Size(words) => size(alloc, words, shelf, end),
         CommandWords::Judge(words) => judge(alloc, words, shelf, end),
-        CommandWords::Solve(words) => solve(alloc, words, shelf, end),
+        CommandWords::Solve(words) => solve(alloc, words, shelf, end, watcher),
         CommandWords::Check(words) => check(alloc, words, shelf, end),
         CommandWords::Audit(words) => audit(alloc, words, shelf, end),
         CommandWords::List(words) => list(alloc, words, shelf, end),
@@ -46,18 +48,19 @@ fn command_end<H: Shelf>(
 }
 
 /// The answer of a command, or that a growth was refused.
-fn command_answer<H: Shelf>(
+fn command_answer<H: Shelf, V: Watcher>(
     alloc: Global,
     command: CommandWords<'_>,
     shelf: &mut H,
     end: &mut End,
+    watcher: &mut V,
 ) -> Result<Answer, AllocError>
     requires { HasState command }
     ensures { (stored : List File)
         × HasStored (H.contents shelf.old) (H.contents shelf.new) (H.stored shelf.old) (H.stored shelf.new) stored
         × CommandRun (H.contents shelf.old) command.entry (H.history shelf.old) (H.history shelf.new) stored (said_of result) }
 {
-    match command_end(alloc, command, shelf, end) {
+    match command_end(alloc, command, shelf, end, watcher) {
         Ok(answer) => Ok(answer),
         Err(Refusal::Shown(answer)) => Ok(answer),
         Err(Refusal::Memory) => {
@@ -88,18 +91,19 @@ fn words_end_answer(alloc: Global, words_end: WordsEnd, end: &mut End) -> Result
 }
 
 /// The answer to the words, or that a growth was refused.
-pub(crate) fn words_answer<H: Shelf>(
+pub(crate) fn words_answer<H: Shelf, V: Watcher>(
     alloc: Global,
     words: &[&str],
     shelf: &mut H,
     end: &mut End,
+    watcher: &mut V,
 ) -> Result<Answer, AllocError>
     ensures { (stored : List File)
         × HasStored (H.contents shelf.old) (H.contents shelf.new) (H.stored shelf.old) (H.stored shelf.new) stored
         × IsRunAnswer (H.contents shelf.old) (texts words.now) (H.history shelf.old) (H.history shelf.new) stored (said_of result) }
 {
     match parse(alloc, words) {
-        Ok(command) => command_answer(alloc, command, shelf, end),
+        Ok(command) => command_answer(alloc, command, shelf, end, watcher),
         Err(words_end) => words_end_answer(alloc, words_end, end),
     }
 }
@@ -114,12 +118,14 @@ pub(crate) fn deliver<W: Sink>(out: &mut W, text: &[u8], status: u8) -> u8
     }
 }
 
-/// Runs one command, and answers the exit status and how the run ended. All that `run` promises holds of it and of its status.
-pub fn run_with_end<H: Shelf, W: Sink>(
+/// Runs one command, and answers the exit status and how the run ended. The watcher is told how far a search is. All that `run`
+/// promises holds of it and of its status, for each watcher.
+pub fn run_with_end<H: Shelf, W: Sink, V: Watcher>(
     alloc: Global,
     words: &[&str],
     shelf: &mut H,
     out: &mut W,
+    watcher: &mut V,
 ) -> (u8, End)
     ensures { (a : Answered) × (stored : List File)
         × HasStored (H.contents shelf.old) (H.contents shelf.new) (H.stored shelf.old) (H.stored shelf.new) stored
@@ -127,7 +133,7 @@ pub fn run_with_end<H: Shelf, W: Sink>(
         × Delivers (W.is_failed out.new) (W.contents out.old) (W.contents out.new) a result.0 }
 {
     let mut end = End::new();
-    match words_answer(alloc, words, shelf, &mut end) {
+    match words_answer(alloc, words, shelf, &mut end, watcher) {
         Ok(answer) => (deliver(out, &answer.text, answer.status), end),
         Err(AllocError) => (deliver(out, MEMORY, 5), end),
     }
@@ -149,5 +155,5 @@ pub fn run<H: Shelf, W: Sink>(alloc: Global, words: &[&str], shelf: &mut H, out:
         × IsRunAnswer (H.contents shelf.old) (texts words.now) (H.history shelf.old) (H.history shelf.new) stored a
         × Delivers (W.is_failed out.new) (W.contents out.old) (W.contents out.new) a result }
 {
-    run_with_end(alloc, words, shelf, out).0
+    run_with_end(alloc, words, shelf, out, &mut NoWatcher).0
 }

@@ -19,6 +19,7 @@ mod size;
 mod solve;
 mod storing;
 
+pub use branch_bound::{NoWatcher, Watcher};
 pub use case::{MAX_CASE, run_case, run_case_with_end};
 pub use command::{run, run_with_end};
 pub use end::{End, Ending, FileFault, FileOption};

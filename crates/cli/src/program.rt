@@ -10,18 +10,21 @@ ghost use Rattle.cli.specs.CaseRun.{IsWhole, IsReadAnswer, DeliversCase};
 use crate::case::run_case_with_end;
 use crate::command::run_with_end;
 use crate::end::End;
+use branch_bound::Watcher;
 use field_lines::Source;
 use shelves::{Shelf, Sink};
 use std::alloc::Global;
 
 /// What the program does, its exit status, and how the run ended: with words it runs their command over the shelf's files (as `run`); without any it runs the
-/// case that the input holds (as `run_case`), and the shelf stays as it was.
-pub fn run_program<H: Shelf, R: Source, W: Sink>(
+/// case that the input holds (as `run_case`), and the shelf stays as it was. The watcher is told how far the search of a command is. What is promised holds
+/// for each watcher.
+pub fn run_program<H: Shelf, R: Source, W: Sink, V: Watcher>(
     alloc: Global,
     words: &[&str],
     shelf: &mut H,
     input: &mut R,
     out: &mut W,
+    watcher: &mut V,
 ) -> (u8, End)
     requires { R.is_failed input.old ≡ false }
 
@@ -44,6 +47,6 @@ pub fn run_program<H: Shelf, R: Source, W: Sink>(
     if words.is_empty() {
         run_case_with_end(alloc, input, out)
     } else {
-        run_with_end(alloc, words, shelf, out)
+        run_with_end(alloc, words, shelf, out, watcher)
     }
 }

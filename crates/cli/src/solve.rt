@@ -12,6 +12,7 @@ ghost use Rattle.cli.specs.Ends.{refusal_by};
 use crate::end::{End, Ending, FileOption};
 use crate::problem::load_problem;
 use crate::storing::store_named;
+use branch_bound::Watcher;
 use command_runs::{Solved, solve_and_say};
 use command_words::{CommandWords, SolveWords};
 use program_answers::{Answer, Refusal};
@@ -19,11 +20,12 @@ use shelves::Shelf;
 use std::alloc::Global;
 
 /// What `solve` says of the problem of the files, before anything is stored.
-fn solve_files<H: Shelf>(
+fn solve_files<H: Shelf, V: Watcher>(
     alloc: Global,
     words: SolveWords<'_>,
     shelf: &mut H,
     end: &mut End,
+    watcher: &mut V,
 ) -> Result<Solved, Refusal>
     requires { words.problem.common.state ≤ 99 }
     ensures course { Comes solved_of result (solve_course (H.contents shelf.old) words.entry (H.history shelf.old) (H.history shelf.new)) }
@@ -31,7 +33,7 @@ fn solve_files<H: Shelf>(
     ensures kept { H.stored shelf.new ≡ H.stored shelf.old }
 {
     let problem = load_problem(alloc, words.problem, shelf, end)?;
-    let solved = solve_and_say(alloc, &problem, words.steps)?;
+    let solved = solve_and_say(alloc, &problem, words.steps, watcher)?;
     Ok(solved)
 }
 
@@ -76,18 +78,19 @@ fn store_solved<H: Shelf>(
 
 /// The best grouping of the problem with its certificate. The problem is built first; then the desk answers; then the
 /// files are stored, the certificate first; the first fault met is the answer.
-pub(crate) fn solve<H: Shelf>(
+pub(crate) fn solve<H: Shelf, V: Watcher>(
     alloc: Global,
     words: SolveWords<'_>,
     shelf: &mut H,
     end: &mut End,
+    watcher: &mut V,
 ) -> Result<Answer, Refusal>
     requires { words.problem.common.state ≤ 99 }
     ensures { (stored : List File)
         × HasStored (H.contents shelf.old) (H.contents shelf.new) (H.stored shelf.old) (H.stored shelf.new) stored
         × CommandRun (H.contents shelf.old) (CommandWords.Solve words.entry) (H.history shelf.old) (H.history shelf.new) stored (said_by result) }
 {
-    let solved = solve_files(alloc, words, shelf, end)?;
+    let solved = solve_files(alloc, words, shelf, end, watcher)?;
     match store_solved(alloc, words, &solved, shelf, end) {
         Ok(()) => {
             end.note(searched(&solved));

@@ -13,7 +13,7 @@ ghost use Rattle.branch_bound.specs.declared.answer.Answer.TheVariants as desk;
 ghost use Rattle.command_runs.specs.SolveCourse.{Says, IsSolved};
 ghost use Rattle.command_runs.specs.Texts.{solved_of};
 
-use branch_bound::{Answer as DeskAnswer, solve as solve_problem};
+use branch_bound::{Answer as DeskAnswer, Watcher, solve_watched};
 use certificate_text::{Certificate, WriteFault, write};
 use county_codes::Grouping;
 use grouping_problem::Problem;
@@ -126,14 +126,19 @@ fn say(alloc: Global, problem: &Problem, found: DeskAnswer) -> Result<Solved, Al
 }
 
 /// What `solve` says of a problem: a desk answers with at most so many steps, and its answer is told as a report, with the
-/// texts of its certificate and of its grouping.
+/// texts of its certificate and of its grouping. The watcher is told how far the search is, and changes nothing of what is said.
 ///
 /// # Errors
 ///
 /// `AllocError` where memory was refused.
-pub fn solve_and_say(alloc: Global, problem: &Problem, steps: u64) -> Result<Solved, AllocError>
+pub fn solve_and_say<W: Watcher>(
+    alloc: Global,
+    problem: &Problem,
+    steps: u64,
+    watcher: &mut W,
+) -> Result<Solved, AllocError>
     ensures { IfOk result (λ s. IsSolved problem.now steps (solved_of s)) }
 {
-    let found = solve_problem(alloc, problem, steps)?;
+    let found = solve_watched(alloc, problem, steps, watcher)?;
     say(alloc, problem, found)
 }

@@ -2,6 +2,9 @@
 //! from standard input. What helps a person stands on standard error.
 #![tactic(auto)]
 
+mod progress;
+
+use crate::progress::Progress;
 use cli::{End, FileShelf, Sink, Writing, run_program};
 use explanations::{Ended, explain, explain_before};
 use field_lines::Reading;
@@ -46,7 +49,16 @@ struct Ran {
 fn run(rt: &HostRuntime, words: &[&str], out: &mut impl Sink) -> Ran {
     let mut shelf = FileShelf::new(rt);
     let mut input = Reading::new(rt.reader());
-    let (status, end) = run_program(rt.alloc(), words, &mut shelf, &mut input, out);
+    let mut progress = Progress::new(rt);
+    let (status, end) = run_program(
+        rt.alloc(),
+        words,
+        &mut shelf,
+        &mut input,
+        out,
+        &mut progress,
+    );
+    progress.clear();
     Ran {
         status,
         end,

@@ -38,7 +38,7 @@ prove-prove_takes-takes-requires g t c κs within =
     let s = state_in ground test c.branching.position.state in
     let v = subst (λ z. IsVerdict test ground s z) c.in-Ok-Branch.field-0-is c.in-Ok-Branch.ensures.verdict in
     let e = c.in-Ok-Branch.ensures in
-    (omega (arith, e.counted, e.left, e.limit, c.branching.invariant.more, c.branching.invariant.limit), (within, (c.requires.ground, (own g.row.C.Denot test ground s c.in-Ok-Branch.at v.0, v.1.below))))
+    (omega (arith, e.counted, e.left, e.limit, c.branching.invariant.more, c.branching.invariant.limit), (within, (c.requires.ground, (own g.row.C.Denot test ground s c.in-Ok-Branch.at v.0, (v.1.below, e.lists)))))
 
 pub prove-raised_behind-requires-clause-at : goal.prove-raised_behind-requires-clause-at
 prove-raised_behind-requires-clause-at g t c =
@@ -90,6 +90,7 @@ prove-branching-preserved g t c =
       agrees = λ h a. inv.agrees h (subst (λ z. Agrees z h) v.0.is (raised_agrees round here (state_in ground test next.state) county at.size h can step.0.is a));
       lines = branched_lines p round first here county (Some at.size) bs news step.1.0 pushed takes.0
           (wide_fits round.language county at.size c.requires.ground.wide c.in-Ok-At.ensures.county (choice_size g.row.C.Denot test ground s at c.in-Ok-Branch.place v.0 v.1) (omega (arith, v.0.small, c.requires.ground.small))) takes.2 inv.lines;
+      lists = f.lists;
       more = omega (arith, inv.more, e.more, f.more);
       limit = f.limit ∙ e.limit ∙ inv.limit;
     }
@@ -125,7 +126,7 @@ prove_takes-prove_take-taken-requires g t c κs within =
     let all = subst (λ z. AreGroupsAt (problem_in ground) (round_in ground) s county c.args.position.now.size (codes_of_sets order test z)) (sym c.deref-group-items.ensures.value) e.groups in
     let below = subst (AreBelow (length order) test) (sym c.deref-group-items.ensures.value) e.below in (
       omega (arith, inv.more, inv.limit, e.more, e.limit),
-      (within, (c.requires.ground, (c.requires.at, (has_all (λ z. (x : ℕ) → test z x ≡ true → x < length order) list below item (listed list i item c.taking-test.true c.group-item.is), (county, group_there g.row.C.Denot test order (problem_in ground) (round_in ground) s list county c.args.position.now.size i item all c.taking-test.true c.group-item.is))))),
+      (within, (c.requires.ground, (c.requires.at, (has_all (λ z. (x : ℕ) → test z x ≡ true → x < length order) list below item (listed list i item c.taking-test.true c.group-item.is), ((county, group_there g.row.C.Denot test order (problem_in ground) (round_in ground) s list county c.args.position.now.size i item all c.taking-test.true c.group-item.is), inv.lists))))),
     )
 
 pub prove_takes-taking-preserved : goal.prove_takes-taking-preserved
@@ -144,6 +145,7 @@ prove_takes-taking-preserved g t c =
     let is = subst (λ z. IfOk z (IsTaken p round s (codes_of_set order test item))) put.1 f.taken in
     record {
       takes = takes_more g.row.C.Denot test order p round s c.deref-group-items.result.now i item c.taking.takes.items c.in-Ok-Proved.more.items put.0 c.taking-test.true c.group-item.is put.2 is inv.takes;
+      lists = f.lists;
       more = omega (arith, inv.more, f.more);
       limit = f.limit ∙ inv.limit;
     }

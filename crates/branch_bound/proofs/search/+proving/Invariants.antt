@@ -9,6 +9,9 @@ use Rattle.proof_trees.specs.Certificate.{TargetFits}
 use Rattle.complete_lists.specs.Complete.{IsComplete}
 use Rattle.certificate_text.proofs.TreeViews.{list_onto, items_of_branches}
 use Rattle.tree_spelling.specs.TreeItems.{FitsInTree}
+use Rattle.std.proofs.Common.{length}
+use Rattle.ordered_counties.specs.OrderedValue.{problem_at}
+use Rattle.known_groups.specs.PartLists.{AreListsOf}
 use Rattle.branch_bound.specs.Searching.{problem_in, round_in, state_in, IsAt, AreTakesOf}
 use Rattle.branch_bound.proofs.search.+proving.Given as goal
 
@@ -24,6 +27,7 @@ decreases-prove_take g l = 3 * (l.steps.now.limit - l.steps.now.used) + 1
 abbrev pub invariant-prove_takes-taking : goal.invariant-prove_takes-taking
 invariant-prove_takes-taking g l = record {
   takes : AreTakesOf (problem_in l.ground) (round_in l.ground) (state_in l.ground g.C.CountySet.test l.position.state) (codes_of_sets l.ground.ordered.now.order g.C.CountySet.test (take l.group-index l.group-items)) l.takes.items;
+  lists : AreListsOf g.C.CountySet.test (problem_at l.ground.ordered.now) (length l.ground.ordered.now.order) l.lists;
   more : l.fn.steps.used ≤ l.steps.used;
   limit : l.steps.limit ≡ l.fn.steps.limit;
 }
@@ -42,6 +46,7 @@ invariant-prove-branching g l = record {
       → IsComplete (list_onto l.branches.items tree) (problem_in l.ground) (round_in l.ground) (state_in l.ground g.C.CountySet.test l.fn.position.state);
   agrees : (grouping : Grouping) → Agrees (state_in l.ground g.C.CountySet.test l.position.state) grouping → Agrees (state_in l.ground g.C.CountySet.test l.fn.position.state) grouping;
   lines : AllByRecursion (FitsInTree l.ground.round.now.language) (items_of_branches l.branches.items);
+  lists : AreListsOf g.C.CountySet.test (problem_at l.ground.ordered.now) (length l.ground.ordered.now.order) l.lists;
   more : l.fn.steps.used ≤ l.steps.used;
   limit : l.steps.limit ≡ l.fn.steps.limit;
 }

@@ -1,11 +1,15 @@
 use Rattle.std.proofs.Common.{◌≡◌, ◌-◌}
+use Rattle.std.proofs.Common.{length}
 use Rattle.grouping_problem.specs.ProblemValue.{problem_of}
+use Rattle.ordered_counties.specs.OrderedValue.{problem_at}
+use Rattle.known_groups.specs.PartLists.{AreListsOf}
 use Rattle.branch_bound.specs.Solving.{IsTarget}
 use Rattle.branch_bound.proofs.solving.improve.Given as goal
 
 abbrev pub invariant-loop-tree : goal.invariant-loop-tree
 invariant-loop-tree g l = record {
   target : IsTarget (problem_of l.ordered.problem) l.ordered.order l.target.groups.items;
+  lists : AreListsOf g.C.CountySet.test (problem_at l.ordered) (length l.ordered.order) l.lists;
   limit : l.steps.limit ≡ l.fn.steps.limit;
 }
 

@@ -1,0 +1,106 @@
+//! How far a search is, told while it runs.
+
+use cli::Watcher;
+use county_codes::Grouping;
+use ordered_counties::Steps;
+use std::alloc::{AllocError, Global};
+use std::io::IsTerminal;
+use std::time::Instant;
+
+/// How many seconds pass between two lines.
+const PAUSE: u64 = 1;
+
+/// Goes to the beginning of the terminal's line, and clears the line.
+const CLEAR: &str = "\r\x1b[K";
+
+/// Tells on standard error how far a search is, about once a second. If standard error is no terminal, nothing is told.
+#[derive(Drop)]
+pub(crate) struct Progress<'a> {
+    rt: &'a HostRuntime,
+    is_shown: bool,
+    is_written: bool,
+    last: Option<Instant>,
+    round: Option<String>,
+}
+
+/// The numbers of groups by size, from one county on.
+fn counts(alloc: Global, grouping: &Grouping) -> Result<String, AllocError> {
+    let mut text = String::new(alloc);
+    let mut left = grouping.groups.len();
+    let mut size = 0;
+    while left > 0 && size < 256 {
+        size += 1;
+        let found = grouping
+            .groups
+            .iter()
+            .filter(|group| group.codes.as_slice().len() == size)
+            .count();
+        left = left.saturating_sub(found);
+        text.push_str(&format!(in alloc; " {found}")?)?;
+    }
+    Ok(text)
+}
+
+/// The round, and the counts of the best grouping so far.
+fn round_text(alloc: Global, limit: u16, target: &Grouping) -> Result<String, AllocError> {
+    let counts = counts(alloc, target)?;
+    format!(in alloc; "groups of up to {limit} counties, best counts so far{counts}")
+}
+
+impl<'a> Progress<'a> {
+    /// Nothing is told yet.
+    pub(crate) fn new(rt: &'a HostRuntime) -> Progress<'a> {
+        Progress {
+            rt,
+            is_shown: rt.stderr().is_terminal(),
+            is_written: false,
+            last: None,
+            round: None,
+        }
+    }
+
+    /// Whether a line is due: a second has passed since the last one, or since the first state.
+    fn is_due(&mut self) -> bool {
+        let Ok(now) = Instant::now(self.rt) else {
+            return false;
+        };
+        match self.last {
+            Some(last) if now.duration_since(last).as_secs() < PAUSE => false,
+            Some(_) => {
+                self.last = Some(now);
+                true
+            }
+            None => {
+                self.last = Some(now);
+                false
+            }
+        }
+    }
+
+    /// Clears the line that was written last.
+    pub(crate) fn clear(&self) {
+        if self.is_written {
+            let _ = eprint!(self.rt; "{CLEAR}");
+        }
+    }
+}
+
+impl Watcher for Progress<'_> {
+    fn round(&mut self, limit: u16, target: &Grouping) {
+        if self.is_shown {
+            self.round = round_text(self.rt.alloc(), limit, target).ok();
+        }
+    }
+
+    fn step(&mut self, steps: &Steps) {
+        if !self.is_shown || !self.is_due() {
+            return;
+        }
+        if let Some(round) = &self.round {
+            let used = steps.used();
+            let limit = steps.limit();
+            let _ = eprint!(self.rt; "{CLEAR}countygroups: {round}, {used} of {limit} steps");
+            self.is_written = true;
+        }
+    }
+}
