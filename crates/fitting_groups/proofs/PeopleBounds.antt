@@ -1,16 +1,16 @@
--- A set grows by places in reach. The people of so many of them are at least those of as many with the fewest people. The people of at most so
--- many are at most what the others leave, of which each has as few people as can be.
-use Rattle.std.proofs.Common.{◌≡◌, ℕ, zero, suc, ◌+◌, ◌-◌, ◌≤◌, ◌<◌, ◌==◌, Bool, true, false, cond, ◌&&◌, ◌||◌, not, List, [], ◌∷◌, filter, take, drop, map, length, get_or, zero-add, add-one, refl, sym, ap, ◌∙◌, subst, arith, ◌⊎◌, inl, inr}
+-- A group that grows from a set has further places, all in reach. Their people are at least those of as many places in reach with the fewest
+-- people. They are at most the people in reach but those of the other places, which are as many with the fewest people.
+use Rattle.std.proofs.Common.{◌≡◌, ℕ, zero, suc, ◌+◌, ◌-◌, ◌≤◌, ◌<◌, ◌==◌, Bool, true, false, cond, ◌&&◌, ◌||◌, not, List, [], ◌∷◌, filter, take, drop, map, length, get_or, zero-add, add-one, refl, sym, ap, ◌∙◌, subst, arith, inl, inr}
 use Rattle.std.specs.Bool.{⊤}
 use Rattle.std.specs.List.Sorted.{IsNonDecreasingBy}
 use Rattle.std.proofs.Math.Seq.{drop-cons}
-use Rattle.std.proofs.lemmas.Bool.{and_parts, and_from, false≢true, eqb-true}
-use Rattle.place_lists.proofs.Sums.{total_alike, total-map, total_ones, total_same}
+use Rattle.std.proofs.lemmas.Bool.{and_parts, false≢true, eqb-true}
+use Rattle.place_lists.proofs.Sums.{total_alike, total-map, total_ones}
 use Rattle.place_lists.proofs.PlaceSets.{often_in, often_out, total_union}
 use Rattle.place_lists.specs.PlaceSets.{places_of}
 use Rattle.grouping_laws.specs.Sets.{digit, total, often, member}
 use Rattle.grouping_laws.specs.Problem.{Problem, people_of}
-use Rattle.grouping_laws.proofs.Elements.{Has, has_all, has_from_contains, contains_from_has}
+use Rattle.grouping_laws.proofs.Elements.{Has, has_all, contains_from_has}
 use Rattle.growing_sets.specs.Growing.{IsExtension, IsMove}
 use Rattle.certificate_languages.specs.declared.language.Language.{Language}
 use Rattle.fitting_groups.specs.declared.tables.Tables.{Tables}

@@ -1,6 +1,6 @@
 -- The places of a set with their people, one after another, and then sorted by people.
 use Rattle.std.proofs.Common.{◌≡◌, ℕ, zero, suc, ◌+◌, ◌≤◌, ◌<◌, ◌==◌, Bool, true, false, cond, List, [], ◌∷◌, ◌++◌, map, length, refl, sym, ap, ◌∙◌, subst, arith, add-one, inl, inr}
-use Rattle.std.specs.List.{sum_by, All}
+use Rattle.std.specs.List.{sum_by}
 use Rattle.std.specs.List.Sorted.{IsPermutation, IsNonDecreasingBy}
 use Rattle.std.proofs.lemmas.List.{map-append, length-map}
 use Rattle.std.proofs.lemmas.List.Sums.{sum_by-cons}
@@ -9,7 +9,7 @@ use Rattle.place_lists.specs.PlaceSets.{places_of}
 use Rattle.place_lists.proofs.Sums.{total-map, total_ones}
 use Rattle.place_lists.proofs.PlaceSets.{often_in}
 use Rattle.place_lists.proofs.PlaceSums.{places_step, total_step}
-use Rattle.grouping_laws.specs.Sets.{digit, total, often, member}
+use Rattle.grouping_laws.specs.Sets.{digit, total}
 use Rattle.grouping_laws.specs.Problem.{Problem}
 use Rattle.grouping_laws.proofs.Elements.{Has, all_from_has}
 use Rattle.grouping_laws.proofs.Places.{has_member}

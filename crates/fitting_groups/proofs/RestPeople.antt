@@ -1,11 +1,11 @@
 -- A live group leaves connected parts of the rest, and the people of each suit some number of seats. The windows of sets apart add up. So all
 -- people that the group leaves suit some number of seats, if any place is left.
-use Rattle.std.proofs.Common.{◌≡◌, ℕ, ◌+◌, ◌-◌, ◌≤◌, ◌<◌, ◌==◌, Bool, true, false, ◌||◌, ◌&&◌, not, nat_le, List, [], ◌∷◌, filter, length, refl, sym, ap, ◌∙◌, subst, arith, ◌⊎◌, inl, inr, ⊎_elim, Option, Some, None}
-use Rattle.std.proofs.lemmas.Bool.{and_parts, false≢true}
+use Rattle.std.proofs.Common.{◌≡◌, ℕ, ◌+◌, ◌-◌, ◌≤◌, ◌<◌, ◌==◌, Bool, true, false, ◌||◌, ◌&&◌, not, nat_le, List, [], ◌∷◌, filter, length, refl, sym, ap, ◌∙◌, subst, arith, inl, ⊎_elim, Some}
+use Rattle.std.proofs.lemmas.Bool.{and_parts}
 use Rattle.place_lists.specs.PlaceSets.{places_of}
 use Rattle.place_lists.proofs.Sums.{total_alike, total_ones}
-use Rattle.place_lists.proofs.PlaceSets.{total_union, often-places_of, often_in, often_out}
-use Rattle.grouping_laws.specs.Sets.{digit, total, often, stands, member, Inside}
+use Rattle.place_lists.proofs.PlaceSets.{total_union, often_in, often_out}
+use Rattle.grouping_laws.specs.Sets.{digit, total, often, member, Inside}
 use Rattle.grouping_laws.specs.Places.{places_below}
 use Rattle.grouping_laws.specs.Problem.{Problem, Suits, people_of, IsProblem}
 use Rattle.grouping_laws.specs.Parts.{IsPart, AreParts}
@@ -13,8 +13,7 @@ use Rattle.grouping_laws.specs.Ranges.{SuitAll}
 use Rattle.grouping_laws.proofs.Elements.{Has, has_all}
 use Rattle.grouping_laws.proofs.Sizes.{flat, every, total-flat}
 use Rattle.proof_trees.specs.Regions.{without}
-use Rattle.proof_trees.specs.State.{State, open_to}
-use Rattle.proof_trees.specs.Stuck.{CannotFill}
+use Rattle.proof_trees.specs.State.{State}
 use Rattle.proof_trees.specs.Fitting.{IsLive, IsKept, Fits}
 use Rattle.certificate_languages.specs.declared.language.Language.{Language}
 use Rattle.proof_trees.proofs.Narrowing.{all_suit}

@@ -1,9 +1,9 @@
 -- The windows of the numbers of seats, one after another, until one begins above the people that are asked for.
-use Rattle.std.proofs.Common.{◌≡◌, ℕ, ◌+◌, ◌-◌, ◌*◌, ◌≤◌, ◌<◌, List, [], ◌∷◌, ◌++◌, refl, sym, ap, subst, arith, ◌⊎◌, inl, inr, ⊎_elim, mul-le-mul_right, mul-le-mul_left}
+use Rattle.std.proofs.Common.{◌≡◌, ℕ, ◌+◌, ◌-◌, ◌*◌, ◌≤◌, ◌<◌, List, [], ◌∷◌, ◌++◌, refl, ap, subst, arith, ◌⊎◌, inl, ⊎_elim, mul-le-mul_right, mul-le-mul_left}
 use Rattle.grouping_laws.specs.Problem.{Problem, Suits, IsProblem}
 use Rattle.grouping_laws.specs.SeatWindow.{people_bounds}
 use Rattle.grouping_laws.proofs.WindowLemmas.{bounds_law, above_quotient, pos_product}
-use Rattle.grouping_laws.proofs.Elements.{Has, has_from_contains, contains_from_has, has_left, has_right}
+use Rattle.grouping_laws.proofs.Elements.{has_from_contains, contains_from_has, has_left, has_right}
 use Rattle.fitting_groups.specs.People.{HasWindow, AreWindows}
 
 -- each number of people that suits fewer seats is in a window

@@ -113,10 +113,11 @@ fn search<C: CountySet>(
 /// size, and groups of one size by their lists of places: what the takes of a branch have to be.
 ///
 /// `near` are the rows of the order (`neighbour_rows`). A step is taken for each connected set of open counties that
-/// is met, each with the place and at most `limit` counties; sets that stay below the fewest people that suit a
-/// seat are passed over, and in a wide language those that leave a part behind that can't be filled. So there are
-/// at least as many steps as groups, and at most as many as such sets. `StepLimit` comes only where all steps are
-/// used, `Memory` only where a growth was refused; the steps that were taken stay taken.
+/// is met, each with the place and at most `limit` counties. If no open counties that a set reaches give it people
+/// that suit some number of seats, the search passes over the set. In a wide language it also passes over a set that
+/// leaves people of the rest that suit no number of seats. The same goes for a set that leaves a part behind that can't
+/// be filled. So there are at least as many steps as groups, and at most as many as such sets. `StepLimit` comes only
+/// where all steps are used, `Memory` only where a growth was refused; the steps that were taken stay taken.
 pub fn groups_at<C: CountySet>(
     alloc: Global,
     ordered: &Ordered,

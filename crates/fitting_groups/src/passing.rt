@@ -60,8 +60,8 @@ fn fewest_more<C: CountySet>(ground: &Ground<C>, reach: &C, more: u32) -> u64
     first_people(&ground.tables.by_people, reach, more)
 }
 
-/// The greatest number of people of at most so many places in reach: the people of all but the others, which have
-/// the fewest people.
+/// The greatest number of people of at most so many places in reach: all people in reach but those of the others,
+/// which have the fewest.
 fn most_more<C: CountySet>(ground: &Ground<C>, reach: &C, more: u32) -> u64
     requires fits { length ground.now.ordered.now.order ≤ C.PLACES }
     requires below { (x : ℕ) → C.test reach.now x ≡ true → x < length ground.now.ordered.now.order }
@@ -76,8 +76,7 @@ fn most_more<C: CountySet>(ground: &Ground<C>, reach: &C, more: u32) -> u64
     people_in(ground.ordered, reach) - first_people(&ground.tables.by_people, reach, others)
 }
 
-/// Whether people from the least to the greatest may suit, where groups that leave a part of the rest have to leave
-/// people that suit too.
+/// Whether people from the least to the greatest may suit, and what they leave of the rest too, if that has to.
 fn may_fit<C: CountySet>(ground: &Ground<C>, least: u64, greatest: u64) -> bool
     requires places { length ground.now.state.now.least.items ≡ length ground.now.ordered.now.order }
     requires rest { (x : ℕ) → C.test ground.now.state.now.rest x ≡ true → x < length ground.now.ordered.now.order }
@@ -124,8 +123,11 @@ fn may_grow<C: CountySet>(ground: &Ground<C>, growth: &Growth<C>, reach: &C) -> 
     may_fit(ground, least, greatest)
 }
 
-/// Whether nothing can come of a growth: with no places that it reaches it has people that may fit, or it leaves a
-/// part behind that can't be filled.
+/// Whether nothing can come of a growth: no free places that the set reaches give it people that may fit, or it
+/// leaves a part behind that can't be filled.
+///
+/// All free places are tried first, which is cheap. The places in reach are tried again only if some free place is
+/// not among them.
 pub(crate) fn is_passed_over<C: CountySet>(
     alloc: Global,
     ground: &Ground<C>,
@@ -162,5 +164,8 @@ pub(crate) fn is_passed_over<C: CountySet>(
         return Ok(true);
     }
     let reach = reached(alloc, ground, growth)?;
+    if growth.free.within(&reach) {
+        return Ok(false);
+    }
     Ok(!may_grow(ground, growth, &reach))
 }

@@ -11,13 +11,14 @@ use proof_trees::{Language, State};
 use state_tests::people_in;
 use std::alloc::{AllocError, Global};
 
-/// What is made once for a state: the places that may join a set with their people, the fewest people first; the
-/// least and the greatest number of people of each number of seats; and the people of the rest, if any group leaves
-/// a part of it that suits some number of seats.
+/// What is made once for a state and a region of its rest.
 #[derive(Drop)]
 pub(crate) struct Tables {
+    /// The places of the region, each with its people, the fewest people first.
     pub(crate) by_people: Vec<(u32, u16)>,
+    /// For each number of seats the least and the greatest number of people that suit it.
     pub(crate) windows: Vec<(u64, u64)>,
+    /// The people of the rest, if what a group that fits leaves of them has to suit some number of seats.
     pub(crate) rest_people: Option<u64>,
 }
 

@@ -1,4 +1,4 @@
-use Rattle.std.proofs.Common.{◌≡◌, ℕ, Bool, true, sym, subst, length, arith, rules}
+use Rattle.std.proofs.Common.{◌≡◌, true, sym, subst, length, arith, rules}
 use Rattle.ordered_counties.specs.OrderedValue.{problem_at}
 use Rattle.fitting_groups.specs.People.{AreByPeople}
 use Rattle.fitting_groups.proofs.PeopleBounds.{least_joins}

@@ -1,4 +1,4 @@
-use Rattle.std.proofs.Common.{◌≡◌, Bool, true, not, length, rules}
+use Rattle.std.proofs.Common.{◌≡◌, true, not, length, rules}
 use Rattle.ordered_counties.specs.OrderedValue.{problem_at}
 use Rattle.proof_trees.specs.StateValue.{state_of}
 use Rattle.fitting_groups.proofs.Keeping.{none_fits, none_grows}

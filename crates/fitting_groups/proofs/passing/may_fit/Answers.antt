@@ -1,4 +1,4 @@
-use Rattle.std.proofs.Common.{◌≡◌, ℕ, ◌-◌, List, Option, Some, refl, sym, subst, length}
+use Rattle.std.proofs.Common.{ℕ, ◌-◌, List, Some, refl, sym, subst, length}
 use Rattle.grouping_laws.specs.Problem.{people_of}
 use Rattle.ordered_counties.specs.OrderedValue.{problem_at}
 use Rattle.proof_trees.specs.StateValue.{state_of}

@@ -1,6 +1,4 @@
-use Rattle.std.proofs.Common.{◌≡◌, ℕ, ◌+◌, ◌-◌, ◌≤◌, Bool, true, subst, length, arith}
-use Rattle.grouping_laws.specs.Sets.{total}
-use Rattle.grouping_laws.specs.Problem.{people_of}
+use Rattle.std.proofs.Common.{◌≡◌, ℕ, true, subst, length, arith}
 use Rattle.place_lists.specs.PlaceSets.{places_of}
 use Rattle.place_lists.proofs.Sums.{total_ones}
 use Rattle.place_lists.proofs.PlaceSets.{total_part}

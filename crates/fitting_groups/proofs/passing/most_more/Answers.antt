@@ -1,4 +1,4 @@
-use Rattle.std.proofs.Common.{◌≡◌, ℕ, ◌-◌, Bool, sym, ap, ◌∙◌, subst, length, filter, take, arith}
+use Rattle.std.proofs.Common.{◌≡◌, ℕ, ◌-◌, sym, ap, ◌∙◌, subst, length, filter, take, arith}
 use Rattle.grouping_laws.specs.Sets.{total}
 use Rattle.place_lists.specs.PlaceSets.{places_of}
 use Rattle.ordered_counties.specs.OrderedValue.{problem_at}

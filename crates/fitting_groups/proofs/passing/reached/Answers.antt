@@ -1,6 +1,6 @@
 use Rattle.std.proofs.Common.{length}
 use Rattle.ordered_counties.specs.OrderedValue.{problem_at}
-use Rattle.fitting_groups.proofs.Reach.{same_free, part_free}
+use Rattle.fitting_groups.proofs.Reach.{part_free}
 use Rattle.fitting_groups.proofs.passing.reached.Goals as goal
 
 pub returns-clause-all : goal.returns-clause-all

@@ -1,4 +1,4 @@
-use Rattle.std.proofs.Common.{◌≡◌, ℕ, map}
+use Rattle.std.proofs.Common.{◌≡◌, map}
 use Rattle.place_lists.specs.PlaceSets.{places_of}
 use Rattle.ordered_counties.specs.OrderedValue.{problem_at}
 use Rattle.fitting_groups.proofs.people.places_by_people.Given as goal
