@@ -1,4 +1,5 @@
-use Rattle.std.proofs.Common.{subst, sym}
+use Rattle.std.proofs.Common.{length, subst, sym}
+use Rattle.ordered_counties.specs.OrderedValue.{problem_at}
 use Rattle.std.specs.List.{AllByRecursion}
 use Rattle.certificate_text.specs.Trees.{tree_of}
 use Rattle.certificate_text.specs.declared.tree.Tree.{roll-Tree}
@@ -30,3 +31,6 @@ returns-in-Ok-Better-clause-piece g c =
     let s = state_in ground test c.in_ok-position.position.state in
     subst (λ z. IsPiece (problem_in ground) (round_in ground) z c.found_piece.result) c.in_ok-position.ensures.at.is
     (c.found_piece.ensures.piece (problem_in ground) s (subst (λ z. IsVerdict test ground s z) c.in-Ok-Better.field-0-is c.in-Ok-Better.ensures.verdict))
+
+pub judge-requires-clause-lists : goal.judge-requires-clause-lists
+judge-requires-clause-lists g c = c.new-lists.ensures.lists (problem_at c.args.ground.now.ordered.now) (length c.args.ground.now.ordered.now.order)

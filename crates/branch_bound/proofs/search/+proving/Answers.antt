@@ -38,7 +38,7 @@ prove-prove_takes-takes-requires g t c κs within =
     let s = state_in ground test c.branching.position.state in
     let v = subst (λ z. IsVerdict test ground s z) c.in-Ok-Branch.field-0-is c.in-Ok-Branch.ensures.verdict in
     let e = c.in-Ok-Branch.ensures in
-    (omega (arith, e.counted, e.left, e.limit, c.branching.invariant.more, c.branching.invariant.limit), (within, (c.requires.ground, (own g.row.C.Denot test ground s c.in-Ok-Branch.at v.0, (v.1.below, e.lists)))))
+    (omega (arith, e.counted, e.left, e.limit, c.branching.invariant.more, c.branching.invariant.limit), (within.0, (within.1, (c.requires.ground, (own g.row.C.Denot test ground s c.in-Ok-Branch.at v.0, (v.1.below, e.lists))))))
 
 pub prove-raised_behind-requires-clause-at : goal.prove-raised_behind-requires-clause-at
 prove-raised_behind-requires-clause-at g t c =
@@ -126,7 +126,7 @@ prove_takes-prove_take-taken-requires g t c κs within =
     let all = subst (λ z. AreGroupsAt (problem_in ground) (round_in ground) s county c.args.position.now.size (codes_of_sets order test z)) (sym c.deref-group-items.ensures.value) e.groups in
     let below = subst (AreBelow (length order) test) (sym c.deref-group-items.ensures.value) e.below in (
       omega (arith, inv.more, inv.limit, e.more, e.limit),
-      (within, (c.requires.ground, (c.requires.at, (has_all (λ z. (x : ℕ) → test z x ≡ true → x < length order) list below item (listed list i item c.taking-test.true c.group-item.is), ((county, group_there g.row.C.Denot test order (problem_in ground) (round_in ground) s list county c.args.position.now.size i item all c.taking-test.true c.group-item.is), inv.lists))))),
+      (within.0, (within.1, (c.requires.ground, (c.requires.at, (has_all (λ z. (x : ℕ) → test z x ≡ true → x < length order) list below item (listed list i item c.taking-test.true c.group-item.is), ((county, group_there g.row.C.Denot test order (problem_in ground) (round_in ground) s list county c.args.position.now.size i item all c.taking-test.true c.group-item.is), inv.lists)))))),
     )
 
 pub prove_takes-taking-preserved : goal.prove_takes-taking-preserved

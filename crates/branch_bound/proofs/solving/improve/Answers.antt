@@ -1,4 +1,5 @@
-use Rattle.std.proofs.Common.{◌≡◌, Err, ap, arith}
+use Rattle.std.proofs.Common.{◌≡◌, Err, length, refl, ap, arith}
+use Rattle.ordered_counties.specs.OrderedValue.{problem_at}
 use Rattle.branch_bound.proofs.Orders.{stands_in_order}
 use Rattle.branch_bound.proofs.solving.improve.Goals as goal
 
@@ -8,3 +9,10 @@ returns-in-Err-StepLimit g c =
     let all : c.used.result ≡ c.args.steps.now.limit =
     omega (arith, c.used.ensures.value, c.in-Err-StepLimit.ensures.stopped (ap Err c.in-Err-StepLimit.field-0-is), c.prove_round.ensures.limit, c.loop-tree.invariant.limit) in
     record { answer = (all, (target.lawful, stands_in_order c.args.ordered.now.order c.requires.order c.loop-tree.target.groups.items target.sorted)); complete = tt }
+
+pub loop-tree-init : goal.loop-tree-init
+loop-tree-init g c = record {
+  target = c.requires.target;
+  lists = c.new-lists.ensures.lists (problem_at c.args.ordered.now) (length c.args.ordered.now.order);
+  limit = refl;
+}
