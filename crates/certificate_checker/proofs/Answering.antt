@@ -1,8 +1,10 @@
 -- What was judged of the lines of a text is its verdict.
-use Rattle.std.proofs.Common.{◌≡◌, ℕ, ◌+◌, ◌≤◌, List, [], ◌∷◌, length, Option, Some, None, Result, Ok, Err, IfOk, inl, inr, refl, ap, arith, ⊎_elim}
+use Rattle.std.proofs.Common.{◌≡◌, ℕ, ◌+◌, ◌≤◌, List, [], ◌∷◌, ◌++◌, length, drop, Option, Some, None, Result, Ok, Err, IfOk, inl, inr, refl, sym, ap, subst, ◌∙◌, append_assoc, append-nil, arith, ⊎_elim}
+use Rattle.std.proofs.Math.Seq.{drop-append_seam}
 use Rattle.county_codes.specs.declared.group.Grouping.{Grouping as GroupingHeld}
 use Rattle.grouping_laws.specs.Problem.{Problem}
-use Rattle.certificate_lines.specs.Courses.{certificate_course}
+use Rattle.certificate_lines.specs.Courses.{Course, certificate_course}
+use Rattle.certificate_lines.specs.ItemsLeft.{ItemsHeld, in_memory, left_of_reader, nothing_taken}
 use Rattle.certificate_lines.specs.Fits.{AllFit}
 use Rattle.certificate_lines.specs.declared.fault.TextFault.{TextFault}
 use Rattle.certificate_lines.specs.declared.item.Wanted.TheVariants as want
@@ -16,9 +18,10 @@ use Rattle.text_verdicts.proofs.LineFeeds.{lines}
 use Rattle.text_verdicts.proofs.Verdicts.{best, impossible}
 use Rattle.certificate_checker.specs.Feeding.{FeedValue, Fed}
 use Rattle.certificate_checker.specs.Certificates.{IsCertificateJudged}
-use Rattle.certificate_checker.specs.Answered.{IsAnswer, NamesBest, ShowsImpossible}
+use Rattle.certificate_checker.specs.Answered.{IsAnswer, NamesBest, ShowsImpossible, ChecksItems, ChecksBytes}
 use Rattle.certificate_checker.specs.declared.fault.CheckFault.{CheckFault}
 use Rattle.certificate_checker.specs.declared.fault.CheckFault.TheVariants.{Text}
+use Rattle.std.specs.declared.alloc.AllocError.{AllocError}
 use Rattle.certificate_checker.specs.declared.feed.Stop.{Stop}
 use Rattle.certificate_checker.specs.declared.feed.Stop.TheVariants as stop
 use Rattle.certificate_checker.specs.declared.verdict.Verdict.{Verdict}
@@ -79,3 +82,31 @@ shows_impossible p text budget (Ok Impossible) h = (impossible p text h).0
 shows_impossible p text budget (Ok (No fault line)) h = tt
 shows_impossible p text budget (Ok Budget) h = tt
 shows_impossible p text budget (Err e) h = tt
+
+-- of a text in memory
+pub checked_text : (p : Problem) (course : Course) (text : List ℕ) (budget : ℕ) (r : Result Verdict AllocError) → ChecksItems p (in_memory course) [] budget r [] → course ≡ certificate_course text → IfOk r (IsAnswer p text budget)
+checked_text p course text budget r h is = (h.answers [] (record { later = []; text = refl; may = λ ended. refl })).1 text is
+
+-- of bytes that were pulled
+module _ (p : Problem) (before after : List ℕ) (budget : ℕ) where
+  pub checked_bytes : (items : ItemsHeld) → items ≡ nothing_taken → (v : Verdict) → ChecksItems p (left_of_reader items) before budget (Ok v) after → ChecksBytes p before after budget v
+  checked_bytes items is v checked =
+      let h = subst (λ (i : ItemsHeld). ChecksItems p (left_of_reader i) before budget (Ok v) after) is checked in
+      let now = (h.answers after (record { later = []; text = sym (append-nil after); may = λ ended. refl })).0 in
+      record {
+        pulled = now.later;
+        ended = h.ended;
+        given = now.text;
+        answer = λ later may.
+            let split : drop (length before) (after ++ later) ≡ now.later ++ later =
+            ap (λ (t : List ℕ). drop (length before) (t ++ later)) now.text ∙ ap (drop (length before)) (append_assoc before now.later later) ∙ drop-append_seam before (now.later ++ later) in
+            (h.answers (after ++ later) (record { later = later; text = refl; may = may })).1 (now.later ++ later) (ap certificate_course split);
+      }
+
+  pub bytes_best : {E : Type 0} (r : Result Verdict E) → IfOk r (ChecksBytes p before after budget) → IfOk r (NamesBest p)
+  bytes_best {E = E} (Ok v) h = names_best {E = E} p (h.pulled ++ []) budget (Ok v) (h.answer [] (λ ended. refl))
+  bytes_best (Err e) h = tt
+
+  pub bytes_impossible : {E : Type 0} (r : Result Verdict E) → IfOk r (ChecksBytes p before after budget) → IfOk r (ShowsImpossible p)
+  bytes_impossible {E = E} (Ok v) h = shows_impossible {E = E} p (h.pulled ++ []) budget (Ok v) (h.answer [] (λ ended. refl))
+  bytes_impossible (Err e) h = tt

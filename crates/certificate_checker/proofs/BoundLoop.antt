@@ -113,7 +113,7 @@ loss_from p round s target old now new lines rest judged used false (Err (stop.F
 loss_from p round s target old now new lines rest judged used false (Err (stop.Text f)) (a ∷ others) small few is isnt count ends looks k e = absurd e
 loss_from p round s target old now new lines rest judged used false (Err stop.Unspelled) (a ∷ others) small few is isnt count ends looks k e = absurd e
 loss_from p round s target old now new lines rest judged used false (Err stop.Budget) (a ∷ others) small few is isnt count ends looks k e = absurd e
-loss_from p round s target old now new lines rest judged used false (Err stop.Memory) (a ∷ others) small few is isnt count ends looks k e = absurd e
+loss_from p round s target old now new lines rest judged used false (Err stop.Refused) (a ∷ others) small few is isnt count ends looks k e = absurd e
 
 pub loss_judged : (p : Problem) (round : Round) (s : State) (target : Grouping) (old now new : FeedValue) (lines : List Allowance) (rest : List Item) (judged used : ℕ) (h : LinesLeft p round s target old now lines rest judged used) (last : Bool) (r : Result (Unit {0}) Stop)
     (allowed : Allowed) → allowed ≡ Loss → length lines ≤ round.limit → judged < length lines → (last ≡ true → judged + 1 ≡ length lines) → (last ≡ false → judged + 1 ≢ length lines)
@@ -137,7 +137,7 @@ stop_from p round s target old now new lines rest judged used stop.Budget (a ∷
     let y = bound_lines_cost.last a others p round s (wanted_of target) (judged + 1) used x.0 x.1 in
     let size : length now.course.items ≡ suc (length (line_items others) + length rest) = ap length items ∙ ap suc (length-append (line_items others) rest) in
     omega (arith, x.2, y.2, k y.0 y.1, fed.limit, fed.lines, size)
-stop_from p round s target old now new lines rest judged used stop.Memory (a ∷ others) fed few count items ends looks k = tt
+stop_from p round s target old now new lines rest judged used stop.Refused (a ∷ others) fed few count items ends looks k = tt
 
 pub stop_judged : (p : Problem) (round : Round) (s : State) (target : Grouping) (old now new : FeedValue) (lines : List Allowance) (rest : List Item) (judged used : ℕ) (h : LinesLeft p round s target old now lines rest judged used) (found : Stop)
     → Fed old now → judged < length lines → IsLineJudged p round s (wanted_of target) (judged + 1) used h.left rest now (Err found) new → IsLeafJudged {X = Unit {0}} p round s (bound lines) rest old (Err found) new
@@ -170,7 +170,7 @@ all_from p round s target old now lines rest judged used false (Err (stop.Fault 
 all_from p round s target old now lines rest judged used false (Err (stop.Text f)) [] small all is isnt count items ends looks e = absurd e
 all_from p round s target old now lines rest judged used false (Err stop.Unspelled) [] small all is isnt count items ends looks e = absurd e
 all_from p round s target old now lines rest judged used false (Err stop.Budget) [] small all is isnt count items ends looks e = absurd e
-all_from p round s target old now lines rest judged used false (Err stop.Memory) [] small all is isnt count items ends looks e = absurd e
+all_from p round s target old now lines rest judged used false (Err stop.Refused) [] small all is isnt count items ends looks e = absurd e
 
 pub all_judged : (p : Problem) (round : Round) (s : State) (target : Grouping) (old now : FeedValue) (lines : List Allowance) (rest : List Item) (judged used : ℕ) (h : LinesLeft p round s target old now lines rest judged used) (full : Bool) (r : Result (Unit {0}) Stop)
     → length lines ≤ round.limit → judged ≡ length lines → (full ≡ true → length lines ≡ round.limit) → (full ≡ false → length lines ≢ round.limit) → IsEndOf full old.line r → IsLeafJudged p round s (bound lines) rest old r now

@@ -61,7 +61,7 @@ leaf_reaches p round s last old mid new rest more x (Err stop.Budget) took limit
     let y = leaf_first last p round s more n l in
     let size : length old.course.items ≡ suc (length mid.course.items) = ap (λ c. length c.items) took.0 in
     omega (arith, h y.0 y.1, y.2, took.2, limit, size)
-leaf_reaches p round s last old mid new rest more x (Err stop.Memory) took limit h = tt
+leaf_reaches p round s last old mid new rest more x (Err stop.Refused) took limit h = tt
 
 -- a branch that can stand, whose groups are listed
 pub branch_reaches : (p : Problem) (round : Round) (s : State) (county : ℕ) (limit : Option ℕ) (takes : Takes) (raised : Tree) (groups : List (List ℕ)) (more : List Open) (old mid : FeedValue) (used : ℕ) (x : Item) → TookLine old (Ok x) mid

@@ -17,7 +17,7 @@ use Rattle.certificate_checker.proofs.Taken.{form_taken, taken_stop}
 -- where the reading stopped, it is no matter what it should have given
 stops_alike : {X Y : Type 0} (Gave : X → Type 0) (Other : Y → Type 0) (xs rest : List Item) (old new : FeedValue) (s : Stop) → AreTaken Gave xs rest old (Err s) new → AreTaken Other xs rest old (Err s) new
 stops_alike Gave Other xs rest old new stop.Budget h = h
-stops_alike Gave Other xs rest old new stop.Memory h = h
+stops_alike Gave Other xs rest old new stop.Refused h = h
 stops_alike Gave Other xs rest old new stop.Unspelled h = h
 stops_alike Gave Other xs rest old new (stop.Text fault) h = h
 stops_alike Gave Other xs rest old new (stop.Fault fault line) h = h

@@ -37,7 +37,7 @@ module _ (p : Problem) (c : Certificate) (old : FeedValue) (none_used : old.used
 
   pub unread : {X : Type 0} (Gave : X → Type 0) (rest : List Item) (new : FeedValue) (s : Stop) → AreTaken Gave (round_items c) rest old (Err s) new → IsCertificateJudged p c old.limit (Err s)
   unread Gave rest new stop.Budget h = below_cost (λ n l. omega (arith, h, none_used, all_lines c))
-  unread Gave rest new stop.Memory h = tt
+  unread Gave rest new stop.Refused h = tt
   unread Gave rest new stop.Unspelled h = absurd h
   unread Gave rest new (stop.Text fault) h = absurd h
   unread Gave rest new (stop.Fault fault line) h = absurd h
@@ -49,7 +49,7 @@ module _ (p : Problem) (c : Certificate) (old : FeedValue) (none_used : old.used
         by_stop : (s : Stop) → IsRoundJudged p c.round c.tree (item.End ∷ []) mid (Err s) new → IsCertificateJudged p c old.limit (Err s)
         by_stop (stop.Fault fault line) h = h
         by_stop stop.Budget h = below_cost (λ n l. omega (arith, h n l, fed.limit, taken.3, none_used, all_lines c, ap length taken.1, length-append (items_of_tree c.tree) (item.End ∷ [])))
-        by_stop stop.Memory h = tt
+        by_stop stop.Refused h = tt
         by_stop stop.Unspelled h = absurd h
         by_stop (stop.Text fault) h = absurd h
 
@@ -63,7 +63,7 @@ module _ (p : Problem) (c : Certificate) (old : FeedValue) (none_used : old.used
               (λ n l.
               let looks = judged.2 n (subst (λ x. FirstLooks p x c.tree n) (sym same) l) in
               omega (arith, h, looks, fed.limit, later.limit, later.lines, ap length judged.0, taken.2, taken.3, none_used, all_lines c, ap length taken.1, length-append (items_of_tree c.tree) (item.End ∷ [])))
-          by_stop stop.Memory h = tt
+          by_stop stop.Refused h = tt
           by_stop stop.Unspelled h = absurd h
           by_stop (stop.Text fault) h = absurd h
           by_stop (stop.Fault fault line) h = absurd h

@@ -1,4 +1,5 @@
 pub mod Views
+pub mod Streams
 pub mod Reaching
 pub mod BoundLoop
 pub mod Lines
@@ -14,3 +15,4 @@ pub mod Targets
 pub mod Answering
 pub mod TreeAnswering
 pub mod HeadsRead
+pub mod TargetsRead

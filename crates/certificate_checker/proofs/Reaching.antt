@@ -1,10 +1,11 @@
 -- Steps from one place of the text to a later one.
-use Rattle.std.proofs.Common.{◌≡◌, ◌<◌, ◌≤◌, suc, List, length, Result, Ok, Err, refl, sym, ◌∙◌, ap, arith}
+use Rattle.std.proofs.Common.{◌≡◌, ◌≤◌, List, length, Result, Ok, Err, refl, sym, ◌∙◌, arith}
 use Rattle.grouping_laws.specs.Problem.{Problem}
 use Rattle.proof_trees.specs.Round.{Round}
 use Rattle.certificate_lines.specs.declared.item.Item.{Item}
 use Rattle.verdicts.specs.Work.{Open}
-use Rattle.certificate_checker.specs.Feeding.{FeedValue, Fed, IsFed, TookLine, Reaches, Halts}
+use Rattle.certificate_checker.specs.Feeding.{FeedValue, CountsSteps, Fed, IsFed, Reaches, Halts}
+use Rattle.certificate_checker.specs.declared.feed.Feed.{Feed}
 use Rattle.certificate_checker.specs.declared.feed.Stop.{Stop}
 use Rattle.certificate_checker.specs.declared.feed.Stop.TheVariants as stop
 
@@ -37,7 +38,7 @@ fed_through a b c (Err (stop.Fault fault line)) h k = fed_twice a b c h k
 fed_through a b c (Err stop.Unspelled) h k = fed_twice a b c h k
 fed_through a b c (Err stop.Budget) h k = fed_twice a b c h k
 fed_through a b c (Err (stop.Text fault)) h k = sym h.fault ∙ k
-fed_through a b c (Err stop.Memory) h k = tt
+fed_through a b c (Err stop.Refused) h k = tt
 
 -- the same where the reading stopped, whatever it should have given
 pub fed_off : (X Y : Type 0) (a b c : FeedValue) (st : Stop) → Fed a b → IsFed {X = X} b (Err st) c → IsFed {X = Y} a (Err st) c
@@ -45,17 +46,14 @@ fed_off X Y a b c (stop.Fault fault line) h k = fed_twice a b c h k
 fed_off X Y a b c stop.Unspelled h k = fed_twice a b c h k
 fed_off X Y a b c stop.Budget h k = fed_twice a b c h k
 fed_off X Y a b c (stop.Text fault) h k = sym h.fault ∙ k
-fed_off X Y a b c stop.Memory h k = tt
+fed_off X Y a b c stop.Refused h k = tt
 
--- there are as many steps as lines
-pub counted_on : (a b : FeedValue) → a.line ≤ a.used → Fed a b → b.line ≤ b.used
-counted_on a b h k = omega (arith, h, k.counted)
+-- steps are counted on
+pub counts_here : {S : Type 0} (a : Feed S) → CountsSteps a a
+counts_here a = (refl, omega arith, omega arith)
 
--- a line was read on the way, so fewer are left
-pub fewer_left : (a b c d : FeedValue) (x : Item) → Fed a b → TookLine b (Ok x) c → Fed c d → length d.course.items < length a.course.items
-fewer_left a b c d x h took k =
-    let size : length b.course.items ≡ suc (length c.course.items) = ap (λ z. length z.items) took.0 in
-    omega (arith, h.lines, h.later, size, k.lines, k.later)
+pub counts_on : {S : Type 0} (a b c : Feed S) → CountsSteps a b → CountsSteps b c → CountsSteps a c
+counts_on a b c h k = (k.0 ∙ h.0, omega (arith, h.1, k.1), omega (arith, h.2, k.2))
 
 pub reaches_twice : (p : Problem) (round : Round) (a b c : FeedValue) (u v w : List Open) → Reaches p round a b u v → Reaches p round b c v w → Reaches p round a c u w
 reaches_twice p round a b c u v w h k = record {
@@ -73,4 +71,4 @@ halts_back p round a b u v rest more stop.Unspelled r f few h = h
 halts_back p round a b u v rest more stop.Budget r f few h = λ n l.
     let x = r.looks n l in
     omega (arith, x.2, h x.0 x.1, f.limit, f.lines, few)
-halts_back p round a b u v rest more stop.Memory r f few h = tt
+halts_back p round a b u v rest more stop.Refused r f few h = tt

@@ -53,7 +53,7 @@ group_stops Gave groups rest read old now new s left less limit took =
   where
     by_stop : (one : Item) (items : List Item) (s : Stop) → AreTaken (λ (g : Group). item.Grouped g ≡ one) (one ∷ []) items now (Err s) new → AreTaken Gave (map item.Grouped groups) rest old (Err s) new
     by_stop one items stop.Budget h = omega (arith, h, left.used, limit, less, length-map groups item.Grouped)
-    by_stop one items stop.Memory h = tt
+    by_stop one items stop.Refused h = tt
     by_stop one items stop.Unspelled h = absurd h
     by_stop one items (stop.Text fault) h = absurd h
     by_stop one items (stop.Fault fault line) h = absurd h

@@ -38,7 +38,7 @@ form_halts X Y wrap view p round work rest cur mid (stop.Text f) begins few h = 
     cc)
 form_halts X Y wrap view p round work rest cur mid stop.Unspelled begins few h = begins ⊥ (λ x xs e. h x xs e)
 form_halts X Y wrap view p round work rest cur mid stop.Budget begins few h = λ n l. omega (arith, h, few)
-form_halts X Y wrap view p round work rest cur mid stop.Memory begins few h = tt
+form_halts X Y wrap view p round work rest cur mid stop.Refused begins few h = tt
 
 -- the rest is no more than all
 pub rest_few : (xs rest all : List Item) → all ≡ xs ++ rest → length rest ≤ length all
@@ -89,7 +89,7 @@ take_stops language p round s codes groups rest more old cur mid before (stop.Fa
 take_stops language p round s codes groups rest more old cur mid before (stop.Text f) h took is = is
 take_stops language p round s codes groups rest more old cur mid before stop.Unspelled h took is = is
 take_stops language p round s codes groups rest more old cur mid before stop.Budget h took is = absurd is
-take_stops language p round s codes groups rest more old cur mid before stop.Memory h took is = tt
+take_stops language p round s codes groups rest more old cur mid before stop.Refused h took is = tt
 
 -- the judging of a take stops where its line was read
 pub take_stop_fed : (X : Type 0) (groups : List (List ℕ)) (codes : List ℕ) (line : ℕ) (old mid : FeedValue) (st : Stop) → Fed old mid → IsTakeStop groups codes line st → IsFed {X = X} old (Err st) mid
@@ -97,7 +97,7 @@ take_stop_fed X groups codes line old mid (stop.Fault f l) fed is = fed
 take_stop_fed X groups codes line old mid (stop.Text f) fed is = absurd is
 take_stop_fed X groups codes line old mid stop.Unspelled fed is = fed
 take_stop_fed X groups codes line old mid stop.Budget fed is = fed
-take_stop_fed X groups codes line old mid stop.Memory fed is = tt
+take_stop_fed X groups codes line old mid stop.Refused fed is = tt
 
 -- the tree of the take was judged
 pub take_on : {X : Type 0} (language : Language) (p : Problem) (round : Round) (s closed : State) (codes : List ℕ) (groups : List (List ℕ)) (rest : List Item) (more : List Open) (old cur mid new : FeedValue) (before : List Open) (done : X)

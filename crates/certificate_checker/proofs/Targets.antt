@@ -35,7 +35,7 @@ limit_fault limit target g is any = subst (λ t. IsLimitFault limit (target_of t
 pub target_stopped : (p : Problem) (target : Option GroupingHeld) (g : GroupingHeld) → target ≡ Some g → (fault : GroupingFault) → IsFault p g.groups.items fault → (line : ℕ) (s : Stop) → IsTargetStop fault line s → StopsAt (IsTargetFault p (target_of target)) line s
 target_stopped p target g is fault has line (stop.Fault named found) h =
     (TargetFault fault, ap fault_of h.0, subst (λ t. IsTargetFault p (target_of t) (TargetFault fault)) (sym is) (fault, refl, has, h.2), h.1)
-target_stopped p target g is fault has line stop.Memory h = tt
+target_stopped p target g is fault has line stop.Refused h = tt
 target_stopped p target g is fault has line stop.Budget h = absurd h
 target_stopped p target g is fault has line stop.Unspelled h = absurd h
 target_stopped p target g is fault has line (stop.Text words) h = absurd h

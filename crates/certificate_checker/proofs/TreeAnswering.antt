@@ -77,8 +77,8 @@ module _ (p : Problem) (round : Round) (s : State) (tree : Tree) (old new : Feed
       (λ cost costs.
       let few = looks_alone p round tree s costs.0 costs.1 (old.limit + 0) (old.used + length old.course.items + 2 * costs.0) (λ m w same. omega (arith, j m w, same)) in
       omega (arith, few, used, costs.2, ap length items, tree_length tree, some_line tree))
-  tree_said (Err stop.Memory) (Ok said) h is = absurd is
-  tree_said (Err stop.Memory) (Err e) h is = tt
+  tree_said (Err stop.Refused) (Ok said) h is = absurd is
+  tree_said (Err stop.Refused) (Err e) h is = tt
   tree_said (Err stop.Unspelled) (Ok said) h is = absurd is
   tree_said (Err stop.Unspelled) (Err e) h is = tt
   tree_said (Err (stop.Text fault)) (Ok said) h is = absurd is

@@ -170,4 +170,4 @@ leaf_fed p round s last old mid (Err (stop.Fault f l)) fed h = fed
 leaf_fed p round s last old mid (Err (stop.Text f)) fed h = absurd h
 leaf_fed p round s last old mid (Err stop.Unspelled) fed h = fed
 leaf_fed p round s last old mid (Err stop.Budget) fed h = fed
-leaf_fed p round s last old mid (Err stop.Memory) fed h = tt
+leaf_fed p round s last old mid (Err stop.Refused) fed h = tt

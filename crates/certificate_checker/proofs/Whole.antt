@@ -59,7 +59,7 @@ module _ (p : Problem) (round : Round) (tree : Tree) where
 
   pub round_stops : (Fails : Fault → Type 0) (line : ℕ) (rest : List Item) (old new : FeedValue) (s : Stop) → StopsAt Fails line s → ((f : Fault) → Fails f → CertificateEnds p round tree (faulty f line)) → IsRoundJudged p round tree rest old (Err s) new
   round_stops Fails line rest old new (stop.Fault fault found) h ends = (h.0, h.1, subst (λ n. CertificateEnds p round tree (faulty h.0 n)) (sym h.3) (ends h.0 h.2))
-  round_stops Fails line rest old new stop.Memory h ends = tt
+  round_stops Fails line rest old new stop.Refused h ends = tt
   round_stops Fails line rest old new stop.Budget h ends = absurd h
   round_stops Fails line rest old new stop.Unspelled h ends = absurd h
   round_stops Fails line rest old new (stop.Text fault) h ends = absurd h
@@ -80,6 +80,6 @@ module _ (p : Problem) (round : Round) (tree : Tree) where
     )
     round_judged rest new (Err (stop.Fault fault at)) h = (h.0, h.1, from_tree (faulty h.0 at) h.2)
     round_judged rest new (Err stop.Budget) h = λ n l. looks_alone p round tree (empty_state p) n (looked n l) (old.limit + length rest) (old.used + length old.course.items + 2 * n) (λ m w same. omega (arith, h m w, same))
-    round_judged rest new (Err stop.Memory) h = tt
+    round_judged rest new (Err stop.Refused) h = tt
     round_judged rest new (Err stop.Unspelled) h = absurd h
     round_judged rest new (Err (stop.Text fault)) h = absurd h

@@ -1,8 +1,12 @@
 -- What a checker answers of a text.
-use Rattle.std.specs.Prelude.{ℕ, ◌≡◌, ◌<◌, List, Some, ◌⊎◌, ⊤}
+use Rattle.std.specs.Prelude.{ℕ, ◌≡◌, ◌<◌, Bool, true, false, List, ◌++◌, Some, Result, Ok, Err, IfOk, ◌⊎◌, ⊤}
 use Rattle.grouping_laws.specs.Problem.{Problem}
 use Rattle.grouping_laws.specs.Grouping.{IsBest, IsImpossible}
+use Rattle.field_lines.specs.Held.{MayCome}
+use Rattle.certificate_lines.specs.Courses.{certificate_course}
+use Rattle.certificate_lines.specs.ItemsLeft.{ItemsLeft, Foresees, course_by}
 use Rattle.certificate_lines.specs.declared.fault.TextFault.{TextFault}
+use Rattle.std.specs.declared.alloc.AllocError.{AllocError}
 use Rattle.verdicts.specs.Fault.{Fault}
 use Rattle.verdicts.specs.Verdict as said
 use Rattle.text_verdicts.specs.TextVerdict.{HasTextFault, IsTextVerdict}
@@ -10,6 +14,8 @@ use Rattle.text_verdicts.specs.TextCost.{TextCosts}
 use Rattle.certificate_checker.specs.CheckFaults.{fault_of}
 use Rattle.certificate_checker.specs.declared.fault.CheckFault.{CheckFault}
 use Rattle.certificate_checker.specs.declared.fault.CheckFault.TheVariants.{Text}
+use Rattle.certificate_checker.specs.declared.fault.CheckStop.{CheckStop}
+use Rattle.certificate_checker.specs.declared.fault.CheckStop.TheVariants as stop
 use Rattle.certificate_checker.specs.declared.verdict.Verdict.{Verdict}
 use Rattle.certificate_checker.specs.declared.verdict.Verdict.TheVariants.{Best, Impossible, No, Budget}
 
@@ -35,3 +41,21 @@ NamesBest p _ = ⊤
 abbrev pub ShowsImpossible : Problem → Verdict → Type 0
 ShowsImpossible p Impossible = IsImpossible p
 ShowsImpossible p _ = ⊤
+
+-- What was read of items comes to an answer, or was refused: whatever text the source may give in the end, it might give it
+-- before, and where its items are those of a certificate's text the answer is the verdict on this.
+pub record ChecksItems (p : Problem) (left : ItemsLeft) (before : List ℕ) (budget : ℕ) (result : Result Verdict AllocError) (after : List ℕ) : Type 0 where
+  pub ended : Bool
+  pub answers : (all : List ℕ) → Foresees ended after all → Foresees left.ended before all × ((text : List ℕ) → course_by left before all ≡ certificate_course text → IfOk result (IsAnswer p text budget))
+
+-- The source gave bytes meanwhile, and has ended or not. They have this verdict, with whatever bytes may come later.
+pub record ChecksBytes (p : Problem) (before after : List ℕ) (budget : ℕ) (verdict : Verdict) : Type 0 where
+  pub pulled : List ℕ
+  pub ended : Bool
+  pub given : after ≡ before ++ pulled
+  pub answer : (later : List ℕ) → MayCome ended later → IsAnswer p (pulled ++ later) budget verdict
+
+-- the source could not be read
+abbrev pub is_read_fault : Result Verdict CheckStop → Bool
+is_read_fault (Err stop.ReadFault) = true
+is_read_fault _ = false

@@ -29,7 +29,7 @@ use Rattle.certificate_checker.specs.declared.feed.Stop.TheVariants as stop
 abbrev pub AreTaken : {X : Type 0} → (X → Type 0) → List Item → List Item → FeedValue → Result X Stop → FeedValue → Type 0
 AreTaken Gave xs rest old (Ok x) new = Gave x × (new.course.items ≡ rest) × (new.line ≡ old.line + length xs) × (new.used ≡ old.used + length xs)
 AreTaken Gave xs rest old (Err stop.Budget) new = old.limit < old.used + length xs
-AreTaken Gave xs rest old (Err stop.Memory) new = ⊤
+AreTaken Gave xs rest old (Err stop.Refused) new = ⊤
 AreTaken Gave xs rest old (Err stop.Unspelled) new = ⊥
 AreTaken Gave xs rest old (Err (stop.Text fault)) new = ⊥
 AreTaken Gave xs rest old (Err (stop.Fault fault line)) new = ⊥
@@ -41,7 +41,7 @@ round_items c = items_of_head c.round.language c.round.window ++ (item.Order c.r
 -- the judging of a line stopped at its fault
 abbrev pub StopsAt : (Fault → Type 0) → ℕ → Stop → Type 0
 StopsAt Fails line (stop.Fault fault found) = (named : Fault) × (fault_of fault ≡ Some named) × Fails named × (found ≡ line)
-StopsAt Fails line stop.Memory = ⊤
+StopsAt Fails line stop.Refused = ⊤
 StopsAt Fails line stop.Budget = ⊥
 StopsAt Fails line stop.Unspelled = ⊥
 StopsAt Fails line (stop.Text fault) = ⊥
@@ -49,7 +49,7 @@ StopsAt Fails line (stop.Text fault) = ⊥
 -- the judging of a target stopped at this fault of it, on its first line, or memory was refused
 abbrev pub IsTargetStop : GroupingFault → ℕ → Stop → Type 0
 IsTargetStop kind line (stop.Fault fault found) = (fault ≡ TargetFault kind) × (found ≡ line) × (kind ≢ Memory)
-IsTargetStop kind line stop.Memory = kind ≡ Memory
+IsTargetStop kind line stop.Refused = kind ≡ Memory
 IsTargetStop kind line stop.Budget = ⊥
 IsTargetStop kind line stop.Unspelled = ⊥
 IsTargetStop kind line (stop.Text fault) = ⊥
@@ -74,7 +74,7 @@ IsRoundJudged p round tree rest old (Ok done) new =
     × ((n : ℕ) → FirstLooks p round tree n → new.used + old.line ≤ old.used + new.line + 2 * n)
 IsRoundJudged p round tree rest old (Err (stop.Fault fault line)) new = (named : Fault) × (fault_of fault ≡ Some named) × CertificateEnds p round tree (faulty named line)
 IsRoundJudged p round tree rest old (Err stop.Budget) new = (n : ℕ) → FirstLooks p round tree n → old.limit + length rest ≤ old.used + length old.course.items + 2 * n
-IsRoundJudged p round tree rest old (Err stop.Memory) new = ⊤
+IsRoundJudged p round tree rest old (Err stop.Refused) new = ⊤
 IsRoundJudged p round tree rest old (Err stop.Unspelled) new = ⊥
 IsRoundJudged p round tree rest old (Err (stop.Text fault)) new = ⊥
 
@@ -84,6 +84,6 @@ abbrev pub IsCertificateJudged : Problem → Certificate → ℕ → Result (Opt
 IsCertificateJudged p c limit (Ok target) = (target_of target ≡ c.round.target) × ((next : ℕ) × CertificateEnds p c.round c.tree (fine next))
 IsCertificateJudged p c limit (Err (stop.Fault fault line)) = (named : Fault) × (fault_of fault ≡ Some named) × CertificateEnds p c.round c.tree (faulty named line)
 IsCertificateJudged p c limit (Err stop.Budget) = (cost : ℕ) → CertificateCosts p c.round c.tree cost → limit < cost
-IsCertificateJudged p c limit (Err stop.Memory) = ⊤
+IsCertificateJudged p c limit (Err stop.Refused) = ⊤
 IsCertificateJudged p c limit (Err stop.Unspelled) = ⊥
 IsCertificateJudged p c limit (Err (stop.Text fault)) = ⊥

@@ -1,11 +1,12 @@
 -- What a checker has read, and what it has looked through.
-use Rattle.std.specs.Prelude.{ℕ, ◌+◌, ◌*◌, ◌≡◌, ◌≤◌, List, [], ◌∷◌, ◌++◌, length, Some, None, Result, Ok, Err, ⊤}
+use Rattle.std.specs.Prelude.{ℕ, ◌+◌, ◌*◌, ◌≡◌, ◌≤◌, ◌<◌, Bool, true, false, List, [], ◌∷◌, ◌++◌, length, Some, None, Result, Ok, Err, ⊤}
 use Rattle.grouping_laws.specs.Problem.{Problem}
 use Rattle.proof_trees.specs.Round.{Round}
 use Rattle.proof_trees.specs.Tree.{Takes}
 use Rattle.certificate_lines.specs.Courses.{Course, nothing, only_fault, first}
 use Rattle.certificate_text.specs.Trees.{items_of_takes}
-use Rattle.certificate_lines.specs.Rest.{IsMemory}
+use Rattle.certificate_lines.specs.ItemsLeft.{ItemsLeft, Foresees, course_by}
+use Rattle.certificate_lines.specs.Rest.{IsUnread}
 use Rattle.certificate_lines.specs.declared.fault.TextFault.{TextFault}
 use Rattle.certificate_lines.specs.declared.item.Item.{Item}
 use Rattle.certificate_lines.specs.declared.item.Item.TheVariants.{Mark}
@@ -25,8 +26,41 @@ pub record FeedValue : Type 0 where
   pub limit : ℕ
   pub used : ℕ
 
-abbrev pub feed_of : {S : Type 0} → (S → Course) → Feed S → FeedValue
-feed_of course feed = record { course = course feed.source; line = feed.line; limit = feed.steps.limit; used = feed.steps.used }
+-- a feed where this is to come
+abbrev pub feed_at : {S : Type 0} → Course → Feed S → FeedValue
+feed_at course feed = record { course = course; line = feed.line; limit = feed.steps.limit; used = feed.steps.used }
+
+-- the same, by the bytes that come later from the source
+pub record Stream : Type 0 where
+  pub left : ItemsLeft
+  pub given : List ℕ
+  pub line : ℕ
+  pub limit : ℕ
+  pub used : ℕ
+
+abbrev pub stream_of : {S F : Type 0} → (S → ItemsLeft) → (F → List ℕ) → Feed S → F → Stream
+stream_of left given feed from = record { left = left feed.source; given = given from; line = feed.line; limit = feed.steps.limit; used = feed.steps.used }
+
+-- where the source gives this text in the end
+abbrev pub fed_by : Stream → List ℕ → FeedValue
+fed_by s all = record { course = course_by s.left s.given all; line = s.line; limit = s.limit; used = s.used }
+
+-- Whatever text the source may give in the end, this holds of the two feeds.
+abbrev pub ForEach : Stream → Stream → (FeedValue → FeedValue → Type 0) → Type 0
+ForEach old new Holds = (all : List ℕ) → Foresees new.left.ended new.given all → Holds (fed_by old all) (fed_by new all)
+
+-- the same; and the source might give the text before
+abbrev pub Through : Stream → Stream → (FeedValue → FeedValue → Type 0) → Type 0
+Through old new Holds = (all : List ℕ) → Foresees new.left.ended new.given all → Foresees old.left.ended old.given all × Holds (fed_by old all) (fed_by new all)
+
+-- The limit stays, and each line is a step at least.
+abbrev pub CountsSteps : {S : Type 0} → Feed S → Feed S → Type 0
+CountsSteps old new = (new.steps.limit ≡ old.steps.limit) × (old.steps.used ≤ new.steps.used) × (new.line + old.steps.used ≤ new.steps.used + old.line)
+
+-- a step was left, and was taken
+abbrev pub TakesStep : {S X : Type 0} → Feed S → Result X Stop → Feed S → Type 0
+TakesStep old (Ok x) new = (old.steps.used < old.steps.limit) × (new.steps.used ≡ old.steps.used + 1)
+TakesStep old (Err found) new = ⊤
 
 -- Lines were read from the one to the other, each a step at least.
 pub record Fed (old new : FeedValue) : Type 0 where
@@ -36,14 +70,14 @@ pub record Fed (old new : FeedValue) : Type 0 where
   pub later : old.line ≤ new.line
   pub counted : new.line + old.used ≤ new.used + old.line
 
--- the same, unless the text has a fault there or memory was refused
+-- the same, unless the text has a fault there or could not be read
 abbrev pub IsFed : {X : Type 0} → FeedValue → Result X Stop → FeedValue → Type 0
 IsFed old (Ok x) new = Fed old new
 IsFed old (Err (stop.Fault fault line)) new = Fed old new
 IsFed old (Err stop.Unspelled) new = Fed old new
 IsFed old (Err stop.Budget) new = Fed old new
 IsFed old (Err (stop.Text fault)) new = old.course.fault ≡ Some fault
-IsFed old (Err stop.Memory) new = ⊤
+IsFed old (Err stop.Refused) new = ⊤
 
 -- As what is left ends and is looked through now, so did what was left before.
 pub record Reaches (p : Problem) (round : Round) (old new : FeedValue) (before after : List Open) : Type 0 where
@@ -56,7 +90,7 @@ Halts p round old work rest (stop.Fault fault line) = (named : Fault) × (fault_
 Halts p round old work rest stop.Unspelled = ⊥
 Halts p round old work rest (stop.Text fault) = ⊥
 Halts p round old work rest stop.Budget = (n : ℕ) → WorkLooks work p round n → old.limit + length rest ≤ old.used + length old.course.items + 2 * n
-Halts p round old work rest stop.Memory = ⊤
+Halts p round old work rest stop.Refused = ⊤
 
 -- the lines of takes with their mark
 abbrev pub items_to_mark : Takes → List Item
@@ -69,18 +103,24 @@ TookLine old (Err stop.Unspelled) new = old.course ≡ nothing
 TookLine old (Err stop.Budget) new = old.used ≡ old.limit
 TookLine old (Err (stop.Text fault)) new = old.course ≡ only_fault fault
 TookLine old (Err (stop.Fault fault line)) new = ⊥
-TookLine old (Err stop.Memory) new = ⊤
+TookLine old (Err stop.Refused) new = ⊤
 
--- a fault of the source: memory, or one of the text
+-- a fault of the source: the text could not be read, or is at fault
 abbrev pub StopsAtText : TextFault → Stop → Type 0
-StopsAtText fault (stop.Text same) = (same ≡ fault) × (IsMemory fault → ⊥)
-StopsAtText fault stop.Memory = IsMemory fault
+StopsAtText fault (stop.Text same) = (same ≡ fault) × (IsUnread fault → ⊥)
+StopsAtText fault stop.Refused = IsUnread fault
 StopsAtText fault _ = ⊥
+
+-- the next item is passed over: whether there was one
+abbrev pub Passes : Course → Result Bool TextFault → Course → Type 0
+Passes old (Ok true) new = (length old.items ≡ length new.items + 1) × (new.fault ≡ old.fault)
+Passes old (Ok false) new = old ≡ nothing
+Passes old (Err fault) new = (IsUnread fault → ⊥) → old ≡ only_fault fault
 
 -- All lines were read: the text has no fault, or this one; or there are as many lines as steps, where the end counts as one more.
 abbrev pub IsRestRead : FeedValue → Result (Unit {0}) Stop → Type 0
 IsRestRead old (Ok done) = old.course.fault ≡ None
 IsRestRead old (Err (stop.Text fault)) = old.course.fault ≡ Some fault
 IsRestRead old (Err stop.Budget) = old.limit ≤ old.line + length old.course.items
-IsRestRead old (Err stop.Memory) = ⊤
+IsRestRead old (Err stop.Refused) = ⊤
 IsRestRead old (Err _) = ⊥

@@ -59,14 +59,14 @@ TookForm {X = X} wrap view old (Err stop.Unspelled) new = (x : X) (xs : List Ite
 TookForm wrap view old (Err stop.Budget) new = old.used ≡ old.limit
 TookForm wrap view old (Err (stop.Text fault)) new = old.course ≡ only_fault fault
 TookForm wrap view old (Err (stop.Fault fault line)) new = ⊥
-TookForm wrap view old (Err stop.Memory) new = ⊤
+TookForm wrap view old (Err stop.Refused) new = ⊤
 
 -- the reading stopped as the judging of the line did
 abbrev pub IsStopAt : ℕ → LineStop → Stop → Type 0
 IsStopAt line (line_stop.Fault f) found = (fault : CheckFault) × (found ≡ stop.Fault fault line) × (fault_of fault ≡ Some (line_fault f))
 IsStopAt line line_stop.Unspelled found = found ≡ stop.Unspelled
 IsStopAt line line_stop.StepLimit found = found ≡ stop.Budget
-IsStopAt line line_stop.Memory found = found ≡ stop.Memory
+IsStopAt line line_stop.Memory found = found ≡ stop.Refused
 
 -- what a line's judging gave, or the stop of the reading that it stopped with
 abbrev pub IsJudgedAt : {X : Type 0} → ℕ → Result X LineStop → Result X Stop → Type 0
@@ -89,7 +89,7 @@ IsLeafJudged p round s last rest old (Err (stop.Fault fault line)) new = (named 
 IsLeafJudged p round s last rest old (Err stop.Unspelled) new = ⊥
 IsLeafJudged p round s last rest old (Err (stop.Text fault)) new = ⊥
 IsLeafJudged p round s last rest old (Err stop.Budget) new = (n : ℕ) → LeafLooks last p round s n → old.limit + length rest ≤ old.used + length old.course.items + 2 * n
-IsLeafJudged p round s last rest old (Err stop.Memory) new = ⊤
+IsLeafJudged p round s last rest old (Err stop.Refused) new = ⊤
 
 -- the items of lines of a bound leaf
 abbrev pub line_items : List Allowance → List Item
@@ -119,7 +119,7 @@ IsLineJudged p round s wanted i used (line ∷ lines) rest old (Err (stop.Fault 
 IsLineJudged p round s wanted i used (line ∷ lines) rest old (Err stop.Unspelled) new = ⊥
 IsLineJudged p round s wanted i used (line ∷ lines) rest old (Err (stop.Text fault)) new = ⊥
 IsLineJudged p round s wanted i used (line ∷ lines) rest old (Err stop.Budget) new = (m : ℕ) → LineLooks line p round s i m → old.limit ≤ old.used + 1 + 2 * m
-IsLineJudged p round s wanted i used (line ∷ lines) rest old (Err stop.Memory) new = ⊤
+IsLineJudged p round s wanted i used (line ∷ lines) rest old (Err stop.Refused) new = ⊤
 
 -- so many counties are used up by groups of a size or a smaller one, that there is room for them
 abbrev pub IsSmall : Allowed → Type 0
@@ -147,5 +147,5 @@ IsRefused p round s county limit mid found =
 -- the judging of a take stopped at its line, where these groups are still to be taken
 abbrev pub IsTakeStop : List (List ℕ) → List ℕ → ℕ → Stop → Type 0
 IsTakeStop groups codes line (stop.Fault fault found) = (named : Fault) × (fault_of fault ≡ Some named) × IsTakeFault groups codes named × (found ≡ line)
-IsTakeStop groups codes line stop.Memory = ⊤
+IsTakeStop groups codes line stop.Refused = ⊤
 IsTakeStop groups codes line _ = ⊥

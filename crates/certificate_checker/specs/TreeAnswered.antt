@@ -48,7 +48,7 @@ abbrev pub IsSaid : Result (Unit {0}) Stop → Result TreeVerdict AllocError →
 IsSaid (Ok done) said = said ≡ Ok Proof
 IsSaid (Err (stop.Fault fault line)) said = said ≡ Ok (Refused fault)
 IsSaid (Err stop.Budget) said = said ≡ Ok Budget
-IsSaid (Err stop.Memory) (Ok said) = ⊥
+IsSaid (Err stop.Refused) (Ok said) = ⊥
 IsSaid (Err stop.Unspelled) (Ok said) = ⊥
 IsSaid (Err (stop.Text fault)) (Ok said) = ⊥
 IsSaid judged (Err e) = ⊤

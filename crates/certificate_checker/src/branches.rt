@@ -7,21 +7,21 @@ ghost use Rattle.proof_trees.specs.State.{close};
 ghost use Rattle.proof_trees.specs.Proving.{limit_of};
 ghost use Rattle.verdicts.specs.Branches.{IsNext};
 ghost use Rattle.line_verdicts.specs.Placed.{state_at, codes_of_sets, IsPlaced, IsClosable};
-ghost use Rattle.certificate_checker.specs.Feeding.{feed_of, IsFed};
+ghost use Rattle.certificate_lines.specs.Courses.{Course};
+ghost use Rattle.certificate_checker.specs.Feeding.{feed_at, CountsSteps, IsFed};
 ghost use Rattle.certificate_checker.specs.Judging.{IsGround, IsListed, IsRefused, IsTakeStop};
 
 use crate::fault::of_line;
 use crate::feed::{Feed, Stop};
 use crate::forms::judged_at;
 use crate::ground::Ground;
-use certificate_lines::ItemSource;
 use county_codes::CountyCode;
 use line_verdicts::{Branching, closed_state, judge_branch, judge_take};
 use place_sets::CountySet;
 use proof_trees::State;
 
 /// Judges the line of a branch, which was read last: the groups that its takes have to be.
-pub(crate) fn listed_groups<C: CountySet, S: ItemSource>(
+pub(crate) fn listed_groups<C: CountySet, S>(
     ground: &Ground<C>,
     state: &State<C>,
     county: CountyCode,
@@ -30,12 +30,13 @@ pub(crate) fn listed_groups<C: CountySet, S: ItemSource>(
 ) -> Result<Branching<C>, Stop>
     requires ground { IsGround C.PLACES C.test ground.now }
     requires placed { IsPlaced (length ground.now.ordered.now.order) C.test state.now }
-    ensures fed { IsFed (feed_of S.course feed.old) result (feed_of S.course feed.new) }
-    ensures same { S.course feed.new.source ≡ S.course feed.old.source }
+    ensures counts { CountsSteps feed.old feed.new }
+    ensures fed { (course : Course) → IsFed (feed_at course feed.old) result (feed_at course feed.new) }
+    ensures same { feed.new.source ≡ feed.old.source }
     ensures place { IfOk result (λ b. (b.place < length ground.now.ordered.now.order) × (code_at ground.now.ordered.now.order b.place ≡ county)) }
     ensures size { IfOk result (λ b. (b.limit ≡ limit_of (round_of ground.now.round.now) limit) × (b.limit ≤ most_counties)) }
     ensures groups { IfOk result (λ b. All (IsClosable C.test state.now) b.groups.items) }
-    ensures judged { MatchResult
+    ensures judged { (course : Course) → MatchResult
         result
         (λ b. IsListed
         (problem_of ground.now.ordered.now.problem)
@@ -44,15 +45,15 @@ pub(crate) fn listed_groups<C: CountySet, S: ItemSource>(
         county
         limit
         (codes_of_sets ground.now.ordered.now.order C.test b.groups.items)
-        (feed_of S.course feed.old)
-        (feed_of S.course feed.new))
+        (feed_at course feed.old)
+        (feed_at course feed.new))
         (λ found. IsRefused
         (problem_of ground.now.ordered.now.problem)
         (round_of ground.now.round.now)
         (state_at ground.now.ordered.now.order C.test state.now)
         county
         limit
-        (feed_of S.course feed.old)
+        (feed_at course feed.old)
         found) }
 {
     let judged = judge_branch(
@@ -90,9 +91,9 @@ pub(crate) fn taken_state<C: CountySet>(
         Ok(()) => match left.split_first() {
             Some((group, _)) => match closed_state(ground.alloc, ground.ordered, state, group) {
                 Ok(closed) => Ok(closed),
-                Err(_) => Err(Stop::Memory),
+                Err(_) => Err(Stop::Refused),
             },
-            None => Err(Stop::Memory),
+            None => Err(Stop::Refused),
         },
         Err(fault) => Err(Stop::Fault(of_line(fault), line)),
     }

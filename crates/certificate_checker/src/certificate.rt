@@ -18,7 +18,7 @@ ghost use Rattle.verdicts.specs.Verdict.{IsWindowFault, IsOrderFault, IsLargeEno
 ghost use Rattle.verdicts.specs.Work.{a_tree};
 ghost use Rattle.line_verdicts.specs.Placed.{state_at, IsPlaced};
 ghost use Rattle.certificate_checker.specs.Readable.{IsReadable};
-ghost use Rattle.certificate_checker.specs.Feeding.{feed_of, IsFed};
+ghost use Rattle.certificate_checker.specs.Feeding.{stream_of, CountsSteps, IsFed, Through, ForEach};
 ghost use Rattle.certificate_checker.specs.Judging.{IsJudged, AreWanted};
 ghost use Rattle.certificate_checker.specs.Certificates.{StopsAt, IsTargetStop, AreCounts, IsRoundJudged, IsCertificateJudged};
 
@@ -75,7 +75,7 @@ pub(crate) fn judge_order<'a>(
         Err(OrderFault::WrongOrder) => {
             Err(Stop::Fault(CheckFault::WrongOrder, window_line(round) + 1))
         }
-        Err(OrderFault::Memory) => Err(Stop::Memory),
+        Err(OrderFault::Memory) => Err(Stop::Refused),
     }
 }
 
@@ -108,7 +108,7 @@ fn target_stop(fault: GroupingFault, line: u64) -> Stop
     ensures { IsTargetStop fault line result }
 {
     match fault {
-        GroupingFault::Memory => Stop::Memory,
+        GroupingFault::Memory => Stop::Refused,
         _ => Stop::Fault(CheckFault::TargetFault(fault), line),
     }
 }
@@ -134,13 +134,14 @@ pub(crate) fn judge_target(
 }
 
 /// Judges the tree that begins on the next line, at a state, where order, limit and target are fine.
-pub(crate) fn judge_placed<C: CountySet, S: ItemSource>(
+pub(crate) fn judge_placed<C: CountySet, F, S: ItemSource<F>>(
     alloc: Global,
     ordered: &Ordered,
     round: &Round,
     wanted: Option<&Counts>,
     state: &mut State<C>,
     feed: &mut Feed<S>,
+    from: &mut F,
 ) -> Result<(), Stop>
     requires fits { length ordered.now.order ≤ C.PLACES }
     requires order { ordered.now.order ≡ round.now.order }
@@ -148,19 +149,20 @@ pub(crate) fn judge_placed<C: CountySet, S: ItemSource>(
     requires wanted { AreWanted (target_of round.now.target) wanted }
     requires placed { IsPlaced (length ordered.now.order) C.test state.old }
     requires counted { feed.old.line ≤ feed.old.steps.used }
-    ensures fed { IsFed (feed_of S.course feed.old) result (feed_of S.course feed.new) }
-    ensures judged { (tree : Tree) (rest : List ItemValue)
+    ensures counts { CountsSteps feed.old feed.new }
+    ensures fed { Through (stream_of S.left S.given feed.old from.old) (stream_of S.left S.given feed.new from.new) (λ a b. IsFed a result b) }
+    ensures judged { ForEach (stream_of S.left S.given feed.old from.old) (stream_of S.left S.given feed.new from.new) (λ a b. (tree : Tree) (rest : List ItemValue)
         → IsReadable round.now.language tree
-        → (feed_of S.course feed.old).course.items ≡ items_of_tree tree ++ rest
+        → a.course.items ≡ items_of_tree tree ++ rest
         → IsJudged
         (problem_of ordered.now.problem)
         (round_of round.now)
         (a_tree tree (state_at ordered.now.order C.test state.old) ∷ [])
         []
         rest
-        (feed_of S.course feed.old)
+        a
         result
-        (feed_of S.course feed.new) }
+        b) }
 {
     let near = neighbour_rows::<C>(alloc, ordered)?;
     let ground = Ground {
@@ -170,66 +172,72 @@ pub(crate) fn judge_placed<C: CountySet, S: ItemSource>(
         round,
         wanted,
     };
-    judge_tree(&ground, state, feed)
+    judge_tree(&ground, state, feed, from)
 }
 
 /// Judges the tree of a certificate, which begins on the next line, where all in front of it is fine.
-fn judge_first<C: CountySet, S: ItemSource>(
+fn judge_first<C: CountySet, F, S: ItemSource<F>>(
     alloc: Global,
     ordered: &Ordered,
     round: &Round,
     wanted: Option<&Counts>,
     feed: &mut Feed<S>,
+    from: &mut F,
 ) -> Result<(), Stop>
     requires fits { length ordered.now.order ≤ C.PLACES }
     requires order { ordered.now.order ≡ round.now.order }
     requires small { round.now.limit ≤ most_counties }
     requires wanted { AreWanted (target_of round.now.target) wanted }
     requires counted { feed.old.line ≤ feed.old.steps.used }
-    ensures fed { IsFed (feed_of S.course feed.old) result (feed_of S.course feed.new) }
-    ensures judged { (tree : Tree) (rest : List ItemValue)
+    ensures counts { CountsSteps feed.old feed.new }
+    ensures fed { Through (stream_of S.left S.given feed.old from.old) (stream_of S.left S.given feed.new from.new) (λ a b. IsFed a result b) }
+    ensures judged { ForEach (stream_of S.left S.given feed.old from.old) (stream_of S.left S.given feed.new from.new) (λ a b. (tree : Tree) (rest : List ItemValue)
         → IsReadable round.now.language tree
-        → (feed_of S.course feed.old).course.items ≡ items_of_tree tree ++ rest
+        → a.course.items ≡ items_of_tree tree ++ rest
         → IsJudged
         (problem_of ordered.now.problem)
         (round_of round.now)
         (a_tree tree (empty_state (problem_of ordered.now.problem)) ∷ [])
         []
         rest
-        (feed_of S.course feed.old)
+        a
         result
-        (feed_of S.course feed.new) }
+        b) }
 {
     match first_state::<C>(alloc, ordered) {
-        Ok(mut state) => judge_placed::<C, S>(alloc, ordered, round, wanted, &mut state, feed),
-        Err(_) => Err(Stop::Memory),
+        Ok(mut state) => judge_placed::<C, F, S>(
+            alloc, ordered, round, wanted, &mut state, feed, from,
+        ),
+        Err(_) => Err(Stop::Refused),
     }
 }
 
 /// Judges a round whose allowance is fine, and the tree that begins on the next line.
-fn judge_behind<C: CountySet, S: ItemSource>(
+fn judge_behind<C: CountySet, F, S: ItemSource<F>>(
     alloc: Global,
     problem: &Problem,
     round: &Round,
     feed: &mut Feed<S>,
+    from: &mut F,
 ) -> Result<(), Stop>
     requires fits { length problem.now.counties ≤ C.PLACES }
     requires small { round.now.limit ≤ most_counties }
     requires counted { feed.old.line ≤ feed.old.steps.used }
     requires window { HasWindow (problem_of problem.now) round.now.window }
-    ensures fed { IsFed (feed_of S.course feed.old) result (feed_of S.course feed.new) }
-    ensures judged { (tree : Tree) (rest : List ItemValue)
+    ensures counts { CountsSteps feed.old feed.new }
+    ensures fed { Through (stream_of S.left S.given feed.old from.old) (stream_of S.left S.given feed.new from.new) (λ a b. IsFed a result b) }
+    ensures judged { ForEach (stream_of S.left S.given feed.old from.old) (stream_of S.left S.given feed.new from.new) (λ a b. (tree : Tree) (rest : List ItemValue)
         → feed.old.line ≡ window_line round.now.window + 3 + group_lines (target_of round.now.target)
         → IsReadable round.now.language tree
-        → (feed_of S.course feed.old).course.items ≡ items_of_tree tree ++ rest
-        → IsRoundJudged (problem_of problem.now) (round_of round.now) tree rest (feed_of S.course feed.old) result (feed_of S.course feed.new) }
+        → a.course.items ≡ items_of_tree tree ++ rest
+        → IsRoundJudged (problem_of problem.now) (round_of round.now) tree rest a result b) }
 {
     match judge_order(alloc, problem, round) {
         Ok(ordered) => match judge_limit(round) {
             Ok(()) => match judge_target(alloc, problem, round) {
                 Ok(wanted) => {
                     let _problem = ordered.problem();
-                    judge_first::<C, S>(alloc, &ordered, round, wanted.as_ref(), feed)
+                    judge_first::<C, F, S>(alloc, &ordered, round, wanted.as_ref(), feed, from)
                 }
                 Err(stop) => Err(stop),
             },
@@ -240,49 +248,53 @@ fn judge_behind<C: CountySet, S: ItemSource>(
 }
 
 /// Judges a round and the tree that begins on the next line.
-fn judge_round<C: CountySet, S: ItemSource>(
+fn judge_round<C: CountySet, F, S: ItemSource<F>>(
     alloc: Global,
     problem: &Problem,
     round: &Round,
     feed: &mut Feed<S>,
+    from: &mut F,
 ) -> Result<(), Stop>
     requires fits { length problem.now.counties ≤ C.PLACES }
     requires small { round.now.limit ≤ most_counties }
     requires counted { feed.old.line ≤ feed.old.steps.used }
-    ensures fed { IsFed (feed_of S.course feed.old) result (feed_of S.course feed.new) }
-    ensures judged { (tree : Tree) (rest : List ItemValue)
+    ensures counts { CountsSteps feed.old feed.new }
+    ensures fed { Through (stream_of S.left S.given feed.old from.old) (stream_of S.left S.given feed.new from.new) (λ a b. IsFed a result b) }
+    ensures judged { ForEach (stream_of S.left S.given feed.old from.old) (stream_of S.left S.given feed.new from.new) (λ a b. (tree : Tree) (rest : List ItemValue)
         → feed.old.line ≡ window_line round.now.window + 3 + group_lines (target_of round.now.target)
         → IsReadable round.now.language tree
-        → (feed_of S.course feed.old).course.items ≡ items_of_tree tree ++ rest
-        → IsRoundJudged (problem_of problem.now) (round_of round.now) tree rest (feed_of S.course feed.old) result (feed_of S.course feed.new) }
+        → a.course.items ≡ items_of_tree tree ++ rest
+        → IsRoundJudged (problem_of problem.now) (round_of round.now) tree rest a result b) }
 {
     match judge_window(problem, round) {
-        Ok(()) => judge_behind::<C, S>(alloc, problem, round, feed),
+        Ok(()) => judge_behind::<C, F, S>(alloc, problem, round, feed, from),
         Err(stop) => Err(stop),
     }
 }
 
 /// Judges the certificate whose lines are to come: its target, where it has no fault.
-pub(crate) fn judge_certificate<C: CountySet, S: ItemSource>(
+pub(crate) fn judge_certificate<C: CountySet, F, S: ItemSource<F>>(
     alloc: Global,
     problem: &Problem,
     feed: &mut Feed<S>,
+    from: &mut F,
 ) -> Result<Option<Grouping>, Stop>
     requires fits { length problem.now.counties ≤ C.PLACES }
     requires start { (feed.old.line ≡ 0) × (feed.old.steps.used ≡ 0) }
-    ensures fed { IsFed (feed_of S.course feed.old) result (feed_of S.course feed.new) }
-    ensures judged { (c : Certificate)
+    ensures counts { CountsSteps feed.old feed.new }
+    ensures fed { Through (stream_of S.left S.given feed.old from.old) (stream_of S.left S.given feed.new from.new) (λ a b. IsFed a result b) }
+    ensures judged { ForEach (stream_of S.left S.given feed.old from.old) (stream_of S.left S.given feed.new from.new) (λ a b. (c : Certificate)
         → AllFit (want.Head ∷ []) (items_of_certificate c)
-        → (feed_of S.course feed.old).course.items ≡ items_of_certificate c
-        → IsCertificateJudged (problem_of problem.now) c feed.old.steps.limit result }
+        → a.course.items ≡ items_of_certificate c
+        → IsCertificateJudged (problem_of problem.now) c feed.old.steps.limit result) }
 {
-    match read_round(alloc, feed) {
+    match read_round(alloc, feed, from) {
         Ok(round) => {
             if u32::from(round.limit) > MOST {
                 return Err(Stop::Unspelled);
             }
-            match judge_round::<C, S>(alloc, problem, &round, feed) {
-                Ok(()) => match next_end(feed) {
+            match judge_round::<C, F, S>(alloc, problem, &round, feed, from) {
+                Ok(()) => match next_end(feed, from) {
                     Ok(()) => Ok(round.target),
                     Err(stop) => Err(stop),
                 },

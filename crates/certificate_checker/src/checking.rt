@@ -1,33 +1,38 @@
-//! The verdict on a text.
+//! The verdict on a text that stands in memory, or is pulled from a source: one body reads both.
 
-ghost use Rattle.std.specs.Prelude.{◌≡◌, ℕ, ◌≤◌, List, None, length, IfOk};
+ghost use Rattle.std.specs.Prelude.{◌≡◌, ℕ, ◌≤◌, false, List, None, length, IfOk};
 ghost use Rattle.grouping_laws.specs.Problem.{Problem as ProblemOf};
 ghost use Rattle.grouping_laws.specs.Grouping.{IsBest, IsImpossible};
 ghost use Rattle.grouping_problem.specs.ProblemValue.{problem_of};
 ghost use Rattle.certificate_lines.specs.Courses.{certificate_course};
-ghost use Rattle.certificate_checker.specs.Feeding.{FeedValue, Fed, feed_of};
-ghost use Rattle.certificate_checker.specs.Answered.{IsAnswer, NamesBest, ShowsImpossible};
+ghost use Rattle.certificate_checker.specs.Feeding.{FeedValue, Fed, stream_of, Through};
+ghost use Rattle.certificate_checker.specs.Answered.{IsAnswer, NamesBest, ShowsImpossible, ChecksItems, ChecksBytes, is_read_fault};
 
 use crate::certificate::judge_certificate;
-use crate::fault::CheckFault;
+use crate::fault::{CheckFault, CheckStop};
 use crate::feed::{Feed, Stop, read_rest};
 use crate::verdict::Verdict;
-use certificate_lines::{ItemSource, Items};
+use certificate_lines::{ItemSource, Items, ItemsFrom};
+use field_lines::Source;
 use grouping_problem::Problem;
 use ordered_counties::Steps;
 use place_sets::{CountySet, MaskSet, Places, fits_mask};
 use std::alloc::{AllocError, Global};
 
 /// What was found, unless a fault of the text stands behind it, which comes first.
-fn verdict_after<S: ItemSource>(found: Verdict, feed: &mut Feed<S>) -> Result<Verdict, AllocError>
-    ensures { (p : ProblemOf) (text : List ℕ) (start : FeedValue)
+fn verdict_after<F, S: ItemSource<F>>(
+    found: Verdict,
+    feed: &mut Feed<S>,
+    from: &mut F,
+) -> Result<Verdict, AllocError>
+    ensures { Through (stream_of S.left S.given feed.old from.old) (stream_of S.left S.given feed.new from.new) (λ a _. (p : ProblemOf) (text : List ℕ) (start : FeedValue)
         → start.course ≡ certificate_course text
         → start.line ≡ 0
-        → Fed start (feed_of S.course feed.old)
+        → Fed start a
         → ((certificate_course text).fault ≡ None → IsAnswer p text start.limit found)
-        → IfOk result (IsAnswer p text start.limit) }
+        → IfOk result (IsAnswer p text start.limit)) }
 {
-    match read_rest(feed) {
+    match read_rest(feed, from) {
         Ok(()) => Ok(found),
         Err(Stop::Text(fault)) => Ok(Verdict::No(CheckFault::Text(fault), fault.line)),
         Err(Stop::Budget) => Ok(Verdict::Budget),
@@ -37,28 +42,29 @@ fn verdict_after<S: ItemSource>(found: Verdict, feed: &mut Feed<S>) -> Result<Ve
 
 /// The verdict on the text whose lines are to come. Lines that fit no certificate are met only in front of a fault of the
 /// text.
-fn check_source<C: CountySet, S: ItemSource + Drop>(
+fn check_source<C: CountySet, F, S: ItemSource<F> + Drop>(
     alloc: Global,
     problem: &Problem,
     source: S,
+    from: &mut F,
     budget: u64,
 ) -> Result<Verdict, AllocError>
     requires fits { length problem.now.counties ≤ C.PLACES }
-    ensures { (text : List ℕ) → S.course source ≡ certificate_course text → IfOk result (IsAnswer (problem_of problem.now) text budget) }
+    ensures { ChecksItems (problem_of problem.now) (S.left source) (S.given from.old) budget result (S.given from.new) }
 {
     let mut feed = Feed {
         source,
         line: 0,
         steps: Steps::new(budget),
     };
-    match judge_certificate::<C, S>(alloc, problem, &mut feed) {
-        Ok(Some(target)) => verdict_after(Verdict::Best(target), &mut feed),
-        Ok(None) => verdict_after(Verdict::Impossible, &mut feed),
-        Err(Stop::Fault(fault, line)) => verdict_after(Verdict::No(fault, line), &mut feed),
-        Err(Stop::Budget) => verdict_after(Verdict::Budget, &mut feed),
-        Err(Stop::Unspelled) => verdict_after(Verdict::Budget, &mut feed),
+    match judge_certificate::<C, F, S>(alloc, problem, &mut feed, from) {
+        Ok(Some(target)) => verdict_after(Verdict::Best(target), &mut feed, from),
+        Ok(None) => verdict_after(Verdict::Impossible, &mut feed, from),
+        Err(Stop::Fault(fault, line)) => verdict_after(Verdict::No(fault, line), &mut feed, from),
+        Err(Stop::Budget) => verdict_after(Verdict::Budget, &mut feed, from),
+        Err(Stop::Unspelled) => verdict_after(Verdict::Budget, &mut feed, from),
         Err(Stop::Text(fault)) => Ok(Verdict::No(CheckFault::Text(fault), fault.line)),
-        Err(Stop::Memory) => Err(AllocError),
+        Err(Stop::Refused) => Err(AllocError),
     }
 }
 
@@ -79,7 +85,7 @@ pub fn check_over<C: CountySet>(
     ensures impossible { IfOk result (ShowsImpossible (problem_of problem.now)) }
 {
     let items = Items::of_certificate(alloc, text);
-    check_source::<C, Items>(alloc, problem, items, budget)
+    check_source::<C, (), Items>(alloc, problem, items, &mut (), budget)
 }
 
 /// The verdict on a text that should be a certificate of the problem, plain or wide.
@@ -107,5 +113,64 @@ pub fn check(
         check_over::<MaskSet>(alloc, problem, text, budget)
     } else {
         check_over::<Places>(alloc, problem, text, budget)
+    }
+}
+
+/// What `check_from` says, by any form of sets of places that has room for the counties of the problem.
+///
+/// # Errors
+///
+/// As `check_from`.
+pub fn check_from_over<C: CountySet, S: Source>(
+    alloc: Global,
+    problem: &Problem,
+    source: &mut S,
+    budget: u64,
+) -> Result<Verdict, CheckStop>
+    requires fits { length problem.now.counties ≤ C.PLACES }
+    requires works { S.is_failed source.old ≡ false }
+    ensures verdict { IfOk result (ChecksBytes (problem_of problem.now) (S.given source.old) (S.given source.new) budget) }
+    ensures best { IfOk result (NamesBest (problem_of problem.now)) }
+    ensures impossible { IfOk result (ShowsImpossible (problem_of problem.now)) }
+    ensures failed { S.is_failed source.new ≡ is_read_fault result }
+{
+    let Ok(items) = ItemsFrom::of_certificate(alloc) else {
+        return Err(CheckStop::Memory);
+    };
+    let checked = check_source::<C, S, ItemsFrom>(alloc, problem, items, source, budget);
+    if source.failed() {
+        return Err(CheckStop::ReadFault);
+    }
+    match checked {
+        Ok(verdict) => Ok(verdict),
+        Err(_) => Err(CheckStop::Memory),
+    }
+}
+
+/// The verdict on a text that is pulled from a source line by line, as `check` says it of a text in memory.
+///
+/// It holds one line, and makes no value of a tree. It reads on behind a fault that it finds, up to the end of the text or to a
+/// fault of the text's words, which comes before any other. So it pulls as many lines as the budget has steps at most, also
+/// from a source that never ends. The bytes that were pulled, with whatever may come later, have the verdict that is answered.
+///
+/// # Errors
+///
+/// `ReadFault` where the source could not be read, and `Memory` where memory was refused.
+pub fn check_from<S: Source>(
+    alloc: Global,
+    problem: &Problem,
+    source: &mut S,
+    budget: u64,
+) -> Result<Verdict, CheckStop>
+    requires { S.is_failed source.old ≡ false }
+    ensures verdict { IfOk result (ChecksBytes (problem_of problem.now) (S.given source.old) (S.given source.new) budget) }
+    ensures best { IfOk result (NamesBest (problem_of problem.now)) }
+    ensures impossible { IfOk result (ShowsImpossible (problem_of problem.now)) }
+    ensures failed { S.is_failed source.new ≡ is_read_fault result }
+{
+    if fits_mask(problem.counties().len()) {
+        check_from_over::<MaskSet, S>(alloc, problem, source, budget)
+    } else {
+        check_from_over::<Places, S>(alloc, problem, source, budget)
     }
 }

@@ -58,6 +58,17 @@ pub enum CheckFault {
     NoLeaf,
 }
 
+/// Why a text that is pulled from a source has no verdict.
+#[derive(Clone, Copy, Debug, PartialEq, Eq, Error)]
+pub enum CheckStop {
+    /// The source could not be read.
+    #[error("the source could not be read")]
+    ReadFault,
+    /// Memory was refused.
+    #[error("out of memory")]
+    Memory,
+}
+
 /// The fault of a line as one of the checker.
 pub(crate) fn of_line(fault: LineFault) -> CheckFault
     ensures { fault_of result ≡ Some (line_fault fault) }

@@ -1,11 +1,10 @@
-ghost use Rattle.std.specs.Prelude.{◌≡◌, ◌≤◌, ◌+◌, true, false, length, Ok, IfOk, IfErr};
-ghost use Rattle.certificate_lines.specs.Courses.{nothing, only_fault};
-ghost use Rattle.certificate_lines.specs.Rest.{IsMemory};
-ghost use Rattle.certificate_checker.specs.Feeding.{feed_of, IsFed, TookLine, StopsAtText, IsRestRead};
-ghost use Rattle.certificate_checker.specs.declared.feed.Stop.TheVariants.{Memory};
+ghost use Rattle.std.specs.Prelude.{◌≡◌, ◌≤◌, IfOk};
+ghost use Rattle.certificate_lines.specs.ItemsLeft.{Through as ItemsThrough};
+ghost use Rattle.certificate_checker.specs.Feeding.{stream_of, Through, ForEach, CountsSteps, TakesStep, IsFed, TookLine, StopsAtText, Passes, IsRestRead};
+ghost use Rattle.certificate_checker.specs.declared.feed.Stop.TheVariants.{Refused};
 
 use crate::fault::CheckFault;
-use certificate_lines::{Item, ItemSource, TextFault, TextKind};
+use certificate_lines::{Item, ItemSource, Items, TextFault, TextKind};
 use ordered_counties::Steps;
 use std::alloc::{AllocError, AllocFailed};
 
@@ -29,23 +28,23 @@ pub(crate) enum Stop {
     Unspelled,
     /// The limit of steps was reached.
     Budget,
-    /// A growth was refused.
-    Memory,
+    /// Memory was refused, or the source could not be read.
+    Refused,
 }
 
 impl From<AllocError> for Stop {
-    ghost from_gives = { λ _ e. e ≡ Memory };
+    ghost from_gives = { λ _ e. e ≡ Refused };
 
     fn from(_e: AllocError) -> Stop {
-        Stop::Memory
+        Stop::Refused
     }
 }
 
 impl<T: Drop> From<AllocFailed<T>> for Stop {
-    ghost from_gives = { λ _ e. e ≡ Memory };
+    ghost from_gives = { λ _ e. e ≡ Refused };
 
     fn from(_e: AllocFailed<T>) -> Stop {
-        Stop::Memory
+        Stop::Refused
     }
 }
 
@@ -54,22 +53,24 @@ fn of_source(fault: TextFault) -> Stop
     ensures { StopsAtText fault result }
 {
     match fault.kind {
-        TextKind::Memory => Stop::Memory,
+        TextKind::Memory | TextKind::ReadFault => Stop::Refused,
         _ => Stop::Text(fault),
     }
 }
 
 /// The next line.
-pub(crate) fn next_line<S: ItemSource>(feed: &mut Feed<S>) -> Result<Item, Stop>
+pub(crate) fn next_line<F, S: ItemSource<F>>(feed: &mut Feed<S>, from: &mut F) -> Result<Item, Stop>
     requires { feed.old.line ≤ feed.old.steps.used }
-    ensures fed { IsFed (feed_of S.course feed.old) result (feed_of S.course feed.new) }
-    ensures took { TookLine (feed_of S.course feed.old) result (feed_of S.course feed.new) }
+    ensures step { TakesStep feed.old result feed.new }
+    ensures counts { CountsSteps feed.old feed.new }
+    ensures fed { Through (stream_of S.left S.given feed.old from.old) (stream_of S.left S.given feed.new from.new) (λ a b. IsFed a result b) }
+    ensures took { ForEach (stream_of S.left S.given feed.old from.old) (stream_of S.left S.given feed.new from.new) (λ a b. TookLine a result b) }
 {
     let _limit = feed.steps.limit();
     if !feed.steps.tick() {
         return Err(Stop::Budget);
     }
-    match feed.source.next_item() {
+    match feed.source.next_item(from) {
         Ok(Some(item)) => {
             feed.line += 1;
             Ok(item)
@@ -80,13 +81,10 @@ pub(crate) fn next_line<S: ItemSource>(feed: &mut Feed<S>) -> Result<Item, Stop>
 }
 
 /// Passes over the next item: whether there was one.
-fn pass_item<S: ItemSource>(source: &mut S) -> Result<bool, TextFault>
-    ensures passed { result ≡ Ok true → length (S.course source.old).items ≡ length (S.course source.new).items + 1 }
-    ensures fault { IfOk result (λ _. (S.course source.new).fault ≡ (S.course source.old).fault) }
-    ensures ended { result ≡ Ok false → S.course source.old ≡ nothing }
-    ensures stopped { IfErr result (λ fault. (IsMemory fault → ⊥) → S.course source.old ≡ only_fault fault) }
+fn pass_item<F, S: ItemSource<F>>(source: &mut S, from: &mut F) -> Result<bool, TextFault>
+    ensures { ItemsThrough (S.left source.old) (S.given from.old) (S.left source.new) (S.given from.new) (λ a b. Passes a result b) }
 {
-    match source.next_item() {
+    match source.next_item(from) {
         Ok(Some(_)) => Ok(true),
         Ok(None) => Ok(false),
         Err(fault) => Err(fault),
@@ -94,15 +92,15 @@ fn pass_item<S: ItemSource>(source: &mut S) -> Result<bool, TextFault>
 }
 
 /// Reads the lines that are left, as many as there may be steps.
-pub(crate) fn read_rest<S: ItemSource>(feed: &mut Feed<S>) -> Result<(), Stop>
-    ensures { IsRestRead (feed_of S.course feed.old) result }
+pub(crate) fn read_rest<F, S: ItemSource<F>>(feed: &mut Feed<S>, from: &mut F) -> Result<(), Stop>
+    ensures { Through (stream_of S.left S.given feed.old from.old) (stream_of S.left S.given feed.new from.new) (λ a _. IsRestRead a result) }
 {
     let limit = feed.steps.limit();
     loop {
         if feed.line >= limit {
             return Err(Stop::Budget);
         }
-        match pass_item(&mut feed.source) {
+        match pass_item(&mut feed.source, from) {
             Ok(true) => feed.line += 1,
             Ok(false) => return Ok(()),
             Err(fault) => return Err(of_source(fault)),
@@ -111,16 +109,16 @@ pub(crate) fn read_rest<S: ItemSource>(feed: &mut Feed<S>) -> Result<(), Stop>
 }
 
 /// The fault that ends the items to come, if there is one.
-pub(crate) fn first_fault<S: ItemSource>(source: &mut S) -> Result<Option<TextFault>, AllocError>
-    ensures { IfOk result (λ fault. fault ≡ (S.course source.old).fault) }
+pub(crate) fn first_fault(items: &mut Items) -> Result<Option<TextFault>, AllocError>
+    ensures { IfOk result (λ fault. fault ≡ items.old.fault) }
 {
     loop {
-        match pass_item(source) {
+        match pass_item(items, &mut ()) {
             Ok(true) => {}
             Ok(false) => return Ok(None),
             Err(fault) => {
                 return match fault.kind {
-                    TextKind::Memory => Err(AllocError),
+                    TextKind::Memory | TextKind::ReadFault => Err(AllocError),
                     _ => Ok(Some(fault)),
                 };
             }

@@ -1,7 +1,7 @@
 ghost use Rattle.std.specs.Prelude.{◌≡◌, ◌≤◌, option_map};
 ghost use Rattle.certificate_lines.specs.Items.{taken};
 ghost use Rattle.certificate_lines.specs.declared.item.Item.TheVariants as item;
-ghost use Rattle.certificate_checker.specs.Feeding.{feed_of, IsFed};
+ghost use Rattle.certificate_checker.specs.Feeding.{stream_of, CountsSteps, TakesStep, IsFed, Through, ForEach};
 ghost use Rattle.certificate_checker.specs.Judging.{TookForm, IsStopAt, IsJudgedAt};
 
 use crate::fault::of_line;
@@ -12,12 +12,17 @@ use line_verdicts::LineStop;
 use proof_trees::Language;
 
 /// The next line, which has to open a tree.
-pub(crate) fn next_opening<S: ItemSource>(feed: &mut Feed<S>) -> Result<Opening, Stop>
+pub(crate) fn next_opening<F, S: ItemSource<F>>(
+    feed: &mut Feed<S>,
+    from: &mut F,
+) -> Result<Opening, Stop>
     requires { feed.old.line ≤ feed.old.steps.used }
-    ensures fed { IsFed (feed_of S.course feed.old) result (feed_of S.course feed.new) }
-    ensures took { TookForm item.Opens (λ o. o) (feed_of S.course feed.old) result (feed_of S.course feed.new) }
+    ensures step { TakesStep feed.old result feed.new }
+    ensures counts { CountsSteps feed.old feed.new }
+    ensures fed { Through (stream_of S.left S.given feed.old from.old) (stream_of S.left S.given feed.new from.new) (λ a b. IsFed a result b) }
+    ensures took { ForEach (stream_of S.left S.given feed.old from.old) (stream_of S.left S.given feed.new from.new) (λ a b. TookForm item.Opens (λ o. o) a result b) }
 {
-    let item = next_line(feed)?;
+    let item = next_line(feed, from)?;
     match &item {
         Item::Opens(opening) => Ok(*opening),
         _ => Err(Stop::Unspelled),
@@ -25,12 +30,17 @@ pub(crate) fn next_opening<S: ItemSource>(feed: &mut Feed<S>) -> Result<Opening,
 }
 
 /// The next line, which has to be a take, or else the mark.
-pub(crate) fn next_take<S: ItemSource>(feed: &mut Feed<S>) -> Result<Option<Codes>, Stop>
+pub(crate) fn next_take<F, S: ItemSource<F>>(
+    feed: &mut Feed<S>,
+    from: &mut F,
+) -> Result<Option<Codes>, Stop>
     requires { feed.old.line ≤ feed.old.steps.used }
-    ensures fed { IsFed (feed_of S.course feed.old) result (feed_of S.course feed.new) }
-    ensures took { TookForm taken (λ o. o) (feed_of S.course feed.old) result (feed_of S.course feed.new) }
+    ensures step { TakesStep feed.old result feed.new }
+    ensures counts { CountsSteps feed.old feed.new }
+    ensures fed { Through (stream_of S.left S.given feed.old from.old) (stream_of S.left S.given feed.new from.new) (λ a b. IsFed a result b) }
+    ensures took { ForEach (stream_of S.left S.given feed.old from.old) (stream_of S.left S.given feed.new from.new) (λ a b. TookForm taken (λ o. o) a result b) }
 {
-    match next_line(feed)? {
+    match next_line(feed, from)? {
         Item::Takes(codes) => Ok(Some(codes)),
         Item::Mark => Ok(None),
         _ => Err(Stop::Unspelled),
@@ -38,96 +48,122 @@ pub(crate) fn next_take<S: ItemSource>(feed: &mut Feed<S>) -> Result<Option<Code
 }
 
 /// The next line, which has to be one of a bound leaf.
-pub(crate) fn next_allowance<S: ItemSource>(feed: &mut Feed<S>) -> Result<Allowance, Stop>
+pub(crate) fn next_allowance<F, S: ItemSource<F>>(
+    feed: &mut Feed<S>,
+    from: &mut F,
+) -> Result<Allowance, Stop>
     requires { feed.old.line ≤ feed.old.steps.used }
-    ensures fed { IsFed (feed_of S.course feed.old) result (feed_of S.course feed.new) }
-    ensures took { TookForm item.Allows (λ a. a) (feed_of S.course feed.old) result (feed_of S.course feed.new) }
+    ensures counts { CountsSteps feed.old feed.new }
+    ensures fed { Through (stream_of S.left S.given feed.old from.old) (stream_of S.left S.given feed.new from.new) (λ a b. IsFed a result b) }
+    ensures took { ForEach (stream_of S.left S.given feed.old from.old) (stream_of S.left S.given feed.new from.new) (λ a b. TookForm item.Allows (λ a. a) a result b) }
 {
-    match next_line(feed)? {
+    match next_line(feed, from)? {
         Item::Allows(allowance) => Ok(allowance),
         _ => Err(Stop::Unspelled),
     }
 }
 
 /// The next line, which has to be the head of a certificate.
-pub(crate) fn next_head<S: ItemSource>(feed: &mut Feed<S>) -> Result<(Language, Version), Stop>
+pub(crate) fn next_head<F, S: ItemSource<F>>(
+    feed: &mut Feed<S>,
+    from: &mut F,
+) -> Result<(Language, Version), Stop>
     requires { feed.old.line ≤ feed.old.steps.used }
-    ensures fed { IsFed (feed_of S.course feed.old) result (feed_of S.course feed.new) }
-    ensures took { TookForm (λ h. item.Head h.0 h.1) (λ h. h) (feed_of S.course feed.old) result (feed_of S.course feed.new) }
+    ensures counts { CountsSteps feed.old feed.new }
+    ensures fed { Through (stream_of S.left S.given feed.old from.old) (stream_of S.left S.given feed.new from.new) (λ a b. IsFed a result b) }
+    ensures took { ForEach (stream_of S.left S.given feed.old from.old) (stream_of S.left S.given feed.new from.new) (λ a b. TookForm (λ h. item.Head h.0 h.1) (λ h. h) a result b) }
 {
-    match next_line(feed)? {
+    match next_line(feed, from)? {
         Item::Head(language, version) => Ok((language, version)),
         _ => Err(Stop::Unspelled),
     }
 }
 
 /// The next line, which has to be that of the allowance.
-pub(crate) fn next_window<S: ItemSource>(feed: &mut Feed<S>) -> Result<Window, Stop>
+pub(crate) fn next_window<F, S: ItemSource<F>>(
+    feed: &mut Feed<S>,
+    from: &mut F,
+) -> Result<Window, Stop>
     requires { feed.old.line ≤ feed.old.steps.used }
-    ensures fed { IsFed (feed_of S.course feed.old) result (feed_of S.course feed.new) }
-    ensures took { TookForm item.Within (λ w. w) (feed_of S.course feed.old) result (feed_of S.course feed.new) }
+    ensures counts { CountsSteps feed.old feed.new }
+    ensures fed { Through (stream_of S.left S.given feed.old from.old) (stream_of S.left S.given feed.new from.new) (λ a b. IsFed a result b) }
+    ensures took { ForEach (stream_of S.left S.given feed.old from.old) (stream_of S.left S.given feed.new from.new) (λ a b. TookForm item.Within (λ w. w) a result b) }
 {
-    match next_line(feed)? {
+    match next_line(feed, from)? {
         Item::Within(window) => Ok(window),
         _ => Err(Stop::Unspelled),
     }
 }
 
 /// The next line, which has to be the order.
-pub(crate) fn next_order<S: ItemSource>(feed: &mut Feed<S>) -> Result<Codes, Stop>
+pub(crate) fn next_order<F, S: ItemSource<F>>(
+    feed: &mut Feed<S>,
+    from: &mut F,
+) -> Result<Codes, Stop>
     requires { feed.old.line ≤ feed.old.steps.used }
-    ensures fed { IsFed (feed_of S.course feed.old) result (feed_of S.course feed.new) }
-    ensures took { TookForm item.Order (λ o. o) (feed_of S.course feed.old) result (feed_of S.course feed.new) }
+    ensures counts { CountsSteps feed.old feed.new }
+    ensures fed { Through (stream_of S.left S.given feed.old from.old) (stream_of S.left S.given feed.new from.new) (λ a b. IsFed a result b) }
+    ensures took { ForEach (stream_of S.left S.given feed.old from.old) (stream_of S.left S.given feed.new from.new) (λ a b. TookForm item.Order (λ o. o) a result b) }
 {
-    match next_line(feed)? {
+    match next_line(feed, from)? {
         Item::Order(order) => Ok(order),
         _ => Err(Stop::Unspelled),
     }
 }
 
 /// The next line, which has to be the limit.
-pub(crate) fn next_limit<S: ItemSource>(feed: &mut Feed<S>) -> Result<u16, Stop>
+pub(crate) fn next_limit<F, S: ItemSource<F>>(feed: &mut Feed<S>, from: &mut F) -> Result<u16, Stop>
     requires { feed.old.line ≤ feed.old.steps.used }
-    ensures fed { IsFed (feed_of S.course feed.old) result (feed_of S.course feed.new) }
-    ensures took { TookForm item.Limit (λ n. n) (feed_of S.course feed.old) result (feed_of S.course feed.new) }
+    ensures counts { CountsSteps feed.old feed.new }
+    ensures fed { Through (stream_of S.left S.given feed.old from.old) (stream_of S.left S.given feed.new from.new) (λ a b. IsFed a result b) }
+    ensures took { ForEach (stream_of S.left S.given feed.old from.old) (stream_of S.left S.given feed.new from.new) (λ a b. TookForm item.Limit (λ n. n) a result b) }
 {
-    match next_line(feed)? {
+    match next_line(feed, from)? {
         Item::Limit(limit) => Ok(limit),
         _ => Err(Stop::Unspelled),
     }
 }
 
 /// The next line, which has to be that of the target: the number of its groups, or that there is none.
-pub(crate) fn next_target<S: ItemSource>(feed: &mut Feed<S>) -> Result<Option<u16>, Stop>
+pub(crate) fn next_target<F, S: ItemSource<F>>(
+    feed: &mut Feed<S>,
+    from: &mut F,
+) -> Result<Option<u16>, Stop>
     requires { feed.old.line ≤ feed.old.steps.used }
-    ensures fed { IsFed (feed_of S.course feed.old) result (feed_of S.course feed.new) }
-    ensures took { TookForm item.Target (λ n. n) (feed_of S.course feed.old) result (feed_of S.course feed.new) }
+    ensures counts { CountsSteps feed.old feed.new }
+    ensures fed { Through (stream_of S.left S.given feed.old from.old) (stream_of S.left S.given feed.new from.new) (λ a b. IsFed a result b) }
+    ensures took { ForEach (stream_of S.left S.given feed.old from.old) (stream_of S.left S.given feed.new from.new) (λ a b. TookForm item.Target (λ n. n) a result b) }
 {
-    match next_line(feed)? {
+    match next_line(feed, from)? {
         Item::Target(count) => Ok(count),
         _ => Err(Stop::Unspelled),
     }
 }
 
 /// The next line, which has to be a group of the target.
-pub(crate) fn next_group<S: ItemSource>(feed: &mut Feed<S>) -> Result<Group, Stop>
+pub(crate) fn next_group<F, S: ItemSource<F>>(
+    feed: &mut Feed<S>,
+    from: &mut F,
+) -> Result<Group, Stop>
     requires { feed.old.line ≤ feed.old.steps.used }
-    ensures fed { IsFed (feed_of S.course feed.old) result (feed_of S.course feed.new) }
-    ensures took { TookForm item.Grouped (λ g. g) (feed_of S.course feed.old) result (feed_of S.course feed.new) }
+    ensures counts { CountsSteps feed.old feed.new }
+    ensures fed { Through (stream_of S.left S.given feed.old from.old) (stream_of S.left S.given feed.new from.new) (λ a b. IsFed a result b) }
+    ensures took { ForEach (stream_of S.left S.given feed.old from.old) (stream_of S.left S.given feed.new from.new) (λ a b. TookForm item.Grouped (λ g. g) a result b) }
 {
-    match next_line(feed)? {
+    match next_line(feed, from)? {
         Item::Grouped(group) => Ok(group),
         _ => Err(Stop::Unspelled),
     }
 }
 
 /// The next line, which has to be the end.
-pub(crate) fn next_end<S: ItemSource>(feed: &mut Feed<S>) -> Result<(), Stop>
+pub(crate) fn next_end<F, S: ItemSource<F>>(feed: &mut Feed<S>, from: &mut F) -> Result<(), Stop>
     requires { feed.old.line ≤ feed.old.steps.used }
-    ensures fed { IsFed (feed_of S.course feed.old) result (feed_of S.course feed.new) }
-    ensures took { TookForm (λ _. item.End) (λ u. u) (feed_of S.course feed.old) result (feed_of S.course feed.new) }
+    ensures counts { CountsSteps feed.old feed.new }
+    ensures fed { Through (stream_of S.left S.given feed.old from.old) (stream_of S.left S.given feed.new from.new) (λ a b. IsFed a result b) }
+    ensures took { ForEach (stream_of S.left S.given feed.old from.old) (stream_of S.left S.given feed.new from.new) (λ a b. TookForm (λ _. item.End) (λ u. u) a result b) }
 {
-    match next_line(feed)? {
+    match next_line(feed, from)? {
         Item::End => Ok(()),
         _ => Err(Stop::Unspelled),
     }
@@ -141,7 +177,7 @@ fn stop_at(stop: LineStop, line: u64) -> Stop
         LineStop::Fault(fault) => Stop::Fault(of_line(fault), line),
         LineStop::Unspelled => Stop::Unspelled,
         LineStop::StepLimit => Stop::Budget,
-        LineStop::Memory => Stop::Memory,
+        LineStop::Memory => Stop::Refused,
     }
 }
 

@@ -6,7 +6,7 @@ ghost use Rattle.proof_trees.specs.Tree.{Allowance as AllowanceValue, stuck, sea
 ghost use Rattle.certificate_lines.specs.declared.item.Item.{Item as ItemValue};
 ghost use Rattle.line_verdicts.specs.Placed.{state_at, IsPlaced};
 ghost use Rattle.certificate_checker.specs.Readable.{AreSpelled};
-ghost use Rattle.certificate_checker.specs.Feeding.{FeedValue, feed_of, IsFed};
+ghost use Rattle.certificate_checker.specs.Feeding.{FeedValue, stream_of, CountsSteps, IsFed, Through, ForEach};
 ghost use Rattle.certificate_checker.specs.Judging.{IsGround, IsLeafJudged, IsFoundAt, IsEndOf, IsSmall, IsLineJudged, line_items};
 
 use crate::fault::{CheckFault, of_line};
@@ -77,25 +77,27 @@ fn loss_at(last: bool, opened: u64) -> Result<(), Stop>
 
 /// Judges the next line, which has to be the one of a bound leaf for a size, where the target has so many groups of
 /// this size and smaller groups use up so many counties.
-fn judge_line<C: CountySet, S: ItemSource>(
+fn judge_line<C: CountySet, F, S: ItemSource<F>>(
     ground: &Ground<C>,
     state: &State<C>,
     size: u16,
     wanted: u16,
     used: u32,
     feed: &mut Feed<S>,
+    from: &mut F,
 ) -> Result<Allowed, Stop>
     requires ground { IsGround C.PLACES C.test ground.now }
     requires placed { IsPlaced (length ground.now.ordered.now.order) C.test state.now }
     requires counted { feed.old.line ≤ feed.old.steps.used }
     requires size { 1 ≤ size }
     requires used { used ≤ most_counties }
-    ensures fed { IsFed (feed_of S.course feed.old) result (feed_of S.course feed.new) }
+    ensures counts { CountsSteps feed.old feed.new }
+    ensures fed { Through (stream_of S.left S.given feed.old from.old) (stream_of S.left S.given feed.new from.new) (λ a b. IsFed a result b) }
     ensures small { IfOk result IsSmall }
-    ensures judged { (counts : ℕ → ℕ) (lines : List AllowanceValue) (rest : List ItemValue)
+    ensures judged { ForEach (stream_of S.left S.given feed.old from.old) (stream_of S.left S.given feed.new from.new) (λ a b. (counts : ℕ → ℕ) (lines : List AllowanceValue) (rest : List ItemValue)
         → counts size ≡ wanted
         → AreSpelled lines
-        → (feed_of S.course feed.old).course.items ≡ line_items lines ++ rest
+        → a.course.items ≡ line_items lines ++ rest
         → IsLineJudged
         (problem_of ground.now.ordered.now.problem)
         (round_of ground.now.round.now)
@@ -105,11 +107,11 @@ fn judge_line<C: CountySet, S: ItemSource>(
         used
         lines
         rest
-        (feed_of S.course feed.old)
+        a
         result
-        (feed_of S.course feed.new) }
+        b) }
 {
-    let line = next_allowance(feed)?;
+    let line = next_allowance(feed, from)?;
     let judged = judge_allowance(
         ground.alloc,
         ground.ordered,
@@ -126,29 +128,31 @@ fn judge_line<C: CountySet, S: ItemSource>(
 }
 
 /// Judges a bound leaf of so many lines, whose first line was read last.
-pub(crate) fn judge_bound_leaf<C: CountySet, S: ItemSource>(
+pub(crate) fn judge_bound_leaf<C: CountySet, F, S: ItemSource<F>>(
     ground: &Ground<C>,
     state: &State<C>,
     count: u16,
     feed: &mut Feed<S>,
+    from: &mut F,
 ) -> Result<(), Stop>
     requires ground { IsGround C.PLACES C.test ground.now }
     requires placed { IsPlaced (length ground.now.ordered.now.order) C.test state.now }
     requires counted { feed.old.line ≤ feed.old.steps.used }
-    ensures fed { IsFed (feed_of S.course feed.old) result (feed_of S.course feed.new) }
-    ensures judged { (lines : List AllowanceValue) (rest : List ItemValue)
+    ensures counts { CountsSteps feed.old feed.new }
+    ensures fed { Through (stream_of S.left S.given feed.old from.old) (stream_of S.left S.given feed.new from.new) (λ a b. IsFed a result b) }
+    ensures judged { ForEach (stream_of S.left S.given feed.old from.old) (stream_of S.left S.given feed.new from.new) (λ a b. (lines : List AllowanceValue) (rest : List ItemValue)
         → AreSpelled lines
         → length lines ≡ count
-        → (feed_of S.course feed.old).course.items ≡ line_items lines ++ rest
+        → a.course.items ≡ line_items lines ++ rest
         → IsLeafJudged
         (problem_of ground.now.ordered.now.problem)
         (round_of ground.now.round.now)
         (state_at ground.now.ordered.now.order C.test state.now)
         (bound lines)
         rest
-        (feed_of S.course feed.old)
+        a
         result
-        (feed_of S.course feed.new) }
+        b) }
 {
     let opened = feed.line;
     let Some(wanted) = ground.wanted else {
@@ -160,7 +164,7 @@ pub(crate) fn judge_bound_leaf<C: CountySet, S: ItemSource>(
     let mut used = 0;
     'judging: for before in 0..count {
         let size = before + 1;
-        match judge_line(ground, state, size, wanted.of(size), used, feed) {
+        match judge_line(ground, state, size, wanted.of(size), used, feed, from) {
             Ok(Allowed::Even(now)) => used = now,
             Ok(Allowed::Loss) => return loss_at(size == count, opened),
             Err(stop) => return Err(stop),

@@ -9,7 +9,7 @@ ghost use Rattle.proof_trees.specs.RoundValue.{round_of, target_of};
 ghost use Rattle.certificate_lines.specs.declared.item.Item.{Item as ItemValue};
 ghost use Rattle.certificate_lines.specs.declared.item.Item.TheVariants as item;
 ghost use Rattle.certificate_text.specs.Trees.{Certificate, items_of_head, items_of_target, items_of_tree, items_of_certificate};
-ghost use Rattle.certificate_checker.specs.Feeding.{feed_of, IsFed};
+ghost use Rattle.certificate_checker.specs.Feeding.{stream_of, CountsSteps, IsFed, Through, ForEach};
 ghost use Rattle.certificate_checker.specs.Certificates.{AreTaken, round_items};
 
 use crate::feed::{Feed, Stop};
@@ -20,21 +20,23 @@ use proof_trees::{Language, Round};
 use std::alloc::Global;
 
 /// So many groups of a target.
-fn read_groups<S: ItemSource>(
+fn read_groups<F, S: ItemSource<F>>(
     alloc: Global,
     feed: &mut Feed<S>,
+    from: &mut F,
     count: u16,
 ) -> Result<Vec<Group>, Stop>
     requires { feed.old.line ≤ feed.old.steps.used }
-    ensures fed { IsFed (feed_of S.course feed.old) result (feed_of S.course feed.new) }
-    ensures taken { (groups : List GroupValue) (rest : List ItemValue)
+    ensures counts { CountsSteps feed.old feed.new }
+    ensures fed { Through (stream_of S.left S.given feed.old from.old) (stream_of S.left S.given feed.new from.new) (λ a b. IsFed a result b) }
+    ensures taken { ForEach (stream_of S.left S.given feed.old from.old) (stream_of S.left S.given feed.new from.new) (λ a b. (groups : List GroupValue) (rest : List ItemValue)
         → length groups ≡ count
-        → (feed_of S.course feed.old).course.items ≡ map item.Grouped groups ++ rest
-        → AreTaken (λ v. v.items ≡ groups) (map item.Grouped groups) rest (feed_of S.course feed.old) result (feed_of S.course feed.new) }
+        → a.course.items ≡ map item.Grouped groups ++ rest
+        → AreTaken (λ v. v.items ≡ groups) (map item.Grouped groups) rest a result b) }
 {
     let mut groups = Vec::new(alloc);
     'reading: for done in 0..count {
-        match next_group(feed) {
+        match next_group(feed, from) {
             Ok(group) => groups.push(group)?,
             Err(stop) => return Err(stop),
         }
@@ -43,15 +45,20 @@ fn read_groups<S: ItemSource>(
 }
 
 /// The target, where there is one.
-fn read_target<S: ItemSource>(alloc: Global, feed: &mut Feed<S>) -> Result<Option<Grouping>, Stop>
+fn read_target<F, S: ItemSource<F>>(
+    alloc: Global,
+    feed: &mut Feed<S>,
+    from: &mut F,
+) -> Result<Option<Grouping>, Stop>
     requires { feed.old.line ≤ feed.old.steps.used }
-    ensures fed { IsFed (feed_of S.course feed.old) result (feed_of S.course feed.new) }
-    ensures taken { (target : Option GroupingValue) (rest : List ItemValue)
-        → (feed_of S.course feed.old).course.items ≡ items_of_target target ++ rest
-        → AreTaken (λ t. target_of t ≡ target) (items_of_target target) rest (feed_of S.course feed.old) result (feed_of S.course feed.new) }
+    ensures counts { CountsSteps feed.old feed.new }
+    ensures fed { Through (stream_of S.left S.given feed.old from.old) (stream_of S.left S.given feed.new from.new) (λ a b. IsFed a result b) }
+    ensures taken { ForEach (stream_of S.left S.given feed.old from.old) (stream_of S.left S.given feed.new from.new) (λ a b. (target : Option GroupingValue) (rest : List ItemValue)
+        → a.course.items ≡ items_of_target target ++ rest
+        → AreTaken (λ t. target_of t ≡ target) (items_of_target target) rest a result b) }
 {
-    match next_target(feed) {
-        Ok(Some(count)) => match read_groups(alloc, feed, count) {
+    match next_target(feed, from) {
+        Ok(Some(count)) => match read_groups(alloc, feed, from, count) {
             Ok(groups) => Ok(Some(Grouping { groups })),
             Err(stop) => Err(stop),
         },
@@ -61,16 +68,20 @@ fn read_target<S: ItemSource>(alloc: Global, feed: &mut Feed<S>) -> Result<Optio
 }
 
 /// The language of the head, and the allowance on the second line where the head is of version 2.
-fn read_head<S: ItemSource>(feed: &mut Feed<S>) -> Result<(Language, Option<Window>), Stop>
+fn read_head<F, S: ItemSource<F>>(
+    feed: &mut Feed<S>,
+    from: &mut F,
+) -> Result<(Language, Option<Window>), Stop>
     requires { feed.old.line ≤ feed.old.steps.used }
-    ensures fed { IsFed (feed_of S.course feed.old) result (feed_of S.course feed.new) }
-    ensures taken { (language : LanguageValue) (window : Option WindowValue) (rest : List ItemValue)
-        → (feed_of S.course feed.old).course.items ≡ items_of_head language window ++ rest
-        → AreTaken (λ r. (r.0 ≡ language) × (r.1 ≡ window)) (items_of_head language window) rest (feed_of S.course feed.old) result (feed_of S.course feed.new) }
+    ensures counts { CountsSteps feed.old feed.new }
+    ensures fed { Through (stream_of S.left S.given feed.old from.old) (stream_of S.left S.given feed.new from.new) (λ a b. IsFed a result b) }
+    ensures taken { ForEach (stream_of S.left S.given feed.old from.old) (stream_of S.left S.given feed.new from.new) (λ a b. (language : LanguageValue) (window : Option WindowValue) (rest : List ItemValue)
+        → a.course.items ≡ items_of_head language window ++ rest
+        → AreTaken (λ r. (r.0 ≡ language) × (r.1 ≡ window)) (items_of_head language window) rest a result b) }
 {
-    match next_head(feed) {
+    match next_head(feed, from) {
         Ok((language, Version::One)) => Ok((language, None)),
-        Ok((language, Version::Two)) => match next_window(feed) {
+        Ok((language, Version::Two)) => match next_window(feed, from) {
             Ok(window) => Ok((language, Some(window))),
             Err(stop) => Err(stop),
         },
@@ -79,22 +90,33 @@ fn read_head<S: ItemSource>(feed: &mut Feed<S>) -> Result<(Language, Option<Wind
 }
 
 /// The round of a certificate.
-pub(crate) fn read_round<S: ItemSource>(alloc: Global, feed: &mut Feed<S>) -> Result<Round, Stop>
+pub(crate) fn read_round<F, S: ItemSource<F>>(
+    alloc: Global,
+    feed: &mut Feed<S>,
+    from: &mut F,
+) -> Result<Round, Stop>
     requires { feed.old.line ≤ feed.old.steps.used }
-    ensures fed { IsFed (feed_of S.course feed.old) result (feed_of S.course feed.new) }
-    ensures taken { (c : Certificate)
-        → (feed_of S.course feed.old).course.items ≡ items_of_certificate c
-        → AreTaken (λ round. round_of round ≡ c.round) (round_items c) (items_of_tree c.tree ++ item.End ∷ []) (feed_of S.course feed.old) result (feed_of S.course feed.new) }
+    ensures counts { CountsSteps feed.old feed.new }
+    ensures fed { Through (stream_of S.left S.given feed.old from.old) (stream_of S.left S.given feed.new from.new) (λ a b. IsFed a result b) }
+    ensures taken { ForEach (stream_of S.left S.given feed.old from.old) (stream_of S.left S.given feed.new from.new) (λ a b. (c : Certificate)
+        → a.course.items ≡ items_of_certificate c
+        → AreTaken (λ round. round_of round ≡ c.round) (round_items c) (items_of_tree c.tree ++ item.End ∷ []) a result b) }
 {
-    let (language, window) = read_head(feed)?;
-    let order = next_order(feed)?;
-    let limit = next_limit(feed)?;
-    let target = read_target(alloc, feed)?;
-    Ok(Round {
-        order,
-        limit,
-        target,
-        language,
-        window,
-    })
+    match read_head(feed, from) {
+        Ok((language, window)) => {
+            let order = next_order(feed, from)?;
+            let limit = next_limit(feed, from)?;
+            match read_target(alloc, feed, from) {
+                Ok(target) => Ok(Round {
+                    order,
+                    limit,
+                    target,
+                    language,
+                    window,
+                }),
+                Err(stop) => Err(stop),
+            }
+        }
+        Err(stop) => Err(stop),
+    }
 }

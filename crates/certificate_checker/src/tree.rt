@@ -7,7 +7,7 @@ ghost use Rattle.certificate_lines.specs.declared.item.Item.{Item as ItemValue};
 ghost use Rattle.verdicts.specs.Work.{Open, a_tree, some_takes};
 ghost use Rattle.line_verdicts.specs.Placed.{state_at, codes_of_sets, IsPlaced, IsClosable};
 ghost use Rattle.certificate_checker.specs.Readable.{IsReadable, AreReadable};
-ghost use Rattle.certificate_checker.specs.Feeding.{feed_of, IsFed, items_to_mark};
+ghost use Rattle.certificate_checker.specs.Feeding.{stream_of, CountsSteps, IsFed, Through, ForEach, items_to_mark};
 ghost use Rattle.certificate_checker.specs.Judging.{IsGround, IsJudged};
 
 use crate::branches::{groups_behind, listed_groups, taken_state};
@@ -23,35 +23,37 @@ use proof_trees::State;
 
 /// Judges the takes of a branch, up to its mark, against these groups.
 #[cycle(tree_judging)]
-fn judge_takes<C: CountySet, S: ItemSource>(
+fn judge_takes<C: CountySet, F, S: ItemSource<F>>(
     ground: &Ground<C>,
     state: &State<C>,
     groups: &[C],
     feed: &mut Feed<S>,
+    from: &mut F,
 ) -> Result<(), Stop>
     requires ground { IsGround C.PLACES C.test ground.now }
     requires placed { IsPlaced (length ground.now.ordered.now.order) C.test state.now }
     requires groups { All (IsClosable C.test state.now) groups.now }
     requires counted { feed.old.line ≤ feed.old.steps.used }
-    ensures fed { IsFed (feed_of S.course feed.old) result (feed_of S.course feed.new) }
-    ensures judged { (takes : Takes) (rest : List ItemValue) (more : List Open)
+    ensures counts { CountsSteps feed.old feed.new }
+    ensures fed { Through (stream_of S.left S.given feed.old from.old) (stream_of S.left S.given feed.new from.new) (λ a b. IsFed a result b) }
+    ensures judged { ForEach (stream_of S.left S.given feed.old from.old) (stream_of S.left S.given feed.new from.new) (λ a b. (takes : Takes) (rest : List ItemValue) (more : List Open)
         → AreReadable ground.now.round.now.language takes
-        → (feed_of S.course feed.old).course.items ≡ items_to_mark takes ++ rest
+        → a.course.items ≡ items_to_mark takes ++ rest
         → IsJudged
         (problem_of ground.now.ordered.now.problem)
         (round_of ground.now.round.now)
         (some_takes takes (state_at ground.now.ordered.now.order C.test state.now) (codes_of_sets ground.now.ordered.now.order C.test groups.now) ∷ more)
         more
         rest
-        (feed_of S.course feed.old)
+        a
         result
-        (feed_of S.course feed.new) }
+        b) }
 {
     let mut left = groups;
     'taking: loop {
-        match next_take(feed) {
+        match next_take(feed, from) {
             Ok(Some(codes)) => match taken_state(ground, state, left, codes.as_slice(), feed.line) {
-                Ok(mut closed) => match judge_tree(ground, &mut closed, feed) {
+                Ok(mut closed) => match judge_tree(ground, &mut closed, feed, from) {
                     Ok(()) => left = groups_behind(left),
                     Err(stop) => return Err(stop),
                 },
@@ -71,35 +73,43 @@ fn judge_takes<C: CountySet, S: ItemSource>(
 /// Judges the tree that begins on the next line, at a state, which is raised as its branches are passed. It goes as deep
 /// as takes nest.
 #[cycle(tree_judging)]
-pub(crate) fn judge_tree<C: CountySet, S: ItemSource>(
+pub(crate) fn judge_tree<C: CountySet, F, S: ItemSource<F>>(
     ground: &Ground<C>,
     state: &mut State<C>,
     feed: &mut Feed<S>,
+    from: &mut F,
 ) -> Result<(), Stop>
     requires ground { IsGround C.PLACES C.test ground.now }
     requires placed { IsPlaced (length ground.now.ordered.now.order) C.test state.old }
     requires counted { feed.old.line ≤ feed.old.steps.used }
-    ensures fed { IsFed (feed_of S.course feed.old) result (feed_of S.course feed.new) }
-    ensures judged { (tree : Tree) (rest : List ItemValue) (more : List Open)
+    ensures counts { CountsSteps feed.old feed.new }
+    ensures fed { Through (stream_of S.left S.given feed.old from.old) (stream_of S.left S.given feed.new from.new) (λ a b. IsFed a result b) }
+    ensures judged { ForEach (stream_of S.left S.given feed.old from.old) (stream_of S.left S.given feed.new from.new) (λ a b. (tree : Tree) (rest : List ItemValue) (more : List Open)
         → IsReadable ground.now.round.now.language tree
-        → (feed_of S.course feed.old).course.items ≡ items_of_tree tree ++ rest
+        → a.course.items ≡ items_of_tree tree ++ rest
         → IsJudged
         (problem_of ground.now.ordered.now.problem)
         (round_of ground.now.round.now)
         (a_tree tree (state_at ground.now.ordered.now.order C.test state.old) ∷ more)
         more
         rest
-        (feed_of S.course feed.old)
+        a
         result
-        (feed_of S.course feed.new) }
+        b) }
 {
     'branching: loop {
-        match next_opening(feed) {
+        match next_opening(feed, from) {
             Ok(opening) => match opening {
                 Opening::Branch { county, limit } => match listed_groups(
                     ground, state, county, limit, feed,
                 ) {
-                    Ok(branching) => match judge_takes(ground, state, &branching.groups, feed) {
+                    Ok(branching) => match judge_takes(
+                        ground,
+                        state,
+                        &branching.groups,
+                        feed,
+                        from,
+                    ) {
                         Ok(()) => raise_place(
                             ground.ordered,
                             state,
@@ -112,7 +122,7 @@ pub(crate) fn judge_tree<C: CountySet, S: ItemSource>(
                 },
                 Opening::Stuck(county) => return judge_stuck_leaf(ground, state, county, feed.line),
                 Opening::Seats => return judge_seats_leaf(ground, state, feed.line),
-                Opening::Bound(count) => return judge_bound_leaf(ground, state, count, feed),
+                Opening::Bound(count) => return judge_bound_leaf(ground, state, count, feed, from),
             },
             Err(stop) => return Err(stop),
         }

@@ -86,7 +86,15 @@ fn check_lines<C: CountySet>(
         line: 0,
         steps: Steps::new(budget),
     };
-    let judged = judge_placed::<C, Items>(alloc, ordered, round, wanted, state, &mut feed);
+    let judged = judge_placed::<C, (), Items>(
+        alloc,
+        ordered,
+        round,
+        wanted,
+        state,
+        &mut feed,
+        &mut (),
+    );
     said_of(judged)
 }
 

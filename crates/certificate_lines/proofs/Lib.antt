@@ -3,6 +3,8 @@ pub mod FormLaws
 pub mod TextLaws
 pub mod FitsLaws
 pub mod ReadLaws
+pub mod CourseLaws
+pub mod ReaderLaws
 pub mod StackLaws
 pub mod EachLaws
 pub mod WordsWritten

@@ -1,10 +1,9 @@
 -- The stack of what is wanted stays as shallow as it has to be.
-use Rattle.std.proofs.Common.{◌≡◌, ℕ, ◌+◌, ◌-◌, ◌≤◌, cond, Bool, true, false, List, [], ◌∷◌, ◌++◌, length, reverse, Some, None, arith}
+use Rattle.std.proofs.Common.{◌≡◌, ℕ, ◌+◌, ◌-◌, ◌≤◌, cond, Bool, true, false, List, [], ◌∷◌, ◌++◌, length, reverse, Some, None, Ok, arith}
 use Rattle.std.specs.Prelude.{nat_lt}
 use Rattle.std.proofs.lemmas.List.{length-reverse}
-use Rattle.certificate_lines.specs.Rest.{Rest}
-use Rattle.certificate_lines.specs.Items.{wanted_after}
-use Rattle.certificate_lines.specs.Courses.{TookItem}
+use Rattle.field_lines.specs.Raw.{RawLine}
+use Rattle.certificate_lines.specs.Items.{item_on, wanted_after}
 use Rattle.certificate_lines.specs.Lines.{most}
 use Rattle.certificate_lines.specs.Fits.{Fits}
 use Rattle.certificate_lines.specs.Stacks.{HasRoom, greatest_place, IsBounded}
@@ -64,7 +63,8 @@ rest_bounded stack rest top e h =
     omega arith
 
 -- the stack after an item was taken
-pub took_bounded : (w : Wanted) (item : Item) (old new : Rest) (below stack : List Wanted) → TookItem w item old below new stack → HasRoom (length below) w → IsBounded below → IsBounded stack
-took_bounded w item old new below stack took room h =
+pub taken_bounded : (w : Wanted) (piece : RawLine) (item : Item) (below stack : List Wanted) → item_on w piece ≡ Ok item → reverse stack ≡ wanted_after w item ++ reverse below
+    → HasRoom (length below) w → IsBounded below → IsBounded stack
+taken_bounded w piece item below stack is stacked room h =
     let here : HasRoom (length (reverse below)) w = omega (arith, length-reverse below) in
-    rw took.stacked (bounded_after (reverse below) w item (item_fits w took.line.piece item took.line.value) here h)
+    rw stacked (bounded_after (reverse below) w item (item_fits w piece item is) here h)

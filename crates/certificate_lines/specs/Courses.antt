@@ -1,9 +1,11 @@
 -- The items of a text one at a time, also those in front of a fault.
-use Rattle.std.specs.Prelude.{◌≡◌, ℕ, ◌+◌, List, [], ◌∷◌, ◌++◌, reverse, Option, Some, None, Result, Ok, Err}
+use Rattle.std.specs.Prelude.{◌≡◌, ℕ, ◌+◌, Bool, List, [], ◌∷◌, ◌++◌, reverse, Option, Some, None, Result, Ok, Err}
 use Rattle.field_lines.specs.Raw.{RawLine, raw_lines}
-use Rattle.certificate_lines.specs.Rest.{Rest, lines_of, fault_at, IsMemory, TakesLine, FaultOf}
+use Rattle.field_lines.specs.Values.{GivesUnless}
+use Rattle.certificate_lines.specs.Rest.{Rest, lines_of, fault_at, IsUnread}
 use Rattle.certificate_lines.specs.Items.{item_on, wanted_after}
-use Rattle.certificate_lines.specs.declared.fault.TextKind.TheVariants.{CutShort, AfterEnd}
+use Rattle.certificate_lines.specs.declared.fault.TextKind.{TextKind}
+use Rattle.certificate_lines.specs.declared.fault.TextKind.TheVariants.{CutShort, AfterEnd, Memory}
 use Rattle.certificate_lines.specs.declared.fault.TextFault.{TextFault}
 use Rattle.certificate_languages.specs.declared.language.Language.{Language}
 use Rattle.certificate_lines.specs.declared.item.Item.{Item}
@@ -53,25 +55,25 @@ abbrev pub course_left : List Wanted → Rest → Option TextFault → Course
 course_left stack rest None = course_from (reverse stack) rest.number (lines_of rest)
 course_left stack rest (Some fault) = only_fault fault
 
--- The first of what is to come is given, and what is to come then. `Memory` may stand in the place of any answer; a
--- fault, once given, stays.
+-- The first of what is to come is given, and what is to come then. A text that could not be read has its fault in the
+-- place of any answer; a fault, once given, stays.
 abbrev pub IsNextItem : Course → Result (Option Item) TextFault → Course → Type 0
 IsNextItem old (Ok (Some item)) new = old ≡ first item new
 IsNextItem old (Ok None) new = (old ≡ nothing) × (new ≡ nothing)
-IsNextItem old (Err fault) new = ((IsMemory fault → ⊥) → old ≡ only_fault fault) × (new ≡ only_fault fault)
+IsNextItem old (Err fault) new = ((IsUnread fault → ⊥) → old ≡ only_fault fault) × (new ≡ only_fault fault)
 
 -- the same of a call that doesn't keep the fault
 abbrev pub IsNextLine : Course → Result (Option Item) TextFault → Course → Type 0
 IsNextLine old (Ok (Some item)) new = old ≡ first item new
 IsNextLine old (Ok None) new = (old ≡ nothing) × (new ≡ nothing)
-IsNextLine old (Err fault) new = (IsMemory fault → ⊥) → old ≡ only_fault fault
+IsNextLine old (Err fault) new = (IsUnread fault → ⊥) → old ≡ only_fault fault
 
--- the item of the next line was taken, and what is wanted in the place of what was wanted lies on the stack
-pub record TookItem (wanted : Wanted) (item : Item) (old : Rest) (below : List Wanted) (new : Rest) (stack : List Wanted) : Type 0 where
-  pub line : TakesLine (item_on wanted) item old new
-  pub stacked : reverse stack ≡ wanted_after wanted item ++ reverse below
+-- these bytes, and whether an LF ended them, are a line with this item where it is wanted, unless memory was refused
+abbrev pub HasItem : Wanted → List ℕ → Bool → Result Item TextKind → Type 0
+HasItem wanted bytes ended given = (n : ℕ) → GivesUnless (λ kind. kind ≡ Memory) (λ item. item) given (item_on wanted (record { number = n; bytes = bytes; ended = ended }))
 
--- A call takes the item of the next line, where this is wanted.
-abbrev pub TakesItem : Wanted → Rest → List Wanted → Result Item TextFault → Rest → List Wanted → Type 0
-TakesItem wanted old below (Ok item) new stack = TookItem wanted item old below new stack
-TakesItem wanted old below (Err fault) new stack = (IsMemory fault → ⊥) → FaultOf (item_on wanted) old.number (lines_of old) fault
+-- What is wanted after an item lies on the stack, whose top is its last, in the place of what was wanted. A fault leaves
+-- the stack as it is.
+abbrev pub IsStacked : Wanted → Result Item TextKind → List Wanted → List Wanted → Type 0
+IsStacked wanted (Ok item) below stack = reverse stack ≡ wanted_after wanted item ++ reverse below
+IsStacked wanted (Err kind) below stack = stack ≡ below

@@ -8,4 +8,5 @@ pub mod Fits
 pub mod Reads
 pub mod Writes
 pub mod Courses
+pub mod ItemsLeft
 pub mod Stacks

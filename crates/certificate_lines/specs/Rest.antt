@@ -1,9 +1,9 @@
 -- What is left of a text, and how its lines are taken.
 use Rattle.std.specs.Borrow.{Bor}
-use Rattle.std.specs.Prelude.{◌≡◌, ℕ, ◌+◌, ◌<◌, length, Bool, List, [], ◌∷◌, ◌++◌, Option, Some, None, Result, Ok, Err}
+use Rattle.std.specs.Prelude.{◌≡◌, ℕ, ◌+◌, ◌<◌, ◌⊎◌, length, Bool, List, [], ◌∷◌, ◌++◌, Option, Some, None, Result, Ok, Err}
 use Rattle.field_lines.specs.Raw.{RawLine, raw_lines_from, bytes_of}
 use Rattle.certificate_lines.specs.declared.fault.TextKind.{TextKind}
-use Rattle.certificate_lines.specs.declared.fault.TextKind.TheVariants.{CutShort, Memory}
+use Rattle.certificate_lines.specs.declared.fault.TextKind.TheVariants.{CutShort, ReadFault, Memory}
 use Rattle.certificate_lines.specs.declared.fault.TextFault.{TextFault}
 
 -- the text that is left, and the number of its first line
@@ -22,6 +22,10 @@ fault_at kind number = record { kind = kind; line = number }
 -- memory was refused
 abbrev pub IsMemory : TextFault → Type 0
 IsMemory fault = fault.kind ≡ Memory
+
+-- the text could not be read: memory was refused, or the source failed
+abbrev pub IsUnread : TextFault → Type 0
+IsUnread fault = (fault.kind ≡ Memory) ⊎ (fault.kind ≡ ReadFault)
 
 -- the line of old was taken, on which `read` finds x
 pub record TakesLine {X : Type 0} (read : RawLine → Result X TextKind) (x : X) (old new : Rest) : Type 0 where

@@ -39,7 +39,7 @@ pub fn push_on<T: Drop>(items: &mut Vec<T>, item: T, line: u64) -> Result<(), Te
 }
 
 /// The language and the version that the first line names, from its bytes without LF, and whether an LF ended them.
-fn head_of(bytes: &[u8], ended: bool) -> Result<(Language, Version), TextKind>
+pub(crate) fn head_of(bytes: &[u8], ended: bool) -> Result<(Language, Version), TextKind>
     ensures { result ≡ head_in bytes.now ended }
 {
     head_on(bytes_of_line(bytes, ended)?)
@@ -93,7 +93,7 @@ impl<'a> Cursor<'a> {
     }
 
     /// Takes the bytes of the next line; whether an LF ended it is the second answer.
-    fn next_piece(&mut self) -> Option<(&'a [u8], bool)>
+    pub(crate) fn next_piece(&mut self) -> Option<(&'a [u8], bool)>
         ensures { TakesPiece self.old result self.new }
     {
         let (bytes, ended, rest) = split_piece(self.text)?;

@@ -2,14 +2,18 @@
 //!
 //! ```
 //! let mut items = Items::of_certificate(alloc, text);
-//! items.next_item()        // Ok(Some(Item::Head(Language::Plain, Version::One)))
+//! items.next_item(&mut ())        // Ok(Some(Item::Head(Language::Plain, Version::One)))
 //! ```
+//!
+//! `Items` takes the items of a text in memory, and `ItemsFrom` those of a text that is pulled from a source.
 #![tactic(auto)]
 
 mod cursor;
 mod fault;
 mod item;
 mod items;
+mod items_from;
+mod line_items;
 mod lines;
 mod number;
 mod weights;
@@ -22,6 +26,7 @@ pub use cursor::{Cursor, ended, push_on};
 pub use fault::{TextFault, TextKind, WriteFault};
 pub use item::{Allowance, Item, Opening, Version, Wanted};
 pub use items::{ItemSource, Items};
+pub use items_from::ItemsFrom;
 pub use lines::{MOST, levels_after};
 pub use weights::{Weight, Weights};
 pub use words::Words;

@@ -13,12 +13,12 @@ fn outcome(equal: bool) -> &'static str {
 }
 
 /// Whether an item comes, or the fault that ends them.
-fn comes<S: ItemSource>(items: &mut S) -> std::result::Result<bool, TextFault> {
-    Ok(items.next_item()?.is_some())
+fn comes<S: ItemSource<()>>(items: &mut S) -> std::result::Result<bool, TextFault> {
+    Ok(items.next_item(&mut ())?.is_some())
 }
 
 /// How many items come, and the fault that ends them.
-fn count_items<S: ItemSource>(items: &mut S) -> (u64, Option<TextFault>) {
+fn count_items<S: ItemSource<()>>(items: &mut S) -> (u64, Option<TextFault>) {
     for count in 0..u64::MAX {
         match comes(items) {
             Ok(true) => {}

@@ -6,7 +6,7 @@ use Rattle.proof_trees.specs.State.{empty_state}
 use Rattle.verdicts.specs.Lines.{window_line}
 use Rattle.verdicts.specs.Verdict.{IsOrderFault, IsLimitFault, IsTargetFault}
 use Rattle.verdicts.specs.Work.{a_tree}
-use Rattle.certificate_checker.specs.Feeding.{feed_of}
+use Rattle.certificate_checker.specs.Feeding.{stream_of, fed_by}
 use Rattle.certificate_checker.specs.Judging.{IsJudged}
 use Rattle.certificate_checker.proofs.Targets.{order_fits}
 use Rattle.certificate_checker.proofs.Whole.{order_ends, limit_ends, target_ends, round_stops, round_judged}
@@ -19,22 +19,22 @@ judge_first-requires-clause-fits g c =
     (subst (λ v. length v.counties ≤ g.C.CountySet.PLACES) (sym (ap (λ o. o.problem) c.in-Ok.ensures.value)) c.requires.fits)
 
 pub returns-in-Ok-judge_target-clause-judged : goal.returns-in-Ok-judge_target-clause-judged
-returns-in-Ok-judge_target-clause-judged g c tree rest line readable items =
-    round_judged (problem_of c.args.problem.now) (round_of c.args.round.now) tree c.requires.window c.in-Ok.ensures.order c.in-Ok-judge_limit.ensures c.in-Ok-judge_target.ensures.0 (feed_of g.S.ItemSource.course c.args.feed.now) line rest (feed_of g.S.ItemSource.course c.judge_first.new.feed) c.judge_first.result
-    (subst (λ v. IsJudged (problem_of v) (round_of c.args.round.now) (a_tree tree (empty_state (problem_of v)) ∷ []) [] rest (feed_of g.S.ItemSource.course c.args.feed.now) c.judge_first.result (feed_of g.S.ItemSource.course c.judge_first.new.feed))
-    (ap (λ o. o.problem) c.in-Ok.ensures.value) (c.judge_first.ensures.judged tree rest readable items))
+returns-in-Ok-judge_target-clause-judged g c all sees tree rest line readable items =
+    round_judged (problem_of c.args.problem.now) (round_of c.args.round.now) tree c.requires.window c.in-Ok.ensures.order c.in-Ok-judge_limit.ensures c.in-Ok-judge_target.ensures.0 (fed_by (stream_of g.S.ItemSource.left g.S.ItemSource.given c.args.feed.now c.args.from.now) all) line rest (fed_by (stream_of g.S.ItemSource.left g.S.ItemSource.given c.judge_first.new.feed c.judge_first.new.from) all) c.judge_first.result
+    (subst (λ v. IsJudged (problem_of v) (round_of c.args.round.now) (a_tree tree (empty_state (problem_of v)) ∷ []) [] rest (fed_by (stream_of g.S.ItemSource.left g.S.ItemSource.given c.args.feed.now c.args.from.now) all) c.judge_first.result (fed_by (stream_of g.S.ItemSource.left g.S.ItemSource.given c.judge_first.new.feed c.judge_first.new.from) all))
+    (ap (λ o. o.problem) c.in-Ok.ensures.value) (c.judge_first.ensures.judged all sees tree rest readable items))
 
 pub returns-in-Ok-judge_limit-clause-judged : goal.returns-in-Ok-judge_limit-clause-judged
-returns-in-Ok-judge_limit-clause-judged g c tree rest line readable items =
-    round_stops (problem_of c.args.problem.now) (round_of c.args.round.now) tree (IsTargetFault (problem_of c.args.problem.now) (target_of c.args.round.now.target)) (window_line c.args.round.now.window + 3) rest (feed_of g.S.ItemSource.course c.args.feed.now) (feed_of g.S.ItemSource.course c.args.feed.now) c.in-Err-judge_target.stop c.in-Err-judge_target.ensures
+returns-in-Ok-judge_limit-clause-judged g c all sees tree rest line readable items =
+    round_stops (problem_of c.args.problem.now) (round_of c.args.round.now) tree (IsTargetFault (problem_of c.args.problem.now) (target_of c.args.round.now.target)) (window_line c.args.round.now.window + 3) rest (fed_by (stream_of g.S.ItemSource.left g.S.ItemSource.given c.args.feed.now c.args.from.now) all) (fed_by (stream_of g.S.ItemSource.left g.S.ItemSource.given c.args.feed.now c.args.from.now) all) c.in-Err-judge_target.stop c.in-Err-judge_target.ensures
     (target_ends (problem_of c.args.problem.now) (round_of c.args.round.now) tree c.requires.window c.in-Ok.ensures.order c.in-Ok-judge_limit.ensures)
 
 pub returns-in-Ok-clause-judged : goal.returns-in-Ok-clause-judged
-returns-in-Ok-clause-judged g c tree rest line readable items =
-    round_stops (problem_of c.args.problem.now) (round_of c.args.round.now) tree (IsLimitFault c.args.round.now.limit (target_of c.args.round.now.target)) (window_line c.args.round.now.window + 2) rest (feed_of g.S.ItemSource.course c.args.feed.now) (feed_of g.S.ItemSource.course c.args.feed.now) c.in-Err-judge_limit.stop c.in-Err-judge_limit.ensures
+returns-in-Ok-clause-judged g c all sees tree rest line readable items =
+    round_stops (problem_of c.args.problem.now) (round_of c.args.round.now) tree (IsLimitFault c.args.round.now.limit (target_of c.args.round.now.target)) (window_line c.args.round.now.window + 2) rest (fed_by (stream_of g.S.ItemSource.left g.S.ItemSource.given c.args.feed.now c.args.from.now) all) (fed_by (stream_of g.S.ItemSource.left g.S.ItemSource.given c.args.feed.now c.args.from.now) all) c.in-Err-judge_limit.stop c.in-Err-judge_limit.ensures
     (limit_ends (problem_of c.args.problem.now) (round_of c.args.round.now) tree c.requires.window c.in-Ok.ensures.order)
 
 pub returns-clause-judged : goal.returns-clause-judged
-returns-clause-judged g c tree rest line readable items =
-    round_stops (problem_of c.args.problem.now) (round_of c.args.round.now) tree (IsOrderFault (problem_of c.args.problem.now) (round_of c.args.round.now)) (window_line c.args.round.now.window + 1) rest (feed_of g.S.ItemSource.course c.args.feed.now) (feed_of g.S.ItemSource.course c.args.feed.now) c.in-Err.stop c.in-Err.ensures.order
+returns-clause-judged g c all sees tree rest line readable items =
+    round_stops (problem_of c.args.problem.now) (round_of c.args.round.now) tree (IsOrderFault (problem_of c.args.problem.now) (round_of c.args.round.now)) (window_line c.args.round.now.window + 1) rest (fed_by (stream_of g.S.ItemSource.left g.S.ItemSource.given c.args.feed.now c.args.from.now) all) (fed_by (stream_of g.S.ItemSource.left g.S.ItemSource.given c.args.feed.now c.args.from.now) all) c.in-Err.stop c.in-Err.ensures.order
     (order_ends (problem_of c.args.problem.now) (round_of c.args.round.now) tree c.requires.window)

@@ -1,51 +1,77 @@
-use Rattle.std.proofs.Common.{◌≡◌, ◌∷◌, [], Option, refl, sym, ap, subst, arith}
+use Rattle.std.proofs.Common.{◌≡◌, ◌∷◌, ◌++◌, [], Option, refl, sym, ap, subst, arith}
 use Rattle.grouping_problem.specs.ProblemValue.{problem_of}
 use Rattle.proof_trees.specs.RoundValue.{round_of}
 use Rattle.certificate_lines.specs.declared.item.Item.TheVariants as item
+use Rattle.certificate_text.specs.Trees.{items_of_tree}
 use Rattle.verdicts.specs.Lines.{window_line, group_lines}
 use Rattle.certificate_checker.specs.Readable.{IsReadable}
-use Rattle.certificate_checker.specs.Feeding.{feed_of}
+use Rattle.certificate_checker.specs.Feeding.{stream_of, fed_by}
 use Rattle.certificate_checker.proofs.ReadableTexts.{readable_of_fits}
-use Rattle.certificate_checker.proofs.Judged.{round_lines, round_off, end_off, certificate_done}
+use Rattle.certificate_checker.proofs.Judged.{round_lines, unread, round_off, end_off, certificate_done}
 use Rattle.county_codes.specs.declared.group.Grouping.{Grouping}
 use Rattle.proof_trees.specs.declared.round.Round.{Round}
 use Rattle.certificate_checker.proofs.Reaching.{fed_here, fed_twice, fed_off}
 use Rattle.certificate_checker.proofs.certificate.judge_certificate.Goals as goal
 
 pub returns-in-Err-judge_round-clause-judged : goal.returns-in-Err-judge_round-clause-judged
-returns-in-Err-judge_round-clause-judged g c cert fits items =
-    let taken = c.in-Ok.ensures.taken cert items in
+returns-in-Err-judge_round-clause-judged g c all sees cert fits items =
+    let j = c.in-Err-judge_round.ensures.fed all sees in
+    let r = c.in-Ok.ensures.fed all j.0 in
+    let taken = c.in-Ok.ensures.taken all j.0 cert items in
     let judged =
-    c.in-Err-judge_round.ensures.judged cert.tree (item.End ∷ []) (omega (arith, taken.2, c.requires.start.0, round_lines cert, ap (λ r. window_line r.window) taken.0, ap (λ r. group_lines r.target) taken.0))
+    c.in-Err-judge_round.ensures.judged all sees cert.tree (item.End ∷ []) (omega (arith, taken.2, c.requires.start.0, round_lines cert, ap (λ r. window_line r.window) taken.0, ap (λ r. group_lines r.target) taken.0))
     (subst (λ r. IsReadable r.language cert.tree) (sym taken.0) (readable_of_fits cert fits)) taken.1 in
-    round_off (problem_of c.args.problem.now) cert (feed_of g.S.ItemSource.course c.args.feed.now) c.requires.start.1 (λ r. round_of r ≡ cert.round) (feed_of g.S.ItemSource.course c.read_round.new.feed) c.in-Ok.round taken c.in-Ok.ensures.fed (round_of c.in-Ok.round) taken.0 (feed_of g.S.ItemSource.course c.judge_round.new.feed) c.in-Err-judge_round.stop judged
+    round_off (problem_of c.args.problem.now) cert (fed_by (stream_of g.S.ItemSource.left g.S.ItemSource.given c.args.feed.now c.args.from.now) all) c.requires.start.1 (λ r. round_of r ≡ cert.round) (fed_by (stream_of g.S.ItemSource.left g.S.ItemSource.given c.read_round.new.feed c.read_round.new.from) all) c.in-Ok.round taken r.1 (round_of c.in-Ok.round) taken.0 (fed_by (stream_of g.S.ItemSource.left g.S.ItemSource.given c.judge_round.new.feed c.judge_round.new.from) all) c.in-Err-judge_round.stop judged
 
 pub returns-in-Err-next_end-clause-judged : goal.returns-in-Err-next_end-clause-judged
-returns-in-Err-next_end-clause-judged g c cert fits items =
-    let taken = c.in-Ok.ensures.taken cert items in
+returns-in-Err-next_end-clause-judged g c all sees cert fits items =
+    let e = c.in-Err-next_end.ensures.fed all sees in
+    let j = c.in-Ok-judge_round.ensures.fed all e.0 in
+    let r = c.in-Ok.ensures.fed all j.0 in
+    let taken = c.in-Ok.ensures.taken all j.0 cert items in
     let judged =
-    c.in-Ok-judge_round.ensures.judged cert.tree (item.End ∷ []) (omega (arith, taken.2, c.requires.start.0, round_lines cert, ap (λ r. window_line r.window) taken.0, ap (λ r. group_lines r.target) taken.0))
+    c.in-Ok-judge_round.ensures.judged all e.0 cert.tree (item.End ∷ []) (omega (arith, taken.2, c.requires.start.0, round_lines cert, ap (λ r. window_line r.window) taken.0, ap (λ r. group_lines r.target) taken.0))
     (subst (λ r. IsReadable r.language cert.tree) (sym taken.0) (readable_of_fits cert fits)) taken.1 in
-    end_off (problem_of c.args.problem.now) cert (feed_of g.S.ItemSource.course c.args.feed.now) c.requires.start.1 (λ r. round_of r ≡ cert.round) (feed_of g.S.ItemSource.course c.read_round.new.feed) c.in-Ok.round taken c.in-Ok.ensures.fed (round_of c.in-Ok.round) taken.0 (feed_of g.S.ItemSource.course c.judge_round.new.feed) judged c.in-Ok-judge_round.ensures.fed
-    (feed_of g.S.ItemSource.course c.next_end.new.feed) c.in-Err-next_end.stop c.in-Err-next_end.ensures.took
+    end_off (problem_of c.args.problem.now) cert (fed_by (stream_of g.S.ItemSource.left g.S.ItemSource.given c.args.feed.now c.args.from.now) all) c.requires.start.1 (λ r. round_of r ≡ cert.round) (fed_by (stream_of g.S.ItemSource.left g.S.ItemSource.given c.read_round.new.feed c.read_round.new.from) all) c.in-Ok.round taken r.1 (round_of c.in-Ok.round) taken.0 (fed_by (stream_of g.S.ItemSource.left g.S.ItemSource.given c.judge_round.new.feed c.judge_round.new.from) all) judged j.1
+    (fed_by (stream_of g.S.ItemSource.left g.S.ItemSource.given c.next_end.new.feed c.next_end.new.from) all) c.in-Err-next_end.stop (c.in-Err-next_end.ensures.took all sees)
 
 pub returns-in-Ok-next_end-clause-judged : goal.returns-in-Ok-next_end-clause-judged
-returns-in-Ok-next_end-clause-judged g c cert fits items =
-    let taken = c.in-Ok.ensures.taken cert items in
+returns-in-Ok-next_end-clause-judged g c all sees cert fits items =
+    let e = c.in-Ok-next_end.ensures.fed all sees in
+    let j = c.in-Ok-judge_round.ensures.fed all e.0 in
+    let r = c.in-Ok.ensures.fed all j.0 in
+    let taken = c.in-Ok.ensures.taken all j.0 cert items in
     let judged =
-    c.in-Ok-judge_round.ensures.judged cert.tree (item.End ∷ []) (omega (arith, taken.2, c.requires.start.0, round_lines cert, ap (λ r. window_line r.window) taken.0, ap (λ r. group_lines r.target) taken.0))
+    c.in-Ok-judge_round.ensures.judged all e.0 cert.tree (item.End ∷ []) (omega (arith, taken.2, c.requires.start.0, round_lines cert, ap (λ r. window_line r.window) taken.0, ap (λ r. group_lines r.target) taken.0))
     (subst (λ r. IsReadable r.language cert.tree) (sym taken.0) (readable_of_fits cert fits)) taken.1 in
-    certificate_done (problem_of c.args.problem.now) cert (feed_of g.S.ItemSource.course c.args.feed.now) c.requires.start.1 (λ r. round_of r ≡ cert.round) (feed_of g.S.ItemSource.course c.read_round.new.feed) c.in-Ok.round taken c.in-Ok.ensures.fed (round_of c.in-Ok.round) taken.0 (feed_of g.S.ItemSource.course c.judge_round.new.feed) judged c.in-Ok-judge_round.ensures.fed
+    certificate_done (problem_of c.args.problem.now) cert (fed_by (stream_of g.S.ItemSource.left g.S.ItemSource.given c.args.feed.now c.args.from.now) all) c.requires.start.1 (λ r. round_of r ≡ cert.round) (fed_by (stream_of g.S.ItemSource.left g.S.ItemSource.given c.read_round.new.feed c.read_round.new.from) all) c.in-Ok.round taken r.1 (round_of c.in-Ok.round) taken.0 (fed_by (stream_of g.S.ItemSource.left g.S.ItemSource.given c.judge_round.new.feed c.judge_round.new.from) all) judged j.1
     c.in-Ok.round.target refl
 
 pub returns-in-Err-clause-fed : goal.returns-in-Err-clause-fed
-returns-in-Err-clause-fed g c = fed_off Round (Option Grouping) _ _ _ c.in-Err.stop (fed_here _) c.in-Err.ensures.fed
+returns-in-Err-clause-fed g c all sees =
+    let r = c.in-Err.ensures.fed all sees in
+    (r.0, fed_off Round (Option Grouping) _ _ _ c.in-Err.stop (fed_here _) r.1)
 
 pub returns-in-Err-judge_round-clause-fed : goal.returns-in-Err-judge_round-clause-fed
-returns-in-Err-judge_round-clause-fed g c = fed_off (Unit {0}) (Option Grouping) _ _ _ c.in-Err-judge_round.stop c.in-Ok.ensures.fed c.in-Err-judge_round.ensures.fed
+returns-in-Err-judge_round-clause-fed g c all sees =
+    let j = c.in-Err-judge_round.ensures.fed all sees in
+    let r = c.in-Ok.ensures.fed all j.0 in
+    (r.0, fed_off (Unit {0}) (Option Grouping) _ _ _ c.in-Err-judge_round.stop r.1 j.1)
 
 pub returns-in-Err-next_end-clause-fed : goal.returns-in-Err-next_end-clause-fed
-returns-in-Err-next_end-clause-fed g c = fed_off (Unit {0}) (Option Grouping) _ _ _ c.in-Err-next_end.stop (fed_twice _ _ _ c.in-Ok.ensures.fed c.in-Ok-judge_round.ensures.fed) c.in-Err-next_end.ensures.fed
+returns-in-Err-next_end-clause-fed g c all sees =
+    let e = c.in-Err-next_end.ensures.fed all sees in
+    let j = c.in-Ok-judge_round.ensures.fed all e.0 in
+    let r = c.in-Ok.ensures.fed all j.0 in
+    (r.0, fed_off (Unit {0}) (Option Grouping) _ _ _ c.in-Err-next_end.stop (fed_twice _ _ _ r.1 j.1) e.1)
 
 pub returns-in-Ok-next_end-clause-fed : goal.returns-in-Ok-next_end-clause-fed
-returns-in-Ok-next_end-clause-fed g c = fed_twice _ _ _ (fed_twice _ _ _ c.in-Ok.ensures.fed c.in-Ok-judge_round.ensures.fed) c.in-Ok-next_end.ensures.fed
+returns-in-Ok-next_end-clause-fed g c all sees =
+    let e = c.in-Ok-next_end.ensures.fed all sees in
+    let j = c.in-Ok-judge_round.ensures.fed all e.0 in
+    let r = c.in-Ok.ensures.fed all j.0 in
+    (r.0, fed_twice _ _ _ (fed_twice _ _ _ r.1 j.1) e.1)
+
+pub returns-in-Err-clause-judged : goal.returns-in-Err-clause-judged
+returns-in-Err-clause-judged g c all sees cert fits items =
+    unread (problem_of c.args.problem.now) cert (fed_by (stream_of g.S.ItemSource.left g.S.ItemSource.given c.args.feed.now c.args.from.now) all) c.requires.start.1 (λ (x : Round). round_of x ≡ cert.round) (items_of_tree cert.tree ++ item.End ∷ []) (fed_by (stream_of g.S.ItemSource.left g.S.ItemSource.given c.read_round.new.feed c.read_round.new.from) all) c.in-Err.stop (c.in-Err.ensures.taken all sees cert items)

@@ -1,11 +1,12 @@
-use Rattle.std.proofs.Common.{◌≡◌, ◌+◌, length}
+use Rattle.std.proofs.Common.{◌≡◌, ◌+◌, ◌-◌, length}
+use Rattle.certificate_checker.specs.Feeding.{stream_of, Through}
 use Rattle.certificate_checker.proofs.feed.read_rest.Given as goal
 
 abbrev pub invariant-loop-feed : goal.invariant-loop-feed
 invariant-loop-feed g l = record {
-  fault : (g.S.ItemSource.course l.feed.source).fault ≡ (g.S.ItemSource.course l.fn.feed.source).fault;
-  lines : l.feed.line + length (g.S.ItemSource.course l.feed.source).items ≡ l.fn.feed.line + length (g.S.ItemSource.course l.fn.feed.source).items;
+  limit : l.feed.steps.limit ≡ l.fn.feed.steps.limit;
+  read : Through (stream_of g.S.ItemSource.left g.S.ItemSource.given l.fn.feed l.fn.from) (stream_of g.S.ItemSource.left g.S.ItemSource.given l.feed l.from) (λ a b. (b.course.fault ≡ a.course.fault) × (b.line + length b.course.items ≡ a.line + length a.course.items));
 }
 
 abbrev pub decreases-loop-feed : goal.decreases-loop-feed
-decreases-loop-feed g l = length (g.S.ItemSource.course l.feed.source).items
+decreases-loop-feed g l = l.limit - l.feed.line

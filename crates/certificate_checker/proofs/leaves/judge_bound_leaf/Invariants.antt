@@ -7,19 +7,20 @@ use Rattle.proof_trees.specs.Tree.{Allowance as AllowanceValue}
 use Rattle.certificate_lines.specs.declared.item.Item.{Item as ItemValue}
 use Rattle.line_verdicts.specs.Placed.{state_at}
 use Rattle.certificate_checker.specs.Readable.{AreSpelled}
-use Rattle.certificate_checker.specs.Feeding.{feed_of, Fed}
+use Rattle.certificate_checker.specs.Feeding.{stream_of, CountsSteps, Through, ForEach, Fed}
 use Rattle.certificate_checker.specs.Judging.{line_items}
 use Rattle.certificate_checker.proofs.BoundLoop.{LinesLeft}
 use Rattle.certificate_checker.proofs.leaves.judge_bound_leaf.Given as goal
 
 abbrev pub invariant-judging : goal.invariant-judging
 invariant-judging g l = record {
-  fed : Fed (feed_of g.S.ItemSource.course l.fn.feed) (feed_of g.S.ItemSource.course l.feed);
+  counts : CountsSteps l.fn.feed l.feed;
+  fed : Through (stream_of g.S.ItemSource.left g.S.ItemSource.given l.fn.feed l.fn.from) (stream_of g.S.ItemSource.left g.S.ItemSource.given l.feed l.from) Fed;
   used : l.used ≤ most_counties;
-  left : (lines : List AllowanceValue) (rest : List ItemValue) (target : Grouping)
+  left : ForEach (stream_of g.S.ItemSource.left g.S.ItemSource.given l.fn.feed l.fn.from) (stream_of g.S.ItemSource.left g.S.ItemSource.given l.feed l.from) (λ a b. (lines : List AllowanceValue) (rest : List ItemValue) (target : Grouping)
       → AreSpelled lines
       → length lines ≡ l.count
-      → (feed_of g.S.ItemSource.course l.fn.feed).course.items ≡ line_items lines ++ rest
+      → a.course.items ≡ line_items lines ++ rest
       → target_of l.ground.round.now.target ≡ Some target
-      → LinesLeft (problem_of l.ground.ordered.now.problem) (round_of l.ground.round.now) (state_at l.ground.ordered.now.order g.C.CountySet.test l.state) target (feed_of g.S.ItemSource.course l.fn.feed) (feed_of g.S.ItemSource.course l.feed) lines rest l.before l.used;
+      → LinesLeft (problem_of l.ground.ordered.now.problem) (round_of l.ground.round.now) (state_at l.ground.ordered.now.order g.C.CountySet.test l.state) target a b lines rest l.before l.used);
 }

@@ -3,30 +3,33 @@ use Rattle.proof_trees.specs.RoundValue.{round_of}
 use Rattle.grouping_problem.specs.ProblemValue.{problem_of}
 use Rattle.line_verdicts.specs.Placed.{state_at}
 use Rattle.certificate_text.specs.Trees.{allowance_of}
-use Rattle.certificate_checker.specs.Feeding.{feed_of}
+use Rattle.certificate_checker.specs.Feeding.{stream_of, fed_by}
 use Rattle.certificate_checker.proofs.Lines.{judged_small, line_judged, kept_fed}
 use Rattle.certificate_checker.proofs.leaves.judge_line.Goals as goal
 
 pub returns-clause-fed : goal.returns-clause-fed
-returns-clause-fed g c =
-    let h = c.in_ok-line.ensures.fed in
-    kept_fed _ _ c.next_allowance.new.feed.line c.judge_allowance-judged.result c.judged_at.result
-    (record {
-      fault = h.fault;
-      limit = c.judge_allowance-judged.ensures.limit ∙ h.limit;
-      lines = h.lines;
-      later = h.later;
-      counted = omega (arith, h.counted, c.judge_allowance-judged.ensures.more);
-    })
-    c.judged_at.ensures
+returns-clause-fed g c all sees =
+    let n = c.in_ok-line.ensures.fed all sees in
+    let h = n.1 in (
+      n.0,
+      kept_fed _ _ c.next_allowance.new.feed.line c.judge_allowance-judged.result c.judged_at.result
+          (record {
+            fault = h.fault;
+            limit = c.judge_allowance-judged.ensures.limit ∙ h.limit;
+            lines = h.lines;
+            later = h.later;
+            counted = omega (arith, h.counted, c.judge_allowance-judged.ensures.more);
+          })
+          c.judged_at.ensures,
+    )
 
 pub returns-clause-small : goal.returns-clause-small
 returns-clause-small g c =
     judged_small _ _ _ (λ i. c.args.wanted) c.args.size c.args.used c.next_allowance.new.feed.line (allowance_of c.in_ok-line.line) c.judge_allowance-judged.result c.judged_at.result _ (c.judge_allowance-judged.ensures.line (λ i. c.args.wanted) refl) c.judged_at.ensures
 
 pub returns-clause-judged : goal.returns-clause-judged
-returns-clause-judged g c counts lines rest e spelled items =
+returns-clause-judged g c all sees counts lines rest e spelled items =
     line_judged (problem_of c.args.ground.now.ordered.now.problem) (round_of c.args.ground.now.round.now) (state_at c.args.ground.now.ordered.now.order g.C.CountySet.test c.args.state.now)
     counts c.args.size c.args.used lines rest
-    (feed_of g.S.ItemSource.course c.args.feed.now) (feed_of g.S.ItemSource.course c.next_allowance.new.feed) _ c.in_ok-line.line c.judge_allowance-judged.result c.judged_at.result
-    c.in_ok-line.ensures.took c.in_ok-line.ensures.fed.limit items refl refl spelled (c.judge_allowance-judged.ensures.line counts e) c.judge_allowance-judged.ensures.steps c.judge_allowance-judged.ensures.stopped c.judged_at.ensures
+    (fed_by (stream_of g.S.ItemSource.left g.S.ItemSource.given c.args.feed.now c.args.from.now) all) (fed_by (stream_of g.S.ItemSource.left g.S.ItemSource.given c.next_allowance.new.feed c.next_allowance.new.from) all) _ c.in_ok-line.line c.judge_allowance-judged.result c.judged_at.result
+    (c.in_ok-line.ensures.took all sees) (c.in_ok-line.ensures.fed all sees).1.limit items refl refl spelled (c.judge_allowance-judged.ensures.line counts e) c.judge_allowance-judged.ensures.steps c.judge_allowance-judged.ensures.stopped c.judged_at.ensures

@@ -1,10 +1,17 @@
 use Rattle.std.proofs.Common.{◌≡◌, Option}
 use Rattle.county_codes.specs.declared.window.Window.{Window}
 use Rattle.certificate_languages.specs.declared.language.Language.{Language}
-use Rattle.certificate_checker.specs.Feeding.{feed_of}
+use Rattle.certificate_checker.specs.Feeding.{stream_of, fed_by}
+use Rattle.certificate_checker.proofs.Reaching.{fed_twice}
 use Rattle.certificate_checker.proofs.HeadsRead.{head_stops}
 use Rattle.certificate_checker.proofs.rounds.read_head.Goals as goal
 
 pub returns-in-Err-clause-taken : goal.returns-in-Err-clause-taken
-returns-in-Err-clause-taken g c language window rest items =
-    head_stops {X = Language × Option Window} (λ r. (r.0 ≡ language) × (r.1 ≡ window)) language window rest (feed_of g.S.ItemSource.course c.args.feed.now) (feed_of g.S.ItemSource.course c.next_head.new.feed) c.in-Err.stop c.in-Err.ensures.took items
+returns-in-Err-clause-taken g c all sees language window rest items =
+    head_stops {X = Language × Option Window} (λ r. (r.0 ≡ language) × (r.1 ≡ window)) language window rest (fed_by (stream_of g.S.ItemSource.left g.S.ItemSource.given c.args.feed.now c.args.from.now) all) (fed_by (stream_of g.S.ItemSource.left g.S.ItemSource.given c.next_head.new.feed c.next_head.new.from) all) c.in-Err.stop (c.in-Err.ensures.took all sees) items
+
+pub returns-in-Ok-clause-fed : goal.returns-in-Ok-clause-fed
+returns-in-Ok-clause-fed g c all sees =
+    let w = c.in-Ok.ensures.fed all sees in
+    let h = c.in-Ok-default-Two.ensures.fed all w.0 in
+    (h.0, fed_twice _ _ _ h.1 w.1)

@@ -1,10 +1,10 @@
-use Rattle.std.proofs.Common.{◌≡◌, None, length, IfOk, refl, sym, ◌∙◌, ap, subst}
+use Rattle.std.proofs.Common.{◌≡◌, [], None, length, IfOk, refl, sym, ◌∙◌, ap, subst}
 use Rattle.grouping_problem.specs.ProblemValue.{problem_of}
 use Rattle.proof_trees.specs.RoundValue.{round_of}
 use Rattle.certificate_lines.specs.Courses.{Course, tree_course}
 use Rattle.line_verdicts.specs.Placed.{state_at}
 use Rattle.tree_lines.specs.TreeFault.{lines_of_tree}
-use Rattle.certificate_checker.specs.Feeding.{FeedValue, feed_of}
+use Rattle.certificate_checker.specs.Feeding.{FeedValue, feed_at}
 use Rattle.certificate_checker.specs.TreeAnswered.{IsTreeAnswer}
 use Rattle.certificate_checker.proofs.TreeAnswering.{tree_said}
 use Rattle.certificate_checker.proofs.tree_checking.check_lines.Goals as goal
@@ -20,4 +20,4 @@ returns g c tree is numbers =
     let none : (tree_course c.args.round.now.language (length c.args.round.now.order) (lines_of_tree tree)).fault ≡ None =
     sym (ap (λ (z : Course). z.fault) same) ∙ (sym c.in_ok-fault.ensures ∙ c.in_default.is) in
     subst (λ n. IfOk c.said_of.result (IsTreeAnswer p round s tree n)) c.new.ensures.limit
-    (tree_said p round s tree start (feed_of (λ z. z) c.judge_placed-judged.new.feed) refl c.new.ensures.used numbers (c.of_tree.ensures ∙ same) none c.judge_placed-judged.result c.said_of.result c.judge_placed-judged.ensures.judged c.said_of.ensures)
+    (tree_said p round s tree start (feed_at c.judge_placed-judged.new.feed.source c.judge_placed-judged.new.feed) refl c.new.ensures.used numbers (c.of_tree.ensures ∙ same) none c.judge_placed-judged.result c.said_of.result (c.judge_placed-judged.ensures.judged [] (record { later = []; text = refl; may = λ ended. refl })) c.said_of.ensures)

@@ -1,0 +1,6 @@
+use Rattle.std.proofs.Common.{Ok, subst}
+use Rattle.certificate_checker.specs.Feeding.{stream_of, fed_by, TookLine}
+use Rattle.certificate_checker.proofs.forms.next_opening.Goals as goal
+
+pub returns-in-Opens-clause-took : goal.returns-in-Opens-clause-took
+returns-in-Opens-clause-took g c all sees = subst (λ i. TookLine (fed_by (stream_of g.S.ItemSource.left g.S.ItemSource.given c.args.feed.now c.args.from.now) all) (Ok i) (fed_by (stream_of g.S.ItemSource.left g.S.ItemSource.given c.next_line.new.feed c.next_line.new.from) all)) c.in-Opens.is (c.in_ok-item.ensures.took all sees)

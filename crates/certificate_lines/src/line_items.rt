@@ -1,0 +1,260 @@
+//! The item of one line, where something is wanted, and what is wanted after it.
+
+ghost use Rattle.std.specs.Prelude.{◌≡◌, ◌-◌, List, [], ◌∷◌, ◌++◌};
+ghost use Rattle.arrayvec.specs.ArrayVec.{array_vec_len};
+ghost use Rattle.certificate_lines.specs.Stacks.{HasRoom};
+ghost use Rattle.certificate_lines.specs.Items.{wanted_after};
+ghost use Rattle.certificate_lines.specs.Courses.{HasItem, IsStacked};
+ghost use Rattle.certificate_lines.specs.declared.item.Item.TheVariants as item;
+ghost use Rattle.certificate_lines.specs.declared.item.Wanted.{Wanted as WantedValue};
+ghost use Rattle.certificate_lines.specs.declared.item.Wanted.TheVariants as want;
+
+use crate::cursor::head_of;
+use crate::fault::TextKind;
+use crate::item::{Item, Opening, Version, Wanted};
+use crate::lines::{
+    allowance_on, end_on, group_on, levels_after, limit_on, opening_on, order_on, take_on,
+    target_on, window_on,
+};
+use crate::words::Words;
+use arrayvec::ArrayVec;
+use certificate_languages::Language;
+use county_codes::MAX_COUNTIES;
+use std::alloc::Global;
+
+/// How many things may be wanted at once: the end, the groups of a branch at each level, and the tree inside them.
+const DEPTH: usize = MAX_COUNTIES + 2;
+
+/// What is wanted next: the top is the last.
+pub(crate) type Stack = ArrayVec<Wanted, DEPTH>;
+
+/// What is wanted after a head.
+fn after_head(language: Language, version: Version) -> Wanted
+    ensures { result ∷ [] ≡ wanted_after want.Head (item.Head language version) }
+{
+    match version {
+        Version::One => Wanted::Order(language),
+        Version::Two => Wanted::Window(language),
+    }
+}
+
+/// The head, where it is wanted.
+fn head_item(bytes: &[u8], ended: bool, stack: &mut Stack) -> Result<Item, TextKind>
+    requires room { HasRoom (array_vec_len stack.old) want.Head }
+    ensures read { HasItem want.Head bytes.now ended result }
+    ensures stacked { IsStacked want.Head result stack.old.items stack.new.items }
+{
+    let (language, version) = head_of(bytes, ended)?;
+    stack.push(after_head(language, version));
+    Ok(Item::Head(language, version))
+}
+
+/// The line that names the allowance, where it is wanted.
+fn window_item(
+    bytes: &[u8],
+    ended: bool,
+    stack: &mut Stack,
+    language: Language,
+) -> Result<Item, TextKind>
+    requires room { HasRoom (array_vec_len stack.old) (want.Window language) }
+    ensures read { HasItem (want.Window language) bytes.now ended result }
+    ensures stacked { IsStacked (want.Window language) result stack.old.items stack.new.items }
+{
+    let mut words = Words::new(bytes, ended)?;
+    let window = window_on(&mut words)?;
+    stack.push(Wanted::Order(language));
+    Ok(Item::Within(window))
+}
+
+/// Puts what is wanted after the order on the stack, for an order of so many counties.
+fn want_after_order(stack: &mut Stack, language: Language, counties: u16)
+    requires { HasRoom (array_vec_len stack.old) (want.Order language) }
+    ensures { stack.new.items ≡ stack.old.items ++ (want.End ∷ want.Tree language counties ∷ want.Target ∷ want.Limit ∷ []) }
+{
+    stack.push(Wanted::End);
+    stack.push(Wanted::Tree(language, counties));
+    stack.push(Wanted::Target);
+    stack.push(Wanted::Limit);
+}
+
+/// The order, where it is wanted.
+fn order_item(
+    alloc: Global,
+    bytes: &[u8],
+    ended: bool,
+    stack: &mut Stack,
+    language: Language,
+) -> Result<Item, TextKind>
+    requires room { HasRoom (array_vec_len stack.old) (want.Order language) }
+    ensures read { HasItem (want.Order language) bytes.now ended result }
+    ensures stacked { IsStacked (want.Order language) result stack.old.items stack.new.items }
+{
+    let mut words = Words::new(bytes, ended)?;
+    let order = order_on(alloc, &mut words)?;
+    let levels = order.as_slice().len() as u16;
+    want_after_order(stack, language, levels);
+    Ok(Item::Order(order))
+}
+
+/// The line of the target, where it is wanted.
+fn target_item(bytes: &[u8], ended: bool, stack: &mut Stack) -> Result<Item, TextKind>
+    requires room { HasRoom (array_vec_len stack.old) want.Target }
+    ensures read { HasItem want.Target bytes.now ended result }
+    ensures stacked { IsStacked want.Target result stack.old.items stack.new.items }
+{
+    let mut words = Words::new(bytes, ended)?;
+    let target = target_on(&mut words)?;
+    if let Some(groups) = target
+        && groups > 0
+    {
+        stack.push(Wanted::Groups(groups));
+    }
+    Ok(Item::Target(target))
+}
+
+/// A group of the target, where so many are wanted.
+fn group_item(
+    alloc: Global,
+    bytes: &[u8],
+    ended: bool,
+    stack: &mut Stack,
+    left: u16,
+) -> Result<Item, TextKind>
+    requires room { HasRoom (array_vec_len stack.old) (want.Groups left) }
+    ensures read { HasItem (want.Groups left) bytes.now ended result }
+    ensures stacked { IsStacked (want.Groups left) result stack.old.items stack.new.items }
+{
+    let mut words = Words::new(bytes, ended)?;
+    let group = group_on(alloc, &mut words)?;
+    if left > 1 {
+        stack.push(Wanted::Groups(left - 1));
+    }
+    Ok(Item::Grouped(group))
+}
+
+/// The first line of a tree, where one is wanted.
+fn opening_item(
+    bytes: &[u8],
+    ended: bool,
+    stack: &mut Stack,
+    language: Language,
+    levels: u16,
+) -> Result<Item, TextKind>
+    requires room { HasRoom (array_vec_len stack.old) (want.Tree language levels) }
+    ensures read { HasItem (want.Tree language levels) bytes.now ended result }
+    ensures stacked { IsStacked (want.Tree language levels) result stack.old.items stack.new.items }
+{
+    let mut words = Words::new(bytes, ended)?;
+    let opening = opening_on(language, levels, &mut words)?;
+    match opening {
+        Opening::Branch { .. } => stack.push(Wanted::Takes(language, levels)),
+        Opening::Bound(lines) => {
+            if lines > 0 {
+                stack.push(Wanted::Allowances(lines));
+            }
+        }
+        Opening::Stuck(_) | Opening::Seats => {}
+    }
+    Ok(Item::Opens(opening))
+}
+
+/// Puts what is wanted after a group that is taken on the stack.
+fn want_after_take(stack: &mut Stack, language: Language, levels: u16)
+    requires { HasRoom (array_vec_len stack.old) (want.Takes language levels) }
+    ensures { stack.new.items ≡ stack.old.items ++ (want.Takes language levels ∷ want.Tree language (levels - 1) ∷ []) }
+{
+    stack.push(Wanted::Takes(language, levels));
+    stack.push(Wanted::Tree(language, levels.saturating_sub(1)));
+}
+
+/// A take or a mark, where they are wanted.
+fn take_item(
+    alloc: Global,
+    bytes: &[u8],
+    ended: bool,
+    stack: &mut Stack,
+    language: Language,
+    levels: u16,
+) -> Result<Item, TextKind>
+    requires room { HasRoom (array_vec_len stack.old) (want.Takes language levels) }
+    ensures read { HasItem (want.Takes language levels) bytes.now ended result }
+    ensures stacked { IsStacked (want.Takes language levels) result stack.old.items stack.new.items }
+{
+    let mut words = Words::new(bytes, ended)?;
+    match take_on(alloc, &mut words)? {
+        Some(codes) => {
+            want_after_take(stack, language, levels);
+            Ok(Item::Takes(codes))
+        }
+        None => {
+            let after = Wanted::Tree(language, levels_after(language, levels));
+            stack.push(after);
+            Ok(Item::Mark)
+        }
+    }
+}
+
+/// A line of a bound leaf, where so many are wanted.
+fn allowance_item(
+    alloc: Global,
+    bytes: &[u8],
+    ended: bool,
+    stack: &mut Stack,
+    left: u16,
+) -> Result<Item, TextKind>
+    requires room { HasRoom (array_vec_len stack.old) (want.Allowances left) }
+    ensures read { HasItem (want.Allowances left) bytes.now ended result }
+    ensures stacked { IsStacked (want.Allowances left) result stack.old.items stack.new.items }
+{
+    let mut words = Words::new(bytes, ended)?;
+    let allowance = allowance_on(alloc, &mut words)?;
+    if left > 1 {
+        stack.push(Wanted::Allowances(left - 1));
+    }
+    Ok(Item::Allows(allowance))
+}
+
+/// The limit, where it is wanted.
+fn limit_item(bytes: &[u8], ended: bool) -> Result<Item, TextKind>
+    ensures read { HasItem want.Limit bytes.now ended result }
+    ensures stacked { (stack : List WantedValue) → IsStacked want.Limit result stack stack }
+{
+    let mut words = Words::new(bytes, ended)?;
+    Ok(Item::Limit(limit_on(&mut words)?))
+}
+
+/// The end, where it is wanted.
+fn end_item(bytes: &[u8], ended: bool) -> Result<Item, TextKind>
+    ensures read { HasItem want.End bytes.now ended result }
+    ensures stacked { (stack : List WantedValue) → IsStacked want.End result stack stack }
+{
+    let mut words = Words::new(bytes, ended)?;
+    end_on(&mut words)?;
+    Ok(Item::End)
+}
+
+/// The item on a line, where this is wanted. What is wanted after it is put on the stack, whose top is its last.
+pub(crate) fn item_at(
+    alloc: Global,
+    bytes: &[u8],
+    ended: bool,
+    stack: &mut Stack,
+    wanted: Wanted,
+) -> Result<Item, TextKind>
+    requires room { HasRoom (array_vec_len stack.old) wanted }
+    ensures read { HasItem wanted bytes.now ended result }
+    ensures stacked { IsStacked wanted result stack.old.items stack.new.items }
+{
+    match wanted {
+        Wanted::Head => head_item(bytes, ended, stack),
+        Wanted::Window(language) => window_item(bytes, ended, stack, language),
+        Wanted::Order(language) => order_item(alloc, bytes, ended, stack, language),
+        Wanted::Limit => limit_item(bytes, ended),
+        Wanted::Target => target_item(bytes, ended, stack),
+        Wanted::Groups(left) => group_item(alloc, bytes, ended, stack, left),
+        Wanted::Tree(language, levels) => opening_item(bytes, ended, stack, language, levels),
+        Wanted::Takes(language, levels) => take_item(alloc, bytes, ended, stack, language, levels),
+        Wanted::Allowances(left) => allowance_item(alloc, bytes, ended, stack, left),
+        Wanted::End => end_item(bytes, ended),
+    }
+}
