@@ -3,7 +3,7 @@ use Rattle.std.proofs.Common.{◌≡◌, ℕ, Bool, true, false, not, List, [], 
 use Rattle.std.specs.Prelude.{IsTrue, ◌↔◌}
 use Rattle.std.proofs.lemmas.Bool.{false≢true}
 use Rattle.place_lists.specs.PlaceSets.{places_of}
-use Rattle.grouping_laws.specs.Problem.{Problem, Suits, people_of}
+use Rattle.grouping_laws.specs.Problem.{Problem}
 use Rattle.growing_sets.specs.Growing.{IsExtension, IsGrowth, IsWhole, AreKept}
 use Rattle.growing_sets.proofs.Growing.{none_kept, leaf_only}
 use Rattle.certificate_languages.specs.declared.language.Language.{Language}
@@ -19,11 +19,6 @@ none_fits language p n limit exact s keep set free d none = none_kept p n limit 
     go : (g : List ℕ) → IsExtension p n limit set free g → (b : Bool) → keep g ≡ b → b ≡ false
     go g x false e = refl
     go g x true e = absurd (none g x ((d g x.connected x.in_order).0 e).0)
-
--- what is kept suits some number of seats
-pub kept_suits : (language : Language) (p : Problem) (n limit : ℕ) (exact : Bool) (s : State) (keep : List ℕ → Bool) (set free : ℕ → Bool) → Decides language p n limit exact s keep
-    → (g : List ℕ) → IsExtension p n limit set free g → keep g ≡ true → (k : ℕ) × Suits p (people_of p g) k
-kept_suits language p n limit exact s keep set free d g x e = let f = ((d g x.connected x.in_order).0 e).0 in (f.lawful.seats, f.lawful.suits)
 
 -- the test of a whole set
 pub kept_test : (language : Language) (p : Problem) (n limit : ℕ) (exact : Bool) (s : State) (keep : List ℕ → Bool) (set free : ℕ → Bool) (kept : Bool) → Decides language p n limit exact s keep → IsGrowth p n limit set free → IsWhole p n limit set free

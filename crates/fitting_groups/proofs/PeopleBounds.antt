@@ -225,10 +225,6 @@ module _ (q : ℕ × ℕ → Bool) (rows : List (ℕ × ℕ)) (i : ℕ) (r : ℕ
   pub row_left : q r ≡ false → people + total (λ (x : ℕ × ℕ). x.0) (take left (filter q (drop (i + 1) rows))) ≡ sum
   row_left e = omega (arith, so_far, ap (λ z. total (λ (x : ℕ × ℕ). x.0) (take left z)) (first_row q rows i r here is ∙ ap (λ b. cond b (r ∷ filter q (drop (i + 1) rows)) (filter q (drop (i + 1) rows))) e))
 
--- none is left to take
-pub none_taken : (q : ℕ × ℕ → Bool) (rows : List (ℕ × ℕ)) (i people left sum : ℕ) → left ≡ 0 → people + total (λ (x : ℕ × ℕ). x.0) (take left (filter q (drop i rows))) ≡ sum → people ≡ sum
-none_taken q rows i people left sum e h = omega (arith, h, ap (λ z. total (λ (x : ℕ × ℕ). x.0) (take z (filter q (drop i rows)))) e)
-
 -- A set that has all of a set is that set and what joins it.
 module _ (p : Problem) (n limit : ℕ) (set free : ℕ → Bool) (g : List ℕ) (x : IsExtension p n limit set free g) where
   -- what joins

@@ -9,16 +9,6 @@ use Rattle.grouping_laws.proofs.Parts.{within_part, has_hit}
 use Rattle.growing_sets.specs.Growing.{IsExtension}
 use Rattle.growing_sets.proofs.PlaceLists.{placed, placed_test}
 
--- the same free places
-pub same_free : (p : Problem) (n limit : ℕ) (set free reach : ℕ → Bool) → ((x : ℕ) → reach x ≡ free x) → (g : List ℕ) → IsExtension p n limit set free g → IsExtension p n limit set reach g
-same_free p n limit set free reach same g x = record {
-  in_order = x.in_order;
-  connected = x.connected;
-  small = x.small;
-  has = x.has;
-  within = λ c m. ap (λ z. set c || z) (same c) ∙ x.within c m;
-}
-
 -- the free places of the part
 pub part_free : (p : Problem) (n limit at : ℕ) (set free region part reach : ℕ → Bool) → ((x : ℕ) → region x ≡ (set x || free x)) → IsPart p region (places_of n part) → at < n → set at ≡ true → part at ≡ true → ((x : ℕ) → reach x ≡ (part x && not (set x)))
     → (g : List ℕ) → IsExtension p n limit set free g → IsExtension p n limit set reach g

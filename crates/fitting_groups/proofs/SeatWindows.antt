@@ -7,14 +7,11 @@ use Rattle.grouping_laws.proofs.Elements.{has_from_contains, contains_from_has, 
 use Rattle.fitting_groups.specs.People.{HasWindow, AreWindows}
 
 -- each number of people that suits fewer seats is in a window
-abbrev pub AreBelow : Problem → ℕ → List (ℕ × ℕ) → Type 0
-AreBelow p seats windows = (people k : ℕ) → k < seats → Suits p people k → HasWindow windows people
+abbrev pub AreSeatWindows : Problem → ℕ → List (ℕ × ℕ) → Type 0
+AreSeatWindows p seats windows = (people k : ℕ) → k < seats → Suits p people k → HasWindow windows people
 
 module _ (p : Problem) (is : IsProblem p) where
-  pub windows_none : AreBelow p 1 []
-  windows_none people k l s = absurd (omega (arith, s.some_seat))
-
-  pub windows_more : (windows : List (ℕ × ℕ)) (seats : ℕ) (w : ℕ × ℕ) → 1 ≤ seats → w ≡ people_bounds p seats → AreBelow p seats windows → AreBelow p (seats + 1) (windows ++ w ∷ [])
+  pub windows_more : (windows : List (ℕ × ℕ)) (seats : ℕ) (w : ℕ × ℕ) → 1 ≤ seats → w ≡ people_bounds p seats → AreSeatWindows p seats windows → AreSeatWindows p (seats + 1) (windows ++ w ∷ [])
   windows_more windows seats w some e h people k l s = ⊎_elim before here (last k)
     where
       last : (k : ℕ) → (k < seats) ⊎ (seats ≤ k)
@@ -30,7 +27,7 @@ module _ (p : Problem) (is : IsProblem p) where
           (w, contains_from_has (windows ++ w ∷ []) w (has_right windows (w ∷ []) w (inl refl)), omega (arith, r.0, ap (λ (z : ℕ × ℕ). z.0) e), omega (arith, r.1, ap (λ (z : ℕ × ℕ). z.1) e))
 
   -- more seats ask for at least as many people
-  pub windows_end : (most : ℕ) (windows : List (ℕ × ℕ)) (seats : ℕ) (w : ℕ × ℕ) → w ≡ people_bounds p seats → most < w.0 → AreBelow p seats windows → AreWindows p most windows
+  pub windows_end : (most : ℕ) (windows : List (ℕ × ℕ)) (seats : ℕ) (w : ℕ × ℕ) → w ≡ people_bounds p seats → most < w.0 → AreSeatWindows p seats windows → AreWindows p most windows
   windows_end most windows seats w e above h people k few s = ⊎_elim (λ j. h people k j s) (λ j. absurd (omega (arith, above, few, ap (λ (z : ℕ × ℕ). z.0) e, low j))) (last k)
     where
       last : (k : ℕ) → (k < seats) ⊎ (seats ≤ k)
@@ -43,7 +40,7 @@ module _ (p : Problem) (is : IsProblem p) where
       low j = (above_quotient ((p.scale - p.tolerance) * (seats * p.total_people)) (p.scale * p.chamber) people (pos_product p.scale p.chamber (omega (arith, is.tolerated)) is.some_seats)).1 (omega (arith, fewer j, s.enough))
 
   -- no more people than all suit at most two times the chamber's seats, if the allowance is at most a half
-  pub windows_all : (most : ℕ) (windows : List (ℕ × ℕ)) → most ≤ p.total_people → p.scale ≤ 2 * (p.scale - p.tolerance) → p.chamber ≤ 1000 → AreBelow p 2001 windows → AreWindows p most windows
+  pub windows_all : (most : ℕ) (windows : List (ℕ × ℕ)) → most ≤ p.total_people → p.scale ≤ 2 * (p.scale - p.tolerance) → p.chamber ≤ 1000 → AreSeatWindows p 2001 windows → AreWindows p most windows
   windows_all most windows within half few h people k l s = ⊎_elim (λ j. h people k j s) (λ j. absurd (much j)) (last k)
     where
       last : (k : ℕ) → (k < 2001) ⊎ (2001 ≤ k)

@@ -2,7 +2,7 @@ use Rattle.std.proofs.Common.{◌≡◌, ◌+◌, ◌-◌, ◌*◌, ◌≤◌, n
 use Rattle.std.proofs.lemmas.Bool.{and_parts, leb-true}
 use Rattle.grouping_laws.specs.SeatWindow.{people_bounds}
 use Rattle.ordered_counties.specs.OrderedValue.{problem_at}
-use Rattle.fitting_groups.proofs.SeatWindows.{AreBelow, windows_more, windows_end, windows_all}
+use Rattle.fitting_groups.proofs.SeatWindows.{AreSeatWindows, windows_more, windows_end, windows_all}
 use Rattle.fitting_groups.proofs.windows.seat_windows.Goals as goal
 
 pub returns-then-window-people : goal.returns-then-window-people
@@ -19,7 +19,7 @@ loop-seats-preserved c =
     let seats = c.loop-seats.seats in
     let w = c.district_bounds-window.result in
     let e : w ≡ people_bounds p seats = c.district_bounds-window.ensures.value ∙ ap (λ v. people_bounds (problem_at (record c.args.ordered.now { problem = v })) seats) c.problem-problem.ensures.value in
-    subst (AreBelow p (seats + 1)) (sym c.in_ok-push.ensures.items) (windows_more p c.places-places.ensures.problem c.loop-seats.windows.items seats w c.loop-seats.auto.seats e c.loop-seats.invariant)
+    subst (AreSeatWindows p (seats + 1)) (sym c.in_ok-push.ensures.items) (windows_more p c.places-places.ensures.problem c.loop-seats.windows.items seats w c.loop-seats.auto.seats e c.loop-seats.invariant)
 
 pub returns : goal.returns
 returns c =
