@@ -1,7 +1,7 @@
 //! How far a search is, told while it runs.
 
 use cli::Watcher;
-use county_codes::Grouping;
+use county_codes::{Grouping, MAX_COUNTIES};
 use ordered_counties::Steps;
 use std::alloc::{AllocError, Global};
 use std::io::IsTerminal;
@@ -27,9 +27,10 @@ pub(crate) struct Progress<'a> {
 fn counts(alloc: Global, grouping: &Grouping) -> Result<String, AllocError> {
     let mut text = String::new(alloc);
     let mut left = grouping.groups.len();
-    let mut size = 0;
-    while left > 0 && size < 256 {
-        size += 1;
+    for size in 1..MAX_COUNTIES + 1 {
+        if left == 0 {
+            return Ok(text);
+        }
         let found = grouping
             .groups
             .iter()
