@@ -8,3 +8,4 @@ pub mod SeatWindows
 pub mod Reach
 pub mod RestPeople
 pub mod PeopleRows
+pub mod Passed

@@ -187,6 +187,24 @@ fn end_growth<C: CountySet>(
     Ok(())
 }
 
+/// Passes over a growth: takes the step of its set.
+fn pass_over<C: CountySet>(
+    ground: &Ground<C>,
+    growth: &Growth<C>,
+    steps: &mut Steps,
+) -> Result<(), Stop>
+    requires { IsGrowth (problem_at ground.now.ordered.now) (length ground.now.ordered.now.order) ground.now.limit (C.test growth.now.set) (C.test growth.now.free) }
+    ensures steps { HasStepped (problem_at ground.now.ordered.now) (length ground.now.ordered.now.order) ground.now.limit (C.test growth.now.set) (C.test growth.now.free) steps.old.used steps.new.used }
+    ensures counted { OnOk result (steps.new.used ≡ steps.old.used + 1) }
+    ensures limit { steps.new.limit ≡ steps.old.limit }
+    ensures stopped { IsErrOf result Stop.StepLimit → steps.new.used ≡ steps.new.limit }
+{
+    let _ground = ground;
+    let _growth = growth;
+    take_step(steps)?;
+    Ok(())
+}
+
 /// The growth in which a place of the front joins the set.
 fn with_place<C: CountySet>(
     alloc: Global,
@@ -239,7 +257,7 @@ fn without_place<C: CountySet>(growth: Growth<C>, place: u16) -> Growth<C>
 
 /// Puts the connected sets that have all of a set, else only free places, and that are kept, behind the
 /// groups. The front has the free places that are adjacent to the set. A step is taken for each connected set that
-/// is met; `is_passed_over` says which sets are passed over.
+/// is met, also for a set that is passed over; `is_passed_over` says which sets are.
 pub(crate) fn grow<C: CountySet>(
     alloc: Global,
     ground: &Ground<C>,
@@ -278,7 +296,7 @@ pub(crate) fn grow<C: CountySet>(
     ensures stopped { IsErrOf result Stop.StepLimit → steps.new.used ≡ steps.new.limit }
 {
     if is_passed_over(alloc, ground, &growth)? {
-        return Ok(());
+        return pass_over(ground, &growth, steps);
     }
     match next_place(ground, &growth) {
         None => end_growth(alloc, ground, growth, steps, groups),

@@ -19,7 +19,7 @@ pub returns-in_err-is_passed_over-clause-steps : goal.returns-in_err-is_passed_o
 returns-in_err-is_passed_over-clause-steps g t c = stepped_none (problem_at c.args.ground.now.ordered.now) (length c.args.ground.now.ordered.now.order) c.args.ground.now.limit (g.C.CountySet.test c.args.growth.set) (g.C.CountySet.test c.args.growth.free) c.args.steps.now.used c.args.steps.now.used refl
 
 pub returns-then-branch-clause-steps : goal.returns-then-branch-clause-steps
-returns-then-branch-clause-steps g t c = stepped_none (problem_at c.args.ground.now.ordered.now) (length c.args.ground.now.ordered.now.order) c.args.ground.now.limit (g.C.CountySet.test c.args.growth.set) (g.C.CountySet.test c.args.growth.free) c.args.steps.now.used c.args.steps.now.used refl
+returns-then-branch-clause-steps g t c = c.pass_over.ensures.steps
 
 pub returns-in_err-joined-in-Some-clause-steps : goal.returns-in_err-joined-in-Some-clause-steps
 returns-in_err-joined-in-Some-clause-steps g t c = stepped_none (problem_at c.args.ground.now.ordered.now) (length c.args.ground.now.ordered.now.order) c.args.ground.now.limit (g.C.CountySet.test c.args.growth.set) (g.C.CountySet.test c.args.growth.free) c.args.steps.now.used c.args.steps.now.used refl
@@ -29,8 +29,8 @@ returns-then-branch-clause-listed g t c =
     let test = g.C.CountySet.test in
     let p = problem_at c.args.ground.now.ordered.now in
     let n = length c.args.ground.now.ordered.now.order in
-    λ keep d.
-    listed_none g.row.C.Denot test p n c.args.ground.now.limit keep (test c.args.growth.set) (test c.args.growth.free) c.args.groups.now.items c.args.groups.now.items (c.in_ok-is_passed_over.ensures c.if-branch.true keep d) refl
+    on_ok c.pass_over.result c.pass_over.ensures.counted (λ one keep d.
+    listed_none g.row.C.Denot test p n c.args.ground.now.limit keep (test c.args.growth.set) (test c.args.growth.free) c.args.groups.now.items c.args.groups.now.items (c.in_ok-is_passed_over.ensures c.if-branch.true keep d) refl)
 
 pub returns-in_err-grow-in-Some-clause-steps : goal.returns-in_err-grow-in-Some-clause-steps
 returns-in_err-grow-in-Some-clause-steps g t c =
@@ -168,10 +168,13 @@ pub returns-in_err-grow-in-Some-clause-stopped : goal.returns-in_err-grow-in-Som
 returns-in_err-grow-in-Some-clause-stopped g t c = λ h. c.grow.ensures.stopped (c.in_err-grow-in-Some.was ∙ ap Err (handed_on c.from_residual-in_err-grow-in-Some.result c.in_err-grow-in-Some.field-0.0 StepLimit c.from_residual-in_err-grow-in-Some.ensures.1 h))
 
 pub returns-then-branch-clause-counted : goal.returns-then-branch-clause-counted
-returns-then-branch-clause-counted g t c = omega arith
+returns-then-branch-clause-counted g t c = on_ok c.pass_over.result c.pass_over.ensures.counted (λ one. omega (arith, one))
+
+pub returns-then-branch-clause-limit : goal.returns-then-branch-clause-limit
+returns-then-branch-clause-limit g t c = c.pass_over.ensures.limit
 
 pub returns-then-branch-clause-stopped : goal.returns-then-branch-clause-stopped
-returns-then-branch-clause-stopped g t c = λ h. cc
+returns-then-branch-clause-stopped g t c = c.pass_over.ensures.stopped
 
 pub returns-in_ok-grow-in-Some-clause-counted : goal.returns-in_ok-grow-in-Some-clause-counted
 returns-in_ok-grow-in-Some-clause-counted g t c = on_ok c.grow-in-Some.result c.grow-in-Some.ensures.counted (λ second. omega (arith, second, c.in_ok-grow-in-Some.ensures.counted))
