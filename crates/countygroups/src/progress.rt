@@ -1,7 +1,7 @@
 //! How far a search is, told while it runs.
 
 use cli::Watcher;
-use county_codes::{Grouping, MAX_COUNTIES};
+use county_codes::Grouping;
 use ordered_counties::Steps;
 use std::alloc::{AllocError, Global};
 use std::io::IsTerminal;
@@ -9,6 +9,9 @@ use std::time::Instant;
 
 /// How many seconds pass between two lines.
 const PAUSE: u64 = 1;
+
+/// The greatest size whose number of groups is told, so that a line fits a terminal.
+const SHOWN: usize = 16;
 
 /// Goes to the beginning of the terminal's line, and clears the line.
 const CLEAR: &str = "\r\x1b[K";
@@ -23,11 +26,11 @@ pub(crate) struct Progress<'a> {
     round: Option<String>,
 }
 
-/// The numbers of groups by size, from one county on.
+/// The numbers of groups by size, from one county on. If some group is larger than what is told, two points stand for it.
 fn counts(alloc: Global, grouping: &Grouping) -> Result<String, AllocError> {
     let mut text = String::new(alloc);
     let mut left = grouping.groups.len();
-    for size in 1..MAX_COUNTIES + 1 {
+    for size in 1..SHOWN + 1 {
         if left == 0 {
             return Ok(text);
         }
@@ -38,6 +41,9 @@ fn counts(alloc: Global, grouping: &Grouping) -> Result<String, AllocError> {
             .count();
         left = left.saturating_sub(found);
         text.push_str(&format!(in alloc; " {found}")?)?;
+    }
+    if left > 0 {
+        text.push_str(" ..")?;
     }
     Ok(text)
 }
