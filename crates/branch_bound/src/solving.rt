@@ -390,8 +390,9 @@ pub fn solve_watched<W: Watcher>(
 /// The best grouping of a problem with its certificate, or that none is lawful with a certificate of that, or that it
 /// is open since the steps ran out, with the best grouping that was found.
 ///
-/// A step is a state that is entered, a set that is grown or a group that is tested for being live. With a limit of 0
-/// the answer is always open; with a limit of 1 or more `Impossible` is answered exactly where no grouping is lawful.
+/// A step is a state that is entered, a set that is grown, a group that is tested for being live, or a look for the
+/// list of a part. With a limit of 0 the answer is always open; with a limit of 1 or more `Impossible` is answered
+/// exactly where no grouping is lawful.
 /// Best is the grouping whose counts of groups by size are the greatest, the count of the smallest size first
 /// (Stephenson v. Bartlett, in the form of Carter et al.). The certificate of Best is a wide one, that of Impossible
 /// a plain one; a text spells each. The certificate of Best is complete: its ends are the sets of all best groupings.

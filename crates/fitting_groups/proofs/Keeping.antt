@@ -1,6 +1,6 @@
 -- What is kept and what is passed over.
 use Rattle.std.proofs.Common.{◌≡◌, ℕ, Bool, true, false, not, List, [], refl, sym, ◌∙◌}
-use Rattle.std.specs.Prelude.{IsTrue, ◌↔◌}
+use Rattle.std.specs.Prelude.{IsTrue, IfOk, Result, Ok, Err, ◌↔◌}
 use Rattle.std.proofs.lemmas.Bool.{false≢true}
 use Rattle.place_lists.specs.PlaceSets.{places_of}
 use Rattle.grouping_laws.specs.Problem.{Problem}
@@ -45,3 +45,9 @@ none_grows language p n limit exact s keep set free reach may d none all grows =
     go : (g : List ℕ) → IsExtension p n limit set free g → (b : Bool) → keep g ≡ b → b ≡ false
     go g x false e = refl
     go g x true e = let f = (d g x.connected x.in_order).0 e in absurd (off may none (grows g (all g x) f.1 f.0))
+
+-- the same, by the answer whether nothing fits
+pub none_fits_ok : {E : Type 0} (language : Language) (p : Problem) (n limit : ℕ) (exact : Bool) (s : State) (set free : ℕ → Bool) (answer : Result Bool E) → IfOk answer (λ none. IsTrue none → (most : ℕ) → NoneFits language p n most s set free)
+    → IfOk answer (λ none. IsTrue none → (keep : List ℕ → Bool) → Decides language p n limit exact s keep → AreKept p n limit keep set free [])
+none_fits_ok language p n limit exact s set free (Ok none) h = λ yes keep d. none_fits language p n limit exact s keep set free d (h yes limit)
+none_fits_ok language p n limit exact s set free (Err fault) h = tt

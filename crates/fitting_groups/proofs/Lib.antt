@@ -5,7 +5,7 @@ pub mod Starting
 pub mod Sizes
 pub mod PeopleBounds
 pub mod SeatWindows
-pub mod Reach
+pub mod Moves
 pub mod RestPeople
 pub mod PeopleRows
 pub mod Passed

@@ -21,7 +21,7 @@ use state_tests::fits;
 use std::alloc::{AllocError, Global};
 
 /// The first place of the set that has as many people as any of its places.
-fn most_populous<C: CountySet>(ordered: &Ordered, set: &C) -> Option<u16>
+pub(crate) fn most_populous<C: CountySet>(ordered: &Ordered, set: &C) -> Option<u16>
     requires { (x : ℕ) → C.test set.now x ≡ true → x < length ordered.now.order }
     ensures { MatchOption result ((x : ℕ) → C.test set.now x ≡ false) (λ c. C.test set.now c ≡ true) }
 {

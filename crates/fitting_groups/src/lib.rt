@@ -8,6 +8,7 @@ mod grow;
 mod lists;
 mod passing;
 mod people;
+mod reach;
 mod sorting;
 mod stop;
 mod tables;

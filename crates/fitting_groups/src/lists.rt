@@ -13,7 +13,7 @@ ghost use Rattle.fitting_groups.specs.People.{AreTables};
 ghost use Rattle.fitting_groups.specs.declared.stop.Stop.{Stop};
 
 use crate::ground::{Ground, Growth};
-use crate::grow::grow;
+use crate::grow::{grow, most_populous};
 use crate::sorting::sorted;
 use crate::stop::Stop;
 use crate::tables::{Tables, make_tables};
@@ -113,11 +113,12 @@ fn search<C: CountySet>(
 /// size, and groups of one size by their lists of places: what the takes of a branch have to be.
 ///
 /// `near` are the rows of the order (`neighbour_rows`). A step is taken for each connected set of open counties that
-/// is met, each with the place and at most `limit` counties. If no open counties that a set reaches give it people
-/// that suit some number of seats, the search passes over the set. In a wide language it also passes over a set that
-/// leaves people of the rest that suit no number of seats. The same goes for a set that leaves a part behind that can't
-/// be filled. So there are at least as many steps as groups, and at most as many as such sets. `StepLimit` comes only
-/// where all steps are used, `Memory` only where a growth was refused; the steps that were taken stay taken.
+/// is met, each with the place and at most `limit` counties. Of the open counties at most so many moves away from a
+/// set as may join it, some have to give it people that suit some number of seats; if none do, the search passes over
+/// the set. In a wide language it also passes over a set that leaves people of the rest that suit no number of seats.
+/// The same goes for a set that leaves a part behind that can't be filled. So there are at least as many steps as
+/// groups, and at most as many as such sets. `StepLimit` comes only where all steps are used, `Memory` only where a
+/// growth was refused; the steps that were taken stay taken.
 pub fn groups_at<C: CountySet>(
     alloc: Global,
     ordered: &Ordered,
@@ -160,8 +161,8 @@ pub fn groups_at<C: CountySet>(
 /// The groups of so many counties that fit the state, each once, by their lists of places: what a `weigh` line of a
 /// bound leaf asks of.
 ///
-/// A step is taken for each connected set of at most so many open counties that is met, as in `groups_at`, the sets
-/// that begin with one place after those that begin with an earlier one.
+/// A step is taken for each connected set of at most so many open counties that is met, as in `groups_at`. The sets that
+/// have the most populous open county come first, then those of the others that have the next one, and so on.
 pub fn groups_of<C: CountySet>(
     alloc: Global,
     ordered: &Ordered,
@@ -192,7 +193,7 @@ pub fn groups_of<C: CountySet>(
     let mut region = open_places(alloc, state, size)?;
     let tables = make_tables(alloc, ordered, language, state, &region, size)?;
     let mut sets = Vec::new(alloc);
-    while let Some(place) = region.next(0) {
+    while let Some(place) = most_populous(ordered, &region) {
         let left = region.copy(alloc)?;
         search(
             alloc, ordered, near, language, state, left, place, size, true, &tables, steps,

@@ -5,7 +5,7 @@ ghost use Rattle.place_lists.specs.PlaceSets.{places_of};
 ghost use Rattle.grouping_laws.specs.Places.{places_below};
 ghost use Rattle.ordered_counties.specs.OrderedValue.{problem_at};
 ghost use Rattle.county_regions.specs.Rows.{AreRows};
-ghost use Rattle.growing_sets.specs.Growing.{IsGrowth, IsExtension, AreKept};
+ghost use Rattle.growing_sets.specs.Growing.{IsGrowth, IsFront, IsExtension, AreKept};
 ghost use Rattle.proof_trees.specs.StateValue.{state_of};
 ghost use Rattle.proof_trees.specs.Fitting.{Fits};
 ghost use Rattle.fitting_groups.specs.Keeping.{Decides, IsAsked};
@@ -13,35 +13,11 @@ ghost use Rattle.fitting_groups.specs.People.{AreByPeople, AreWindows, IsDivided
 
 use crate::ground::{Ground, Growth};
 use crate::people::first_people;
+use crate::reach::reached;
 use crate::windows::{may_divide, may_suit};
-use county_regions::part_around;
 use place_sets::CountySet;
 use state_tests::{people_in, strands};
 use std::alloc::{AllocError, Global};
-
-/// The free places that the set reaches through free places.
-fn reached<C: CountySet>(
-    alloc: Global,
-    ground: &Ground<C>,
-    growth: &Growth<C>,
-) -> Result<C, AllocError>
-    requires fits { length ground.now.ordered.now.order ≤ C.PLACES }
-    requires rows { AreRows C C.test (problem_at ground.now.ordered.now) (length ground.now.ordered.now.order) ground.now.near.now }
-    requires growth { IsGrowth (problem_at ground.now.ordered.now) (length ground.now.ordered.now.order) ground.now.limit (C.test growth.now.set) (C.test growth.now.free) }
-    ensures free { IfOk result (λ s. (x : ℕ) → C.test s x ≡ true → C.test growth.now.free x ≡ true) }
-    ensures all { IfOk
-        result
-        (λ s. (g : List ℕ)
-        → IsExtension (problem_at ground.now.ordered.now) (length ground.now.ordered.now.order) ground.now.limit (C.test growth.now.set) (C.test growth.now.free) g
-        → IsExtension (problem_at ground.now.ordered.now) (length ground.now.ordered.now.order) ground.now.limit (C.test growth.now.set) (C.test s) g) }
-{
-    let Some(place) = growth.set.next(0) else {
-        return growth.free.copy(alloc);
-    };
-    let region = growth.set.union(alloc, &growth.free)?;
-    let (part, _others) = part_around(alloc, ground.ordered, ground.near, &region, place)?;
-    Ok(part.minus(&growth.set))
-}
 
 /// The least number of people of so many places in reach, if sets of one size are asked for; else 0.
 fn fewest_more<C: CountySet>(ground: &Ground<C>, reach: &C, more: u32) -> u64
@@ -123,11 +99,9 @@ fn may_grow<C: CountySet>(ground: &Ground<C>, growth: &Growth<C>, reach: &C) -> 
     may_fit(ground, least, greatest)
 }
 
-/// Whether nothing can come of a growth: no free places that the set reaches give it people that may fit, or it
-/// leaves a part behind that can't be filled.
-///
-/// All free places are tried first, which is cheap. The places in reach are tried again only if some free place is
-/// not among them.
+/// Whether nothing can come of a growth: no places that the set reaches by as many moves as places may join it give it
+/// people that may fit, or it leaves a part behind that can't be filled. If the set has as many places as may be, it
+/// is not passed over.
 pub(crate) fn is_passed_over<C: CountySet>(
     alloc: Global,
     ground: &Ground<C>,
@@ -138,6 +112,7 @@ pub(crate) fn is_passed_over<C: CountySet>(
     requires places { length ground.now.state.now.least.items ≡ length ground.now.ordered.now.order }
     requires rest { (x : ℕ) → C.test ground.now.state.now.rest x ≡ true → x < length ground.now.ordered.now.order }
     requires growth { IsGrowth (problem_at ground.now.ordered.now) (length ground.now.ordered.now.order) ground.now.limit (C.test growth.now.set) (C.test growth.now.free) }
+    requires front { IsFront (problem_at ground.now.ordered.now) (C.test growth.now.set) (C.test growth.now.free) (C.test growth.now.front) }
     requires people { growth.now.people ≡ people_of (problem_at ground.now.ordered.now) (places_of (length ground.now.ordered.now.order) (C.test growth.now.set)) }
     requires total { people_of (problem_at ground.now.ordered.now) (places_below (length ground.now.ordered.now.order)) ≤ ground.now.ordered.now.problem.total_people }
     requires bound { ground.now.ordered.now.problem.total_people ≤ 2 ^ 40 }
@@ -149,10 +124,15 @@ pub(crate) fn is_passed_over<C: CountySet>(
         → Decides ground.now.language (problem_at ground.now.ordered.now) (length ground.now.ordered.now.order) ground.now.limit ground.now.exact (state_of C.test ground.now.state.now) keep
         → AreKept (problem_at ground.now.ordered.now) (length ground.now.ordered.now.order) ground.now.limit keep (C.test growth.now.set) (C.test growth.now.free) []) }
 {
-    if !may_grow(ground, growth, &growth.free) {
+    let more = u32::from(ground.limit) - growth.set.size();
+    if more == 0 {
+        return Ok(false);
+    }
+    let reach = reached(alloc, ground, growth, more)?;
+    if !may_grow(ground, growth, &reach) {
         return Ok(true);
     }
-    if strands(
+    strands(
         alloc,
         ground.ordered,
         ground.near,
@@ -160,12 +140,5 @@ pub(crate) fn is_passed_over<C: CountySet>(
         ground.state,
         &growth.set,
         &growth.free,
-    )? {
-        return Ok(true);
-    }
-    let reach = reached(alloc, ground, growth)?;
-    if growth.free.within(&reach) {
-        return Ok(false);
-    }
-    Ok(!may_grow(ground, growth, &reach))
+    )
 }

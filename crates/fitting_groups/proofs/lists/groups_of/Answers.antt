@@ -1,4 +1,4 @@
-use Rattle.std.proofs.Common.{◌≡◌, ℕ, ◌+◌, ◌<◌, Bool, true, false, nat_le, refl, sym, ap, ◌∙◌, subst, length, Err, arith}
+use Rattle.std.proofs.Common.{◌≡◌, ℕ, ◌<◌, Bool, true, nat_le, ◌&&◌, not, ◌==◌, refl, sym, ap, ◌∙◌, subst, length, Err, arith}
 use mathlib.Core.Path.{fun_ext}
 use Rattle.std.specs.Cmp.Lexicographic.{slice_cmp}
 use Rattle.std.specs.Ordering.{nat_cmp, is_lt}
@@ -12,16 +12,15 @@ use Rattle.growing_sets.specs.Growing.{only, sort_key}
 use Rattle.growing_sets.specs.Listing.{lists_of}
 use Rattle.growing_sets.proofs.Keys.{all_moved}
 use Rattle.proof_trees.specs.StateValue.{state_of}
-use Rattle.proof_trees.specs.State.{open_to}
-use Rattle.proof_trees.specs.RegionGrowth.{IsStartIn, from_place}
 use Rattle.proof_trees.specs.Groups.{IsSetWithin}
 use Rattle.grouping_laws.specs.Places.{places_below}
 use Rattle.fitting_groups.specs.Keeping.{others}
+use Rattle.fitting_groups.proofs.PeopleBounds.{fewer_tables}
 use Rattle.fitting_groups.proofs.Deciding.{decided}
 use Rattle.fitting_groups.specs.declared.stop.Stop.TheVariants.{StepLimit}
 use Rattle.fitting_groups.proofs.Failing.{refused_not_stopped, handed_on}
 use Rattle.fitting_groups.proofs.Starting.{no_steps}
-use Rattle.fitting_groups.proofs.Sizes.{Begun, IsFound, left_all, left_above, left_open, none_between, left_starts, left_less, found_none, found_more, found_groups, steps_more, steps_within}
+use Rattle.fitting_groups.proofs.Sizes.{Begun, IsFound, less_open, found_none, found_more, found_groups, steps_more, steps_within}
 use Rattle.fitting_groups.proofs.lists.groups_of.Goals as goal
 
 pub loop-place-init : goal.loop-place-init
@@ -31,29 +30,43 @@ loop-place-init g c =
     let n = length c.args.ordered.now.order in
     let s = state_of test c.args.state.now in
     let i = c.args.size in
+    let region = test c.in_ok-region.region in
     record {
-      from = 0;
-      left = left_all s i (test c.in_ok-region.region) c.in_ok-region.ensures;
-      found = λ keep d. subst (IsFound g.row.C.Denot test p n s i 0 keep) (sym c.new-sets.ensures.items) (found_none g.row.C.Denot test p n s i keep);
-      stepped = no_steps (Begun p n s i 0) c.args.steps.now.used c.args.steps.now.used refl;
+      left = λ x e. sym (c.in_ok-region.ensures x) ∙ e;
+      found = λ keep d. subst (IsFound g.row.C.Denot test p n s i region keep) (sym c.new-sets.ensures.items) (found_none g.row.C.Denot test p n s i region keep c.in_ok-region.ensures);
+      stepped = no_steps (Begun p n s i region) c.args.steps.now.used c.args.steps.now.used refl;
       counted = omega (arith, ap length c.new-sets.ensures.items);
       limit = refl;
     }
 
-pub loop-place-smaller : goal.loop-place-smaller
-loop-place-smaller g c =
+pub most_populous-requires : goal.most_populous-requires
+most_populous-requires g c =
+    let s = state_of (g.C.CountySet.test) c.args.state.now in
+    λ x e. c.requires.rest x (and_parts (s.rest x) (nat_le (s.least x) c.args.size) (c.loop-place.invariant.left x e)).0
+
+pub search-requires-clause-below : goal.search-requires-clause-below
+search-requires-clause-below g c =
+    let s = state_of (g.C.CountySet.test) c.args.state.now in
+    λ x e. c.requires.rest x (and_parts (s.rest x) (nat_le (s.least x) c.args.size) (c.loop-place.invariant.left x (sym (c.in_ok-left.ensures.places x) ∙ e))).0
+
+pub search-requires-clause-tables : goal.search-requires-clause-tables
+search-requires-clause-tables g c =
     let test = g.C.CountySet.test in
     let p = problem_at c.args.ordered.now in
     let n = length c.args.ordered.now.order in
+    fewer_tables c.args.language p n c.args.size (test c.args.state.now.rest) (test c.in_ok-region.region) (test c.in_ok-left.left) c.in_ok-tables.tables
+    (λ x e. c.in_ok-region.ensures x ∙ c.loop-place.invariant.left x (sym (c.in_ok-left.ensures.places x) ∙ e)) c.in_ok-tables.ensures
+
+pub loop-place-smaller : goal.loop-place-smaller
+loop-place-smaller g c =
+    let test = g.C.CountySet.test in
+    let n = length c.args.ordered.now.order in
     let s = state_of test c.args.state.now in
     let i = c.args.size in
-    let inv = c.loop-place.invariant in
     let region = test c.loop-place.region in
     let at = c.in-Some.place in
-    let there = c.in-Some.ensures.least.1 in
-    let least : (x : ℕ) → x < at → region x ≡ false = λ x l. c.in-Some.ensures.least.2 x (omega arith) l in
-    let is_open = left_open s i inv.from at region inv.left there least in
-    parted_fewer n at region (only at) (test c.without-region.result) (c.requires.rest at (and_parts (s.rest at) (nat_le (s.least at) i) is_open).0) there (eq-eqb at at refl) c.without-region.ensures.places
+    let there = c.in-Some.ensures in
+    parted_fewer n at region (only at) (test c.without-region.result) (c.requires.rest at (and_parts (s.rest at) (nat_le (s.least at) i) (c.loop-place.invariant.left at there)).0) there (eq-eqb at at refl) c.without-region.ensures.places
 
 pub loop-place-preserved : goal.loop-place-preserved
 loop-place-preserved g c =
@@ -64,18 +77,15 @@ loop-place-preserved g c =
     let i = c.args.size in
     let inv = c.loop-place.invariant in
     let region = test c.loop-place.region in
+    let less = test c.without-region.result in
     let at = c.in-Some.place in
-    let there = c.in-Some.ensures.least.1 in
-    let least : (x : ℕ) → x < at → region x ≡ false = λ x l. c.in-Some.ensures.least.2 x (omega arith) l in
+    let there = c.in-Some.ensures in
     let free = others (test c.in_ok-left.left) at in
-    let start : IsStartIn n at (from_place at (open_to s i)) (only at) free =
-    subst (λ (z : ℕ → Bool). IsStartIn n at (from_place at (open_to s i)) (only at) (others z at)) (sym (fun_ext c.in_ok-left.ensures.places)) (left_starts s i inv.from at region inv.left there least n c.requires.rest) in
-    let above = left_above s i inv.from at region inv.left there least in
+    let free_is : (x : ℕ) → free x ≡ (region x && not (x == at)) = λ x. ap (λ z. z && not (x == at)) (c.in_ok-left.ensures.places x) in
     record {
-      from = at + 1;
-      left = left_less s i inv.from at region inv.left there least (test c.without-region.result) c.without-region.ensures.places;
-      found = λ keep d. found_more g.row.C.Denot test p n s i inv.from at keep free c.loop-place.sets.items c.search.new.groups.items above (none_between s i inv.from at region inv.left there least) start (inv.found keep d) (c.in_ok-search.ensures.listed keep d);
-      stepped = steps_more p n s i inv.from at free c.args.steps.now.used c.loop-place.steps.used c.search.new.steps.used above start inv.stepped c.search.ensures.steps;
+      left = less_open s i at region less c.without-region.ensures.places inv.left;
+      found = λ keep d. found_more g.row.C.Denot test p n s i at keep region free less c.loop-place.sets.items c.search.new.groups.items inv.left there free_is c.without-region.ensures.places (inv.found keep d) (c.in_ok-search.ensures.listed keep d);
+      stepped = steps_more p n s i at region free less c.args.steps.now.used c.loop-place.steps.used c.search.new.steps.used inv.left there free_is c.without-region.ensures.places inv.stepped c.search.ensures.steps;
       counted = omega (arith, inv.counted, c.in_ok-search.ensures.counted);
       limit = c.search.ensures.limit ∙ inv.limit;
     }
@@ -90,33 +100,24 @@ returns-in_err-search-clause-steps g c =
     let inv = c.loop-place.invariant in
     let region = test c.loop-place.region in
     let at = c.in-Some.place in
-    let there = c.in-Some.ensures.least.1 in
-    let least : (x : ℕ) → x < at → region x ≡ false = λ x l. c.in-Some.ensures.least.2 x (omega arith) l in
+    let there = c.in-Some.ensures in
     let free = others (test c.in_ok-left.left) at in
-    let start : IsStartIn n at (from_place at (open_to s i)) (only at) free =
-    subst (λ (z : ℕ → Bool). IsStartIn n at (from_place at (open_to s i)) (only at) (others z at)) (sym (fun_ext c.in_ok-left.ensures.places)) (left_starts s i inv.from at region inv.left there least n c.requires.rest) in
-    let above = left_above s i inv.from at region inv.left there least in
-    steps_within p n s i (at + 1) c.args.steps.now.used c.search.new.steps.used (steps_more p n s i inv.from at free c.args.steps.now.used c.loop-place.steps.used c.search.new.steps.used above start inv.stepped c.search.ensures.steps)
+    let free_is : (x : ℕ) → free x ≡ (region x && not (x == at)) = λ x. ap (λ z. z && not (x == at)) (c.in_ok-left.ensures.places x) in
+    steps_within p n s i (others region at) c.args.steps.now.used c.search.new.steps.used (steps_more p n s i at region free (others region at) c.args.steps.now.used c.loop-place.steps.used c.search.new.steps.used inv.left there free_is (λ x. refl) inv.stepped c.search.ensures.steps)
 
 pub returns-in_err-left-clause-steps : goal.returns-in_err-left-clause-steps
 returns-in_err-left-clause-steps g c =
     let test = g.C.CountySet.test in
     let p = problem_at c.args.ordered.now in
     let n = length c.args.ordered.now.order in
-    let s = state_of test c.args.state.now in
-    let i = c.args.size in
-    let inv = c.loop-place.invariant in
-    steps_within p n s i inv.from c.args.steps.now.used c.loop-place.steps.used inv.stepped
+    steps_within p n (state_of test c.args.state.now) c.args.size (test c.loop-place.region) c.args.steps.now.used c.loop-place.steps.used c.loop-place.invariant.stepped
 
 pub returns-in_err-sorted-clause-steps : goal.returns-in_err-sorted-clause-steps
 returns-in_err-sorted-clause-steps g c =
     let test = g.C.CountySet.test in
     let p = problem_at c.args.ordered.now in
     let n = length c.args.ordered.now.order in
-    let s = state_of test c.args.state.now in
-    let i = c.args.size in
-    let inv = c.loop-place.invariant in
-    steps_within p n s i inv.from c.args.steps.now.used c.loop-place.steps.used inv.stepped
+    steps_within p n (state_of test c.args.state.now) c.args.size (test c.loop-place.region) c.args.steps.now.used c.loop-place.steps.used c.loop-place.invariant.stepped
 
 pub returns-in_err-region-clause-steps : goal.returns-in_err-region-clause-steps
 returns-in_err-region-clause-steps g c =
@@ -128,10 +129,7 @@ returns-clause-steps g c =
     let test = g.C.CountySet.test in
     let p = problem_at c.args.ordered.now in
     let n = length c.args.ordered.now.order in
-    let s = state_of test c.args.state.now in
-    let i = c.args.size in
-    let inv = c.loop-place.invariant in
-    steps_within p n s i inv.from c.args.steps.now.used c.loop-place.steps.used inv.stepped
+    steps_within p n (state_of test c.args.state.now) c.args.size (test c.loop-place.region) c.args.steps.now.used c.loop-place.steps.used c.loop-place.invariant.stepped
 
 pub returns-clause-groups : goal.returns-clause-groups
 returns-clause-groups g c =
@@ -144,7 +142,7 @@ returns-clause-groups g c =
     let k = decided c.args.language p n i true s c.places-places.ensures.problem refl c.requires.rest in
     let found = inv.found k.0 k.1 in
     let up : IsSortedBy (λ g' h. is_lt (slice_cmp nat_cmp (sort_key g') (sort_key h))) (lists_of n test c.in_ok-sorted.field-0.items) = c.in_ok-sorted.ensures.sorted n found.below in
-    found_groups g.row.C.Denot test c.args.language p n s i inv.from k.0 (test c.loop-place.region) c.loop-place.sets.items c.in_ok-sorted.field-0.items k.1 inv.left (λ x. c.in_default.ensures.least x (omega arith)) found c.in_ok-sorted.ensures.same up
+    found_groups g.row.C.Denot test c.args.language p n s i k.0 (test c.loop-place.region) c.loop-place.sets.items c.in_ok-sorted.field-0.items k.1 c.in_default.ensures found c.in_ok-sorted.ensures.same up
 
 pub returns-clause-below : goal.returns-clause-below
 returns-clause-below g c =

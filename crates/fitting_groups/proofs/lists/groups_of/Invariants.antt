@@ -4,16 +4,15 @@ use Rattle.ordered_counties.specs.OrderedValue.{problem_at}
 use Rattle.growing_sets.specs.Listing.{OneStepEach}
 use Rattle.proof_trees.specs.StateValue.{state_of}
 use Rattle.fitting_groups.specs.Keeping.{Decides}
-use Rattle.fitting_groups.proofs.Sizes.{Begun, IsLeft, IsFound}
+use Rattle.fitting_groups.proofs.Sizes.{Begun, IsOpen, IsFound}
 use Rattle.fitting_groups.proofs.lists.groups_of.Given as goal
 
 abbrev pub invariant-loop-place : goal.invariant-loop-place
 invariant-loop-place g l = record {
-  from : ℕ;
-  left : IsLeft (state_of (g.C.CountySet.test) l.state) l.size from (g.C.CountySet.test l.region);
+  left : IsOpen (state_of (g.C.CountySet.test) l.state) l.size (g.C.CountySet.test l.region);
   found : (keep : List ℕ → Bool) → Decides l.language (problem_at l.ordered) (length l.ordered.order) l.size true (state_of (g.C.CountySet.test) l.state) keep
-      → IsFound g.row.C.Denot (g.C.CountySet.test) (problem_at l.ordered) (length l.ordered.order) (state_of (g.C.CountySet.test) l.state) l.size from keep l.sets.items;
-  stepped : OneStepEach (Begun (problem_at l.ordered) (length l.ordered.order) (state_of (g.C.CountySet.test) l.state) l.size from) l.fn.steps.used l.steps.used;
+      → IsFound g.row.C.Denot (g.C.CountySet.test) (problem_at l.ordered) (length l.ordered.order) (state_of (g.C.CountySet.test) l.state) l.size (g.C.CountySet.test l.region) keep l.sets.items;
+  stepped : OneStepEach (Begun (problem_at l.ordered) (length l.ordered.order) (state_of (g.C.CountySet.test) l.state) l.size (g.C.CountySet.test l.region)) l.fn.steps.used l.steps.used;
   counted : l.fn.steps.used + length l.sets.items ≤ l.steps.used;
   limit : l.steps.limit ≡ l.fn.steps.limit;
 }

@@ -1,28 +1,14 @@
 use Rattle.std.proofs.Common.{◌≡◌, true, not, length, rules}
 use Rattle.ordered_counties.specs.OrderedValue.{problem_at}
 use Rattle.proof_trees.specs.StateValue.{state_of}
-use Rattle.fitting_groups.proofs.Keeping.{none_fits, none_grows}
+use Rattle.fitting_groups.proofs.Keeping.{none_fits_ok, none_grows}
 use Rattle.fitting_groups.proofs.passing.is_passed_over.Goals as goal
 
 pub returns : goal.returns
 returns g c =
     let test = g.C.CountySet.test in
-    let p = problem_at c.args.ground.now.ordered.now in
-    let n = length c.args.ground.now.ordered.now.order in
     let ground = c.args.ground.now in
-    let growth = c.args.growth.now in
-    λ yes keep d.
-    none_grows ground.language p n ground.limit ground.exact (state_of test ground.state.now) keep (test growth.set) (test growth.free) (test c.in_ok-reach.reach) c.may_grow-2.result d yes c.in_ok-reach.ensures.all c.may_grow-2.ensures
-
-pub returns-then-branch : goal.returns-then-branch
-returns-then-branch g c =
-    let test = g.C.CountySet.test in
-    let p = problem_at c.args.ground.now.ordered.now in
-    let n = length c.args.ground.now.ordered.now.order in
-    let ground = c.args.ground.now in
-    let growth = c.args.growth.now in
-    λ yes keep d.
-    none_fits ground.language p n ground.limit ground.exact (state_of test ground.state.now) keep (test growth.set) (test growth.free) d (c.in_ok-strands.ensures c.if-branch.true ground.limit)
+    none_fits_ok ground.language (problem_at ground.ordered.now) (length ground.ordered.now.order) ground.limit ground.exact (state_of test ground.state.now) (test c.args.growth.now.set) (test c.args.growth.now.free) c.strands.result c.strands.ensures
 
 pub returns-then-not-may_grow : goal.returns-then-not-may_grow
 returns-then-not-may_grow g c =
@@ -33,4 +19,4 @@ returns-then-not-may_grow g c =
     let growth = c.args.growth.now in
     let none : not c.may_grow.result ≡ true = search rules in
     λ yes keep d.
-    none_grows ground.language p n ground.limit ground.exact (state_of test ground.state.now) keep (test growth.set) (test growth.free) (test growth.free) c.may_grow.result d none (λ h x. x) c.may_grow.ensures
+    none_grows ground.language p n ground.limit ground.exact (state_of test ground.state.now) keep (test growth.set) (test growth.free) (test c.in_ok-reach.reach) c.may_grow.result d none c.in_ok-reach.ensures.all c.may_grow.ensures

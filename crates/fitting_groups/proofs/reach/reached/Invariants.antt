@@ -1,0 +1,11 @@
+use Rattle.std.proofs.Common.{◌-◌, ◌≤◌, length}
+use Rattle.ordered_counties.specs.OrderedValue.{problem_at}
+use Rattle.fitting_groups.proofs.Moves.{IsReached}
+use Rattle.fitting_groups.proofs.reach.reached.Given as goal
+
+abbrev pub invariant-loop-moved : goal.invariant-loop-moved
+invariant-loop-moved g l =
+    IsReached (problem_at l.ground.ordered.now) (length l.ground.ordered.now.order) l.ground.limit (g.C.CountySet.test l.growth.set) (g.C.CountySet.test l.growth.free) (g.C.CountySet.test l.reach) (g.C.CountySet.test l.edge) l.moved
+
+abbrev pub decreases-loop-moved : goal.decreases-loop-moved
+decreases-loop-moved g l = l.moves - l.moved
