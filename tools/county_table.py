@@ -94,4 +94,4 @@ def _groups(path, rows):
     for group in groups:
         if group.people != sum(county.people for county in group.counties):
             raise Refused(f"The people of the counties of {group.words} in the table {path} don't add up to GROUP_POPULATION.")
-    return sorted(groups, key=lambda group: (group.is_withdrawn, int(group.label.removeprefix("W"))))
+    return sorted(groups, key=lambda group: (group.is_withdrawn, int(group.label.lstrip("W"))))
