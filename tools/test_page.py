@@ -25,6 +25,7 @@ from browser import Browser  # noqa: E402
 from test_map import DATA, OUTLINES, TOP, Room, squares, table_of, written  # noqa: E402
 
 PROGRAM = PICTURES = None
+CAROLINA = {}
 FILES = {"geo": "nc2020geo.pl", "segment1": "nc000012020.pl", "adjacency": "county_adjacency2023.txt"}
 
 
@@ -117,7 +118,14 @@ class PageRoom(Room):
             return file.read()
 
     def carolina(self, chamber):
-        """The page of North Carolina 2020, of the grouping that was enacted in 2023."""
+        """The page of North Carolina 2020, of the grouping that was enacted in 2023. It is made once."""
+        if chamber not in CAROLINA:
+            CAROLINA[chamber] = self.made_of_carolina(chamber)
+        self.file("page.html", CAROLINA[chamber])
+        return CAROLINA[chamber]
+
+    def made_of_carolina(self, chamber):
+        """The page of the grouping of a chamber."""
         with open(os.path.join(DATA, f"{chamber}2023.grouping"), encoding="ascii") as file:
             enacted = file.read()
         return self.page(table_of(enacted), lists_of_carolina()[chamber], record_of({"senate": 50, "house": 120}[chamber]))
