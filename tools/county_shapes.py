@@ -144,14 +144,14 @@ def parts(geoids, owners):
 
 
 def ties(groups_of_parts, shapes):
-    """For each group in several parts, straight lines between corners that join all its parts, the shortest first."""
+    """For each group in several parts, straight lines between corners that join all its parts. Parts with a common corner need none."""
     lines = []
     for found in groups_of_parts:
         corners = [[spot for geoid in part for ring in shapes[geoid] for spot in ring] for part in found]
         joined, left = corners[0], corners[1:]
         while left:
             line, near = min(((_shortest(joined, other), other) for other in left), key=lambda one: math.dist(*one[0]))
-            lines.append(line)
+            lines += [line] if line[0] != line[1] else []
             joined = joined + near
             left = [other for other in left if other is not near]
     return lines

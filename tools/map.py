@@ -173,7 +173,8 @@ def drawing(groups, outlines):
     boxes = name_boxes(groups, shapes)
     whole = round(HEAD + height + FOOT)
     tied = tie_lines(groups, shapes, owners)
-    notes = ["The number in a badge is how many seats a group has.", "Thick lines bound groups.", "A colour tells neighbours apart, and means nothing else."]
+    notes = ["The number in a badge is how many seats a group has.", "Thick lines bound groups."]
+    notes.append("A colour tells neighbours apart, and means nothing else.")
     if tied:
         notes.append("A dashed line joins parts of one group.")
     if any(group.is_withdrawn for group in groups):

@@ -20,8 +20,8 @@ function seatsOf(numbers) {
 }
 
 function numberOf(choice) {
-  const place = data.choices === null ? -1 : data.choices.findIndex((one) => one.every((alternative, region) => alternative === choice[region]));
-  return place + 1;
+  if (data.choices === null) return 0;
+  return data.choices.findIndex((one) => one.every((alternative, region) => alternative === choice[region])) + 1;
 }
 
 function listedWith(region, alternative) {
@@ -29,15 +29,22 @@ function listedWith(region, alternative) {
   wanted[region] = alternative;
   if (data.everyChoice) return wanted;
   const agreeing = (choice) => choice.filter((one, place) => one === wanted[place]).length;
-  return data.choices.filter((choice) => choice[region] === alternative).reduce((best, choice) => (agreeing(choice) > agreeing(best) ? choice : best));
+  const listed = data.choices.filter((choice) => choice[region] === alternative);
+  return listed.reduce((best, choice) => (agreeing(choice) > agreeing(best) ? choice : best)).slice();
+}
+
+function thousands(number) {
+  return number.toLocaleString("en-US");
 }
 
 function aboutCounty(code, place, seats) {
   const county = data.counties[code], group = data.groups[place.number];
   const shared = data.shared.includes(place.number) ? " The group is in every best grouping." : "";
   const [least, most] = data.windows[seats];
-  return `${county.name}: ${county.people.toLocaleString("en-US")} people. Group ${place.at + 1}: ${seats} ${seats === 1 ? "seat" : "seats"}, ` +
-    `${group.people.toLocaleString("en-US")} people. ${seats} ${seats === 1 ? "seat asks" : "seats ask"} for ${least.toLocaleString("en-US")} to ${most.toLocaleString("en-US")} people.${shared}`;
+  const [noun, asked] = seats === 1 ? ["seat", "seat asks"] : ["seats", "seats ask"];
+  const ofGroup = `Group ${place.at + 1}: ${seats} ${noun}, ${thousands(group.people)} people.`;
+  const asks = `${seats} ${asked} for ${thousands(least)} to ${thousands(most)} people.`;
+  return `${county.name}: ${thousands(county.people)} people. ${ofGroup} ${asks}${shared}`;
 }
 
 function showMap(numbers, seats) {
@@ -78,8 +85,8 @@ function showTable(numbers, seats) {
     row.append(
       cell(at + 1, "Group", true, at + 1),
       cell(seats[at], "Seats", true, seats[at]),
-      cell(group.people.toLocaleString("en-US"), "People", true, group.people),
-      cell(Math.round(each).toLocaleString("en-US"), "People per seat", true, each),
+      cell(thousands(group.people), "People", true, group.people),
+      cell(thousands(Math.round(each)), "People per seat", true, each),
       cell((off < 0 ? "\u2212" : "+") + Math.abs(100 * off).toFixed(2) + " %", "Against the ideal", true, off),
       cell(names, "Counties", false, names),
       cell(region < 0 ? "in every best grouping" : `choice in region ${region + 1}`, "Shared", false, region),
@@ -91,7 +98,8 @@ function showTable(numbers, seats) {
 
 function sortRows() {
   const value = (row) => row.cells[sorted.column].dataset.value;
-  const by = (one, other) => (sorted.column === 5 ? value(one).localeCompare(value(other)) : value(one) - value(other)) || one.cells[0].dataset.value - other.cells[0].dataset.value;
+  const byColumn = (one, other) => (sorted.column === 5 ? value(one).localeCompare(value(other)) : value(one) - value(other));
+  const by = (one, other) => byColumn(one, other) || one.cells[0].dataset.value - other.cells[0].dataset.value;
   find("groups").replaceChildren(...[...find("groups").rows].sort((one, other) => sorted.sign * by(one, other)));
   document.querySelectorAll("#heads th").forEach((head, column) => {
     if (column === sorted.column) head.setAttribute("aria-sort", sorted.sign > 0 ? "ascending" : "descending");
@@ -107,7 +115,7 @@ function showGrouping(numbers, seats) {
   link.href = "data:text/plain;charset=utf-8," + encodeURIComponent(text);
   link.download = number ? `chamber-${data.chamber}-grouping-${number}.txt` : `chamber-${data.chamber}-grouping.txt`;
   for (const place of document.querySelectorAll(".number-of-grouping")) place.textContent = number;
-  const one = data.number === 1 ? "This is the only best grouping." : `This is one of ${data.number.toLocaleString("en-US")} best groupings.`;
+  const one = data.number === 1 ? "This is the only best grouping." : `This is one of ${thousands(data.number)} best groupings.`;
   find("which").textContent = one + (data.number > 1 && number ? ` Its number in the list is ${number}.` : "");
 }
 
@@ -116,7 +124,9 @@ function show() {
   showMap(numbers, seats);
   showTable(numbers, seats);
   showGrouping(numbers, seats);
-  for (const button of document.querySelectorAll("input[type=radio]")) button.checked = chosen[Number(button.dataset.region)] === Number(button.value);
+  for (const button of document.querySelectorAll("input[type=radio]")) {
+    button.checked = chosen[Number(button.dataset.region)] === Number(button.value);
+  }
 }
 
 function tell(path) {
@@ -132,6 +142,8 @@ document.querySelectorAll("#heads button").forEach((button, column) => button.ad
   sorted = { column, sign: sorted.column === column ? -sorted.sign : 1 };
   sortRows();
 }));
-document.querySelectorAll(".county").forEach((path) => ["mouseover", "focus", "click"].forEach((kind) => path.addEventListener(kind, () => tell(path))));
+for (const path of document.querySelectorAll(".county")) {
+  for (const kind of ["mouseover", "focus", "click"]) path.addEventListener(kind, () => tell(path));
+}
 document.querySelectorAll("input[type=radio]").forEach((button) => { button.disabled = false; });
 show();

@@ -7,6 +7,7 @@ for each county, and RECORD what the run stored under --record. If a file can't 
 the status is 1. Without the five words the status is 2.
 """
 import json
+import math
 import os
 import shlex
 import sys
@@ -54,9 +55,22 @@ class Page:
         """What is said of a county when it is pointed at."""
         least, most = page_choices.district_window(self.listing, seats)
         asked = "seat asks" if seats == 1 else "seats ask"
-        told = f"{county.name or county.geoid}: {county.people:,} people. Group {number}: {county_map.counted(seats, 'seat')}, {group.people:,} people. "
+        told = f"{county.name or county.geoid}: {county.people:,} people. "
+        told += f"Group {number}: {county_map.counted(seats, 'seat')}, {group.people:,} people. "
         told += f"{seats} {asked} for {least:,} to {most:,} people."
         return told + (" The group is in every best grouping." if group.codes in self.shared else "")
+
+    def about_withdrawn(self, county, group):
+        """What is said of a county that was taken out beforehand."""
+        told = f"{county.name or county.geoid}: {county.people:,} people. {group.words.capitalize()}: "
+        return told + f"{county_map.counted(group.seats, 'seat')}, {group.people:,} people."
+
+    def about_all(self):
+        """What is said of each county."""
+        shown = enumerate(zip(self.first, self.seats), 1)
+        told = {code: self.about(self.county[code], number, group, seats) for number, (group, seats) in shown for code in group.codes}
+        told.update({county.geoid: self.about_withdrawn(county, group) for group in self.withdrawn for county in group.counties})
+        return told
 
     @property
     def text(self):
@@ -120,15 +134,11 @@ def badge_part(kind, told, said, place):
 def county_parts(page, sheet):
     """A path for each county, which the Tab key reaches."""
     parts = []
-    told = {code: page.about(page.county[code], number, group, seats) for number, (group, seats) in enumerate(zip(page.first, page.seats), 1) for code in group.codes}
-    for group in page.withdrawn:
-        for county in group.counties:
-            told[county.geoid] = f"{county.name or county.geoid}: {county.people:,} people. {group.words.capitalize()}: {county_map.counted(group.seats, 'seat')}, {group.people:,} people."
-    for geoid in sorted(told):
+    for geoid, told in sorted(page.about_all().items()):
         colour, path = sheet.colour[sheet.group_of[geoid]], county_map.path_of(sheet.shapes[geoid], True)
         parts.append(
-            f'<path class="county" id="c{geoid}" tabindex="0" role="img" aria-label="{escape(told[geoid])}" fill="{colour}" stroke="{colour}" '
-            f'd="{path}"><title>{escape(told[geoid])}</title></path>'
+            f'<path class="county" id="c{geoid}" tabindex="0" role="img" aria-label="{escape(told)}" fill="{colour}" stroke="{colour}" '
+            f'd="{path}"><title>{escape(told)}</title></path>'
         )
         if sheet.group_of[geoid] in {group.label for group in page.withdrawn}:
             parts.append(f'<path class="hatch" fill="url(#withdrawn)" d="{path}"/>')
@@ -144,7 +154,8 @@ def border_parts(sheet):
     for counties, found in sorted(pieces.items()):
         is_inner = len(counties) > 1 and len({sheet.group_of[geoid] for geoid in counties}) == 1
         pair = f' data-pair="{counties[0]} {counties[1]}"' if len(counties) == 2 else ""
-        parts.append(f'<path class="border {"thin" if is_inner else "thick"}"{pair} d="{county_map.path_of(county_shapes.chains(found), False)}"/>')
+        kind = "thin" if is_inner else "thick"
+        parts.append(f'<path class="border {kind}"{pair} d="{county_map.path_of(county_shapes.chains(found), False)}"/>')
     return [*parts, '<path id="pointer" d=""/>']
 
 
@@ -177,7 +188,8 @@ def row_parts(page):
         region = next((one for one, region in enumerate(page.listing.regions) if any(group in some for some in region)), -1)
         shared = "in every best grouping" if region < 0 else f"choice in region {region + 1}"
         sign = "\u2212" if off < 0 else "+"
-        fields = [number, seats, f"{group.people:,}", f"{round(each):,}", f"{sign}{abs(100 * off):.2f} %", escape(page.named(group.codes)), shared]
+        fields = [number, seats, f"{group.people:,}", f"{math.floor(each + 0.5):,}", f"{sign}{abs(100 * off):.2f} %"]
+        fields += [escape(page.named(group.codes)), shared]
         cells = [f'<td data-head="{head}"{number_class(head)}>{words}</td>' for head, words in zip(HEADS, fields)]
         parts.append(f'<tr data-codes="{" ".join(group.codes)}">{"".join(cells)}</tr>')
     return parts
@@ -228,7 +240,7 @@ def problem_words(record):
 
 def certificate_name(record):
     """The certificate that the run read or stored."""
-    names = [name for option, _, _, name in [*record.read, *record.stored] if option == "certificate"]
+    names = [name for option, _, _, name in [*record.read, *record.stored] if option.lstrip("-") == "certificate"]
     return names[0] if names else "CERTIFICATE"
 
 
@@ -249,14 +261,16 @@ def check_parts(page):
     """How anybody checks the answer: the commands, the files with their sums, and what is proved."""
     files = [*page.record.read, *page.record.stored]
     heads = ["File", "Name", "Bytes", "SHA-256"]
-    rows = [
-        "<tr>" + "".join(f'<td data-head="{head}" class="wide">{words}</td>' for head, words in zip(heads, fields)) + "</tr>"
-        for fields in ((escape(option), f"<code>{escape(name)}</code>", f"{size:,}", f"<code>{total}</code>") for option, size, total, name in files)
-    ]
+    rows = []
+    for option, size, total, name in files:
+        fields = escape(option), f"<code>{escape(name)}</code>", f"{size:,}", f"<code>{total}</code>"
+        cells = [f'<td data-head="{head}" class="wide">{words}</td>' for head, words in zip(heads, fields)]
+        rows.append(f"<tr>{''.join(cells)}</tr>")
     return [
         f"<pre>{commands(page)}</pre>",
         "<p>Take the files from their public source, and compare their sums with <code>sha256sum FILE</code>.</p>",
-        f'<table><caption>The files of the run, which <code>{escape(page.record.version)}</code> answered with <code>{escape(page.record.answer)}</code></caption>',
+        f"<table><caption>The files of the run, which <code>{escape(page.record.version)}</code> answered with "
+        f"<code>{escape(page.record.answer)}</code></caption>",
         f'<thead><tr>{"".join(f"<th scope=col>{head}</th>" for head in heads)}</tr></thead><tbody>',
         *rows,
         "</tbody></table>",
@@ -275,8 +289,11 @@ def withdrawn_parts(page):
     """The sets that were taken out beforehand."""
     if not page.withdrawn:
         return []
-    rows = [f"<li>{group.words.capitalize()}: {escape(page.named([one.geoid for one in group.counties]))}, {county_map.counted(group.seats, 'seat')}, {group.people:,} people.</li>" for group in page.withdrawn]
-    return ["<h2>Taken out beforehand</h2>", f"<ul>{''.join(rows)}</ul>"]
+    rows = []
+    for group in page.withdrawn:
+        names = escape(page.named([county.geoid for county in group.counties]))
+        rows.append(f"<li>{group.words.capitalize()}: {names}, {county_map.counted(group.seats, 'seat')}, {group.people:,} people.</li>")
+    return ["<h2>Taken out beforehand</h2>", "<ul>", *rows, "</ul>"]
 
 
 def which(page):
@@ -291,8 +308,11 @@ def choices_words(page):
     """What there is to choose."""
     if not page.listing.regions:
         return "There is no choice: each group is in every best grouping."
-    every = "Each combination is a best grouping." if page.listing.combinations is None else "Not every combination is a best grouping: one choice may change another."
-    return f"{county_map.counted(len(page.listing.shared), 'group')} of {len(page.first)} are in every best grouping. The others lie in {county_map.counted(len(page.listing.regions), 'region')}. {every}"
+    every = "Each combination is a best grouping."
+    if page.listing.combinations is not None:
+        every = "Not every combination is a best grouping: one choice may change another."
+    regions = county_map.counted(len(page.listing.regions), "region")
+    return f"Of {len(page.first)} groups, {len(page.listing.shared)} are in every best grouping. The others lie in {regions}. {every}"
 
 
 def heads_part():
@@ -300,41 +320,58 @@ def heads_part():
     return "".join(f'<th scope="col"{number_class(head)}><button type="button">{head}</button></th>' for head in HEADS)
 
 
-def html_of(page, outlines):
-    """The whole page."""
-    sheet = Sheet(page, outlines)
-    with open(os.path.join(HERE, "page.css"), encoding="utf-8") as file:
-        style = file.read()
-    with open(os.path.join(HERE, "page.js"), encoding="utf-8") as file:
-        script = file.read()
-    title = county_map.title_of(page.groups)
-    caption = " ".join(CAPTION)
-    name = f"chamber-{page.listing.chamber}-grouping{f'-{page.number}' if page.number else ''}.txt"
-    return "\n".join([
+def text_of(name):
+    """The text of a file beside this one."""
+    with open(os.path.join(HERE, name), encoding="utf-8") as file:
+        return file.read()
+
+
+def head_parts(title):
+    """The head of the page."""
+    return [
         "<!DOCTYPE html>",
         '<html lang="en">',
         '<head><meta charset="utf-8"><meta name="viewport" content="width=device-width, initial-scale=1">',
         f"<title>{escape(title)}</title>",
-        f"<style>{style}</style></head>",
-        "<body><main>",
-        f"<h1>{escape(title)}</h1>",
-        f'<p id="counts">{escape(county_map.counts_in_words(page.groups))}.</p>',
-        f'<p id="which" role="status">{which(page)}</p>',
+        f"<style>{text_of('page.css')}</style></head>",
+    ]
+
+
+def figure_parts(page, sheet, title):
+    """The map, and the place where a county's numbers are told."""
+    return [
+        '<p class="skip"><a href="#choices">To the choices</a></p>',
         "<figure>",
         f'<svg viewBox="-4 -4 {WIDTH + 8} {sheet.height + 8:g}" role="group" aria-label="Map: {escape(title)}">',
         '<defs><pattern id="withdrawn" width="7" height="7" patternUnits="userSpaceOnUse" patternTransform="rotate(45)">'
         '<path d="M0 0V7" stroke="#333333" stroke-width="1.4"/></pattern></defs>',
         *map_parts(page, sheet),
         "</svg>",
-        f"<figcaption>{caption}</figcaption>",
+        f"<figcaption>{' '.join(CAPTION)}</figcaption>",
         "</figure>",
         '<p id="told" aria-live="polite">Point at a county, tap it, or reach it by the Tab key.</p>',
-        "<h2>The choices</h2>",
+    ]
+
+
+def chosen_parts(page):
+    """The choices, and the grouping that is offered."""
+    name = f"chamber-{page.listing.chamber}-grouping{f'-{page.number}' if page.number else ''}.txt"
+    address = f"data:text/plain;charset=utf-8,{quote(page.text)}"
+    return [
+        '<h2 id="choices">The choices</h2>',
         f"<p>{choices_words(page)}</p>",
         *choice_parts(page),
-        "<noscript><p>To choose another alternative, scripts have to be allowed. The map and the table show one best grouping.</p></noscript>",
-        f'<p class="screen"><a id="download" download="{name}" href="data:text/plain;charset=utf-8,{quote(page.text)}">Download this grouping</a>, for <code>judge</code> and <code>audit</code>.</p>',
+        "<noscript><p>To choose another alternative, scripts have to be allowed. The map and the table show one best grouping.</p>",
+        "</noscript>",
+        f'<p class="screen"><a id="download" download="{name}" href="{address}">Download this grouping</a>, for <code>judge</code> and '
+        "<code>audit</code>.</p>",
         f'<details class="screen"><summary>The grouping as text</summary><pre id="text">{page.text}</pre></details>',
+    ]
+
+
+def group_parts(page):
+    """The table of groups."""
+    return [
         "<h2>The groups</h2>",
         f"<table><caption>The ideal district has {page.listing.people / page.listing.chamber:,.2f} people.",
         '<span class="screen">A head sorts the table.</span></caption>',
@@ -342,12 +379,28 @@ def html_of(page, outlines):
         '<tbody id="groups">',
         *row_parts(page),
         "</tbody></table>",
+    ]
+
+
+def html_of(page, outlines):
+    """The whole page."""
+    sheet = Sheet(page, outlines)
+    title = county_map.title_of(page.groups)
+    return "\n".join([
+        *head_parts(title),
+        "<body><main>",
+        f"<h1>{escape(title)}</h1>",
+        f'<p id="counts">{escape(county_map.counts_in_words(page.groups))}.</p>',
+        f'<p id="which" role="status">{which(page)}</p>',
+        *figure_parts(page, sheet, title),
+        *chosen_parts(page),
+        *group_parts(page),
         *withdrawn_parts(page),
         "<h2>How to check it</h2>",
         *check_parts(page),
         "</main>",
         f'<script type="application/json" id="data">{data_of(page, sheet)}</script>',
-        f"<script>{script}</script>",
+        f"<script>{text_of('page.js')}</script>",
         "</body></html>",
         "",
     ])

@@ -213,10 +213,12 @@ class Small(Room):
         self.assertEqual(near, {"one": set(), "two": set()})
 
     def test_parts_are_tied(self):
-        shapes = {"a": [[(0, 0), (10, 0), (10, 10), (0, 10)]], "b": [[(10, 0), (20, 0), (20, 10), (10, 10)]], "c": [[(30, 0), (40, 0), (40, 10)]]}
+        shapes = {"a": [[(0, 0), (10, 0), (10, 10), (0, 10)]], "b": [[(10, 0), (20, 0), (20, 10), (10, 10)]]}
+        shapes["c"] = [[(30, 0), (40, 0), (40, 10)]]
         found = county_shapes.parts(list(shapes), county_shapes.borders(shapes))
         self.assertEqual(found, [["a", "b"], ["c"]])
         self.assertEqual(county_shapes.ties([found], shapes), [((20, 0), (30, 0))])
+        self.assertEqual(county_shapes.ties([[["a"], ["b"]]], shapes), [])
 
     def test_lines_go_through_each_piece_once(self):
         pieces = [((0, 0), (1, 0)), ((1, 0), (1, 1)), ((0, 0), (1, 1)), ((1, 1), (2, 2))]
@@ -266,6 +268,7 @@ class Refusals(Room):
 
     def test_a_table_with_a_line_at_fault(self):
         path = os.path.join(self.room, "t.csv")
+        of_people = f"The people of the counties of withdrawn set 1 in the table {path} don't add up to GROUP_POPULATION."
         header = ",".join(county_table.HEADER) + "\n"
         wrong = {
             header: f"The table {path} lists no county.",
@@ -275,7 +278,7 @@ class Refusals(Room):
             header + "37001,A,10,X,1,10\n": f"Line 2 of the table {path} has no GROUP.",
             header + "37001,A,10,1,1,10\n37001,A,10,1,1,10\n": f"The table {path} lists county 37001 twice.",
             header + "37001,A,10,1,1,20\n37003,B,10,1,2,20\n": f"The table {path} gives group 1 two numbers of seats or of people.",
-            header + "37001,A,10,W1,1,20\n": f"The people of the counties of withdrawn set 1 in the table {path} don't add up to GROUP_POPULATION.",
+            header + "37001,A,10,W1,1,20\n": of_people,
             header + '37001,"A,10,1,1,10\n': f"The table {path} isn't a comma-separated text in UTF-8.",
             header.encode() + b"37001,\xff,10,1,1,10\n": f"The table {path} isn't a comma-separated text in UTF-8.",
         }

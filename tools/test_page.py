@@ -142,7 +142,8 @@ class ReadBack(PageRoom):
         rows = page.all("tr")
         told = {row[1]["data-codes"]: row for row in rows if "data-codes" in row[1]}
         listed = lists_of_carolina()[chamber]
-        groups = {codes: (count, people) for count, people, codes in re.findall(r"^group seats (\d+) people (\d+) counties (.*)$", listed, re.MULTILINE)}
+        lines = re.findall(r"^group seats (\d+) people (\d+) counties (.*)$", listed, re.MULTILINE)
+        groups = {codes: (count, people) for count, people, codes in lines}
         cells = self.cells(text)
         self.assertEqual(sum(int(row[1]) for row in cells.values()), seats)
         for codes, row in cells.items():
@@ -169,7 +170,8 @@ class ReadBack(PageRoom):
 
     def test_the_senate(self):
         page = self.check("senate", 50)
-        self.assertEqual(page.words("counts"), "2 groups of one county, 9 of two, 9 of three, 1 of four, 2 of seven, 1 of eight, 1 of ten, 1 of 17.")
+        counts = "2 groups of one county, 9 of two, 9 of three, 1 of four, 2 of seven, 1 of eight, 1 of ten, 1 of 17."
+        self.assertEqual(page.words("counts"), counts)
         wake = page.all("path", id="c37183")[0][1]["aria-label"]
         begin = "Wake County: 1,129,410 people. Group 8: 6 seats, 1,190,402 people. 6 seats ask for 1,190,091 to 1,315,362 people."
         self.assertEqual(wake, begin + " The group is in every best grouping.")
@@ -272,7 +274,8 @@ class Inputs(PageRoom):
     def test_a_table_of_another_problem(self):
         other = SIX.replace("chamber 6", "chamber 7")
         self.refuses("The table table.csv has a chamber of 6, and the list list.txt has a chamber of 7.", listed=other)
-        self.refuses("The table table.csv has people 600, and the list list.txt has people 601.", listed=SIX.replace("people 600", "people 601"))
+        other = SIX.replace("people 600", "people 601")
+        self.refuses("The table table.csv has people 600, and the list list.txt has people 601.", listed=other)
         moved = SIX.replace("people 210", "people 211")
         self.refuses("The people of counties 37007 37009 in the list list.txt aren't those of the table table.csv.", listed=moved)
         groups = {1: (2, ["37001", "37005"]), 2: (1, ["37003"]), 3: (2, ["37007", "37009"]), 4: (1, ["37011"])}
@@ -282,7 +285,8 @@ class Inputs(PageRoom):
         self.refuses("Line 5 of the list list.txt isn't one that stands there.", listed=SIX.replace("answer all", "answer best"))
         self.refuses("The list list.txt has no end of its last line.", listed=SIX[:-1])
         self.refuses("Line 19 of the list list.txt isn't one that stands there.", listed=SIX + "more\n")
-        self.refuses("The list list.txt says every choice, and has 2 choices and 3 groupings.", listed=SIX.replace("groupings 2", "groupings 3"))
+        wrong = SIX.replace("groupings 2", "groupings 3")
+        self.refuses("The list list.txt says every choice, and has 2 choices and 3 groupings.", listed=wrong)
         wrong = SIX.replace("every choice\n", "grouping 1 alternatives 1\ngrouping 2 alternatives 3\n")
         self.refuses("A grouping of the list list.txt names an alternative that isn't there.", listed=wrong)
 
@@ -290,7 +294,8 @@ class Inputs(PageRoom):
         self.refuses("Line 1 of the record run.record isn't one that stands there.", record="no\n")
         other = self.record.replace("--chamber=6", "--chamber=7")
         self.refuses("The record run.record isn't of a run for the chamber of 6 seats.", record=other)
-        self.refuses("The record run.record is of a run that ended with status 3, and not with 0.", record=self.record.replace("status 0", "status 3"))
+        other = self.record.replace("status 0", "status 3")
+        self.refuses("The record run.record is of a run that ended with status 3, and not with 0.", record=other)
 
     def test_the_words(self):
         said = io.StringIO()
@@ -312,6 +317,14 @@ class InBrowser(PageRoom):
         """The text behind the page's link."""
         return urllib.parse.unquote(self.browser.value("document.getElementById('download').href").split(",", 1)[1])
 
+    def words(self, name):
+        """The words of an element."""
+        return self.browser.value(f"document.getElementById('{name}').textContent")
+
+    def each(self, wanted, script):
+        """What a script gives for each element."""
+        return self.browser.value(f"[...document.querySelectorAll(\"{wanted}\")].map((one) => {script})")
+
     def open_carolina(self, chamber, **how):
         self.carolina(chamber)
         self.browser.open(os.path.join(self.room, "page.html"), **how)
@@ -326,7 +339,7 @@ class InBrowser(PageRoom):
                     self.browser.value(f"document.querySelector('input[data-region=\"{region}\"][value=\"{one}\"]').click()")
                 text = self.downloaded()
                 seen.add(text)
-                self.assertIn(f"Its number in the list is {listed.index(text) + 1}.", self.browser.value("document.getElementById('which').textContent"))
+                self.assertIn(f"Its number in the list is {listed.index(text) + 1}.", self.words("which"))
                 self.check_shown(text)
             self.assertEqual(seen, set(listed))
             self.check_quiet()
@@ -334,14 +347,14 @@ class InBrowser(PageRoom):
     def check_shown(self, text):
         """Table, map and badges are those of a grouping text."""
         groups = [line.split("|") for line in text.splitlines()]
-        rows = self.browser.value("[...document.querySelectorAll('#groups tr')].map(row => row.cells[1].textContent + ' ' + row.dataset.codes)")
+        rows = self.each("#groups tr", "one.cells[1].textContent + ' ' + one.dataset.codes")
         self.assertEqual(rows, [" ".join(group) for group in groups])
-        marks = self.browser.value("[...document.querySelectorAll('.mark:not(.off) text')].map(text => text.textContent)")
+        marks = self.each(".mark:not(.off) text", "one.textContent")
         self.assertEqual(sorted(marks), sorted(group[0] for group in groups))
-        fills = self.browser.value("Object.fromEntries([...document.querySelectorAll('.county')].map(path => [path.id.slice(1), path.getAttribute('fill')]))")
+        fills = dict(self.each(".county", "[one.id.slice(1), one.getAttribute('fill')]"))
         group_of = {code: place for place, group in enumerate(groups) for code in group[1:]}
         self.assertTrue(all(len({fills[code] for code in group[1:]}) == 1 for group in groups))
-        kinds = self.browser.value("[...document.querySelectorAll('[data-pair]')].map(path => [path.dataset.pair, path.getAttribute('class')])")
+        kinds = self.each("[data-pair]", "[one.dataset.pair, one.getAttribute('class')]")
         self.assertGreater(len(kinds), 200)
         for pair, kind in kinds:
             one, other = pair.split()
@@ -356,18 +369,18 @@ class InBrowser(PageRoom):
         self.assertEqual(asked, [])
 
     def test_choices_that_depend_on_one_another(self):
-        listed = SIX.replace("best groupings 2", "best groupings 2").replace("every choice\n", "")
-        listed = listed.replace("shared groups 2\ngroup seats 1 people 100 counties 37011\ngroup seats 2 people 210 counties 37007 37009\n", "shared groups 0\n")
-        listed += "region 2 counties 3 alternatives 2\nalternative 1\ngroup seats 1 people 100 counties 37011\ngroup seats 2 people 210 counties 37007 37009\n"
-        listed += "alternative 2\ngroup seats 1 people 105 counties 37007\ngroup seats 2 people 205 counties 37009 37011\n"
+        groups = "group seats 1 people 100 counties 37011\ngroup seats 2 people 210 counties 37007 37009\n"
+        listed = SIX.replace("every choice\n", "").replace(f"shared groups 2\n{groups}", "shared groups 0\n")
+        listed += f"region 2 counties 3 alternatives 2\nalternative 1\n{groups}alternative 2\n"
+        listed += "group seats 1 people 105 counties 37007\ngroup seats 2 people 205 counties 37009 37011\n"
         listed += "grouping 1 alternatives 1 1\ngrouping 2 alternatives 2 2\n"
         outlines = self.file("squares", squares(*((code, place, 0) for place, code in enumerate(PEOPLE))))
         self.page(small_table(dict(enumerate(GROUPS, 1))), listed, record_of(6), outlines)
         self.browser.open(os.path.join(self.room, "page.html"))
         self.browser.value("document.querySelector('input[data-region=\"0\"][value=\"1\"]').click()")
         self.assertEqual(self.downloaded(), "1|37005\n1|37007\n2|37001|37003\n2|37009|37011\n")
-        self.assertEqual(self.browser.value("document.getElementById('which').textContent"), "This is one of 2 best groupings. Its number in the list is 2.")
-        checked = self.browser.value("[...document.querySelectorAll('input:checked')].map(button => button.dataset.region + button.value)")
+        self.assertEqual(self.words("which"), "This is one of 2 best groupings. Its number in the list is 2.")
+        checked = self.each("input:checked", "one.dataset.region + one.value")
         self.assertEqual(checked, ["01", "11"])
         self.check_quiet()
 
@@ -376,50 +389,61 @@ class InBrowser(PageRoom):
         reached = {}
         for _ in range(130):
             self.browser.press_tab()
-            found = self.browser.value("[document.activeElement.id, document.getElementById('told').textContent, document.activeElement.getAttribute('aria-label')]")
-            if found[0].startswith("c37"):
-                reached[found[0]] = found[1] == found[2]
+            county, label = self.browser.value("[document.activeElement.id, document.activeElement.getAttribute('aria-label')]")
+            if county.startswith("c37"):
+                reached[county] = label == self.words("told")
         self.assertEqual((len(reached), all(reached.values())), (100, True))
         self.check_quiet()
 
     def test_the_table_is_sorted(self):
         self.open_carolina("house")
-        script = "[...document.querySelectorAll('#groups tr')].map(row => Number(row.cells[2].dataset.value))"
         self.browser.value("document.querySelectorAll('#heads button')[2].click()")
-        up = self.browser.value(script)
+        up = self.each("#groups tr", "Number(one.cells[2].dataset.value)")
         self.browser.value("document.querySelectorAll('#heads button')[2].click()")
-        self.assertEqual((up, self.browser.value(script)), (sorted(up), sorted(up, reverse=True)))
+        down = self.each("#groups tr", "Number(one.cells[2].dataset.value)")
+        self.assertEqual((up, down), (sorted(up), sorted(up, reverse=True)))
         self.assertEqual(self.browser.value("document.querySelectorAll('#heads th')[2].getAttribute('aria-sort')"), "descending")
 
     def test_a_narrow_window_and_no_scripts(self):
         for chamber in ("senate", "house"):
             self.open_carolina(chamber, width=360, height=740)
             self.assertLessEqual(self.browser.value("document.scrollingElement.scrollWidth"), 360)
-            before = self.downloaded()
+            shown = self.shown()
             self.browser.open(os.path.join(self.room, "page.html"), has_scripts=False)
-            self.assertEqual(self.downloaded(), before)
-            self.assertEqual(self.browser.value("document.querySelectorAll('.county').length"), 100)
+            self.assertEqual(self.shown(), shown)
             self.check_quiet()
+
+    def shown(self):
+        """What the page shows: each county with what is said of it, borders, badges, the table and the grouping."""
+        counties = self.each(".county", "[one.id, one.getAttribute('aria-label'), one.getAttribute('fill')]")
+        borders = self.each(".border", "one.getAttribute('class')")
+        badges = self.each(".mark:not(.off)", "one.textContent")
+        rows = self.each("#groups tr", "[...one.cells].map((cell) => cell.textContent)")
+        return counties, borders, badges, rows, self.words("which"), self.downloaded()
 
     @unittest.skipUnless("--program" in sys.argv, "no program was given, so its groupings weren't compared")
     def test_the_groupings_of_the_program(self):
         problem = ["--geo", "nc2020geo.pl", "--segment", "nc000012020.pl", "--adjacency", "county_adjacency2023.txt", "--chamber", "120"]
         problem = [os.path.join(DATA, word) if word in FILES.values() else word for word in problem]
         certificate, out = os.path.join(self.room, "certificate"), os.path.join(self.room, "grouping")
-        subprocess.run([PROGRAM, "solve", *problem, "--certificate", certificate, "--out", out], check=True, capture_output=True)
+        problem += ["--certificate", certificate]
+        self.answer("solve", *problem, "--out", out)
         with open(out, encoding="ascii") as file:
             table = table_of(file.read())
-        listing = subprocess.run([PROGRAM, "list", *problem, "--certificate", certificate], check=True, capture_output=True, text=True).stdout
-        self.page(table, listing, record_of(120))
+        self.page(table, self.answer("list", *problem), record_of(120))
         self.browser.open(os.path.join(self.room, "page.html"))
         for choice in itertools.product("01", repeat=3):
             for region, one in enumerate(choice):
                 self.browser.value(f"document.querySelector('input[data-region=\"{region}\"][value=\"{one}\"]').click()")
             number = self.browser.value("document.querySelector('.number-of-grouping').textContent")
-            subprocess.run([PROGRAM, "list", *problem, "--certificate", certificate, "--number", number, "--out", out], check=True, capture_output=True)
+            self.answer("list", *problem, "--number", number, "--out", out)
             with open(out, encoding="ascii") as file:
                 self.assertEqual(self.downloaded(), file.read())
         self.check_quiet()
+
+    def answer(self, *words):
+        """What the program writes, if it ends with 0."""
+        return subprocess.run([PROGRAM, *words], check=True, capture_output=True, text=True).stdout
 
     @unittest.skipUnless("--pictures" in sys.argv, "no folder for pictures was given")
     def test_pictures(self):
