@@ -8,6 +8,7 @@ used, one sentence on standard error says why, and the status is 1. Without the 
 import os
 import sys
 import tempfile
+import textwrap
 from xml.sax.saxutils import escape, quoteattr
 
 import county_shapes
@@ -16,8 +17,8 @@ from map_colours import colour_numbers, colour_of
 
 WIDTH = 1400
 EDGE = 24
-HEAD = 84
-FOOT = 44
+LINE = 20
+LETTERS = 160
 STATES = {"37": "North Carolina"}
 CHAMBERS = {("37", 50): "Senate", ("37", 120): "House"}
 SIZES = ["", "one county", "two", "three", "four", "five", "six", "seven", "eight", "nine", "ten"]
@@ -164,21 +165,41 @@ def tie_lines(groups, shapes, owners):
     return [f'<path class="tie" d="{path_of([line], False)}"/>' for line in county_shapes.ties(found, shapes)]
 
 
-def drawing(groups, outlines):
-    """The whole map as SVG."""
-    shapes, height = county_shapes.laid_out(outlines, WIDTH - 2 * EDGE)
-    group_of = {county.geoid: group.label for group in groups for county in group.counties}
-    owners = county_shapes.borders(shapes)
-    numbers = colour_numbers(county_shapes.neighbours(owners, group_of))
-    boxes = name_boxes(groups, shapes)
-    whole = round(HEAD + height + FOOT)
-    tied = tie_lines(groups, shapes, owners)
-    notes = ["The number in a badge is how many seats a group has.", "Thick lines bound groups."]
-    notes.append("A colour tells neighbours apart, and means nothing else.")
+def notes_of(groups, tied):
+    """What a reader of the map has to know."""
+    notes = ["The number in a badge is the seats of its group.", "Thick lines bound groups.", "Colours only tell neighbours apart."]
     if tied:
         notes.append("A dashed line joins parts of one group.")
     if any(group.is_withdrawn for group in groups):
         notes.append("A hatched set was withdrawn: W and its number, and its seats.")
+    return notes
+
+
+def text_lines(words, top):
+    """Words in as many lines as they need, the first at this height."""
+    lines = textwrap.wrap(words, LETTERS)
+    return [f'<text class="line" x="{EDGE}" y="{top + place * LINE}">{escape(line)}</text>' for place, line in enumerate(lines)]
+
+
+def map_lines(groups, shapes):
+    """Counties, borders, names and badges, and whether a group has parts that are tied."""
+    group_of = {county.geoid: group.label for group in groups for county in group.counties}
+    owners = county_shapes.borders(shapes)
+    numbers = colour_numbers(county_shapes.neighbours(owners, group_of))
+    boxes = name_boxes(groups, shapes)
+    tied = tie_lines(groups, shapes, owners)
+    drawn = county_paths(groups, shapes, numbers) + border_paths(owners, group_of) + tied
+    return drawn + name_texts(boxes) + badges(groups, shapes, owners, group_of, boxes), bool(tied)
+
+
+def drawing(groups, outlines):
+    """The whole map as SVG."""
+    shapes, height = county_shapes.laid_out(outlines, WIDTH - 2 * EDGE)
+    drawn, tied = map_lines(groups, shapes)
+    counts = text_lines(counts_in_words(groups), 65)
+    top = 64 + LINE * len(counts)
+    notes = text_lines(" ".join(notes_of(groups, tied)), round(top + height + 28))
+    whole = round(top + height + 24 + LINE * len(notes))
     return "\n".join([
         f'<svg xmlns="http://www.w3.org/2000/svg" viewBox="0 0 {WIDTH} {whole}" width="{WIDTH}" height="{whole}" role="img" lang="en">',
         f"<title>{escape(title_of(groups))}</title>",
@@ -188,15 +209,11 @@ def drawing(groups, outlines):
         '<path d="M0 0V7" stroke="#333333" stroke-width="1.4"/></pattern></defs>',
         f'<rect width="{WIDTH}" height="{whole}" fill="#ffffff"/>',
         f'<text class="heading" x="{EDGE}" y="40">{escape(title_of(groups))}</text>',
-        f'<text class="line" x="{EDGE}" y="65">{escape(counts_in_words(groups))}</text>',
-        f'<g transform="translate({EDGE} {HEAD})">',
-        *county_paths(groups, shapes, numbers),
-        *border_paths(owners, group_of),
-        *tied,
-        *name_texts(boxes),
-        *badges(groups, shapes, owners, group_of, boxes),
+        *counts,
+        f'<g transform="translate({EDGE} {top})">',
+        *drawn,
         "</g>",
-        f'<text class="line" x="{EDGE}" y="{whole - 16}">{escape(" ".join(notes))}</text>',
+        *notes,
         "</svg>",
         "",
     ])

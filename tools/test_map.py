@@ -7,6 +7,7 @@ import csv
 import io
 import itertools
 import json
+import math
 import os
 import re
 import sys
@@ -300,15 +301,44 @@ class Refusals(Room):
         self.assertEqual(sorted(os.listdir(self.room)), ["out.svg", "t.csv"])
 
 
+# How light comes to an eye that lacks one kind of cones (Machado, Oliveira and Fernandes 2009).
+COLOUR_BLIND = {
+    "red": [[0.152286, 1.052583, -0.204868], [0.114503, 0.786281, 0.099216], [-0.003882, -0.048116, 1.051998]],
+    "green": [[0.367322, 0.860646, -0.227968], [0.280085, 0.672501, 0.047413], [-0.011820, 0.042940, 0.968881]],
+    "blue": [[1.255528, -0.076749, -0.178779], [-0.078411, 0.930809, 0.147602], [0.004733, 0.691367, 0.303900]],
+}
+TO_XYZ = [[0.4339, 0.3762, 0.1899], [0.2126, 0.7152, 0.0722], [0.0178, 0.1095, 0.8727]]
+
+
+def times(matrix, values):
+    """A matrix times a column, each value between 0 and 1."""
+    return [min(1, max(0, sum(one * value for one, value in zip(row, values)))) for row in matrix]
+
+
 class Colours(unittest.TestCase):
     """What the colours promise."""
 
+    def light(self, colour):
+        """The light of a colour: red, green and blue."""
+        parts = [int(colour[place : place + 2], 16) / 255 for place in (1, 3, 5)]
+        return [part / 12.92 if part <= 0.04045 else ((part + 0.055) / 1.055) ** 2.4 for part in parts]
+
     def lightness(self, colour):
         """The lightness of a colour in grey, from 0 to 100, and its share of light."""
-        parts = [int(colour[place : place + 2], 16) / 255 for place in (1, 3, 5)]
-        red, green, blue = [part / 12.92 if part <= 0.04045 else ((part + 0.055) / 1.055) ** 2.4 for part in parts]
-        light = 0.2126 * red + 0.7152 * green + 0.0722 * blue
+        light = times(TO_XYZ, self.light(colour))[1]
         return 116 * light ** (1 / 3) - 16, light
+
+    def seen(self, light):
+        """The place of light in CIELAB, where distances are those that are seen."""
+        x, y, z = [value ** (1 / 3) if value > 0.008856 else 7.787 * value + 16 / 116 for value in times(TO_XYZ, light)]
+        return 116 * y - 16, 500 * (x - y), 200 * (y - z)
+
+    def test_the_colours_differ_for_the_colour_blind(self):
+        for one, other in itertools.combinations(map_colours.COLOURS, 2):
+            least = 20 if {one, other} <= set(map_colours.COLOURS[:4]) else 10
+            for lacking, matrix in COLOUR_BLIND.items():
+                apart = math.dist(*(self.seen(times(matrix, self.light(colour))) for colour in (one, other)))
+                self.assertGreater(apart, least, (one, other, lacking))
 
     def test_the_colours_differ_in_grey(self):
         for one, other in itertools.combinations(map_colours.COLOURS, 2):
