@@ -5,6 +5,7 @@
 import base64
 import json
 import os
+import select
 import shutil
 import subprocess
 import tempfile
@@ -75,6 +76,8 @@ class Browser:
     def next_message(self):
         """The next message that the browser sends."""
         while b"\0" not in self.buffer:
+            if not select.select([self.back], [], [], SECONDS)[0]:
+                raise RuntimeError("the browser is silent")
             more = os.read(self.back, 1 << 16)
             if not more:
                 raise RuntimeError("the browser ended")

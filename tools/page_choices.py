@@ -3,6 +3,7 @@ import itertools
 import math
 
 from county_table import Refused
+from map import counted
 from map_colours import colour_numbers
 
 # If there are more best groupings than this, a page doesn't number them.
@@ -56,9 +57,21 @@ def choice_of(table, listing, groups):
         choice.append(found[0])
     if {group.codes for group in grouping_of(listing, choice)} != sets:
         raise Refused(f"The groups of the table {table} aren't those of a grouping of the list.")
+    _check_seats(table, grouping_of(listing, choice), groups)
     if listing.combinations is not None and tuple(choice) not in listing.combinations:
         raise Refused(f"The list has no grouping with the alternatives of the table {table}.")
     return choice
+
+
+def _check_seats(table, listed, groups):
+    """Each group of the table has seats that its people suit by the list."""
+    seats_of_set = {tuple(county.geoid for county in group.counties): group.seats for group in groups}
+    for group in listed:
+        seats = seats_of_set[group.codes]
+        if not group.least <= seats <= group.most:
+            told = counted(group.least, "seat") if group.least == group.most else f"{group.least} to {group.most} seats"
+            codes = " ".join(group.codes)
+            raise Refused(f"The table {table} gives counties {codes} {counted(seats, 'seat')}, and the list gives them {told}.")
 
 
 def check_numbers(table, path, listing, groups):

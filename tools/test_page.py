@@ -15,7 +15,6 @@ import os
 import re
 import subprocess
 import sys
-import tempfile
 import unittest
 import urllib.parse
 
@@ -278,6 +277,8 @@ class Inputs(PageRoom):
         self.refuses("The table table.csv has people 600, and the list list.txt has people 601.", listed=other)
         moved = SIX.replace("people 210", "people 211")
         self.refuses("The people of counties 37007 37009 in the list list.txt aren't those of the table table.csv.", listed=moved)
+        turned = small_table({1: (2, ["37001"]), 2: (1, ["37003", "37005"]), 3: (2, ["37007", "37009"]), 4: (1, ["37011"])})
+        self.refuses("The table table.csv gives counties 37001 2 seats, and the list gives them 1 seat.", table=turned)
         groups = {1: (2, ["37001", "37005"]), 2: (1, ["37003"]), 3: (2, ["37007", "37009"]), 4: (1, ["37011"])}
         self.refuses("The table table.csv has no alternative of region 1 of the list.", table=small_table(groups))
 
