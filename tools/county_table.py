@@ -77,7 +77,12 @@ def _checked(path, number, row):
         if form and not form.fullmatch(field):
             raise Refused(f"Line {number} of the table {path} has no {name}.")
     geoid, name, people, group, seats, group_people = row
-    return County(geoid, name, int(people), group), int(seats), int(group_people)
+    return County(geoid, _printable(name), int(people), group), int(seats), int(group_people)
+
+
+def _printable(name):
+    """The name with a blank in the place of each run of signs that can't be printed, as a line end."""
+    return " ".join("".join(sign if sign.isprintable() else " " for sign in name).split())
 
 
 def _groups(path, rows):

@@ -200,6 +200,14 @@ class Small(Room):
         self.assertIn("37003: 20 people. Withdrawn set 1: 2 seats", titles)
         self.assertEqual(len([one for one in whole.iter(f"{SVG}path") if one.get("fill") == "url(#withdrawn)"]), 2)
 
+    def test_names_of_several_lines(self):
+        rows = [["37001", "Anson\nCounty", 10, "1", 1, 10], ["37003", "Ashe\r\x01\ufffe", 20, "2", 1, 20], ["37005", "Doña Ana", 5, "3", 1, 5]]
+        outlines = self.file("squares", squares(("37001", 0, 0), ("37003", 1, 0), ("37005", 2, 0)))
+        status, said, text = self.run_map(self.file("table.csv", written(rows)), outlines)
+        self.assertEqual((status, said), (0, ""))
+        names = [one.text for one in tree.fromstring(text).iter(f"{SVG}text") if one.get("class") == "name"]
+        self.assertEqual(names, ["Anson", "Ashe", "Doña Ana"])
+
     def test_a_side_that_two_counties_share_with_a_third(self):
         shapes = {"one": [[(0, 0), (100, 0), (100, 100), (0, 100)]], "two": [[(100, 0), (150, 0), (150, 50), (100, 50)]]}
         shapes["three"] = [[(100, 50), (150, 50), (150, 100), (100, 100)]]
