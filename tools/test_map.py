@@ -201,9 +201,9 @@ class Small(Room):
         self.assertEqual(len([one for one in whole.iter(f"{SVG}path") if one.get("fill") == "url(#withdrawn)"]), 2)
 
     def test_names_of_several_lines(self):
-        rows = [["37001", "Anson\nCounty", 10, "1", 1, 10], ["37003", "Ashe\r\x01\ufffe", 20, "2", 1, 20], ["37005", "Doña Ana", 5, "3", 1, 5]]
+        text = written([]) + '37001,"Anson\nCounty",10,1,1,10\n37003,"Ashe\r\x01\ufffe",20,2,1,20\n37005,Doña Ana,5,3,1,5\n'
         outlines = self.file("squares", squares(("37001", 0, 0), ("37003", 1, 0), ("37005", 2, 0)))
-        status, said, text = self.run_map(self.file("table.csv", written(rows)), outlines)
+        status, said, text = self.run_map(self.file("table.csv", text), outlines)
         self.assertEqual((status, said), (0, ""))
         names = [one.text for one in tree.fromstring(text).iter(f"{SVG}text") if one.get("class") == "name"]
         self.assertEqual(names, ["Anson", "Ashe", "Doña Ana"])
