@@ -1,0 +1,4 @@
+pub mod Digits
+pub mod Quoting
+pub mod LabelledSets
+pub mod Table
