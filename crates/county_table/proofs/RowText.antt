@@ -1,5 +1,5 @@
 -- The lines that the crate `csv` writes are those of the definitions.
-use Rattle.std.proofs.Common.{◌≡◌, ◌∙◌, ◌+◌, ◌≤◌, ◌==◌, ◌||◌, Bool, true, false, cond, ℕ, List, [], ◌∷◌, ◌++◌, map, length, refl, sym, ap, append-nil, arith}
+use Rattle.std.proofs.Common.{◌≡◌, ◌∙◌, ◌≤◌, ◌==◌, ◌||◌, Bool, true, false, cond, ℕ, List, [], ◌∷◌, ◌++◌, map, length, refl, ap, append-nil, arith}
 use Rattle.std.specs.List.{list_any, join_with_byte}
 use Rattle.csv.specs.Quoting.{needs_byte}
 use Rattle.csv.specs.Writing as csv

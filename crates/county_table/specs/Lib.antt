@@ -1,4 +1,3 @@
-pub mod Digits
 pub mod Quoting
 pub mod LabelledSets
 pub mod Table

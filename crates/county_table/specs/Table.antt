@@ -4,7 +4,7 @@ use Rattle.std.specs.String.{string_bytes}
 use Rattle.county_codes.specs.declared.county.County.{County}
 use Rattle.county_codes.specs.declared.group.Group.{Group}
 use Rattle.county_codes.specs.declared.withdrawn.Withdrawn.{Withdrawn}
-use Rattle.county_table.specs.Digits.{five_digits}
+use Rattle.grouping_report.specs.Digits.{five_digits}
 use Rattle.pl94_counties.specs.declared.named.NamedCounty.{NamedCounty}
 use Rattle.county_table.specs.LabelledSets.{SetValue, labelled_sets, set_of}
 use Rattle.county_table.specs.Quoting.{line_text}

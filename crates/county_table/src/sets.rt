@@ -6,8 +6,8 @@ ghost use Rattle.place_lists.specs.Lists.{member};
 ghost use Rattle.county_table.specs.LabelledSets.{people_inside as people_of_set, set_under, numbered_groups, numbered_withdrawn, labelled_sets as sets_under_labels, set_of as set_of_code};
 ghost use Rattle.county_table.specs.Table.{counties_of};
 
-use crate::digits::push_number;
 use county_codes::{Codes, CountyCode, Group, Withdrawn, has_code};
+use grouping_report::push_number;
 use pl94_counties::NamedCounty;
 use std::alloc::{AllocError, Global};
 use std::marker::Model;
@@ -74,12 +74,12 @@ fn people_inside(listed: &[NamedCounty], codes: &[CountyCode]) -> u128
 
 /// The set under a mark and a number.
 fn numbered_set(
+    alloc: Global,
     listed: &[NamedCounty],
     mark: &[u8],
     number: u64,
     seats: u16,
     codes: Codes,
-    alloc: Global,
 ) -> Result<LabelledSet, AllocError>
     ensures { IfOk result (λ s. s ≡ set_under (counties_of listed.now) (mark.now ++ decimal number) seats codes) }
 {
@@ -105,7 +105,8 @@ fn push_withdrawn(
     let alloc = *sets.allocator();
     for (i, set) in withdrawn.iter().enumerate() {
         let codes = set.codes.copy()?;
-        sets.push(numbered_set(listed, b"W", i as u64 + 1, set.seats, codes, alloc)?)?;
+        let set = numbered_set(alloc, listed, b"W", i as u64 + 1, set.seats, codes)?;
+        sets.push(set)?;
     }
     Ok(())
 }
@@ -121,7 +122,8 @@ fn push_groups(
     let alloc = *sets.allocator();
     for (i, group) in groups.iter().enumerate() {
         let codes = group.codes.copy()?;
-        sets.push(numbered_set(listed, b"", i as u64 + 1, group.seats, codes, alloc)?)?;
+        let set = numbered_set(alloc, listed, b"", i as u64 + 1, group.seats, codes)?;
+        sets.push(set)?;
     }
     Ok(())
 }

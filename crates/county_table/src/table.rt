@@ -5,10 +5,10 @@ ghost use Rattle.county_table.specs.Quoting.{line_text};
 ghost use Rattle.county_table.specs.LabelledSets.{set_of as set_of_code};
 ghost use Rattle.county_table.specs.Table.{county_fields, county_lines, table_text};
 
-use crate::digits::push_code;
 use crate::sets::{LabelledSet, labelled_sets, set_of};
 use county_codes::{Group, Withdrawn};
 use csv::WriterBuilder;
+use grouping_report::push_code;
 use itoa::Buffer;
 use pl94_counties::NamedCounty;
 use std::alloc::{AllocError, Global};
