@@ -1,8 +1,8 @@
 -- Reading the lines of a file from any source.
-use Rattle.std.proofs.Common.{◌≡◌, ◌≢◌, ◌⊎◌, inl, inr, ◌&&◌, ℕ, Bool, true, false, List, [], ◌∷◌, ◌++◌, Option, Some, None, Result, Ok, Err, refl, sym, ap, ◌∙◌, subst}
+use Rattle.std.proofs.Common.{◌≡◌, ◌≢◌, inl, inr, ℕ, Bool, false, List, Some, Result, Ok, Err, refl, ap}
 use Rattle.std.specs.Borrow.{Bor}
 use Rattle.field_lines.specs.LinesFrom.{LinesLeft, IsNext, ReadsText}
-use Rattle.field_lines.proofs.ReadingLemmas.{ReadsOn, Comes, reads_more, reads_stop, reads_fault, given_fault, never_memory}
+use Rattle.field_lines.proofs.ReadingLemmas.{ReadsOn, reads_more, reads_stop, reads_fault, given_fault, never_memory}
 use Rattle.field_lines.specs.Cut.{Cut, Line, in_front, line_of}
 use Rattle.field_lines.specs.declared.fault.LineFault.{LineFault}
 use Rattle.field_lines.specs.declared.fault.LineFault.TheVariants.{LineTooLong, TooManyLines, ReadFault}
@@ -11,7 +11,7 @@ use Rattle.pl94_counties.specs.declared.fault.Pl94Kind.{Pl94Kind}
 use Rattle.pl94_counties.specs.declared.fault.Pl94Kind.TheVariants.{TooFewFields, BadCode, BadNumber, DoubleRecord, NoRecord, DoubleCounty, DoubleBlock, NoCounties, NoBlocks, TooMany, Lower, Memory}
 use Rattle.pl94_counties.specs.declared.fault.File.{File}
 use Rattle.pl94_counties.specs.declared.fault.Pl94Fault.{Pl94Fault}
-use Rattle.pl94_counties.specs.Numbered.{Given, Rule, with_given, IsMemory, cut_fault}
+use Rattle.pl94_counties.specs.Numbered.{Given, Rule, with_given, cut_fault}
 use Rattle.pl94_counties.specs.OfText.{IsOfText}
 use Rattle.pl94_counties.specs.Readers.{is_read_fault, IsRefused}
 use Rattle.pl94_counties.proofs.CollectLemmas.{collect_from}

@@ -1,4 +1,3 @@
-use Rattle.std.proofs.Common.{◌≡◌, map}
 use Rattle.pl94_counties.proofs.OfTextLemmas.{of_areas, areas_found}
 use Rattle.pl94_counties.proofs.LawLemmas.{from_lines, each_line}
 use Rattle.pl94_counties.proofs.areas.read_areas.Goals as goal

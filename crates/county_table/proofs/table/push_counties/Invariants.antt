@@ -1,0 +1,6 @@
+use Rattle.std.proofs.Common.{◌≡◌, ◌++◌, drop}
+use Rattle.county_table.specs.Table.{county_lines}
+use Rattle.county_table.proofs.table.push_counties.Given as goal
+
+abbrev pub invariant-loop-county : goal.invariant-loop-county
+invariant-loop-county l = l.out.items ++ county_lines l.sets (drop l.county-index l.listed) ≡ l.fn.out.items ++ county_lines l.sets l.listed

@@ -1,0 +1,5 @@
+pub mod Escapes
+pub mod Sums
+pub mod Running
+pub mod Answers
+pub mod Record
