@@ -1,4 +1,4 @@
--- Steps over files that aren't told are steps over the files that their loads answered by.
+-- Steps over files that aren't told are steps over the files that their loads and readers answered by.
 use Rattle.std.proofs.Common.{◌≡◌, ℕ, List, [], ◌∷◌, ◌++◌, Option, Some, None, inl, inr, sym, ap, ◌∙◌, append_assoc}
 use Rattle.std.specs.Prelude.{Result, Ok, Err}
 use Rattle.std.specs.List.{All}
@@ -9,20 +9,20 @@ use Rattle.shelves.specs.declared.shelf.ShelfFault.{ShelfFault}
 use Rattle.shelves.specs.declared.shelf.ShelfFault.TheVariants.{Missing, TooLarge, Device, Memory}
 use Rattle.shelves.specs.Files.{Files}
 use Rattle.shelves.specs.Shelf.{IsLoad}
-use Rattle.shelves.specs.History.{Load, History}
+use Rattle.shelves.specs.History.{Event, History}
 use Rattle.program_answers.specs.Answer.{Answered}
 use Rattle.command_runs.specs.Course.{Course, ◌>>=◌, EndsIn, load_step, call_step, value_step, optional_step}
 use Rattle.command_runs.specs.Loads.{HasAnswer, Answers, AnsweredBy}
 
--- the loads of one history are those of another and then more
-abbrev Extends : History → History → Type 0
-Extends before after = (more : List Load) × (after.loads ≡ before.loads ++ more)
+-- the events of one history are those of another and then more
+abbrev pub Extends : History → History → Type 0
+Extends before after = (more : List Event) × (after.events ≡ before.events ++ more)
 
-extends_same : (before after : History) → after ≡ before → Extends before after
-extends_same before after same = ([], ap (λ (h : History). h.loads) same ∙ sym (append-nil before.loads))
+pub extends_same : (before after : History) → after ≡ before → Extends before after
+extends_same before after same = ([], ap (λ (h : History). h.events) same ∙ sym (append-nil before.events))
 
-extends_twice : (before between after : History) (first : Extends before between) (next : Extends between after) → after.loads ≡ before.loads ++ (first.0 ++ next.0)
-extends_twice before between after first next = next.1 ∙ ap (λ (loads : List Load). loads ++ next.0) first.1 ∙ append_assoc before.loads first.0 next.0
+pub extends_twice : (before between after : History) (first : Extends before between) (next : Extends between after) → after.events ≡ before.events ++ (first.0 ++ next.0)
+extends_twice before between after first next = next.1 ∙ ap (λ (events : List Event). events ++ next.0) first.1 ∙ append_assoc before.events first.0 next.0
 
 -- all of a list's members are all of its front's and all of the rest's
 All_split : {X : Type 0} (P : X → Type 0) (xs ys : List X) → All P (xs ++ ys) → All P xs × All P ys
@@ -32,19 +32,19 @@ All_split P (x ∷ xs) ys h =
     (All-cons P x xs (All-head P x (xs ++ ys) h) rest.0, rest.1)
 
 module _ (files : Files) where
-  -- what holds of the loads of steps and of others behind them holds of both
-  answered_split : (before between after : History) → Extends before between → Extends between after → AnsweredBy files before after
+  -- what holds of the events of steps and of others behind them holds of both
+  pub answered_split : (before between after : History) → Extends before between → Extends between after → AnsweredBy files before after
       → AnsweredBy files before between × AnsweredBy files between after
   answered_split before between after first next by =
-      let same : first.0 ++ next.0 ≡ by.0 = append_cancel_left before.loads (first.0 ++ next.0) by.0 (sym (extends_twice before between after first next) ∙ by.1) in
+      let same : first.0 ++ next.0 ≡ by.0 = append_cancel_left before.events (first.0 ++ next.0) by.0 (sym (extends_twice before between after first next) ∙ by.1) in
       let parts = All_split (Answers files) first.0 next.0 (All-same (Answers files) (first.0 ++ next.0) by.0 same by.2) in
       ((first.0, first.1, parts.0), (next.0, next.1, parts.1))
 
-  -- the one load of a step
-  one_answer : (before after : History) (load : Load) → after.loads ≡ before.loads ++ load ∷ [] → AnsweredBy files before after → Answers files load
-  one_answer before after load loads by =
-      let same : load ∷ [] ≡ by.0 = append_cancel_left before.loads (load ∷ []) by.0 (sym loads ∙ by.1) in
-      All-head (Answers files) load [] (All-same (Answers files) (load ∷ []) by.0 same by.2)
+  -- the one event of a step
+  one_answer : (before after : History) (event : Event) → after.events ≡ before.events ++ event ∷ [] → AnsweredBy files before after → Answers files event
+  one_answer before after event events by =
+      let same : event ∷ [] ≡ by.0 = append_cancel_left before.events (event ∷ []) by.0 (sym events ∙ by.1) in
+      All-head (Answers files) event [] (All-same (Answers files) (event ∷ []) by.0 same by.2)
 
   fault_of_files : (failures : ℕ) (name : List ℕ) (fault : ShelfFault) → HasAnswer files name (Err fault) → IsLoad {X = List ℕ} (λ b. b) (Some files) failures name (Err fault)
   fault_of_files failures name Missing h = inl h
@@ -52,7 +52,7 @@ module _ (files : Files) where
   fault_of_files failures name Device h = tt
   fault_of_files failures name Memory h = tt
 
-  -- steps over files that aren't told only add loads, and where these answered by the files they are the steps over those files
+  -- steps over files that aren't told only add events, and where these answered by the files they are the steps over those files
   pub record Lifts {X : Type 0} (untold told : Course X) : Type 0 where
     pub extends : (before after : History) (end : Result X Answered) → untold before after end → Extends before after
     pub lifts : (before after : History) (end : Result X Answered) → untold before after end → AnsweredBy files before after → told before after end
@@ -69,7 +69,7 @@ module _ (files : Files) where
   pub lifts_load : (name : List ℕ) → Lifts (load_step None name) (load_step (Some files) name)
   lifts_load name = record { extends = load_extends name; lifts = load_lifted name }
 
-  -- steps that load nothing
+  -- steps without an event
   lifts_same : {X : Type 0} (steps : Course X) → ((before after : History) (end : Result X Answered) → steps before after end → after ≡ before) → Lifts steps steps
   lifts_same steps same = record {
     extends = λ before after end h. extends_same before after (same before after end h);
