@@ -14,6 +14,7 @@ mod piece;
 mod plan_files;
 mod problem;
 mod program;
+mod readers;
 mod share;
 mod size;
 mod solve;

@@ -43,7 +43,7 @@ use Rattle.command_runs.specs.Course.{Course}
 use Rattle.command_runs.specs.Storing.{EndsStoring, store_steps}
 use Rattle.command_runs.specs.Run.{CommandEnds, CommandRun, IsRunAnswer}
 use Rattle.command_runs.specs.Loads.{AnsweredBy, RunsAreOfTheirLoads}
-use Rattle.command_runs.proofs.Lifting.{Extends, extends_same, extends_twice, answered_split, Lifts, lifts_load, lifts_call, lifts_value, lifts_bind, lifts_optional, ends_lift}
+use Rattle.command_runs.proofs.Lifting.{Extends, extends_same, extends_twice, answered_split, Lifts, lifts_load, lifts_text, lifts_texts, lifts_call, lifts_value, lifts_bind, lifts_optional, ends_lift}
 
 -- files that are stored add events
 stores_extend : (list : List File) (before after : History) (stored : List File) (refusal : Option Answered) → store_steps list before after stored refusal → Extends before after
@@ -55,8 +55,8 @@ stores_extend (f ∷ fs) before after stored refusal (inr h) =
 
 module _ (files : Files) where
   counties_lift : (words : CommonWords) → Lifts files (counties_of None words) (counties_of (Some files) words)
-  counties_lift words = lifts_bind files (lifts_load files words.geo.now) (λ geo. lifts_bind files (lifts_load files words.segment.now) (λ segment.
-      lifts_call files pl94_answer (λ counties. county_list geo segment words.state ≡ counties)))
+  counties_lift words = lifts_bind files (lifts_texts files words.geo.now words.segment.now) (λ texts.
+      lifts_call files pl94_answer (λ counties. county_list texts.0 texts.1 words.state ≡ counties))
 
   pairs_lift : (listed name : List ℕ) → Lifts files (pairs_of None listed name) (pairs_of (Some files) listed name)
   pairs_lift listed name = lifts_bind files (lifts_load files name) (λ text. lifts_call files (code_file_answer input.Adjacency) (IsPairsAnswer text listed))
@@ -79,8 +79,8 @@ module _ (files : Files) where
   grouping_lifts name = lifts_bind files (lifts_load files name) (λ text. lifts_call files (code_file_answer input.Grouping) (λ grouping. grouping_list text ≡ grouping))
 
   blocks_lift : (words : CommonWords) → Lifts files (blocks_of None words) (blocks_of (Some files) words)
-  blocks_lift words = lifts_bind files (lifts_load files words.geo.now) (λ geo. lifts_bind files (lifts_load files words.segment.now) (λ segment.
-      lifts_call files pl94_answer (λ blocks. block_list geo segment words.state ≡ blocks)))
+  blocks_lift words = lifts_bind files (lifts_texts files words.geo.now words.segment.now) (λ texts.
+      lifts_call files pl94_answer (λ blocks. block_list texts.0 texts.1 words.state ≡ blocks))
 
   assignments_lift : (name : List ℕ) → Lifts files (assignments_of None name) (assignments_of (Some files) name)
   assignments_lift name = lifts_bind files (lifts_load files name) (λ text. lifts_call files assignment_answer (λ lines. assignment_list text ≡ lines))
@@ -97,7 +97,7 @@ module _ (files : Files) where
       lifts_bind files (assignments_lift words.assignments.now) (λ lines. lifts_value files (IsAudited v g blocks lines)))))
 
   check_lifts : (words : CheckWords) → Lifts files (check_course None words) (check_course (Some files) words)
-  check_lifts words = lifts_bind files (problem_lifts words.problem) (λ v. lifts_bind files (lifts_load files words.certificate.now) (λ text. lifts_value files (IsChecked v words.budget text)))
+  check_lifts words = lifts_bind files (problem_lifts words.problem) (λ v. lifts_bind files (lifts_text files words.certificate.now) (λ text. lifts_value files (IsChecked v words.budget text)))
 
   solve_lifts : (words : SolveWords) → Lifts files (solve_course None words) (solve_course (Some files) words)
   solve_lifts words = lifts_bind files (problem_lifts words.problem) (λ v. lifts_value files (IsSolved v words.steps))
