@@ -2,7 +2,7 @@
 use Rattle.std.proofs.Common.{◌≡◌, ℕ, Bool, true, false, List, [], Option, Some, None, inl, inr, refl, sym, ap, ap₂, ◌∙◌, subst}
 use Rattle.pl94_counties.specs.declared.fault.Pl94Fault.{Pl94Fault}
 use Rattle.pl94_counties.specs.Readers.{ReadsBoth}
-use Rattle.std.specs.Prelude.{Result, Ok, Err, IfSome}
+use Rattle.std.specs.Prelude.{Result, Ok, Err, IfOk, IfSome}
 use Rattle.std.specs.Result.{IsErrAnd}
 use Rattle.shelves.specs.declared.shelf.ReadEnd.TheVariants.{Whole}
 use Rattle.shelves.specs.declared.shelf.ShelfFault.{ShelfFault}
@@ -44,6 +44,12 @@ ok_same r x y e f = cc
 
 err_ok : {X E : Type 0} (r : Result X E) (fault : E) (x : X) → r ≡ Err fault → r ≡ Ok x → ⊥
 err_ok r fault x e f = cc
+
+-- what holds of a value that was read holds of what is kept of it
+pub kept_holds : {T E : Type 0} (P : T → Type 0) (read : Result T E) (is_whole : Bool) (found : Option T) → IfOk read P → IfSome found (λ value. (read ≡ Ok value) × (is_whole ≡ true)) → IfSome found P
+kept_holds P read is_whole None holds h = tt
+kept_holds P (Ok value) is_whole (Some kept) holds h = subst P (ok_same (Ok value) value kept refl h.0) holds
+kept_holds P (Err fault) is_whole (Some kept) holds h = absurd (err_ok (Err fault) fault kept refl h.0)
 
 -- what was read of two census files, if their readers stood at their ends
 pub census_read : {T Y : Type 0} (view : T → List Y) (list : List ℕ → List ℕ → Result (List Y) Pl94Fault) (first second geo segment : List ℕ) (both : Given × Given) (now : History) (read : Result T Pl94Fault)

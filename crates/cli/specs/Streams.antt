@@ -5,11 +5,13 @@ use Rattle.shelves.specs.History.{History}
 use Rattle.program_answers.specs.declared.answer.Refusal.{Refusal}
 use Rattle.program_answers.specs.Answers.{Meets}
 use Rattle.county_codes.specs.declared.county.County.{County}
+use Rattle.pl94_counties.specs.declared.blocks.Block.{Block}
 use Rattle.command_words.specs.declared.words.CommonWords.{CommonWords}
 use Rattle.shelves.specs.Files.{Files}
 use Rattle.command_runs.specs.Course.{Course, ◌>>=◌}
 use Rattle.command_runs.specs.Reading.{Given, whole_step, whole_pair, load_pair}
 use Rattle.command_runs.specs.ProblemCourse.{counties_in}
+use Rattle.command_runs.specs.PlanCourse.{blocks_in}
 
 -- whether a reader stood at the end of its file, or the answer to its failure
 abbrev pub IsWhole : List ℕ → Given → History → Result Bool Refusal → Type 0
@@ -32,3 +34,7 @@ Streams view steps reading (Err refusal) before after = Meets refusal (λ a. ste
 -- the counties of the state from files that are loaded
 abbrev pub loaded_counties : Option Files → CommonWords → Course (List County)
 loaded_counties files words = load_pair files words.geo.now words.segment.now >>= λ texts. counties_in words.state texts.0 texts.1
+
+-- the census blocks of the state from files that are loaded
+abbrev pub loaded_blocks : Option Files → CommonWords → Course (List Block)
+loaded_blocks files words = load_pair files words.geo.now words.segment.now >>= λ texts. blocks_in words.state texts.0 texts.1

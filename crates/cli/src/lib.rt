@@ -26,6 +26,6 @@ pub use command::{run, run_with_end};
 pub use end::{End, Ending, FileFault, FileOption};
 pub use program::run_program;
 pub use shelves::{
-    EventLog, FileReader, FileShelf, GivenBytes, MAX_FILE, MemoryFile, MemoryReader, MemoryShelf, ReadEnd, Shelf, ShelfFault, Sink,
-    SinkFault, WholeFault, Writing,
+    EventLog, FileReader, FileShelf, GivenBytes, MAX_FILE, MemoryFile, MemoryReader, MemoryShelf,
+    ReadEnd, Shelf, ShelfFault, Sink, SinkFault, WholeFault, Writing,
 };

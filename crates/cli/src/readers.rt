@@ -1,17 +1,19 @@
 //! Files that are read as they come: they are opened, and their readers are given back.
 
-ghost use Rattle.std.specs.Prelude.{◌≡◌, ◌≤◌, false, true, [], Ok, Err, IfOk, IfSome, MatchResult, List, ℕ};
+ghost use Rattle.std.specs.Prelude.{◌≡◌, ◌<◌, ◌≤◌, All, map, false, true, [], Ok, Err, IfOk, IfSome, MatchResult, List, ℕ};
+ghost use Rattle.std.specs.List.Sorted.{IsStrictlyIncreasing};
 ghost use Rattle.shelves.specs.History.{History};
 ghost use Rattle.program_answers.specs.Answers.{Comes, Meets, Refuses};
 ghost use Rattle.program_answers.specs.Refusals.{shelf_answer};
 ghost use Rattle.command_runs.specs.Reading.{Given, open_step, back_step, read_both};
 ghost use Rattle.command_runs.specs.ProblemCourse.{counties_of};
+ghost use Rattle.command_runs.specs.PlanCourse.{blocks_of};
 ghost use Rattle.cli.specs.Streams.{AreWhole, Streams};
 
 use crate::end::{End, FileOption};
 use command_words::CommonWords;
 use county_codes::County;
-use pl94_counties::{Pl94Fault, read_counties_from};
+use pl94_counties::{Block, Pl94Fault, read_blocks_from, read_counties_from};
 use program_answers::{Refusal, refuse_load};
 use shelves::{ReadEnd, Shelf, ShelfFault};
 use std::alloc::Global;
@@ -90,13 +92,7 @@ fn are_whole(
             fault,
             end,
         )),
-        (Err(fault), _) => Err(refuse_named(
-            alloc,
-            FileOption::Segment,
-            words.segment,
-            fault,
-            end,
-        )),
+        (Err(fault), _) => Err(refuse_named(alloc, FileOption::Segment, words.segment, fault, end)),
         _ => Ok(false),
     }
 }
@@ -148,6 +144,26 @@ pub(crate) fn stream_counties<H: Shelf>(
 {
     let (mut geo, mut segment) = open_both(alloc, words, shelf, end)?;
     let read = read_counties_from(alloc, &mut geo, &mut segment, words.state);
+    let is_whole = give_both_back(alloc, words, (geo, segment), shelf, end)?;
+    Ok(if_whole(read, is_whole))
+}
+
+/// The census blocks of the state, as `stream_counties` gives the counties.
+pub(crate) fn stream_blocks<H: Shelf>(
+    alloc: Global,
+    words: CommonWords<'_>,
+    shelf: &mut H,
+    end: &mut End,
+) -> Result<Option<Vec<Block>>, Refusal>
+    requires { words.state ≤ 99 }
+    ensures course { Streams (λ v. v.items) (blocks_of (H.contents shelf.old) words.entry) (read_both (H.contents shelf.old) words.entry.geo.now words.entry.segment.now) result (H.history shelf.old) (H.history shelf.new) }
+    ensures ascending { IfOk result (λ found. IfSome found (λ v. IsStrictlyIncreasing (map (λ b. b.code) v.items))) }
+    ensures small { IfOk result (λ found. IfSome found (λ v. All (λ b. b.code < 1000000000000000) v.items)) }
+    ensures same { H.contents shelf.new ≡ H.contents shelf.old }
+    ensures kept { H.stored shelf.new ≡ H.stored shelf.old }
+{
+    let (mut geo, mut segment) = open_both(alloc, words, shelf, end)?;
+    let read = read_blocks_from(alloc, &mut geo, &mut segment, words.state);
     let is_whole = give_both_back(alloc, words, (geo, segment), shelf, end)?;
     Ok(if_whole(read, is_whole))
 }
