@@ -6,7 +6,7 @@ use Rattle.std.proofs.lemmas.List.{reverse-append, map_push}
 use mathlib.Core.Path.{fun_ext}
 use Rattle.program_answers.specs.Answer.{Answered}
 use Rattle.shelves.specs.Files.{File, Files, held, with_files}
-use Rattle.shelves.specs.History.{Load, no_history}
+use Rattle.shelves.specs.History.{Event, no_history}
 use Rattle.std.specs.List.{slice_split}
 use Rattle.field_lines.specs.Raw.{raw_lines}
 use Rattle.cli.specs.Case.{case_files, first_line, is_case}
@@ -20,18 +20,18 @@ nothing_stored : (stored files : List File) → stored ≡ [] → (λ name. opti
 nothing_stored stored files none = fun_ext (λ name. rw none refl)
 
 -- an answer over such a shelf, with the files that were stored since
-pub words_over : (began files now : List File) (words : List (List ℕ)) (text after : List ℕ) (status : ℕ) (stored : List File) (first loads : List Load)
+pub words_over : (began files now : List File) (words : List (List ℕ)) (text after : List ℕ) (status : ℕ) (stored : List File) (first events : List Event)
     → began ≡ [] → first ≡ [] → Some now ≡ option_map (λ held. with_files held stored) (Some began) → after ≡ text ++ stored_text now
-    → IsRunAnswer (Some (λ name. option_or (held began name) (held files name))) words (record { failures = 0; loads = first }) (record { failures = 0; loads = loads }) stored (record { text = text; status = status })
+    → IsRunAnswer (Some (λ name. option_or (held began name) (held files name))) words (record { failures = 0; events = first }) (record { failures = 0; events = events }) stored (record { text = text; status = status })
     → WordsOver files words (record { text = after; status = status })
-words_over began files now words text after status stored first loads none fresh kept is answer =
+words_over began files now words text after status stored first events none fresh kept is answer =
     let same : now ≡ with_files [] stored = some_same kept ∙ ap (λ (l : List File). with_files l stored) none in
     record {
       run = record { text = text; status = status };
       stored = stored;
-      loads = loads;
-      answer = subst (λ (f : Files). IsRunAnswer (Some f) words no_history (record { failures = 0; loads = loads }) stored (record { text = text; status = status })) (nothing_stored began files none)
-          (subst (λ (l : List Load). IsRunAnswer (Some (λ name. option_or (held began name) (held files name))) words (record { failures = 0; loads = l }) (record { failures = 0; loads = loads }) stored (record { text = text; status = status })) fresh answer);
+      events = events;
+      answer = subst (λ (f : Files). IsRunAnswer (Some f) words no_history (record { failures = 0; events = events }) stored (record { text = text; status = status })) (nothing_stored began files none)
+          (subst (λ (l : List Event). IsRunAnswer (Some (λ name. option_or (held began name) (held files name))) words (record { failures = 0; events = l }) (record { failures = 0; events = events }) stored (record { text = text; status = status })) fresh answer);
       followed = ap (λ (t : List ℕ). record { text = t; status = status }) (is ∙ ap (λ (l : List File). text ++ stored_text l) same);
     }
   where

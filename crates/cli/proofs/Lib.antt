@@ -1,3 +1,4 @@
 pub mod CaseLemmas
 pub mod StoringLemmas
 pub mod CommandLemmas
+pub mod ReaderLemmas

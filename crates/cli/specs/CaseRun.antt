@@ -5,7 +5,7 @@ use Rattle.shelves.specs.declared.whole.WholeFault.{WholeFault}
 use Rattle.shelves.specs.declared.whole.WholeFault.TheVariants.{TooLarge, Failed, Memory}
 use Rattle.program_answers.specs.Answer.{Answered, memory_answer}
 use Rattle.shelves.specs.Files.{File, held, with_files}
-use Rattle.shelves.specs.History.{Load, no_history}
+use Rattle.shelves.specs.History.{Event, no_history}
 use Rattle.cli.specs.Case.{case_files, case_words, is_case}
 use Rattle.command_runs.specs.Run.{IsRunAnswer}
 use Rattle.cli.specs.Delivery.{Delivers}
@@ -18,12 +18,12 @@ stored_text files = flat_map (λ f. codes "file " ++ f.name ++ codes "\n" ++ f.b
 abbrev pub followed_by : Answered → List File → Answered
 followed_by a stored = record { text = a.text ++ stored_text stored; status = a.status }
 
--- the answer to words over files, after these loads and no failure, followed by the files that were stored, each name once
+-- the answer to words over files, after these events and no failure, followed by the files that were stored, each name once
 pub record WordsOver (files : List File) (words : List (List ℕ)) (a : Answered) : Type 0 where
   pub run : Answered
   pub stored : List File
-  pub loads : List Load
-  pub answer : IsRunAnswer (Some (held files)) words no_history (record { failures = 0; loads = loads }) stored run
+  pub events : List Event
+  pub answer : IsRunAnswer (Some (held files)) words no_history (record { failures = 0; events = events }) stored run
   pub followed : a ≡ followed_by run (with_files [] stored)
 
 -- the answer to the text of a case: none where its first line or a file's name isn't text; else that to its words over its files, of

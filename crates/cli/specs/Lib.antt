@@ -1,4 +1,5 @@
 pub mod Ends
+pub mod Streams
 pub mod Case
 pub mod Delivery
 pub mod CaseRun

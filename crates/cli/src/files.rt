@@ -5,14 +5,16 @@ ghost use Rattle.grouping_problem.specs.ProblemValue.{codes_of};
 ghost use Rattle.shelves.specs.History.{History};
 ghost use Rattle.program_answers.specs.Answers.{Comes};
 ghost use Rattle.command_runs.specs.Course.{load_step};
+ghost use Rattle.cli.specs.Streams.{loaded_counties};
 ghost use Rattle.command_runs.specs.ProblemCourse.{counties_of, pairs_of, pairs_in, links_in, withdrawn_in, grouping_in, links_of, withdrawn_of, adjacency_of, grouping_of};
 
 use crate::end::{End, Ending, FileFault, FileOption};
+use crate::readers::{refuse_named, stream_counties};
 use adjacency_reader::{Link, apply_links, read_links, read_pairs, read_withdrawn};
 use command_words::{CommonWords, ProblemWords};
 use county_codes::{County, CountyCode, Grouping, Withdrawn, listed_codes};
 use pl94_counties::{File, Pl94Fault, read_counties};
-use program_answers::{InputFile, Refusal, refuse_codes, refuse_file, refuse_load};
+use program_answers::{InputFile, Refusal, refuse_codes, refuse_file};
 use seat_lines::read_grouping;
 use shelves::Shelf;
 use std::alloc::Global;
@@ -31,10 +33,7 @@ pub(crate) fn load<H: Shelf>(
 {
     match shelf.load(alloc, name) {
         Ok(bytes) => Ok(bytes),
-        Err(fault) => {
-            end.note_unloaded(alloc, option, name, fault);
-            Err(refuse_load(alloc, name, fault))
-        }
+        Err(fault) => Err(refuse_named(alloc, option, name, fault, end)),
     }
 }
 
@@ -47,15 +46,15 @@ pub(crate) fn census_refused(fault: Pl94Fault, geo: Vec<u8>, segment: Vec<u8>) -
     Ending::Refused(option, FileFault::Census(fault), text)
 }
 
-/// The counties of the state. Both files are loaded, the geographic header first, before they are read.
-pub(crate) fn load_counties<H: Shelf>(
+/// The counties of the state, from census files that are loaded, the geographic header first, before they are read.
+fn load_whole_counties<H: Shelf>(
     alloc: Global,
     words: CommonWords<'_>,
     shelf: &mut H,
     end: &mut End,
 ) -> Result<Vec<County>, Refusal>
     requires { words.state ≤ 99 }
-    ensures course { Comes (λ v. v.items) result (counties_of (H.contents shelf.old) words.entry (H.history shelf.old) (H.history shelf.new)) }
+    ensures course { Comes (λ v. v.items) result (loaded_counties (H.contents shelf.old) words.entry (H.history shelf.old) (H.history shelf.new)) }
     ensures same { H.contents shelf.new ≡ H.contents shelf.old }
     ensures kept { H.stored shelf.new ≡ H.stored shelf.old }
 {
@@ -70,6 +69,28 @@ pub(crate) fn load_counties<H: Shelf>(
             end.note(census_refused(fault, geo, segment));
             Err(refuse_file(alloc, fault))
         }
+    }
+}
+
+/// The counties of the state. Both census files are read as they come; if a line is at fault, both are loaded, and the first fault of
+/// the whole texts is the answer.
+pub(crate) fn load_counties<H: Shelf>(
+    alloc: Global,
+    words: CommonWords<'_>,
+    shelf: &mut H,
+    end: &mut End,
+) -> Result<Vec<County>, Refusal>
+    requires { words.state ≤ 99 }
+    ensures course { Comes (λ v. v.items) result (counties_of (H.contents shelf.old) words.entry (H.history shelf.old) (H.history shelf.new)) }
+    ensures same { H.contents shelf.new ≡ H.contents shelf.old }
+    ensures kept { H.stored shelf.new ≡ H.stored shelf.old }
+{
+    match stream_counties(alloc, words, shelf, end)? {
+        Some(counties) => {
+            end.note_counties(&counties);
+            Ok(counties)
+        }
+        None => load_whole_counties(alloc, words, shelf, end),
     }
 }
 

@@ -14,6 +14,7 @@ mod piece;
 mod plan_files;
 mod problem;
 mod program;
+mod readers;
 mod share;
 mod size;
 mod solve;
@@ -25,6 +26,6 @@ pub use command::{run, run_with_end};
 pub use end::{End, Ending, FileFault, FileOption};
 pub use program::run_program;
 pub use shelves::{
-    FileShelf, LoadLog, MAX_FILE, MemoryFile, MemoryShelf, Shelf, ShelfFault, Sink, SinkFault,
-    WholeFault, Writing,
+    EventLog, FileReader, FileShelf, GivenBytes, MAX_FILE, MemoryFile, MemoryReader, MemoryShelf,
+    ReadEnd, Shelf, ShelfFault, Sink, SinkFault, WholeFault, Writing,
 };

@@ -4,10 +4,12 @@ ghost use Rattle.std.specs.Prelude.{◌≡◌, ◌≤◌, ◌<◌, All, IfOk, ma
 ghost use Rattle.std.specs.List.Sorted.{IsStrictlyIncreasing};
 ghost use Rattle.shelves.specs.History.{History};
 ghost use Rattle.program_answers.specs.Answers.{Comes};
+ghost use Rattle.cli.specs.Streams.{loaded_blocks};
 ghost use Rattle.command_runs.specs.PlanCourse.{blocks_in, blocks_of, assignments_in, assignments_of};
 
 use crate::end::{End, Ending, FileFault, FileOption};
 use crate::files::{census_refused, load};
+use crate::readers::stream_blocks;
 use baf_auditor::{Assignment, read_assignments};
 use command_words::CommonWords;
 use pl94_counties::{Block, read_blocks};
@@ -37,7 +39,26 @@ fn blocks_from(
     }
 }
 
-/// The census blocks of the state. Both files are loaded, the geographic header first, before they are read.
+/// The census blocks of the state, from census files that are loaded, the geographic header first, before they are read.
+fn load_whole_blocks<H: Shelf>(
+    alloc: Global,
+    words: CommonWords<'_>,
+    shelf: &mut H,
+    end: &mut End,
+) -> Result<Vec<Block>, Refusal>
+    requires { words.state ≤ 99 }
+    ensures course { Comes (λ v. v.items) result (loaded_blocks (H.contents shelf.old) words.entry (H.history shelf.old) (H.history shelf.new)) }
+    ensures ascending { IfOk result (λ v. IsStrictlyIncreasing (map (λ b. b.code) v.items)) }
+    ensures small { IfOk result (λ v. All (λ b. b.code < 1000000000000000) v.items) }
+    ensures same { H.contents shelf.new ≡ H.contents shelf.old }
+    ensures kept { H.stored shelf.new ≡ H.stored shelf.old }
+{
+    let geo = load(alloc, FileOption::Geo, words.geo, shelf, end)?;
+    let segment = load(alloc, FileOption::Segment, words.segment, shelf, end)?;
+    blocks_from(alloc, geo, segment, words.state, end)
+}
+
+/// The census blocks of the state, as `load_counties` gives the counties: the census files are opened anew.
 pub(crate) fn load_blocks<H: Shelf>(
     alloc: Global,
     words: CommonWords<'_>,
@@ -51,9 +72,10 @@ pub(crate) fn load_blocks<H: Shelf>(
     ensures same { H.contents shelf.new ≡ H.contents shelf.old }
     ensures kept { H.stored shelf.new ≡ H.stored shelf.old }
 {
-    let geo = load(alloc, FileOption::Geo, words.geo, shelf, end)?;
-    let segment = load(alloc, FileOption::Segment, words.segment, shelf, end)?;
-    blocks_from(alloc, geo, segment, words.state, end)
+    match stream_blocks(alloc, words, shelf, end)? {
+        Some(blocks) => Ok(blocks),
+        None => load_whole_blocks(alloc, words, shelf, end),
+    }
 }
 
 /// The assignments that a file gives.

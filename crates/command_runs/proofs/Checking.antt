@@ -19,6 +19,8 @@ use Rattle.command_runs.specs.ProblemCourse.{problem_in}
 use Rattle.command_runs.specs.CheckCourse.{IsChecked, check_course, verdict_said}
 use Rattle.command_runs.specs.Headline.{IsCutOff}
 use Rattle.command_runs.proofs.Repeating.{IsSame}
+use Rattle.command_runs.specs.Reading.{text_of}
+use Rattle.command_runs.proofs.Texts.{text_told, text_cuts}
 use Rattle.command_runs.proofs.TextAgain.{given_again, cut_again}
 
 -- the answer of a run and that of a check are one, unless the check is cut off
@@ -60,6 +62,6 @@ module _ (others : Files) (check : CheckWords) (v : ProblemValue) (text : List �
     (checked : (b : Answered) → IsChecked v check.budget text b → IsAgreed a b) where
   pub check_agrees : (before after : History) (b : Answered) → EndsIn (check_course (Some others) check) before after b → IsAgreed a b
   check_agrees before after b (inl given) =
-      checked b (given_again others check.problem check.certificate.now (λ w bytes. IsChecked w check.budget bytes) v text again certificate before after b given)
+      checked b (given_again others check.problem check.certificate.now (λ w bytes. IsChecked w check.budget bytes) v text again (text_of (Some others) check.certificate.now) (text_told others check.certificate.now) (text_cuts (Some others) check.certificate.now) certificate before after b given)
   check_agrees before after b (inr stop) =
-      inr (inr (cut_again others check.problem check.certificate.now (λ w bytes. IsChecked w check.budget bytes) v text again certificate before after b stop))
+      inr (inr (cut_again others check.problem check.certificate.now (λ w bytes. IsChecked w check.budget bytes) v text again (text_of (Some others) check.certificate.now) (text_told others check.certificate.now) (text_cuts (Some others) check.certificate.now) certificate before after b stop))

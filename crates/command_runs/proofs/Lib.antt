@@ -1,6 +1,7 @@
 pub mod RunLemmas
 pub mod StoreLemmas
 pub mod OneList
+pub mod Texts
 pub mod Refusing
 pub mod Repeating
 pub mod SameProblem

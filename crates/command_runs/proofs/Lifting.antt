@@ -1,4 +1,4 @@
--- Steps over files that aren't told are steps over the files that their loads answered by.
+-- Steps over files that aren't told are steps over the files that their loads and readers answered by.
 use Rattle.std.proofs.Common.{◌≡◌, ℕ, List, [], ◌∷◌, ◌++◌, Option, Some, None, inl, inr, sym, ap, ◌∙◌, append_assoc}
 use Rattle.std.specs.Prelude.{Result, Ok, Err}
 use Rattle.std.specs.List.{All}
@@ -9,20 +9,21 @@ use Rattle.shelves.specs.declared.shelf.ShelfFault.{ShelfFault}
 use Rattle.shelves.specs.declared.shelf.ShelfFault.TheVariants.{Missing, TooLarge, Device, Memory}
 use Rattle.shelves.specs.Files.{Files}
 use Rattle.shelves.specs.Shelf.{IsLoad}
-use Rattle.shelves.specs.History.{Load, History}
+use Rattle.shelves.specs.History.{Event, History}
 use Rattle.program_answers.specs.Answer.{Answered}
 use Rattle.command_runs.specs.Course.{Course, ◌>>=◌, EndsIn, load_step, call_step, value_step, optional_step}
+use Rattle.command_runs.specs.Reading.{Given, open_step, read_step, whole_step, either_step, read_one, text_of, back_step, read_both, whole_pair, load_pair, texts_of}
 use Rattle.command_runs.specs.Loads.{HasAnswer, Answers, AnsweredBy}
 
--- the loads of one history are those of another and then more
-abbrev Extends : History → History → Type 0
-Extends before after = (more : List Load) × (after.loads ≡ before.loads ++ more)
+-- the events of one history are those of another and then more
+abbrev pub Extends : History → History → Type 0
+Extends before after = (more : List Event) × (after.events ≡ before.events ++ more)
 
-extends_same : (before after : History) → after ≡ before → Extends before after
-extends_same before after same = ([], ap (λ (h : History). h.loads) same ∙ sym (append-nil before.loads))
+pub extends_same : (before after : History) → after ≡ before → Extends before after
+extends_same before after same = ([], ap (λ (h : History). h.events) same ∙ sym (append-nil before.events))
 
-extends_twice : (before between after : History) (first : Extends before between) (next : Extends between after) → after.loads ≡ before.loads ++ (first.0 ++ next.0)
-extends_twice before between after first next = next.1 ∙ ap (λ (loads : List Load). loads ++ next.0) first.1 ∙ append_assoc before.loads first.0 next.0
+pub extends_twice : (before between after : History) (first : Extends before between) (next : Extends between after) → after.events ≡ before.events ++ (first.0 ++ next.0)
+extends_twice before between after first next = next.1 ∙ ap (λ (events : List Event). events ++ next.0) first.1 ∙ append_assoc before.events first.0 next.0
 
 -- all of a list's members are all of its front's and all of the rest's
 All_split : {X : Type 0} (P : X → Type 0) (xs ys : List X) → All P (xs ++ ys) → All P xs × All P ys
@@ -32,19 +33,19 @@ All_split P (x ∷ xs) ys h =
     (All-cons P x xs (All-head P x (xs ++ ys) h) rest.0, rest.1)
 
 module _ (files : Files) where
-  -- what holds of the loads of steps and of others behind them holds of both
-  answered_split : (before between after : History) → Extends before between → Extends between after → AnsweredBy files before after
+  -- what holds of the events of steps and of others behind them holds of both
+  pub answered_split : (before between after : History) → Extends before between → Extends between after → AnsweredBy files before after
       → AnsweredBy files before between × AnsweredBy files between after
   answered_split before between after first next by =
-      let same : first.0 ++ next.0 ≡ by.0 = append_cancel_left before.loads (first.0 ++ next.0) by.0 (sym (extends_twice before between after first next) ∙ by.1) in
+      let same : first.0 ++ next.0 ≡ by.0 = append_cancel_left before.events (first.0 ++ next.0) by.0 (sym (extends_twice before between after first next) ∙ by.1) in
       let parts = All_split (Answers files) first.0 next.0 (All-same (Answers files) (first.0 ++ next.0) by.0 same by.2) in
       ((first.0, first.1, parts.0), (next.0, next.1, parts.1))
 
-  -- the one load of a step
-  one_answer : (before after : History) (load : Load) → after.loads ≡ before.loads ++ load ∷ [] → AnsweredBy files before after → Answers files load
-  one_answer before after load loads by =
-      let same : load ∷ [] ≡ by.0 = append_cancel_left before.loads (load ∷ []) by.0 (sym loads ∙ by.1) in
-      All-head (Answers files) load [] (All-same (Answers files) (load ∷ []) by.0 same by.2)
+  -- the one event of a step
+  one_answer : (before after : History) (event : Event) → after.events ≡ before.events ++ event ∷ [] → AnsweredBy files before after → Answers files event
+  one_answer before after event events by =
+      let same : event ∷ [] ≡ by.0 = append_cancel_left before.events (event ∷ []) by.0 (sym events ∙ by.1) in
+      All-head (Answers files) event [] (All-same (Answers files) (event ∷ []) by.0 same by.2)
 
   fault_of_files : (failures : ℕ) (name : List ℕ) (fault : ShelfFault) → HasAnswer files name (Err fault) → IsLoad {X = List ℕ} (λ b. b) (Some files) failures name (Err fault)
   fault_of_files failures name Missing h = inl h
@@ -52,7 +53,7 @@ module _ (files : Files) where
   fault_of_files failures name Device h = tt
   fault_of_files failures name Memory h = tt
 
-  -- steps over files that aren't told only add loads, and where these answered by the files they are the steps over those files
+  -- steps over files that aren't told only add events, and where these answered by the files they are the steps over those files
   pub record Lifts {X : Type 0} (untold told : Course X) : Type 0 where
     pub extends : (before after : History) (end : Result X Answered) → untold before after end → Extends before after
     pub lifts : (before after : History) (end : Result X Answered) → untold before after end → AnsweredBy files before after → told before after end
@@ -69,7 +70,7 @@ module _ (files : Files) where
   pub lifts_load : (name : List ℕ) → Lifts (load_step None name) (load_step (Some files) name)
   lifts_load name = record { extends = load_extends name; lifts = load_lifted name }
 
-  -- steps that load nothing
+  -- steps without an event
   lifts_same : {X : Type 0} (steps : Course X) → ((before after : History) (end : Result X Answered) → steps before after end → after ≡ before) → Lifts steps steps
   lifts_same steps same = record {
     extends = λ before after end h. extends_same before after (same before after end h);
@@ -125,3 +126,69 @@ module _ (files : Files) where
   pub ends_lift : {untold told : Course Answered} → Lifts untold told → (before after : History) (a : Answered) → EndsIn untold before after a → AnsweredBy files before after → EndsIn told before after a
   ends_lift l before after a (inl h) by = inl (l.lifts before after (Ok a) h by)
   ends_lift l before after a (inr h) by = inr (l.lifts before after (Err a) h by)
+
+  -- steps that read files
+  open_extends : (name : List ℕ) (before after : History) (end : Result (Unit {0}) Answered) → open_step None name before after end → Extends before after
+  open_extends name before after (Ok opened) h = extends_same before after h
+  open_extends name before after (Err a) h = load_extends name before after (Err a) h
+
+  open_lifted : (name : List ℕ) (before after : History) (end : Result (Unit {0}) Answered) → open_step None name before after end → AnsweredBy files before after
+      → open_step (Some files) name before after end
+  open_lifted name before after (Ok opened) h by = h
+  open_lifted name before after (Err a) h by = load_lifted name before after (Err a) h by
+
+  lifts_open : (name : List ℕ) → Lifts (open_step None name) (open_step (Some files) name)
+  lifts_open name = record { extends = open_extends name; lifts = open_lifted name }
+
+  read_extends : (name : List ℕ) (before after : History) (end : Result Given Answered) → read_step None name before after end → Extends before after
+  read_extends name before after (Ok g) h = (_, h.1.1)
+  read_extends name before after (Err a) h = absurd h
+
+  read_lifted : (name : List ℕ) (before after : History) (end : Result Given Answered) → read_step None name before after end → AnsweredBy files before after
+      → read_step (Some files) name before after end
+  read_lifted name before after (Ok g) h by = (one_answer before after _ h.1.1 by, h.1)
+  read_lifted name before after (Err a) h by = absurd h
+
+  lifts_read : (name : List ℕ) → Lifts (read_step None name) (read_step (Some files) name)
+  lifts_read name = record { extends = read_extends name; lifts = read_lifted name }
+
+  whole_same : (name : List ℕ) (g : Given) (before after : History) (end : Result (List ℕ) Answered) → whole_step name g before after end → after ≡ before
+  whole_same name g before after (Ok bytes) h = h.0
+  whole_same name g before after (Err a) h = h.0
+
+  lifts_whole : (name : List ℕ) (g : Given) → Lifts (whole_step name g) (whole_step name g)
+  lifts_whole name g = lifts_same (whole_step name g) (whole_same name g)
+
+  module _ {X : Type 0} (one told_one other told_other : Course X) (f : Lifts one told_one) (n : Lifts other told_other) where
+    either_extends : (before after : History) (end : Result X Answered) → either_step one other before after end → Extends before after
+    either_extends before after end (inl h) = f.extends before after end h
+    either_extends before after end (inr h) = n.extends before after end h
+
+    either_lifted : (before after : History) (end : Result X Answered) → either_step one other before after end → AnsweredBy files before after → either_step told_one told_other before after end
+    either_lifted before after end (inl h) by = inl (f.lifts before after end h by)
+    either_lifted before after end (inr h) by = inr (n.lifts before after end h by)
+
+  lifts_either : {X : Type 0} {one told_one other told_other : Course X} → Lifts one told_one → Lifts other told_other → Lifts (either_step one other) (either_step told_one told_other)
+  lifts_either f n = record { extends = either_extends _ _ _ _ f n; lifts = either_lifted _ _ _ _ f n }
+
+  -- the whole texts of one file, and of two
+  lifts_read_one : (name : List ℕ) → Lifts (read_one None name) (read_one (Some files) name)
+  lifts_read_one name = lifts_bind (lifts_open name) (λ opened. lifts_read name)
+
+  pub lifts_text : (name : List ℕ) → Lifts (text_of None name) (text_of (Some files) name)
+  lifts_text name = lifts_bind (lifts_read_one name) (λ g. lifts_either (lifts_whole name g) (lifts_load name))
+
+  lifts_back : (first second : List ℕ) → Lifts (back_step None first second) (back_step (Some files) first second)
+  lifts_back first second = lifts_bind (lifts_read second) (λ h. lifts_bind (lifts_read first) (λ g. lifts_value (λ pair. pair ≡ (g, h))))
+
+  lifts_read_both : (first second : List ℕ) → Lifts (read_both None first second) (read_both (Some files) first second)
+  lifts_read_both first second = lifts_bind (lifts_open first) (λ opened. lifts_bind (lifts_open second) (λ both. lifts_back first second))
+
+  lifts_whole_pair : (first second : List ℕ) (given : Given × Given) → Lifts (whole_pair first second given) (whole_pair first second given)
+  lifts_whole_pair first second given = lifts_bind (lifts_whole second given.1) (λ y. lifts_bind (lifts_whole first given.0) (λ x. lifts_value (λ pair. pair ≡ (x, y))))
+
+  lifts_load_pair : (first second : List ℕ) → Lifts (load_pair None first second) (load_pair (Some files) first second)
+  lifts_load_pair first second = lifts_bind (lifts_load first) (λ x. lifts_bind (lifts_load second) (λ y. lifts_value (λ pair. pair ≡ (x, y))))
+
+  pub lifts_texts : (first second : List ℕ) → Lifts (texts_of None first second) (texts_of (Some files) first second)
+  lifts_texts first second = lifts_bind (lifts_read_both first second) (λ given. lifts_either (lifts_whole_pair first second given) (lifts_load_pair first second))

@@ -37,6 +37,7 @@ use Rattle.command_runs.proofs.Refusing.{Refuses, bind_refuses, load_refuses, pr
 use Rattle.command_runs.proofs.StoreLemmas.{refusal_status}
 use Rattle.command_runs.proofs.Ending.{same_status, not_refused, has_ended}
 use Rattle.command_runs.proofs.SameProblem.{problem_repeats}
+use Rattle.command_runs.proofs.Texts.{load_cuts}
 use Rattle.command_runs.proofs.TextAgain.{given_again, cut_again}
 use Rattle.command_runs.proofs.Listings.{never_open}
 use Rattle.command_runs.proofs.Agrees.{HasSaid, has_said, stored_first, other_status}
@@ -131,10 +132,12 @@ module _ (files : Files) (words : SolveWords) (before : History) (stored : List 
   lists_all others list start end none b same certificate (inl memory) = inr (inr (inr (same_status b memory_answer memory.0)))
   lists_all others list start end none b same certificate (inr (inl stop)) =
       inr (inr (inr (cut_again others list.check.problem list.check.certificate.now (λ w bytes. IsListed w list.check.budget (number_of list.stored) bytes) h.v text
-      (λ first last r steps. problem_repeats files others words.problem list.check.problem same h.v before h.between first last r h.problem steps) certificate start end b stop.0)))
+      (λ first last r steps. problem_repeats files others words.problem list.check.problem same h.v before h.between first last r h.problem steps)
+      (load_step (Some others) list.check.certificate.now) (λ before after bytes loaded. loaded.0) (load_cuts (Some others) list.check.certificate.now) certificate start end b stop.0)))
   lists_all others list start end none b same certificate (inr (inr k)) =
       let given = given_again others list.check.problem list.check.certificate.now (λ w bytes. IsListed w list.check.budget (number_of list.stored) bytes) h.v text
-      (λ first last r steps. problem_repeats files others words.problem list.check.problem same h.v before h.between first last r h.problem steps) certificate start k.1 k.0 k.3 in
+      (λ first last r steps. problem_repeats files others words.problem list.check.problem same h.v before h.between first last r h.problem steps)
+      (load_step (Some others) list.check.certificate.now) (λ before after bytes loaded. loaded.0) (load_cuts (Some others) list.check.certificate.now) certificate start k.1 k.0 k.3 in
       after_stores others list start end none b k.0 k.1 k.2 (listed list.check.budget (number_of list.stored) k.0 given) k.4 k.5
 
   stored_list : h.s.certificate ≡ Some text → IsStoredList files words stored

@@ -1,4 +1,4 @@
--- Runs over files that aren't told are runs over the files that their loads answered by.
+-- Runs over files that aren't told are runs over the files that their loads and readers answered by.
 use Rattle.std.proofs.Common.{◌≡◌, ℕ, length, List, [], ◌∷◌, Option, Some, None, inl, inr, sym, ap, ◌∙◌}
 use Rattle.std.specs.Borrow.{Bor}
 use Rattle.std.specs.Prelude.{Ok, Err, option_map}
@@ -43,18 +43,20 @@ use Rattle.command_runs.specs.Course.{Course}
 use Rattle.command_runs.specs.Storing.{EndsStoring, store_steps}
 use Rattle.command_runs.specs.Run.{CommandEnds, CommandRun, IsRunAnswer}
 use Rattle.command_runs.specs.Loads.{AnsweredBy, RunsAreOfTheirLoads}
-use Rattle.command_runs.proofs.Lifting.{Lifts, lifts_load, lifts_call, lifts_value, lifts_bind, lifts_optional, ends_lift}
+use Rattle.command_runs.proofs.Lifting.{Extends, extends_same, extends_twice, answered_split, Lifts, lifts_load, lifts_text, lifts_texts, lifts_call, lifts_value, lifts_bind, lifts_optional, ends_lift}
 
--- what is stored loads nothing
-stores_keep : (list : List File) (before after : History) (stored : List File) (refusal : Option Answered) → store_steps list before after stored refusal → after.loads ≡ before.loads
-stores_keep [] before after stored refusal h = ap (λ (x : History). x.loads) h.0
-stores_keep (f ∷ fs) before after stored refusal (inl h) = h.counted.1
-stores_keep (f ∷ fs) before after stored refusal (inr h) = stores_keep fs h.0 after h.1 refusal h.4 ∙ h.2.1
+-- files that are stored add events
+stores_extend : (list : List File) (before after : History) (stored : List File) (refusal : Option Answered) → store_steps list before after stored refusal → Extends before after
+stores_extend [] before after stored refusal h = extends_same before after h.0
+stores_extend (f ∷ fs) before after stored refusal (inl h) = (_, h.logged.1)
+stores_extend (f ∷ fs) before after stored refusal (inr h) =
+    let more = stores_extend fs h.0 after h.1 refusal h.4 in
+    (_, extends_twice before h.0 after (_, h.2.1) more)
 
 module _ (files : Files) where
   counties_lift : (words : CommonWords) → Lifts files (counties_of None words) (counties_of (Some files) words)
-  counties_lift words = lifts_bind files (lifts_load files words.geo.now) (λ geo. lifts_bind files (lifts_load files words.segment.now) (λ segment.
-      lifts_call files pl94_answer (λ counties. county_list geo segment words.state ≡ counties)))
+  counties_lift words = lifts_bind files (lifts_texts files words.geo.now words.segment.now) (λ texts.
+      lifts_call files pl94_answer (λ counties. county_list texts.0 texts.1 words.state ≡ counties))
 
   pairs_lift : (listed name : List ℕ) → Lifts files (pairs_of None listed name) (pairs_of (Some files) listed name)
   pairs_lift listed name = lifts_bind files (lifts_load files name) (λ text. lifts_call files (code_file_answer input.Adjacency) (IsPairsAnswer text listed))
@@ -77,8 +79,8 @@ module _ (files : Files) where
   grouping_lifts name = lifts_bind files (lifts_load files name) (λ text. lifts_call files (code_file_answer input.Grouping) (λ grouping. grouping_list text ≡ grouping))
 
   blocks_lift : (words : CommonWords) → Lifts files (blocks_of None words) (blocks_of (Some files) words)
-  blocks_lift words = lifts_bind files (lifts_load files words.geo.now) (λ geo. lifts_bind files (lifts_load files words.segment.now) (λ segment.
-      lifts_call files pl94_answer (λ blocks. block_list geo segment words.state ≡ blocks)))
+  blocks_lift words = lifts_bind files (lifts_texts files words.geo.now words.segment.now) (λ texts.
+      lifts_call files pl94_answer (λ blocks. block_list texts.0 texts.1 words.state ≡ blocks))
 
   assignments_lift : (name : List ℕ) → Lifts files (assignments_of None name) (assignments_of (Some files) name)
   assignments_lift name = lifts_bind files (lifts_load files name) (λ text. lifts_call files assignment_answer (λ lines. assignment_list text ≡ lines))
@@ -95,7 +97,7 @@ module _ (files : Files) where
       lifts_bind files (assignments_lift words.assignments.now) (λ lines. lifts_value files (IsAudited v g blocks lines)))))
 
   check_lifts : (words : CheckWords) → Lifts files (check_course None words) (check_course (Some files) words)
-  check_lifts words = lifts_bind files (problem_lifts words.problem) (λ v. lifts_bind files (lifts_load files words.certificate.now) (λ text. lifts_value files (IsChecked v words.budget text)))
+  check_lifts words = lifts_bind files (problem_lifts words.problem) (λ v. lifts_bind files (lifts_text files words.certificate.now) (λ text. lifts_value files (IsChecked v words.budget text)))
 
   solve_lifts : (words : SolveWords) → Lifts files (solve_course None words) (solve_course (Some files) words)
   solve_lifts words = lifts_bind files (problem_lifts words.problem) (λ v. lifts_value files (IsSolved v words.steps))
@@ -129,8 +131,8 @@ module _ (files : Files) where
       → EndsStoring told files_of answer before after stored a
   storing_ends steps told files_of answer lift before after stored a (inl h) by = inl (lift.lifts before after (Err a) h.0 by, h.1)
   storing_ends steps told files_of answer lift before after stored a (inr h) by =
-      let given = lift.lifts before h.1 (Ok h.0) h.3 (by.0, sym (stores_keep _ h.1 after stored h.2 h.4) ∙ by.1, by.2) in
-      inr (h.0, h.1, h.2, given, h.4, h.5)
+      let parts = answered_split files before h.1 after (lift.extends before h.1 (Ok h.0) h.3) (stores_extend _ h.1 after stored h.2 h.4) by in
+      inr (h.0, h.1, h.2, lift.lifts before h.1 (Ok h.0) h.3 parts.0, h.4, h.5)
 
   command_ends : (command : CommandWords) (before after : History) (stored : List File) (a : Answered) → CommandEnds None command before after stored a → AnsweredBy files before after
       → CommandEnds (Some files) command before after stored a

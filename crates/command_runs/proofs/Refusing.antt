@@ -2,8 +2,6 @@
 use Rattle.std.proofs.Common.{◌≡◌, ◌⊎◌, ℕ, List, [], Option, Some, None, inl, inr, refl, ap, ◌∙◌}
 use Rattle.std.specs.Prelude.{Result, Err}
 use Rattle.std.specs.Borrow.{Bor}
-use Rattle.shelves.specs.declared.shelf.ShelfFault.{ShelfFault}
-use Rattle.shelves.specs.declared.shelf.ShelfFault.TheVariants as shelf
 use Rattle.shelves.specs.Files.{Files}
 use Rattle.shelves.specs.History.{History}
 use Rattle.pl94_counties.specs.declared.fault.Pl94Kind.{Pl94Kind}
@@ -32,17 +30,13 @@ use Rattle.program_answers.specs.Refusals.{shelf_answer, file_answer, pl94_answe
 use Rattle.command_words.specs.declared.words.CommonWords.{CommonWords}
 use Rattle.command_words.specs.declared.words.ProblemWords.{ProblemWords}
 use Rattle.command_runs.specs.Course.{Course, ◌>>=◌, load_step, call_step, value_step, optional_step}
+use Rattle.command_runs.specs.Reading.{texts_of}
+use Rattle.command_runs.proofs.Texts.{shelf_status, texts_cut}
 use Rattle.command_runs.specs.ProblemCourse.{counties_of, pairs_of, pairs_in, links_of, links_in, withdrawn_of, withdrawn_in, adjacency_of, IsBuilt, problem_in, grouping_in, grouping_of}
 
 -- the status of a refusal: 4 for a file, a problem or a board, 5 for a shelf or for memory, and 3 for a budget that is too small
 abbrev pub IsRefusal : Answered → Type 0
 IsRefusal a = (a.status ≡ 4) ⊎ ((a.status ≡ 5) ⊎ (a.status ≡ 3))
-
-pub shelf_status : (name : List ℕ) (fault : ShelfFault) → (shelf_answer name fault).status ≡ 5
-shelf_status name shelf.Missing = refl
-shelf_status name shelf.TooLarge = refl
-shelf_status name shelf.Device = refl
-shelf_status name shelf.Memory = refl
 
 file_status : (file : InputFile) (kind : Pl94Kind) (line : ℕ) → IsRefusal (file_answer file kind line)
 file_status file kinds.TooFewFields line = inl refl
@@ -130,11 +124,14 @@ optional_refuses : {X : Type 0} (value : X) (steps : List ℕ → Course X) (nam
 optional_refuses value steps None all = value_refuses (λ x. x ≡ value)
 optional_refuses value steps (Some name) all = all name.now
 
+-- texts that aren't had
+texts_refuse : (files : Option Files) (first second : List ℕ) → Refuses (texts_of files first second)
+texts_refuse files first second before after a h = inr (inl (texts_cut files first second before after a h))
+
 counties_refuse : (files : Option Files) (words : CommonWords) → Refuses (counties_of files words)
 counties_refuse files words =
-    bind_refuses _ _ (load_refuses files words.geo.now) (λ geo.
-    bind_refuses _ _ (load_refuses files words.segment.now) (λ segment.
-    call_refuses pl94_answer (λ counties. county_list geo segment words.state ≡ counties) (λ fault. file_status _ fault.kind fault.line)))
+    bind_refuses (texts_of files words.geo.now words.segment.now) _ (texts_refuse files words.geo.now words.segment.now) (λ texts.
+    call_refuses pl94_answer (λ counties. county_list texts.0 texts.1 words.state ≡ counties) (λ fault. file_status _ fault.kind fault.line))
 
 code_file_refuses : {X : Type 0} (file : InputFile) (R : Result X CodeLineFault → Type 0) → Refuses (call_step (code_file_answer file) R)
 code_file_refuses file R = call_refuses (code_file_answer file) R (λ fault. code_line_status file fault.kind fault.line)

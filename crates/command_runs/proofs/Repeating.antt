@@ -7,7 +7,8 @@ use Rattle.shelves.specs.History.{History}
 use Rattle.program_answers.specs.Answer.{Answered}
 use Rattle.command_runs.specs.Course.{Course, ◌>>=◌, load_step, call_step, value_step, optional_step}
 use Rattle.command_runs.specs.Headline.{HoldsSameIfNamed}
-use Rattle.command_runs.proofs.Refusing.{shelf_status}
+use Rattle.command_runs.specs.Reading.{texts_of}
+use Rattle.command_runs.proofs.Texts.{shelf_status, texts_told, texts_cut}
 
 -- the value, or a refusal of the shelf or of memory
 abbrev pub IsSame : {X : Type 0} → X → Result X Answered → Type 0
@@ -31,9 +32,20 @@ bind_repeats {X} first other next more f n value before after start end r (inr g
 one_some : (one other : Option (List ℕ)) (bytes more : List ℕ) → one ≡ other → one ≡ Some bytes → other ≡ Some more → more ≡ bytes
 one_some one other bytes more same e f = cc
 
+one_pair : (p q : List ℕ × List ℕ) → q.0 ≡ p.0 → q.1 ≡ p.1 → q ≡ p
+one_pair p q e f = λ i. (e i, f i)
+
 pub load_repeats : (files others : Files) (name other : List ℕ) → files name ≡ others other → Repeats (load_step (Some files) name) (load_step (Some others) other)
 load_repeats files others name other same value before after start end (Ok w) g h = one_some (files name) (others other) value w same g.0 h.0
 load_repeats files others name other same value before after start end (Err a) g h = ap (λ (x : Answered). x.status) h.3 ∙ shelf_status other h.0
+
+pub texts_repeat : (files others : Files) (first second name other : List ℕ) → files first ≡ others name → files second ≡ others other
+    → Repeats (texts_of (Some files) first second) (texts_of (Some others) name other)
+texts_repeat files others first second name other same same_too value before after start end (Ok w) g h =
+    let held = texts_told files first second before after value g in
+    let again = texts_told others name other start end w h in
+    one_pair value w (one_some (files first) (others name) value.0 w.0 same held.0 again.0) (one_some (files second) (others other) value.1 w.1 same_too held.1 again.1)
+texts_repeat files others first second name other same same_too value before after start end (Err a) g h = texts_cut (Some others) name other start end a h
 
 pub call_repeats : {X F : Type 0} (refuse : F → Answered) (R S : Result X F → Type 0)
     → ((x y : X) → R (Ok x) → S (Ok y) → y ≡ x) → ((x : X) (fault : F) → R (Ok x) → S (Err fault) → ⊥) → Repeats (call_step refuse R) (call_step refuse S)

@@ -21,9 +21,10 @@ use Rattle.program_answers.specs.declared.refusal.InputFile.TheVariants as input
 use Rattle.program_answers.specs.Refusals.{pl94_answer, code_file_answer, problem_answer}
 use Rattle.command_runs.specs.Course.{load_step}
 use Rattle.command_runs.specs.ProblemCourse.{counties_of, counties_in, pairs_of, pairs_in, links_of, links_in, withdrawn_of, withdrawn_in, adjacency_of, IsBuilt, build_step, problem_in}
+use Rattle.command_runs.specs.Reading.{texts_of}
 use Rattle.command_runs.specs.Headline.{HasSameProblem}
 use Rattle.command_runs.proofs.OneList.{one_list_of_pairs, one_list_of_counties}
-use Rattle.command_runs.proofs.Repeating.{Repeats, bind_repeats, load_repeats, call_repeats, one_ok, ok_or_err, function_repeats, value_repeats, optional_repeats}
+use Rattle.command_runs.proofs.Repeating.{Repeats, bind_repeats, load_repeats, texts_repeat, call_repeats, one_ok, ok_or_err, function_repeats, value_repeats, optional_repeats}
 
 -- the pairs of rows, and those after links, are one list
 one_pairs : (listed : List ℕ) (rows pairs others : List (ℕ × ℕ)) → ArePairs listed rows pairs → ArePairs listed rows others → pairs ≡ others
@@ -94,13 +95,11 @@ module _ (counties : List County) (pairs : List (ℕ × ℕ)) (withdrawn : List 
 module _ (files others : Files) (words other : ProblemWords) (same : HasSameProblem files others words other) where
   counties_repeat : Repeats (counties_of (Some files) words.common) (counties_of (Some others) other.common)
   counties_repeat =
-      bind_repeats (load_step (Some files) words.common.geo.now) (load_step (Some others) other.common.geo.now) _ _
-      (load_repeats files others words.common.geo.now other.common.geo.now same.geo) (λ geo.
-      bind_repeats (load_step (Some files) words.common.segment.now) (load_step (Some others) other.common.segment.now)
-      (counties_in words.common.state geo) (counties_in other.common.state geo)
-      (load_repeats files others words.common.segment.now other.common.segment.now same.segment) (λ segment.
-      function_repeats pl94_answer (county_list geo segment words.common.state) (county_list geo segment other.common.state)
-      (ap (λ (state : ℕ). county_list geo segment state) same.state)))
+      bind_repeats (texts_of (Some files) words.common.geo.now words.common.segment.now) (texts_of (Some others) other.common.geo.now other.common.segment.now)
+      (λ texts. counties_in words.common.state texts.0 texts.1) (λ texts. counties_in other.common.state texts.0 texts.1)
+      (texts_repeat files others words.common.geo.now words.common.segment.now other.common.geo.now other.common.segment.now same.geo same.segment) (λ texts.
+      function_repeats pl94_answer (county_list texts.0 texts.1 words.common.state) (county_list texts.0 texts.1 other.common.state)
+      (ap (λ (state : ℕ). county_list texts.0 texts.1 state) same.state))
 
   links_repeat : Repeats (links_of (Some files) words.links) (links_of (Some others) other.links)
   links_repeat = optional_repeats [] _ _ files others words.links other.links same.links (λ file again e.

@@ -6,7 +6,7 @@ use Rattle.shelves.specs.History.{History}
 use Rattle.program_answers.specs.Answer.{Answered, memory_answer}
 use Rattle.program_answers.specs.Refusals.{shelf_answer}
 use Rattle.command_runs.specs.Storing.{HasStored, IsAnsweredBy, store_steps}
-use Rattle.command_runs.proofs.Refusing.{shelf_status}
+use Rattle.command_runs.proofs.Texts.{shelf_status}
 
 -- nothing was stored
 all_none : (files : Option Files) → files ≡ option_map (λ held. with_all held []) files

@@ -1,4 +1,4 @@
--- The steps of `check`: the problem is built, the certificate is loaded, and a checker gives its verdict.
+-- The steps of `check`: the problem is built, the certificate is had, and a checker gives its verdict.
 use Rattle.std.specs.Prelude.{◌≡◌, ℕ, List, Option}
 use Rattle.grouping_problem.specs.ProblemValue.{ProblemValue, problem_of}
 use Rattle.grouping_report.specs.Outcomes.{outcome_text}
@@ -10,7 +10,8 @@ use Rattle.command_words.specs.declared.words.CheckWords.{CheckWords}
 use Rattle.shelves.specs.Files.{Files}
 use Rattle.program_answers.specs.Answer.{Answered, success, budget_answer}
 use Rattle.program_answers.specs.CheckLines.{no_answer}
-use Rattle.command_runs.specs.Course.{Course, ◌>>=◌, load_step, value_step}
+use Rattle.command_runs.specs.Course.{Course, ◌>>=◌, value_step}
+use Rattle.command_runs.specs.Reading.{text_of}
 use Rattle.command_runs.specs.ProblemCourse.{problem_in}
 
 -- A verdict, as it is said: the report of the grouping that is best, with status 0; that none is lawful, or the first fault with its
@@ -29,6 +30,6 @@ pub record IsChecked (v : ProblemValue) (budget : ℕ) (text : List ℕ) (a : An
   pub impossible : ShowsImpossible (problem_of v) verdict
   pub said : a ≡ verdict_said v verdict
 
--- `check`: the problem is built before the certificate is loaded
+-- `check`: the problem is built before the certificate is opened
 abbrev pub check_course : Option Files → CheckWords → Course Answered
-check_course files words = problem_in files words.problem >>= λ v. load_step files words.certificate.now >>= λ text. value_step (IsChecked v words.budget text)
+check_course files words = problem_in files words.problem >>= λ v. text_of files words.certificate.now >>= λ text. value_step (IsChecked v words.budget text)

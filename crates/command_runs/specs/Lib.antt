@@ -1,4 +1,5 @@
 pub mod Course
+pub mod Reading
 pub mod ProblemCourse
 pub mod PlanCourse
 pub mod JudgeCourse

@@ -1,11 +1,13 @@
--- Runs over files that aren't told, where their loads answered as some files have it.
+-- Runs over files that aren't told, where their loads and readers answered as some files have it.
 use Rattle.std.specs.Prelude.{◌≡◌, ◌<◌, ◌++◌, ℕ, List, length, Some, None, Result, Ok, Err}
 use Rattle.std.specs.List.{All}
 use Rattle.command_words.specs.declared.words.CommandWords.{CommandWords}
 use Rattle.shelves.specs.declared.shelf.ShelfFault.{ShelfFault}
 use Rattle.shelves.specs.declared.shelf.ShelfFault.TheVariants.{Missing, TooLarge, Device, Memory}
 use Rattle.shelves.specs.Files.{File, Files}
-use Rattle.shelves.specs.History.{Load, History}
+use Rattle.shelves.specs.Shelf.{Reads}
+use Rattle.shelves.specs.History.{Event, History}
+use Rattle.shelves.specs.History.Event.{Loaded, Read, Stored}
 use Rattle.program_answers.specs.Answer.{Answered}
 use Rattle.command_runs.specs.Run.{CommandRun, IsRunAnswer}
 
@@ -18,15 +20,18 @@ HasAnswer files name (Err TooLarge) = (bytes : List ℕ) × (files name ≡ Some
 HasAnswer files name (Err Device) = Unit {0}
 HasAnswer files name (Err Memory) = Unit {0}
 
--- the same of a load
-abbrev pub Answers : Files → Load → Type 0
-Answers files load = HasAnswer files load.name load.answer
+-- The same of an event: what a reader gave is all bytes of the name where it stood at its end, and a beginning of them where it stood
+-- before. A file that was stored says nothing of those that were there.
+abbrev pub Answers : Files → Event → Type 0
+Answers files (Loaded name answer) = HasAnswer files name answer
+Answers files (Read name bytes answer) = Reads files name bytes answer
+Answers files (Stored name bytes taken) = Unit {0}
 
--- the loads of one history are those of another and then more, and each of those more answered as these files have it
+-- the events of one history are those of another and then more, and each of those more answered as these files have it
 abbrev pub AnsweredBy : Files → History → History → Type 0
-AnsweredBy files before after = (more : List Load) × (after.loads ≡ before.loads ++ more) × All (Answers files) more
+AnsweredBy files before after = (more : List Event) × (after.events ≡ before.events ++ more) × All (Answers files) more
 
--- A run over files that aren't told is also a run over any files that its loads answered by; likewise the run of a command.
+-- A run over files that aren't told is also a run over any files that its loads and readers answered by; likewise the run of a command.
 pub record RunsAreOfTheirLoads : Type 0 where
   pub answer : (files : Files) (words : List (List ℕ)) (before after : History) (stored : List File) (a : Answered)
       → IsRunAnswer None words before after stored a → AnsweredBy files before after → IsRunAnswer (Some files) words before after stored a

@@ -7,16 +7,16 @@ use Rattle.assignment_file.specs.Assignments.{assignment_list}
 use Rattle.command_words.specs.declared.words.CommonWords.{CommonWords}
 use Rattle.shelves.specs.Files.{Files}
 use Rattle.program_answers.specs.Refusals.{pl94_answer, assignment_answer}
+use Rattle.command_runs.specs.Reading.{texts_of}
 use Rattle.command_runs.specs.Course.{Course, ◌>>=◌, load_step, call_step}
 
 -- the blocks that two files give
 abbrev pub blocks_in : ℕ → List ℕ → List ℕ → Course (List Block)
 blocks_in state geo segment = call_step pl94_answer (λ blocks. block_list geo segment state ≡ blocks)
 
--- the census blocks of the state: the geographic header and segment 1 are loaded, in this order, before they are read
+-- The census blocks of the state: those that the whole texts of the geographic header and of segment 1 give, which are had anew.
 abbrev pub blocks_of : Option Files → CommonWords → Course (List Block)
-blocks_of files words =
-    load_step files words.geo.now >>= λ geo. load_step files words.segment.now >>= λ segment. blocks_in words.state geo segment
+blocks_of files words = texts_of files words.geo.now words.segment.now >>= λ texts. blocks_in words.state texts.0 texts.1
 
 -- the assignments that a file gives
 abbrev pub assignments_in : List ℕ → Course (List Assignment)

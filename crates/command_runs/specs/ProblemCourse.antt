@@ -20,16 +20,16 @@ use Rattle.command_words.specs.declared.words.ProblemWords.{ProblemWords}
 use Rattle.shelves.specs.Files.{Files}
 use Rattle.program_answers.specs.declared.refusal.InputFile.TheVariants.{Adjacency, Links, Withdrawn, Grouping}
 use Rattle.program_answers.specs.Refusals.{pl94_answer, code_file_answer, problem_answer}
+use Rattle.command_runs.specs.Reading.{texts_of}
 use Rattle.command_runs.specs.Course.{Course, ◌>>=◌, load_step, call_step, value_step, optional_step}
 
 -- the counties that two files give
 abbrev pub counties_in : ℕ → List ℕ → List ℕ → Course (List County)
 counties_in state geo segment = call_step pl94_answer (λ counties. county_list geo segment state ≡ counties)
 
--- the counties of the state: the geographic header and segment 1 are loaded, in this order, before they are read
+-- The counties of the state: those that the whole texts of the geographic header and of segment 1 give.
 abbrev pub counties_of : Option Files → CommonWords → Course (List County)
-counties_of files words =
-    load_step files words.geo.now >>= λ geo. load_step files words.segment.now >>= λ segment. counties_in words.state geo segment
+counties_of files words = texts_of files words.geo.now words.segment.now >>= λ texts. counties_in words.state texts.0 texts.1
 
 -- the pairs of listed counties that an adjacency file gives
 abbrev pub pairs_in : List ℕ → List ℕ → Course (List (ℕ × ℕ))
@@ -73,7 +73,7 @@ IsBuilt counties pairs withdrawn chamber window (Err fault) = problem_fault coun
 abbrev pub build_step : ℕ → Window → List County → List (ℕ × ℕ) → List county.Withdrawn → Course ProblemValue
 build_step chamber window counties pairs withdrawn = call_step problem_answer (IsBuilt counties pairs withdrawn chamber window)
 
--- The problem: its files are loaded and read one after the other, the counties first, then adjacency, links and withdrawn sets, and
+-- The problem: its files are had and read one after the other, the counties first, then adjacency, links and withdrawn sets, and
 -- then it is built.
 abbrev pub problem_in : Option Files → ProblemWords → Course ProblemValue
 problem_in files words =

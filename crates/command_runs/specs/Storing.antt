@@ -4,7 +4,7 @@ use Rattle.std.specs.Borrow.{Bor}
 use Rattle.shelves.specs.declared.shelf.ShelfFault.{ShelfFault}
 use Rattle.shelves.specs.Files.{File, Files, with_files, with_all}
 use Rattle.shelves.specs.Shelf.{IsStore}
-use Rattle.shelves.specs.History.{History, HasCounted}
+use Rattle.shelves.specs.History.{History, HasPut}
 use Rattle.program_answers.specs.Answer.{Answered, memory_answer}
 use Rattle.program_answers.specs.Refusals.{shelf_answer}
 use Rattle.command_runs.specs.Course.{Course}
@@ -17,17 +17,17 @@ IsAnsweredBy refusal a = (refusal ≡ Some a) ⊎ (refusal ≡ Some memory_answe
 pub record IsFirstRefused (f : File) (before after : History) (stored : List File) (refusal : Option Answered) : Type 0 where
   pub fault : ShelfFault
   pub is : IsStore {X = Unit {0}} before.failures f.bytes (Err fault)
-  pub counted : HasCounted {X = Unit {0}} before after (Err fault)
+  pub logged : HasPut {X = Unit {0}} before after f.name f.bytes (Err fault)
   pub none_stored : stored ≡ []
   pub answer : IsAnsweredBy refusal (shelf_answer f.name fault)
 
 -- What storing files in turn comes to, where the shelf had this history before it and this one after it: the files that were stored, and
--- the answer to the one that was refused, if one was. Those behind it are not stored, and nothing is loaded.
+-- the answer to the one that was refused, if one was. Those behind it are not stored, and nothing is loaded or read.
 abbrev pub store_steps : List File → History → History → List File → Option Answered → Type 0
 store_steps [] before after stored refusal = (after ≡ before) × (stored ≡ []) × (refusal ≡ None)
 store_steps (f ∷ fs) before after stored refusal =
     IsFirstRefused f before after stored refusal
-    ⊎ ((between : History) × (more : List File) × HasCounted {X = Unit {0}} before between (Ok tt) × (stored ≡ f ∷ more) × store_steps fs between after more refusal)
+    ⊎ ((between : History) × (more : List File) × HasPut {X = Unit {0}} before between f.name f.bytes (Ok tt) × (stored ≡ f ∷ more) × store_steps fs between after more refusal)
 
 -- the answer, unless a file was refused
 abbrev pub said_after : Option Answered → Answered → Answered

@@ -88,6 +88,8 @@ pub fn read_blocks_from<G: Source, S: Source>(
     ensures reads { ReadsBoth (λ v. v.items) (G.given geo.old) (G.given geo.new) (S.given segment1.old) (S.given segment1.new) result (λ g s. block_list g s state) }
     ensures geo_failed { G.is_failed geo.new ≡ read_failed File.Geo result }
     ensures segment1_failed { S.is_failed segment1.new ≡ read_failed File.Segment1 result }
+    ensures ascending { IfOk result (λ v. IsStrictlyIncreasing (map (λ b. b.code) v.items)) }
+    ensures small { IfOk result (λ v. All (λ b. b.code < 1000000000000000) v.items) }
 {
     let found = match read_areas_from(alloc, Area::Block, geo, segment1, state) {
         Ok(found) => found,

@@ -1,16 +1,25 @@
 -- A shelf in memory.
-use Rattle.std.specs.Prelude.{◌≡◌, ◌<◌, ◌++◌, ◌∷◌, [], ℕ, List, Option, Some, None, length, slice_set, map, string_bytes}
+use Rattle.std.specs.Prelude.{◌≡◌, ◌<◌, ◌++◌, ◌∷◌, [], ℕ, List, Option, Some, None, Result, Ok, Err, length, slice_set, map, string_bytes}
 use Rattle.std.specs.Option.{option_map}
 use Rattle.std.specs.Borrow.{Bor}
 use Rattle.shelves.specs.declared.memory.MemoryFile.{MemoryFile}
 use Rattle.shelves.specs.Files.{File, with_file}
-use Rattle.shelves.specs.History.{Load}
+use Rattle.shelves.specs.declared.shelf.ReadEnd.{ReadEnd}
+use Rattle.shelves.specs.declared.shelf.ReadEnd.TheVariants.{Whole, Part}
+use Rattle.shelves.specs.declared.shelf.ShelfFault.{ShelfFault}
+use Rattle.shelves.specs.History.{Event}
 
--- the files that the shelf began with, those that were stored, and what each load answered
+-- the files that the shelf began with, those that were stored, and what was loaded, read and stored
 pub record MemoryValue : Type 0 where
   pub files : List File
   pub stored : List File
-  pub loads : List Load
+  pub events : List Event
+
+-- a reader of a file in memory: the bytes of the file, those that were given, and how many these are
+pub record ReaderValue : Type 0 where
+  pub bytes : List ℕ
+  pub given : List ℕ
+  pub at : ℕ
 
 -- files with their names and bytes
 abbrev pub files_of : List MemoryFile → List File
@@ -24,3 +33,9 @@ bytes_in found = option_map (λ f. f.now.bytes.items) found
 abbrev pub HasPlace : List File → List ℕ → Option ℕ → Type 0
 HasPlace files name (Some i) = (i < length files) × ((bytes : List ℕ) → with_file files name bytes ≡ slice_set files i (record { name = name; bytes = bytes }))
 HasPlace files name None = (bytes : List ℕ) → with_file files name bytes ≡ files ++ record { name = name; bytes = bytes } ∷ []
+
+-- where a reader stood that gave these bytes of a file: at its end, or before
+abbrev pub EndsIn : Option (List ℕ) → List ℕ → Result ReadEnd ShelfFault → Type 0
+EndsIn file given (Ok Whole) = file ≡ Some given
+EndsIn file given (Ok Part) = (later : List ℕ) × (file ≡ Some (given ++ later))
+EndsIn file given (Err fault) = Unit {0}

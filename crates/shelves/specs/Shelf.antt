@@ -1,5 +1,7 @@
 -- Named files, as a shelf tells them.
-use Rattle.std.specs.Prelude.{◌≡◌, ◌<◌, ◌≤◌, ◌-◌, ◌^◌, ◌⊎◌, ℕ, List, length, Option, Some, None, Result, Ok, Err}
+use Rattle.std.specs.Prelude.{◌≡◌, ◌<◌, ◌≤◌, ◌-◌, ◌^◌, ◌⊎◌, ℕ, List, ◌++◌, length, Option, Some, None, Result, Ok, Err}
+use Rattle.shelves.specs.declared.shelf.ReadEnd.{ReadEnd}
+use Rattle.shelves.specs.declared.shelf.ReadEnd.TheVariants.{Whole, Part}
 use Rattle.shelves.specs.declared.shelf.ShelfFault.{ShelfFault}
 use Rattle.shelves.specs.declared.shelf.ShelfFault.TheVariants.{Missing, TooLarge, Device, Memory}
 use Rattle.shelves.specs.Files.{Files}
@@ -17,6 +19,24 @@ Loads view files failures name (Err Memory) = Unit {0}
 abbrev pub IsLoad : {X : Type 0} → (X → List ℕ) → Option Files → ℕ → List ℕ → Result X ShelfFault → Type 0
 IsLoad view None failures name loaded = Unit {0}
 IsLoad view (Some files) failures name loaded = Loads view files failures name loaded
+
+-- What opening a file answers where the shelf may not tell its files: as a load, but that no file is too large.
+abbrev pub Opens : {X : Type 0} → Option Files → ℕ → List ℕ → Result X ShelfFault → Type 0
+Opens None failures name opened = Unit {0}
+Opens (Some files) failures name (Ok x) = (bytes : List ℕ) × (files name ≡ Some bytes)
+Opens (Some files) failures name (Err fault) = Loads {X = List ℕ} (λ bytes. bytes) files failures name (Err fault)
+
+-- What a reader of a name gave, where the shelf tells its files: all bytes of the file, or a beginning of them. A reader that failed says
+-- nothing of the files.
+abbrev pub Reads : Files → List ℕ → List ℕ → Result ReadEnd ShelfFault → Type 0
+Reads files name bytes (Ok Whole) = files name ≡ Some bytes
+Reads files name bytes (Ok Part) = (later : List ℕ) × (files name ≡ Some (bytes ++ later))
+Reads files name bytes (Err fault) = Unit {0}
+
+-- the same where the shelf may not tell its files
+abbrev pub IsRead : Option Files → List ℕ → List ℕ → Result ReadEnd ShelfFault → Type 0
+IsRead None name bytes answer = Unit {0}
+IsRead (Some files) name bytes answer = Reads files name bytes answer
 
 -- the count of failures never falls, and rises at a fault of the device
 abbrev pub CountsFault : ℕ → ℕ → ShelfFault → Type 0

@@ -3,9 +3,10 @@ ghost use Rattle.shelves.specs.Shelf.{CountsFault, IsCounted};
 ghost use Rattle.shelves.specs.History.{no_history};
 ghost use Rattle.shelves.specs.declared.shelf.ShelfFault.TheVariants.{Missing, TooLarge};
 
-use crate::log::LoadLog;
+use crate::file_reader::FileReader;
+use crate::log::EventLog;
 use crate::replace::replace_file;
-use crate::shelf::{MAX_FILE, Shelf, ShelfFault};
+use crate::shelf::{MAX_FILE, ReadEnd, Shelf, ShelfFault};
 use crate::whole::{WholeFault, read_whole};
 use field_lines::Reading;
 use std::alloc::Global;
@@ -20,11 +21,11 @@ pub struct FileShelf<R> {
     rt: R,
     failures: u64,
     reason: Option<ErrorKind>,
-    log: LoadLog,
+    log: EventLog,
 }
 
 impl<R: Files + AllocGlobal> FileShelf<R> {
-    /// The files that the runtime reaches, with no failure and no load so far.
+    /// The files that the runtime reaches, with no failure and no event so far.
     pub fn new(rt: R) -> Self
         ensures { ⟦<FileShelf<R> as Shelf>⟧.history result ≡ no_history }
     {
@@ -32,12 +33,12 @@ impl<R: Files + AllocGlobal> FileShelf<R> {
             rt,
             failures: 0,
             reason: None,
-            log: LoadLog::new(),
+            log: EventLog::new(),
         }
     }
 
-    /// What sort of error the system gave at the last load or store that failed. `None` where no call has failed, or
-    /// where the system gave no error: the file was too large, or memory was refused.
+    /// What sort of error the system gave at the last load, opening, reading or store that failed. `None` where none has
+    /// failed, or where the system gave no error: the file was too large, or memory was refused.
     pub fn reason(&self) -> Option<ErrorKind> {
         self.reason
     }
@@ -127,7 +128,7 @@ impl<R: Files + AllocGlobal> FileShelf<R> {
     fn read_file(&mut self, alloc: Global, name: &str) -> Result<Vec<u8>, ShelfFault>
         ensures small { IfOk result (λ v. vec_len v ≤ 1073741824) }
         ensures counted { IsCounted self.old.failures self.new.failures result }
-        ensures same { self.new.log.loads ≡ self.old.log.loads }
+        ensures same { self.new.log.events ≡ self.old.log.events }
     {
         let file = match fs::open(&self.rt, name) {
             Ok(file) => file,
@@ -158,15 +159,45 @@ impl<R: Files + AllocGlobal> FileShelf<R> {
 }
 
 impl<R: Files + AllocGlobal> Shelf for FileShelf<R> {
+    type Reader = FileReader<R::File>;
+
     ghost contents = { λ _. None };
 
     ghost stored = { λ _. None };
 
-    ghost history = { λ s. record { failures = s.failures; loads = s.log.loads } };
+    ghost history = { λ s. record { failures = s.failures; events = s.log.events } };
 
     fn load(&mut self, alloc: Global, name: &str) -> Result<Vec<u8>, ShelfFault> {
         let answer = self.read_file(alloc, name);
-        self.log.note(name.as_bytes(), &answer);
+        self.log.note_load(name.as_bytes(), &answer);
+        answer
+    }
+
+    fn reader(&mut self, _alloc: Global, name: &str) -> Result<FileReader<R::File>, ShelfFault> {
+        match fs::open(&self.rt, name) {
+            Ok(file) => Ok(FileReader::new(file)),
+            Err(error) => {
+                self.reason = Some(error.kind());
+                let fault = load_fault(&error, &mut self.failures);
+                self.log.note_load(name.as_bytes(), &Err(fault));
+                Err(fault)
+            }
+        }
+    }
+
+    fn give_back(
+        &mut self,
+        name: &str,
+        reader: FileReader<R::File>,
+    ) -> Result<ReadEnd, ShelfFault> {
+        let answer = match reader.reason() {
+            None => Ok(reader.end()),
+            Some(reason) => {
+                self.reason = Some(reason);
+                Err(device_fault(&mut self.failures))
+            }
+        };
+        self.log.note_read(name.as_bytes(), reader.log(), &answer);
         answer
     }
 
@@ -176,13 +207,15 @@ impl<R: Files + AllocGlobal> Shelf for FileShelf<R> {
     /// file; a link of the name is replaced. At a fault what stood under the name is as it was, and the new file is
     /// removed if that can be done. A name that is a folder, a device or a read-only file is a failure of the device.
     fn store(&mut self, alloc: Global, name: &str, bytes: &[u8]) -> Result<(), ShelfFault> {
-        match replace_file(&self.rt, alloc, name, bytes) {
+        let answer = match replace_file(&self.rt, alloc, name, bytes) {
             Ok(()) => Ok(()),
             Err(error) => {
                 self.reason = Some(error.kind());
                 Err(store_fault(&error, &mut self.failures))
             }
-        }
+        };
+        self.log.note_store(name.as_bytes(), bytes, &answer);
+        answer
     }
 
     fn failures(&self) -> u64 {

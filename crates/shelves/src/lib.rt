@@ -3,16 +3,22 @@
 #![tactic(auto)]
 
 mod device;
+mod file_reader;
+mod given;
 mod log;
 mod memory;
+mod memory_reader;
 mod replace;
 mod shelf;
 mod sink;
 mod whole;
 
 pub use device::FileShelf;
-pub use log::LoadLog;
+pub use file_reader::FileReader;
+pub use given::GivenBytes;
+pub use log::EventLog;
 pub use memory::{MemoryFile, MemoryShelf};
-pub use shelf::{MAX_FILE, Shelf, ShelfFault};
+pub use memory_reader::MemoryReader;
+pub use shelf::{MAX_FILE, ReadEnd, Shelf, ShelfFault};
 pub use sink::{Sink, SinkFault, Writing};
 pub use whole::{WholeFault, read_whole};

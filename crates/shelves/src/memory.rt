@@ -1,11 +1,13 @@
-ghost use Rattle.std.specs.Prelude.{◌≡◌, ℕ, List, [], Option, Some, None, IfOk, OnOk, OnErr, option_map, string_bytes, map, ◌≤◌, vec_len};
+ghost use Rattle.std.specs.Prelude.{◌≡◌, ℕ, List, [], Option, Some, None, IfOk, IfErr, IfSome, ◌++◌, OnOk, OnErr, option_map, string_bytes, map, ◌≤◌, vec_len};
 ghost use Rattle.std.specs.Option.{option_or};
 ghost use Rattle.shelves.specs.Files.{held, with_file};
-ghost use Rattle.shelves.specs.Shelf.{Loads, IsCounted};
-ghost use Rattle.shelves.specs.Memory.{bytes_in, files_of, HasPlace};
+ghost use Rattle.shelves.specs.Shelf.{Loads, Opens, IsCounted};
+ghost use Rattle.shelves.specs.Memory.{bytes_in, files_of, HasPlace, EndsIn};
+ghost use Rattle.shelves.specs.declared.shelf.ShelfFault.TheVariants.{Memory};
 
-use crate::log::LoadLog;
-use crate::shelf::{MAX_FILE, Shelf, ShelfFault};
+use crate::log::EventLog;
+use crate::memory_reader::MemoryReader;
+use crate::shelf::{MAX_FILE, ReadEnd, Shelf, ShelfFault};
 use std::alloc::{AllocError, Global};
 use std::marker::Model;
 
@@ -23,16 +25,16 @@ pub struct MemoryFile {
 pub struct MemoryShelf {
     files: Vec<MemoryFile>,
     stored: Vec<MemoryFile>,
-    log: LoadLog,
+    log: EventLog,
 }
 
 impl Model for MemoryShelf {
     ghost use Rattle.shelves.specs.Memory.{MemoryValue, files_of};
 
-    /// The files that it began with, those that were stored, and what each load answered.
+    /// The files that it began with, those that were stored, and what was loaded, read and stored.
     ghost Value = { MemoryValue };
 
-    ghost view = { λ s. record { files = files_of s.files.items; stored = files_of s.stored.items; loads = s.log.loads } };
+    ghost view = { λ s. record { files = files_of s.files.items; stored = files_of s.stored.items; events = s.log.events } };
 }
 
 /// The first file of the name.
@@ -86,12 +88,12 @@ impl MemoryShelf {
     pub fn new(alloc: Global, files: Vec<MemoryFile>) -> Self
         ensures files { result.files ≡ files_of files.items }
         ensures stored { result.stored ≡ [] }
-        ensures loads { result.loads ≡ [] }
+        ensures events { result.events ≡ [] }
     {
         MemoryShelf {
             files,
             stored: Vec::new(alloc),
-            log: LoadLog::new(),
+            log: EventLog::new(),
         }
     }
 
@@ -104,6 +106,30 @@ impl MemoryShelf {
             return stored;
         }
         file_named(self.files.as_slice(), name)
+    }
+
+    /// A copy of the bytes of the file of the name, however many they are.
+    fn copy_of(&self, alloc: Global, name: &str) -> Result<Vec<u8>, ShelfFault>
+        ensures opened { Opens (Some (λ n. option_or (held self.now.stored n) (held self.now.files n))) 0 name.now result }
+        ensures counted { IsCounted 0 0 result }
+    {
+        match self.file(name) {
+            None => Err(ShelfFault::Missing),
+            Some(file) => Ok(Vec::from_slice(alloc, file.bytes.as_slice())?),
+        }
+    }
+
+    /// Puts a copy of the bytes under the name.
+    fn put(&mut self, alloc: Global, name: &str, bytes: &[u8]) -> Result<(), ShelfFault>
+        ensures put { OnOk result (self.new.stored ≡ with_file self.old.stored name.now bytes.now) }
+        ensures same { OnErr result (self.new.stored ≡ self.old.stored) }
+        ensures files { self.new.files ≡ self.old.files }
+        ensures events { self.new.events ≡ self.old.events }
+        ensures memory { IfErr result (λ fault. fault ≡ Memory) }
+    {
+        let bytes = Vec::from_slice(alloc, bytes)?;
+        put_file(alloc, &mut self.stored, name, bytes)?;
+        Ok(())
     }
 
     /// A copy of the bytes of the file of the name.
@@ -127,23 +153,68 @@ impl MemoryShelf {
     }
 }
 
+/// What stands behind the given bytes, if they are the first.
+fn rest_behind<'a>(bytes: &'a [u8], given: &[u8]) -> Option<&'a [u8]>
+    ensures { IfSome result (λ rest. bytes.now ≡ given.now ++ rest.now) }
+{
+    if bytes.len() < given.len() {
+        return None;
+    }
+    let (front, rest) = bytes.split_at(given.len());
+    if front == given { Some(rest) } else { None }
+}
+
+/// Where a reader stood that gave these bytes of the file of a name. `Missing` where there is no such file, or where it
+/// doesn't begin with them.
+fn end_in(file: Option<&MemoryFile>, given: &[u8]) -> Result<ReadEnd, ShelfFault>
+    ensures told { EndsIn (bytes_in file.entry) given.now result }
+    ensures counted { IsCounted 0 0 result }
+{
+    let Some(file) = file else {
+        return Err(ShelfFault::Missing);
+    };
+    match rest_behind(file.bytes.as_slice(), given) {
+        Some([]) => Ok(ReadEnd::Whole),
+        Some(_) => Ok(ReadEnd::Part),
+        None => Err(ShelfFault::Missing),
+    }
+}
+
 impl Shelf for MemoryShelf {
+    type Reader = MemoryReader;
+
     ghost contents = { λ s. Some (λ name. option_or (held s.stored name) (held s.files name)) };
 
     ghost stored = { λ s. Some s.stored };
 
-    ghost history = { λ s. record { failures = 0; loads = s.loads } };
+    ghost history = { λ s. record { failures = 0; events = s.events } };
 
     fn load(&mut self, alloc: Global, name: &str) -> Result<Vec<u8>, ShelfFault> {
         let answer = self.bytes(alloc, name);
-        self.log.note(name.as_bytes(), &answer);
+        self.log.note_load(name.as_bytes(), &answer);
+        answer
+    }
+
+    fn reader(&mut self, alloc: Global, name: &str) -> Result<MemoryReader, ShelfFault> {
+        match self.copy_of(alloc, name) {
+            Ok(bytes) => Ok(MemoryReader::new(bytes)),
+            Err(fault) => {
+                self.log.note_load(name.as_bytes(), &Err(fault));
+                Err(fault)
+            }
+        }
+    }
+
+    fn give_back(&mut self, name: &str, reader: MemoryReader) -> Result<ReadEnd, ShelfFault> {
+        let answer = end_in(self.file(name), reader.given());
+        self.log.note_read(name.as_bytes(), reader.log(), &answer);
         answer
     }
 
     fn store(&mut self, alloc: Global, name: &str, bytes: &[u8]) -> Result<(), ShelfFault> {
-        let bytes = Vec::from_slice(alloc, bytes)?;
-        put_file(alloc, &mut self.stored, name, bytes)?;
-        Ok(())
+        let answer = self.put(alloc, name, bytes);
+        self.log.note_store(name.as_bytes(), bytes, &answer);
+        answer
     }
 
     fn failures(&self) -> u64 {

@@ -1,9 +1,10 @@
-ghost use Rattle.std.specs.Prelude.{◌≡◌, ℕ, ◌<◌, ◌≤◌, List, Option, IfOk, OnOk, OnErr, option_map, vec_len};
+ghost use Rattle.std.specs.Prelude.{◌≡◌, ℕ, ◌<◌, ◌≤◌, false, List, [], Option, IfOk, OnOk, OnErr, option_map, vec_len};
 ghost use Rattle.shelves.specs.Files.{File, Files, with_file, with_bytes};
-ghost use Rattle.shelves.specs.Shelf.{IsLoad, IsStore};
-ghost use Rattle.shelves.specs.History.{History, HasLoaded, HasCounted};
+ghost use Rattle.shelves.specs.Shelf.{IsLoad, Opens, IsRead, IsStore};
+ghost use Rattle.shelves.specs.History.{History, HasLoaded, HasOpened, HasRead, HasPut};
 ghost use Rattle.shelves.specs.declared.shelf.ShelfFault.TheVariants.{Memory};
 
+use field_lines::Source;
 use std::alloc::{AllocError, Global};
 use thiserror::Error;
 
@@ -27,6 +28,15 @@ pub enum ShelfFault {
     Memory,
 }
 
+/// Where a reader stood when it was given back.
+#[derive(Clone, Copy, Debug, PartialEq, Eq)]
+pub enum ReadEnd {
+    /// At the end of its file: it gave all bytes.
+    Whole,
+    /// Before the end, so far as it was told: it gave a beginning of the bytes.
+    Part,
+}
+
 impl From<AllocError> for ShelfFault {
     ghost from_gives = { λ _ e. e ≡ Memory };
 
@@ -37,16 +47,19 @@ impl From<AllocError> for ShelfFault {
 
 /// Named files, as those of the machine or of a case.
 pub trait Shelf {
+    /// What reads a file of the shelf from its beginning on.
+    type Reader: Source + Drop;
+
     /// The bytes under each name, where the shelf tells them.
     ghost contents: { Self → Option Files };
 
     /// The files that were stored, in order of storing, each name once, where the shelf tells them.
     ghost stored: { Self → Option (List File) };
 
-    /// How often the device has failed, and what each load answered so far.
+    /// How often the device has failed, and what was loaded, read and stored so far.
     ghost history: { Self → History };
 
-    /// The bytes of the file of a name. The history has what this load answered last of all loads.
+    /// The bytes of the file of a name. What this load answered is the last event of the history.
     ///
     /// # Errors
     ///
@@ -61,7 +74,37 @@ pub trait Shelf {
         ensures kept { stored self.new ≡ stored self.old }
         ensures logged { HasLoaded (λ v. v.items) (history self.old) (history self.new) name.now result };
 
-    /// Puts a file under a name, in the place of the one that was there.
+    /// Opens the file of a name, to be read from its beginning on. The reader has given nothing, and hasn't failed. The
+    /// history has what it gave once it is given back.
+    ///
+    /// # Errors
+    ///
+    /// As `load`, but that no file is too large. The fault is then the last event of the history, as of a load.
+    fn reader(&mut self, alloc: Global, name: &str) -> Result<Self::Reader, ShelfFault>
+        ensures given { IfOk result (λ reader. Self.Reader.given reader ≡ []) }
+        ensures sound { IfOk result (λ reader. Self.Reader.is_failed reader ≡ false) }
+        ensures opened { Opens (contents self.old) (history self.old).failures name.now result }
+        ensures same { contents self.new ≡ contents self.old }
+        ensures kept { stored self.new ≡ stored self.old }
+        ensures logged { HasOpened (history self.old) (history self.new) name.now result };
+
+    /// Takes back the reader of the file of a name, and says where it stood. The last event of the history is then the name, all
+    /// bytes that the reader gave, and this answer. Where the shelf tells its files, the bytes are those of the name's file if
+    /// the reader stood at its end, and a beginning of them if it didn't.
+    ///
+    /// # Errors
+    ///
+    /// `Device` where the reader's last pull failed, and the count of failures rose. `Missing` only where it failed with the
+    /// count at its last value, or where the shelf tells its files and that of the name doesn't begin with what the reader gave.
+    fn give_back(&mut self, name: &str, reader: Self::Reader) -> Result<ReadEnd, ShelfFault>
+        ensures read { IsRead (contents self.old) name.now (Self.Reader.given reader) result }
+        ensures sound { OnOk result (Self.Reader.is_failed reader ≡ false) }
+        ensures same { contents self.new ≡ contents self.old }
+        ensures kept { stored self.new ≡ stored self.old }
+        ensures logged { HasRead (history self.old) (history self.new) name.now (Self.Reader.given reader) result };
+
+    /// Puts a file under a name, in the place of the one that was there. The last event of the history is then the name, the
+    /// bytes, and whether they were taken.
     ///
     /// # Errors
     ///
@@ -74,7 +117,7 @@ pub trait Shelf {
         ensures same { OnErr result (contents self.new ≡ contents self.old) }
         ensures kept { OnErr result (stored self.new ≡ stored self.old) }
         ensures answer { IsStore (history self.old).failures bytes.now result }
-        ensures counted { HasCounted (history self.old) (history self.new) result };
+        ensures logged { HasPut (history self.old) (history self.new) name.now bytes.now result };
 
     /// How often the device has failed.
     fn failures(&self) -> u64

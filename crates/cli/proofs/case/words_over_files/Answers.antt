@@ -17,5 +17,5 @@ returns c =
     let words : texts c.deref.result.now ≡ slice_split (λ b. b == 32) c.args.line.now = ap texts c.deref.ensures.value ∙ c.in_ok-words.ensures in
     subst (λ (w : List (List ℕ)). WordsOver (reverse (files_of c.args.files.items)) w a) words
     (subst (λ (f : List File). WordsOver f (texts c.deref.result.now) a) files
-    (words_over c.new-shelf.result.stored c.new-shelf.result.files (files_of c.stored_files.result.now) (texts c.deref.result.now) c.in_ok-answer.answer.text.items c.push_stored.new.out.items c.in_ok-answer.answer.status run.0 c.new-shelf.result.loads c.words_answer.new.shelf.loads
-    c.new-shelf.ensures.stored c.new-shelf.ensures.loads (ap (λ (f : List File). Some f) c.stored_files.ensures ∙ run.1.list) c.in_ok-push_stored.ensures run.2))
+    (words_over c.new-shelf.result.stored c.new-shelf.result.files (files_of c.stored_files.result.now) (texts c.deref.result.now) c.in_ok-answer.answer.text.items c.push_stored.new.out.items c.in_ok-answer.answer.status run.0 c.new-shelf.result.events c.words_answer.new.shelf.events
+    c.new-shelf.ensures.stored c.new-shelf.ensures.events (ap (λ (f : List File). Some f) c.stored_files.ensures ∙ run.1.list) c.in_ok-push_stored.ensures run.2))

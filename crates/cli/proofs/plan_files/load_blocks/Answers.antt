@@ -1,30 +1,21 @@
-use Rattle.std.proofs.Common.{Option, refl, subst}
-use Rattle.std.specs.Prelude.{Ok, Err}
+use Rattle.std.proofs.Common.{Option, Vec, Global, subst}
+use Rattle.std.specs.Prelude.{Ok}
+use Rattle.pl94_counties.specs.declared.blocks.Block.{Block}
 use Rattle.shelves.specs.Files.{Files}
-use Rattle.program_answers.specs.Answers.{Meets}
-use Rattle.command_runs.specs.Course.{◌>>=◌, load_step}
-use Rattle.command_runs.specs.PlanCourse.{blocks_in}
-use Rattle.command_runs.proofs.RunLemmas.{handed_on, went_on, read_file}
+use Rattle.program_answers.specs.Answers.{Comes}
+use Rattle.command_runs.specs.PlanCourse.{blocks_in, blocks_of}
+use Rattle.command_runs.specs.Reading.{read_both}
+use Rattle.cli.specs.Streams.{Streams, loaded_blocks}
+use Rattle.cli.proofs.ReaderLemmas.{reloaded}
 use Rattle.cli.proofs.plan_files.load_blocks.Goals as goal
 
-pub returns-in_err-segment-clause-course : goal.returns-in_err-segment-clause-course
-returns-in_err-segment-clause-course g c =
+pub returns-in-None-clause-course : goal.returns-in-None-clause-course
+returns-in-None-clause-course g c =
     let files = g.H.Shelf.contents c.args.shelf.now in
+    let words = c.args.words in
     let before = g.H.Shelf.history c.args.shelf.now in
-    let between = g.H.Shelf.history c.load.new.shelf in
-    let after = g.H.Shelf.history c.load-2.new.shelf in
-    let segment = subst (λ (known : Option Files). Meets c.in_err-segment.field-0.0 (λ a. load_step known c.args.words.segment.now between after (Err a))) c.load.ensures.same c.in_err-segment.ensures.course in
-    went_on (λ v. v.items) c.from_residual-in_err-segment.result (load_step files c.args.words.geo.now) (λ geo. load_step files c.args.words.segment.now >>= blocks_in c.args.words.state geo) c.in_ok-geo.geo.items before between after c.in_ok-geo.ensures.course
-    (handed_on (λ v. v.items) c.in_err-segment.field-0.0 c.from_residual-in_err-segment.result (load_step files c.args.words.segment.now) (blocks_in c.args.words.state c.in_ok-geo.geo.items) between after c.from_residual-in_err-segment.ensures.1 segment)
-
-pub returns-clause-course : goal.returns-clause-course
-returns-clause-course g c =
-    let files = g.H.Shelf.contents c.args.shelf.now in
-    let before = g.H.Shelf.history c.args.shelf.now in
-    let between = g.H.Shelf.history c.load.new.shelf in
-    let after = g.H.Shelf.history c.load-2.new.shelf in
-    let geo = c.in_ok-geo.geo.items in
-    let segment = c.in_ok-segment.segment.items in
-    let loaded = subst (λ (known : Option Files). load_step known c.args.words.segment.now between after (Ok segment)) c.load.ensures.same c.in_ok-segment.ensures.course in
-    went_on (λ v. v.items) c.blocks_from.result (load_step files c.args.words.geo.now) (λ geo. load_step files c.args.words.segment.now >>= blocks_in c.args.words.state geo) geo before between after c.in_ok-geo.ensures.course
-    (read_file (λ v. v.items) c.blocks_from.result files c.args.words.segment.now segment segment (blocks_in c.args.words.state geo) between after loaded refl (c.blocks_from.ensures.course after))
+    let between = g.H.Shelf.history c.stream_blocks.new.shelf in
+    let after = g.H.Shelf.history c.load_whole_blocks.new.shelf in
+    let loaded = subst (λ (known : Option Files). Comes (λ v. v.items) c.load_whole_blocks.result (loaded_blocks known words between after)) c.stream_blocks.ensures.same c.load_whole_blocks.ensures.course in
+    let streamed = subst (λ (found : Option (Vec Block Global)). Streams (λ v. v.items) (blocks_of files words) (read_both files words.geo.now words.segment.now) (Ok found) before between) c.in-None.is c.in_ok-blocks.ensures.course in
+    reloaded files words.geo.now words.segment.now (λ (v : Vec Block Global). v.items) (λ texts. blocks_in words.state texts.0 texts.1) before between after streamed.0 c.load_whole_blocks.result streamed.1 loaded

@@ -14,7 +14,7 @@ pub returns-in-Ok : goal.returns-in-Ok
 returns-in-Ok g c = (
   record { name = c.args.name.now; bytes = c.args.bytes.now } ∷ [],
   record { contents = c.in-Ok.ensures.put; list = c.in-Ok.ensures.listed },
-  inr (g.H.Shelf.history c.store.new.self, [], c.in-Ok.ensures.counted, refl, (refl, refl, refl)),
+  inr (g.H.Shelf.history c.store.new.self, [], c.in-Ok.ensures.logged, refl, (refl, refl, refl)),
 )
 
 -- what is refused with this answer has it, or memory was refused
@@ -29,7 +29,7 @@ returns-in-Err g c = (
   inl (record {
     fault = c.in-Err.fault;
     is = c.in-Err.ensures.answer;
-    counted = c.in-Err.ensures.counted;
+    logged = c.in-Err.ensures.logged;
     none_stored = refl;
     answer = answered (shelf_answer c.args.name.now c.in-Err.fault) c.refuse_load.result c.refuse_load.ensures;
   }),

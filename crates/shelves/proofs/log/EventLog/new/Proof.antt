@@ -21,18 +21,18 @@ use denote.Triple.Entry.{on_entry}
 use denote.Triple.Spec.{Meets, triple_of}
 use denote.Triple.Table.{entered}
 use denote.Triple.Walked.{says, ends_at, walked, walk_Meets}
-use Rattle.shelves.specs.declared.log.LoadLog.{LoadLog}
-use Rattle.shelves.specs.contracts.log.LoadLog as T
-use Rattle.shelves.specs.contracts.log.LoadLog.new.Key.{name as #it}
-use Rattle.shelves.specs.contracts.log.LoadLog.new as it
-use Rattle.shelves.proofs.log.LoadLog.new.Statement as stated
-use Rattle.shelves.proofs.log.LoadLog.new.Code as code
+use Rattle.shelves.specs.declared.log.EventLog.{EventLog}
+use Rattle.shelves.specs.contracts.log.EventLog as T
+use Rattle.shelves.specs.contracts.log.EventLog.new.Key.{name as #it}
+use Rattle.shelves.specs.contracts.log.EventLog.new as it
+use Rattle.shelves.proofs.log.EventLog.new.Statement as stated
+use Rattle.shelves.proofs.log.EventLog.new.Code as code
 
 abbrev v : Val
 v = vstruct vnil
 
-abbrev r : LoadLog
-r = record { loads = [] }
+abbrev r : EventLog
+r = record { events = [] }
 
 meets : {M : Type 1} {𝓤 : Ura M} (𝓛 : Logic 𝓤) → (at_mem : Memory → SProp 𝓤) (run : Routine → Fun 𝓤) (𝓣 : Tables 𝓤 𝓛.H)
     → Meets 𝓛 it.signature (WpFn 𝓤 𝓛.H 𝓣.C 𝓣.Λ code.function) (it.spec 𝓛 at_mem run)

@@ -1,4 +1,4 @@
--- The body is empty. The borrow is opened, and closed at the value with one more load.
+-- The body is empty. The borrow is opened, and closed at the value with one more event.
 use Rattle.std.proofs.Common.{ℕ, List, [], ◌∷◌, ◌<◌, ◌^◌, length, refl, MutBor}
 use seplogic.Ra.Ura.{Ura}
 use mir.Syntax.{named}
@@ -25,18 +25,18 @@ use denote.Triple.Spec.{Meets, triple_of}
 use denote.Triple.Table.{entered}
 use denote.RattleType.{RattleType, owns}
 use denote.Triple.Walked.{says, Stays, stay_ref, stay_none_ref, stay_none_slice, walk_of, AllGo, Goes-ref, Goes-none_ref, Goes-none_slice, Walks, ends_at, walked, walk_Meets}
-use Rattle.shelves.specs.declared.log.LoadLog.{LoadLog}
+use Rattle.shelves.specs.declared.log.EventLog.{EventLog}
 use Rattle.shelves.specs.History.{with_load}
 use Rattle.std.specs.contracts.alloc.Global
 use Rattle.std.specs.contracts.impls.GlobalAllocator.TheImpl
 use Rattle.std.specs.contracts.result.Result
 use Rattle.std.specs.contracts.vec.Vec
 use Rattle.shelves.specs.contracts.shelf.ShelfFault
-use Rattle.shelves.specs.contracts.log.LoadLog as T
-use Rattle.shelves.specs.contracts.log.LoadLog.note.Key.{name as #it}
-use Rattle.shelves.specs.contracts.log.LoadLog.note as it
-use Rattle.shelves.proofs.log.LoadLog.note.Statement as stated
-use Rattle.shelves.proofs.log.LoadLog.note.Code as code
+use Rattle.shelves.specs.contracts.log.EventLog as T
+use Rattle.shelves.specs.contracts.log.EventLog.note_load.Key.{name as #it}
+use Rattle.shelves.specs.contracts.log.EventLog.note_load as it
+use Rattle.shelves.proofs.log.EventLog.note_load.Statement as stated
+use Rattle.shelves.proofs.log.EventLog.note_load.Code as code
 use denote.Builtin.{u8}
 use denote.Exit.{yes}
 use denote.Slice.{ShrSlice, slice_val, shr_slice_vals, shr_slice_Tells}
@@ -46,19 +46,19 @@ abbrev Answer : RattleType
 Answer = Result.the_row (Vec.the_row u8 Global.the_row TheImpl.ghosts) ShelfFault.the_row
 
 abbrev Arg : Type 0
-Arg = MutBor LoadLog × (Bor (List ℕ) × (Bor Answer.Denot × Unit {0}))
+Arg = MutBor EventLog × (Bor (List ℕ) × (Bor Answer.Denot × Unit {0}))
 
 abbrev stayed : Stays (it.ended).signature.params (it.ended).kept
 stayed = (stay_ref (0 ∷ []) tt (plain (λ _. T.the_row)), (stay_none_slice (1 ∷ []) tt (plain (λ _. u8)) yes, (stay_none_ref (2 ∷ []) tt (plain (λ _. Answer)) yes, tt)))
 
-module _ {M : Type 1} {𝓤 : Ura M} (𝓛 : Logic 𝓤) (at_mem : Memory → SProp 𝓤) (run : Routine → Fun 𝓤) (κ κ' κ'' : Lft) (q q' q'' : Share) (b o : ℕ) (γ : GName) (h : LoadLog) (k : Bor (List ℕ)) (s : Bor Answer.Denot) where
+module _ {M : Type 1} {𝓤 : Ura M} (𝓛 : Logic 𝓤) (at_mem : Memory → SProp 𝓤) (run : Routine → Fun 𝓤) (κ κ' κ'' : Lft) (q q' q'' : Share) (b o : ℕ) (γ : GName) (h : EventLog) (k : Bor (List ℕ)) (s : Bor Answer.Denot) where
   open 𝓛 use {H, A}
 
   abbrev x : Arg
   x = (record { ref_ptr = (b, o); ghost_name = γ; now = h }, (k, (s, tt)))
 
-  abbrev h' : LoadLog
-  h' = record { loads = with_load (λ v. v.items) h.loads k.now s.now }
+  abbrev h' : EventLog
+  h' = record { events = with_load (λ v. v.items) h.events k.now s.now }
 
   abbrev at : List Val × (List Val × (List Val × Unit {0}))
   at = (vptr b o ∷ [], (slice_val k.ref_ptr (length k.now) ∷ [], (vptr s.ref_ptr.0 s.ref_ptr.1 ∷ [], tt)))
@@ -102,9 +102,9 @@ meets : {M : Type 1} {𝓤 : Ura M} (𝓛 : Logic 𝓤) → (at_mem : Memory →
     → Meets 𝓛 it.signature (WpFn 𝓤 𝓛.H 𝓣.C 𝓣.Λ code.function) (it.spec 𝓛 at_mem run)
 meets {𝓤 = 𝓤} 𝓛 at_mem run 𝓣 = walk_Meets 𝓛 it.ended stayed (goes 𝓛 at_mem run) (it.clauses 𝓛 at_mem run) (WpFn 𝓤 𝓛.H 𝓣.C 𝓣.Λ code.function) (WpFn-mono 𝓤 𝓛.H 𝓛.laws 𝓣 code.function) (walks 𝓛 at_mem run 𝓣.C 𝓣.Λ)
 
-pub note_spec : {M : Type 1} → stated.statement M
+pub note_load_spec : {M : Type 1} → stated.statement M
 unfolding tables_of
-note_spec 𝓤 𝓛 𝓜 𝓡 wired =
+note_load_spec 𝓤 𝓛 𝓜 𝓡 wired =
     entered 𝓤 𝓛.H (triple_of 𝓛 it.signature (it.spec 𝓛 𝓜.mem 𝓡.returns))
     (tables 𝓤 𝓛.H 𝓜 𝓡 𝓡.env).C (tables 𝓤 𝓛.H 𝓜 𝓡 𝓡.env).Λ #it code.function (code.unfolded 𝓤 𝓛.H 𝓜 𝓡 wired)
     (meets 𝓛 𝓜.mem 𝓡.returns (tables_of 𝓤 𝓛.H 𝓜 (tables 𝓤 𝓛.H 𝓜 𝓡 𝓡.env)))

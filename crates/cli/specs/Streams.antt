@@ -1,0 +1,40 @@
+-- What files that are read as they come gave.
+use Rattle.std.specs.Prelude.{◌≡◌, ℕ, Bool, true, false, List, Option, Some, None, Result, Ok, Err}
+use Rattle.shelves.specs.declared.shelf.ReadEnd.TheVariants.{Whole}
+use Rattle.shelves.specs.History.{History}
+use Rattle.program_answers.specs.declared.answer.Refusal.{Refusal}
+use Rattle.program_answers.specs.Answers.{Meets}
+use Rattle.county_codes.specs.declared.county.County.{County}
+use Rattle.pl94_counties.specs.declared.blocks.Block.{Block}
+use Rattle.command_words.specs.declared.words.CommonWords.{CommonWords}
+use Rattle.shelves.specs.Files.{Files}
+use Rattle.command_runs.specs.Course.{Course, ◌>>=◌}
+use Rattle.command_runs.specs.Reading.{Given, whole_step, whole_pair, load_pair}
+use Rattle.command_runs.specs.ProblemCourse.{counties_in}
+use Rattle.command_runs.specs.PlanCourse.{blocks_in}
+
+-- whether a reader stood at the end of its file, or the answer to its failure
+abbrev pub IsWhole : List ℕ → Given → History → Result Bool Refusal → Type 0
+IsWhole name given now (Ok true) = given.answer ≡ Ok Whole
+IsWhole name given now (Ok false) = Unit {0}
+IsWhole name given now (Err refusal) = Meets refusal (λ a. whole_step name given now now (Err a))
+
+-- the same of two readers
+abbrev pub AreWhole : List ℕ → List ℕ → Given × Given → History → Result Bool Refusal → Type 0
+AreWhole first second given now (Ok true) = (given.0.answer ≡ Ok Whole) × (given.1.answer ≡ Ok Whole)
+AreWhole first second given now (Ok false) = Unit {0}
+AreWhole first second given now (Err refusal) = Meets refusal (λ a. whole_pair first second given now now (Err a))
+
+-- Reading files as they come gave the end of the steps, or no more than what the readers gave.
+abbrev pub Streams : {T G X : Type 0} → (T → X) → Course X → Course G → Result (Option T) Refusal → History → History → Type 0
+Streams view steps reading (Ok (Some value)) before after = steps before after (Ok (view value))
+Streams {G = G} view steps reading (Ok None) before after = (given : G) × reading before after (Ok given)
+Streams view steps reading (Err refusal) before after = Meets refusal (λ a. steps before after (Err a))
+
+-- the counties of the state from files that are loaded
+abbrev pub loaded_counties : Option Files → CommonWords → Course (List County)
+loaded_counties files words = load_pair files words.geo.now words.segment.now >>= λ texts. counties_in words.state texts.0 texts.1
+
+-- the census blocks of the state from files that are loaded
+abbrev pub loaded_blocks : Option Files → CommonWords → Course (List Block)
+loaded_blocks files words = load_pair files words.geo.now words.segment.now >>= λ texts. blocks_in words.state texts.0 texts.1

@@ -1,0 +1,30 @@
+//! What a reader gave, for proofs alone.
+ghost use Rattle.std.specs.Prelude.{◌≡◌, ℕ, List, [], ◌++◌};
+ghost use Rattle.std.specs.Borrow.{ftrue};
+
+use std::marker::Model;
+
+/// The bytes that a reader gave so far, which only proofs read: it takes no memory, and its calls do nothing. A reader
+/// notes each pull in it.
+#[derive(Drop)]
+pub struct GivenBytes {
+    pub ghost bytes: { List ℕ },
+}
+
+impl Model for GivenBytes {
+    ghost also_owns = { λ _. ftrue };
+}
+
+impl GivenBytes {
+    /// No byte so far.
+    pub fn new() -> Self
+        ensures { result.bytes ≡ [] }
+    {
+        GivenBytes {}
+    }
+
+    /// Puts bytes at the end.
+    pub fn note(&mut self, _bytes: &[u8])
+        ensures { self.new.bytes ≡ self.old.bytes ++ _bytes.now }
+    {}
+}
