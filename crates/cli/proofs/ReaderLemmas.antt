@@ -12,11 +12,15 @@ use Rattle.shelves.specs.History.{History, HasLoaded}
 use Rattle.program_answers.specs.declared.answer.Refusal.{Refusal}
 use Rattle.program_answers.specs.declared.answer.Refusal.TheVariants.{Shown, Memory}
 use Rattle.program_answers.specs.Answer.{Answered}
-use Rattle.program_answers.specs.Answers.{Comes, Meets, Refuses}
+use Rattle.program_answers.specs.Answers.{answer_of, Comes, Meets, Refuses}
+use Rattle.grouping_problem.specs.ProblemValue.{ProblemValue}
+use Rattle.certificate_checker.specs.declared.fault.CheckStop.{CheckStop}
+use Rattle.command_runs.specs.declared.checker_report.Checked.{Checked}
+use Rattle.command_runs.specs.CheckCourse.{IsChecked, ChecksGiven}
 use Rattle.program_answers.specs.Refusals.{pl94_answer, shelf_answer}
-use Rattle.command_runs.specs.Course.{Course, ◌>>=◌, load_step, call_step}
+use Rattle.command_runs.specs.Course.{Course, ◌>>=◌, load_step, call_step, value_step}
 use Rattle.command_runs.specs.Reading.{Given, open_step, read_step, either_step, whole_step, read_one, text_of, back_step, read_both, whole_pair, load_pair, texts_of}
-use Rattle.cli.specs.Streams.{AreWhole, Streams}
+use Rattle.cli.specs.Streams.{IsWhole, AreWhole, Streams}
 
 -- an answer that is shown
 pub shown : (refusal : Refusal) (want : Answered) (P : Answered → Type 0) → Refuses want refusal → P want → Meets refusal P
@@ -182,3 +186,70 @@ module _ (files : Option Files) (first second : List ℕ) where
     paired before after (Ok value) h = pair_loaded before after (Ok (view value)) h
     paired before after (Err (Shown a)) h = pair_loaded before after (Err _) h
     paired before after (Err Memory) h = tt
+
+module _ (files : Option Files) (name : List ℕ) where
+  -- the file could not be opened, or its reader was given back
+  pub one_read : (before between after : History) (given : Given) → between ≡ before → read_step files name between after (Ok given) → read_one files name before after (Ok given)
+  one_read before between after given same back = inr (record { value = tt; between = between; given = same; goes_on = back })
+
+  module _ {S X : Type 0} (view : S → X) (next : List ℕ → Course X) where
+    abbrev text_steps : Course X
+    text_steps = text_of files name >>= next
+
+    pub text_unopened : (before after : History) (refusal : Refusal) → Meets refusal (λ a. open_step files name before after (Err a)) → Meets refusal (λ a. text_steps before after (Err a))
+    text_unopened before after (Shown a) h = inl (inl (inl h))
+    text_unopened before after Memory h = tt
+
+    pub text_failed : (before after : History) (given : Given) (refusal : Refusal) → read_one files name before after (Ok given)
+        → Meets refusal (λ a. whole_step name given after after (Err a)) → Meets refusal (λ a. text_steps before after (Err a))
+    text_failed before after given (Shown a) read h = inl (inr (record { value = given; between = after; given = read; goes_on = inl h }))
+    text_failed before after given Memory read h = tt
+
+    pub text_ended : (before after : History) (end : Result (Option S) Refusal) (refusal : Refusal) → IsErrAnd end (λ e. e ≡ refusal) → Meets refusal (λ a. text_steps before after (Err a))
+        → Streams view text_steps (read_one files name) end before after
+    text_ended before after (Ok found) refusal is h = absurd is
+    text_ended before after (Err e) refusal is h = subst (λ (r : Refusal). Meets r (λ a. text_steps before after (Err a))) (sym is) h
+
+    -- what was streamed is of the whole text, or only the reader was given back
+    pub text_streamed : (before after : History) (given : Given) (found : Option S) → read_one files name before after (Ok given)
+        → IfSome found (λ value. (given.answer ≡ Ok Whole) × next given.bytes after after (Ok (view value)))
+        → Streams view text_steps (read_one files name) (Ok found) before after
+    text_streamed before after given (Some value) read h = inr (record {
+      value = given.bytes;
+      between = after;
+      given = inr (record { value = given; between = after; given = read; goes_on = inl (refl, h.0, refl) });
+      goes_on = h.1;
+    })
+    text_streamed before after given None read h = (given, read)
+
+    -- the file was loaded behind the reading
+    text_loaded : (before between after : History) (given : Given) (end : Result X Answered) → read_one files name before between (Ok given)
+        → (load_step files name >>= next) between after end → text_steps before after end
+    text_loaded before between after given (Ok value) read (inl stop) = absurd stop
+    text_loaded before between after given (Err a) read (inl stop) = inl (inr (record { value = given; between = between; given = read; goes_on = inr stop }))
+    text_loaded before between after given end read (inr on) = inr (record {
+      value = on.value;
+      between = on.between;
+      given = inr (record { value = given; between = between; given = read; goes_on = inr on.given });
+      goes_on = on.goes_on;
+    })
+
+    pub text_reloaded : (before between after : History) (given : Given) (end : Result S Refusal) → read_one files name before between (Ok given)
+        → Comes view end ((load_step files name >>= next) between after) → Comes view end (text_steps before after)
+    text_reloaded before between after given (Ok value) read h = text_loaded before between after given (Ok (view value)) read h
+    text_reloaded before between after given (Err (Shown a)) read h = text_loaded before between after given (Err _) read h
+    text_reloaded before between after given (Err Memory) read h = tt
+
+-- what was said of a certificate that was read to its end
+pub certificate_checked : (v : ProblemValue) (budget : ℕ) (name bytes : List ℕ) (given : Given) (now : History) (checked : Result Checked CheckStop) (is_whole : Bool) (found : Option Checked)
+    → IfOk checked (λ c. ChecksGiven v budget [] bytes (answer_of c.answer)) → given.bytes ≡ bytes → IsWhole name given now (Ok is_whole)
+    → IfSome found (λ value. (checked ≡ Ok value) × (is_whole ≡ true))
+    → IfSome found (λ value. (given.answer ≡ Ok Whole) × value_step (IsChecked v budget given.bytes) now now (Ok (answer_of value.answer)))
+certificate_checked v budget name bytes given now checked is_whole None holds same whole h = tt
+certificate_checked v budget name bytes given now checked true (Some kept) holds same whole h =
+    let k = kept_holds (λ (c : Checked). ChecksGiven v budget [] bytes (answer_of c.answer)) checked true (Some kept) holds h in
+    (whole, (refl, subst (λ (text : List ℕ). IsChecked v budget text (answer_of kept.answer)) (sym (same ∙ k.is_given)) k.checked))
+certificate_checked v budget name bytes given now checked false (Some kept) holds same whole h = absurd (false_true h.1)
+  where
+    false_true : false ≡ true → ⊥
+    false_true e = cc

@@ -1,19 +1,31 @@
 //! The subcommand `check`.
 
-ghost use Rattle.std.specs.Prelude.{◌≡◌, ◌≤◌};
+ghost use Rattle.std.specs.Prelude.{◌≡◌, ◌≤◌, true, Ok, IfSome};
 ghost use Rattle.program_answers.specs.Answers.{answer_of, Comes};
+ghost use Rattle.command_runs.specs.Reading.{read_one};
 ghost use Rattle.command_runs.specs.CheckCourse.{check_course};
+ghost use Rattle.cli.specs.Streams.{Streams, checked_text, loaded_check};
 
 use crate::end::{End, Ending, FileOption};
 use crate::files::load;
 use crate::problem::load_problem;
-use certificate_checker::CheckFault;
-use command_runs::check_and_say;
+use crate::readers::{give_one_back, open};
+use certificate_checker::{CheckFault, CheckStop};
+use command_runs::{Checked, check_and_say, check_from_and_say};
 use command_words::CheckWords;
 use grouping_problem::Problem;
 use program_answers::{Answer, Refusal};
 use shelves::Shelf;
 use std::alloc::Global;
+
+/// The end of a check that found no fault, and answers this status.
+fn unrefuted(status: u8) -> Ending {
+    match status {
+        0 => Ending::Done,
+        1 => Ending::Impossible,
+        _ => Ending::Budget,
+    }
+}
 
 /// The end of a check that found this fault, if any, and answers this status.
 fn verdict(
@@ -22,15 +34,95 @@ fn verdict(
     text: Vec<u8>,
     problem: Problem,
 ) -> Ending {
-    match (fault, status) {
-        (Some((fault, line)), _) => Ending::NoCertificate(fault, line, text, problem),
-        (None, 0) => Ending::Done,
-        (None, 1) => Ending::Impossible,
-        (None, _) => Ending::Budget,
+    match fault {
+        Some((fault, line)) => Ending::NoCertificate(fault, line, text, problem),
+        None => unrefuted(status),
     }
 }
 
-/// The verdict on a certificate. The problem is built before the certificate is loaded; the first fault met is the
+/// The verdict on a certificate that is loaded before it is checked.
+fn check_loaded<H: Shelf>(
+    alloc: Global,
+    words: CheckWords<'_>,
+    problem: Problem,
+    shelf: &mut H,
+    end: &mut End,
+) -> Result<Answer, Refusal>
+    ensures course { Comes answer_of result (loaded_check (H.contents shelf.old) words.entry problem (H.history shelf.old) (H.history shelf.new)) }
+    ensures same { H.contents shelf.new ≡ H.contents shelf.old }
+    ensures kept { H.stored shelf.new ≡ H.stored shelf.old }
+{
+    let text = load(
+        alloc,
+        FileOption::Certificate,
+        words.certificate,
+        shelf,
+        end,
+    )?;
+    let checked = check_and_say(alloc, &problem, &text, words.budget)?;
+    end.note(verdict(checked.fault, checked.answer.status, text, problem));
+    Ok(checked.answer)
+}
+
+/// What a check said, if it found no fault, and its text was read to the end.
+fn if_unrefuted(checked: Result<Checked, CheckStop>, is_whole: bool) -> Option<Checked>
+    ensures { IfSome result (λ value. (checked ≡ Ok value) × (is_whole ≡ true)) }
+{
+    match checked {
+        Ok(checked) if is_whole && checked.fault.is_none() => Some(checked),
+        _ => None,
+    }
+}
+
+/// The verdict on a certificate that is read as it comes, and read to its end. `None` where a fault is found: the reader is then given
+/// back, and it is left open which fault is the first.
+fn stream_check<H: Shelf>(
+    alloc: Global,
+    words: CheckWords<'_>,
+    problem: &Problem,
+    shelf: &mut H,
+    end: &mut End,
+) -> Result<Option<Checked>, Refusal>
+    ensures course { Streams
+        (λ c. answer_of c.answer)
+        (checked_text (H.contents shelf.old) words.entry problem.now)
+        (read_one (H.contents shelf.old) words.entry.certificate.now)
+        result
+        (H.history shelf.old)
+        (H.history shelf.new) }
+    ensures same { H.contents shelf.new ≡ H.contents shelf.old }
+    ensures kept { H.stored shelf.new ≡ H.stored shelf.old }
+{
+    let (option, name) = (FileOption::Certificate, words.certificate);
+    let mut reader = open(alloc, option, name, shelf, end)?;
+    let checked = check_from_and_say(alloc, problem, &mut reader, words.budget);
+    let is_whole = give_one_back(alloc, option, name, reader, shelf, end)?;
+    Ok(if_unrefuted(checked, is_whole))
+}
+
+/// The verdict on the certificate of a file. It is read as it comes; if a fault is found, it is loaded, and the first fault of the whole
+/// text is the answer.
+fn check_file<H: Shelf>(
+    alloc: Global,
+    words: CheckWords<'_>,
+    problem: Problem,
+    shelf: &mut H,
+    end: &mut End,
+) -> Result<Answer, Refusal>
+    ensures course { Comes answer_of result (checked_text (H.contents shelf.old) words.entry problem (H.history shelf.old) (H.history shelf.new)) }
+    ensures same { H.contents shelf.new ≡ H.contents shelf.old }
+    ensures kept { H.stored shelf.new ≡ H.stored shelf.old }
+{
+    match stream_check(alloc, words, &problem, shelf, end)? {
+        Some(checked) => {
+            end.note(unrefuted(checked.answer.status));
+            Ok(checked.answer)
+        }
+        None => check_loaded(alloc, words, problem, shelf, end),
+    }
+}
+
+/// The verdict on a certificate. The problem is built before the certificate is opened; the first fault met is the
 /// answer.
 pub(crate) fn check<H: Shelf>(
     alloc: Global,
@@ -44,14 +136,5 @@ pub(crate) fn check<H: Shelf>(
     ensures kept { H.stored shelf.new ≡ H.stored shelf.old }
 {
     let problem = load_problem(alloc, words.problem, shelf, end)?;
-    let text = load(
-        alloc,
-        FileOption::Certificate,
-        words.certificate,
-        shelf,
-        end,
-    )?;
-    let checked = check_and_say(alloc, &problem, &text, words.budget)?;
-    end.note(verdict(checked.fault, checked.answer.status, text, problem));
-    Ok(checked.answer)
+    check_file(alloc, words, problem, shelf, end)
 }

@@ -5,10 +5,10 @@ ghost use Rattle.std.specs.List.Sorted.{IsStrictlyIncreasing};
 ghost use Rattle.shelves.specs.History.{History};
 ghost use Rattle.program_answers.specs.Answers.{Comes, Meets, Refuses};
 ghost use Rattle.program_answers.specs.Refusals.{shelf_answer};
-ghost use Rattle.command_runs.specs.Reading.{Given, open_step, back_step, read_both};
+ghost use Rattle.command_runs.specs.Reading.{Given, open_step, read_step, back_step, read_both};
 ghost use Rattle.command_runs.specs.ProblemCourse.{counties_of};
 ghost use Rattle.command_runs.specs.PlanCourse.{blocks_of};
-ghost use Rattle.cli.specs.Streams.{AreWhole, Streams};
+ghost use Rattle.cli.specs.Streams.{IsWhole, AreWhole, Streams};
 
 use crate::end::{End, FileOption};
 use command_words::CommonWords;
@@ -50,6 +50,43 @@ pub(crate) fn open<H: Shelf>(
         Ok(reader) => Ok(reader),
         Err(fault) => Err(refuse_named(alloc, option, name, fault, end)),
     }
+}
+
+/// Whether a reader stood at the end of the file of an option, or the refusal of what the shelf says of its name.
+fn is_whole(
+    alloc: Global,
+    option: FileOption,
+    name: &str,
+    answer: Result<ReadEnd, ShelfFault>,
+    end: &mut End,
+) -> Result<bool, Refusal>
+    ensures { (bytes : List ℕ) (now : History) → IsWhole name.now (record { bytes = bytes; answer = answer }) now result }
+{
+    match answer {
+        Ok(ReadEnd::Whole) => Ok(true),
+        Ok(ReadEnd::Part) => Ok(false),
+        Err(fault) => Err(refuse_named(alloc, option, name, fault, end)),
+    }
+}
+
+/// Gives the reader of the file of an option back. Whether it stood at the end of the file.
+pub(crate) fn give_one_back<H: Shelf>(
+    alloc: Global,
+    option: FileOption,
+    name: &str,
+    reader: H::Reader,
+    shelf: &mut H,
+    end: &mut End,
+) -> Result<bool, Refusal>
+    ensures back { (given : Given)
+        × (given.bytes ≡ H.Reader.given reader)
+        × read_step (H.contents shelf.old) name.now (H.history shelf.old) (H.history shelf.new) (Ok given)
+        × IsWhole name.now given (H.history shelf.new) result }
+    ensures same { H.contents shelf.new ≡ H.contents shelf.old }
+    ensures kept { H.stored shelf.new ≡ H.stored shelf.old }
+{
+    let answer = shelf.give_back(name, reader);
+    is_whole(alloc, option, name, answer, end)
 }
 
 /// Opens both census files, the geographic header first.

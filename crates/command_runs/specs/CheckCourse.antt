@@ -1,5 +1,5 @@
 -- The steps of `check`: the problem is built, the certificate is had, and a checker gives its verdict.
-use Rattle.std.specs.Prelude.{◌≡◌, ℕ, List, Option}
+use Rattle.std.specs.Prelude.{◌≡◌, ◌++◌, ℕ, List, Option}
 use Rattle.grouping_problem.specs.ProblemValue.{ProblemValue, problem_of}
 use Rattle.grouping_report.specs.Outcomes.{outcome_text}
 use Rattle.grouping_report.specs.declared.outcome.Outcome.TheVariants as outcome
@@ -29,6 +29,12 @@ pub record IsChecked (v : ProblemValue) (budget : ℕ) (text : List ℕ) (a : An
   pub best : NamesBest (problem_of v) verdict
   pub impossible : ShowsImpossible (problem_of v) verdict
   pub said : a ≡ verdict_said v verdict
+
+-- what `check` says of the bytes that a source gave meanwhile
+pub record ChecksGiven (v : ProblemValue) (budget : ℕ) (before after : List ℕ) (a : Answered) : Type 0 where
+  pub given : List ℕ
+  pub is_given : after ≡ before ++ given
+  pub checked : IsChecked v budget given a
 
 -- `check`: the problem is built before the certificate is opened
 abbrev pub check_course : Option Files → CheckWords → Course Answered

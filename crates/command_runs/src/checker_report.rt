@@ -1,12 +1,13 @@
 //! What `check` says of a text.
 
-ghost use Rattle.std.specs.Prelude.{◌≡◌, IfOk};
+ghost use Rattle.std.specs.Prelude.{◌≡◌, false, IfOk};
 ghost use Rattle.grouping_problem.specs.ProblemValue.{problem_of};
 ghost use Rattle.certificate_checker.specs.Answered.{NamesBest};
 ghost use Rattle.program_answers.specs.Answers.{answer_of};
-ghost use Rattle.command_runs.specs.CheckCourse.{IsChecked, verdict_said};
+ghost use Rattle.command_runs.specs.CheckCourse.{IsChecked, ChecksGiven, verdict_said};
 
-use certificate_checker::{CheckFault, Verdict, check};
+use certificate_checker::{CheckFault, CheckStop, Verdict, check, check_from};
+use field_lines::Source;
 use grouping_problem::Problem;
 use grouping_report::{Outcome, report};
 use program_answers::{Answer, budget_answer, no_answer};
@@ -68,4 +69,28 @@ pub fn check_and_say(
 {
     let verdict = check(alloc, problem, text, budget)?;
     say(alloc, problem, verdict)
+}
+
+/// What `check` says of the bytes that a source gives up to its end, or to where the checker left it.
+///
+/// # Errors
+///
+/// `ReadFault` where the source could not be read, and `Memory` where memory was refused.
+pub fn check_from_and_say<S: Source>(
+    alloc: Global,
+    problem: &Problem,
+    source: &mut S,
+    budget: u64,
+) -> Result<Checked, CheckStop>
+    requires { S.is_failed source.old ≡ false }
+    ensures { IfOk result (λ c. ChecksGiven problem.now budget (S.given source.old) (S.given source.new) (answer_of c.answer)) }
+{
+    let verdict = match check_from(alloc, problem, source, budget) {
+        Ok(verdict) => verdict,
+        Err(stop) => return Err(stop),
+    };
+    match say(alloc, problem, verdict) {
+        Ok(checked) => Ok(checked),
+        Err(AllocError) => Err(CheckStop::Memory),
+    }
 }

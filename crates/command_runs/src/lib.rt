@@ -13,7 +13,7 @@ mod laws;
 mod listing_report;
 
 pub use board_reports::{PieceEnd, PieceSaid, language_for, piece_and_say, share_events};
-pub use checker_report::{Checked, check_and_say};
+pub use checker_report::{Checked, check_and_say, check_from_and_say};
 pub use desk_report::{Solved, solve_and_say};
 pub use laws::{runs_agree, runs_are_of_their_loads, runs_list, runs_share};
 pub use listing_report::{ListEnd, Listed, list_and_say};
