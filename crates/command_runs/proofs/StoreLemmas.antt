@@ -66,7 +66,7 @@ stops_in [] ys before after stored a h = absurd (some_none h.2)
   where
     some_none : Some a ≡ None → ⊥
     some_none e = cc
-stops_in (x ∷ xs) ys before after stored a (inl h) = inl (record { fault = h.fault; is = h.is; counted = h.counted; none_stored = h.none_stored; answer = h.answer })
+stops_in (x ∷ xs) ys before after stored a (inl h) = inl (record { fault = h.fault; is = h.is; logged = h.logged; none_stored = h.none_stored; answer = h.answer })
 stops_in (x ∷ xs) ys before after stored a (inr h) = inr (h.0, h.1, h.2, h.3, stops_in xs ys h.0 after h.1 a h.4)
 
 -- the status of what was refused
