@@ -10,8 +10,8 @@ What it shares with the program: nothing. What is a proof it has from `docs/defi
 `docs/formats.md`, with the order of the faults ("Which fault"). It reads both kinds of certificate, plain and wide, of both versions.
 What it trusts: Python, its whole numbers without limit, and the files that it is given. No number is rounded.
 
-How it goes: the files are read (`read_..`), the problem is built, and the certificate becomes a list of lines (`read_certificate`). Then `judge` goes
-through the lines of the tree once, with one `State` at each. A set of counties is a whole number: the county at place p of the order is its bit p.
+How it goes: the files are read (`read_..`), the problem is built, and the certificate becomes a list of lines (`Lines`). Then `judge` goes through the
+lines of the tree once, with one `State` at each. A set of counties is a whole number: the county at place p of the order is its bit p.
 
 Statuses: 0 best, 1 impossible or no certificate, 2 these are no words of the command, 4 a file or the problem is refused, 5 a file can't be read.
 """
@@ -26,26 +26,16 @@ MOST_COUNTIES, MOST_NUMBER = 256, 4_294_967_295
 
 
 class End(Exception):
-    """The run ends with one line in place of a report, and a status."""
-
-    def __init__(self, line, status):
-        self.line, self.status = line, status
+    """The run ends: a line in the place of a report, and a status."""
 
 
 class Fault(Exception):
-    """A kind of fault, and its line, unless only the caller knows it."""
-
-    def __init__(self, kind, line):
-        super().__init__(kind)
-        self.line = line
+    """A kind of fault, and its line, which is None if the caller knows it."""
 
 
 def need(holds, kind, line=None):
     if not holds:
         raise Fault(kind, line)
-
-
-# ---- the files ----
 
 
 def number(word, least=0, most=MOST_NUMBER, kind="BadNumber"):
@@ -59,20 +49,23 @@ def code(word, kind="BadCode"):
     return word.decode()
 
 
+# ---- the files ----
+
+
 def read_file(file, text, least, read_fields):
     """Reads the fields of each line that isn't blank. There are to be so many fields at least."""
     pieces = text.split(b"\n")
     for line, piece in enumerate(pieces if pieces[-1] else pieces[:-1], 1):
         try:
-            need(line <= TEXT_LINES, "TooManyLines", 0)
-            need(len(piece) <= LINE_BYTES, "LineTooLong", line)
+            need(line <= TEXT_LINES, "TooManyLines")
+            need(len(piece) <= LINE_BYTES, "LineTooLong")
             piece = piece[3:] if line == 1 and piece.startswith(b"\xef\xbb\xbf") else piece
             fields = (piece[:-1] if piece.endswith(b"\r") else piece).split(b"|")
             if fields != [b""]:
-                need(len(fields) >= least, "TooFewFields", line)
+                need(len(fields) >= least, "TooFewFields")
                 read_fields(fields)
         except Fault as fault:
-            raise End(f"refused {file} {fault} line {line if fault.line is None else fault.line}", 4) from None
+            raise End(f"refused {file} {fault.args[0]} line {line if line <= TEXT_LINES else 0}", 4) from None
 
 
 def read_counties(geo, segment, state):
@@ -100,13 +93,11 @@ def read_counties(geo, segment, state):
 
 def read_pairs(text):
     """The pairs of the adjacency file, whatever counties they name. A first line without a code is a header."""
-    pairs, is_first = set(), True
+    pairs, rows = set(), []
 
     def read_pair(fields):
-        nonlocal is_first
-        is_header = is_first and (len(fields) < 2 or not re.fullmatch(rb"[0-9]{5}", fields[1]))
-        is_first = False
-        if not is_header:
+        rows.append(fields[1:2])
+        if len(rows) > 1 or re.fullmatch(rb"[0-9]{5}", b"".join(rows[0])):
             need(len(fields) >= 4, "TooFewFields")
             pairs.add(frozenset((code(fields[1]), code(fields[3]))))
 
@@ -133,15 +124,12 @@ def read_withdrawn(text):
     return sets
 
 
-# ---- the problem ----
-
-# The people of each county, the adjacent pairs (of listed counties, or of two that a link adds), the people of all listed counties, the seats, and
-# the allowance, which is a fraction.
-Problem = collections.namedtuple("Problem", "people pairs total chamber seats_left window")
+# The people of each county of the problem and of all listed ones, the adjacent pairs, the seats, and the allowance, which is a fraction.
+Problem = collections.namedtuple("Problem", "people total pairs chamber seats_left window")
 
 
 def build_problem(listed, pairs, withdrawn, chamber, window):
-    gone = [county for _, codes in withdrawn for county in codes]
+    total, gone = sum(listed.values()), [county for _, codes in withdrawn for county in codes]
     unknown = [county for county in gone if county not in listed]
     twice = [county for place, county in enumerate(gone) if county in gone[:place]]
     foreign = sorted(sorted(pair) for pair in pairs if not all(county in listed for county in pair))
@@ -149,17 +137,17 @@ def build_problem(listed, pairs, withdrawn, chamber, window):
     faults = [
         (2 * window[0] > window[1], "BadWindow"),
         (len(listed) > MOST_COUNTIES, "TooManyCounties"),
-        (sum(listed.values()) == 0, "NoPeople"),
-        (unknown, " ".join(["UnknownWithdrawn", *unknown[:1]])),
-        (twice, " ".join(["WithdrawnTwice", *twice[:1]])),
+        (total == 0, "NoPeople"),
+        (unknown, f"UnknownWithdrawn {''.join(unknown[:1])}"),
+        (twice, f"WithdrawnTwice {''.join(twice[:1])}"),
         (seats_left < 0, "WithdrawnSeats"),
-        (foreign, " ".join(["UnknownPair", *sum(foreign[:1], [])])),
+        (foreign, f"UnknownPair {' '.join(sum(foreign[:1], []))}"),
     ]
     for stands, fault in faults:
         if stands:
             raise End(f"refused problem {fault}", 4)
     people = {county: count for county, count in listed.items() if county not in gone}
-    return Problem(people, pairs, sum(listed.values()), chamber, seats_left, window)
+    return Problem(people, total, pairs, chamber, seats_left, window)
 
 
 # ---- the text of a certificate ----
@@ -186,33 +174,37 @@ def weight(word):
     return county(of), plain(1, 1_000_000)(heavy)
 
 
-def target(word):
+def groups(word):
     return None if word == b"none" else plain(0, MOST_COUNTIES)(word)
 
 
-# What follows the first word of a line: one word for each reader, and then from `least` to `most` words for the last one.
-Form = collections.namedtuple("Form", "once repeated least most", defaults=(None, 0, 0))
+# What follows the first word of a line: a word for each reader; then words for one reader, how many at least and at most.
 FORMS = {
-    "window": Form([plain(0, 500), plain(1, 1000)]),
-    "order": Form([], county, 0, MOST_COUNTIES),
-    "limit": Form([plain(0, MOST_COUNTIES)]),
-    "target": Form([target]),
-    "group": Form([plain(0, 65_535)], county, 1, MOST_COUNTIES),
-    "branch": Form([county]),
-    "wide branch": Form([county, plain(1, MOST_COUNTIES)]),
-    "take": Form([], county, 1, MOST_COUNTIES),
-    "mark": Form([]),
-    "stuck": Form([county]),
-    "seats": Form([]),
-    "bound": Form([plain(0, MOST_COUNTIES)]),
-    "room": Form([]),
-    "weigh": Form([plain(1, 256_000_000)], weight, 0, LINE_BYTES),
-    "end": Form([]),
+    "window": ([plain(0, 500), plain(1, 1000)], None, 0, 0),
+    "order": ([], county, 0, MOST_COUNTIES),
+    "limit": ([plain(0, MOST_COUNTIES)], None, 0, 0),
+    "target": ([groups], None, 0, 0),
+    "group": ([plain(0, 65_535)], county, 1, MOST_COUNTIES),
+    "branch": ([county], None, 0, 0),
+    "wide branch": ([county, plain(1, MOST_COUNTIES)], None, 0, 0),
+    "take": ([], county, 1, MOST_COUNTIES),
+    "mark": ([], None, 0, 0),
+    "stuck": ([county], None, 0, 0),
+    "seats": ([], None, 0, 0),
+    "bound": ([plain(0, MOST_COUNTIES)], None, 0, 0),
+    "room": ([], None, 0, 0),
+    "weigh": ([plain(1, 256_000_000)], weight, 0, LINE_BYTES),
+    "end": ([], None, 0, 0),
 }
+LEAVES = ("stuck", "seats", "bound")
+
+# The window is None if none is named. The target is None, or the seats and the codes of each group. The tree is a list of lines: number, form and
+# values of each. The values of a bound line are the lines that belong to it.
+Certificate = collections.namedtuple("Certificate", "is_wide window order limit target tree")
 
 
 class Lines:
-    """The lines of a certificate, one after the other."""
+    """The lines of a certificate, read one after the other. `line` is the number of the last one that was looked at."""
 
     def __init__(self, text):
         self.pieces, self.line, self.is_wide = text.split(b"\n"), 0, False
@@ -220,74 +212,63 @@ class Lines:
     def piece(self):
         piece = self.pieces[self.line] if self.line < len(self.pieces) else b""
         self.line += 1
-        need(len(piece) <= LINE_BYTES, "Text BadWord", self.line)
-        need(self.line < len(self.pieces), "Text CutShort", self.line)
+        need(len(piece) <= LINE_BYTES, "BadWord")
+        need(self.line < len(self.pieces), "CutShort")
         return piece
-
-    def head(self):
-        """The version that the first line names."""
-        found = re.fullmatch(rb"county-groups (wide )?certificate ([12])", self.piece())
-        need(found, "Text BadHead", 1)
-        self.is_wide = found[1] is not None
-        return int(found[2])
 
     def next(self, *wanted):
         """The form of the next line, which is one of those wanted, and the values of its words."""
         piece = self.piece()
-        try:
-            return self.read(piece, wanted)
-        except Fault as fault:
-            raise Fault(f"Text {fault}", self.line) from None
-
-    def read(self, piece, wanted):
         need(re.fullmatch(rb"[!-~]+( [!-~]+)*", piece), "NotCanonical")
         first, *words = piece.split(b" ")
         form = first.decode()
         need(form in wanted, "BadWord")
         once, repeated, least, most = FORMS["wide branch" if form == "branch" and self.is_wide else form]
-        need(len(once) + least <= len(words) <= len(once) + most, "BadWord")
-        values = [read(word) for read, word in zip(once + [repeated] * (len(words) - len(once)), words)]
+        need(least <= len(words) - len(once) <= most, "BadWord")
+        values = [read(word) for read, word in zip(once + [repeated] * len(words), words)]
         need(form != "window" or 2 * values[0] <= values[1], "BadNumber")
         need(form != "weigh" or all(one[0] < other[0] for one, other in zip(values[1:], values[2:])), "NotCanonical")
         return form, values
 
+    def certificate(self):
+        head = re.fullmatch(rb"county-groups (wide )?certificate ([12])", self.piece())
+        need(head, "BadHead")
+        self.is_wide = head[1] is not None
+        window = self.next("window")[1] if head[2] == b"2" else None
+        order, limit, count = self.next("order")[1], self.next("limit")[1][0], self.next("target")[1][0]
+        named = [self.next("group")[1] for _ in range(count or 0)]
+        tree = self.tree(len(order))
+        self.next("end")
+        self.line += 1
+        need(self.pieces[self.line - 1 :] == [b""], "AfterEnd")
+        return Certificate(self.is_wide, window, order, limit, None if count is None else [(it[0], it[1:]) for it in named], tree)
 
-def read_tree(lines, counties):
-    """The lines of a tree: number, form and values. The values of a bound line are the lines that belong to it. `depths` are those of the branches
-    whose `mark` is still to come."""
-    tree, depths, depth, wanted = [], [], 0, ("branch", "stuck", "seats", "bound")
-    leaves = wanted
-    while True:
-        form, values = lines.next(*wanted)
-        line = lines.line
-        if form == "bound":
-            values = [(*lines.next("room", "weigh"), lines.line) for _ in range(values[0])]
-        tree.append((line, form, values))
-        if form == "branch":
-            need(depth < counties, "Text TooDeep", line)
-            depths.append(depth)
-        elif form == "take":
-            depth = depths[-1] + 1
-        elif form == "mark":
-            depth = depths.pop() + (0 if lines.is_wide else 1)
-        elif not depths:
-            return tree
-        wanted = leaves if form in ("take", "mark") else ("take", "mark")
-
-
-# The window is None if none is named. The target is None, or the seats and the codes of each group.
-Certificate = collections.namedtuple("Certificate", "is_wide window order limit target tree")
+    def tree(self, counties):
+        """The lines of a tree. `depths` are those of the branches whose `mark` is still to come."""
+        tree, depths, depth, wanted = [], [], 0, ("branch", *LEAVES)
+        while True:
+            (form, values), line = self.next(*wanted), self.line
+            if form == "bound":
+                values = [(*self.next("room", "weigh"), self.line) for _ in range(values[0])]
+            tree.append((line, form, values))
+            if form == "branch":
+                need(depth < counties, "TooDeep")
+                depths.append(depth)
+            elif form == "take":
+                depth = depths[-1] + 1
+            elif form == "mark":
+                depth = depths.pop() + (0 if self.is_wide else 1)
+            elif not depths:
+                return tree
+            wanted = ("branch", *LEAVES) if form in ("take", "mark") else ("take", "mark")
 
 
 def read_certificate(text):
     lines = Lines(text)
-    window = lines.next("window")[1] if lines.head() == 2 else None
-    order, limit, groups = lines.next("order")[1], lines.next("limit")[1][0], lines.next("target")[1][0]
-    named = [lines.next("group")[1] for _ in range(groups or 0)]
-    tree = read_tree(lines, len(order))
-    lines.next("end")
-    need(lines.pieces[lines.line :] == [b""], "Text AfterEnd", lines.line + 1)
-    return Certificate(lines.is_wide, window, order, limit, None if groups is None else [(it[0], it[1:]) for it in named], tree)
+    try:
+        return lines.certificate()
+    except Fault as fault:
+        raise Fault(f"Text {fault.args[0]}", lines.line) from None
 
 
 # ---- whether a certificate is a proof ----
@@ -311,12 +292,11 @@ class Round:
         self.problem, self.limit, self.is_wide = problem, certificate.limit, certificate.is_wide
         self.bit = {it: 1 << place for place, it in enumerate(certificate.order)}
         self.people = {self.bit[it]: people for it, people in problem.people.items()}
-        self.neighbours = {it: 0 for it in self.people}
-        for pair in problem.pairs:
-            for it in pair:
-                others = [self.bit[other] for other in pair if other != it and other in self.bit]
-                if it in self.bit:
-                    self.neighbours[self.bit[it]] |= sum(others)
+        self.neighbours = dict.fromkeys(self.people, 0)
+        for one, other in problem.pairs:
+            if one in self.bit and other in self.bit:
+                self.neighbours[self.bit[one]] |= self.bit[other]
+                self.neighbours[self.bit[other]] |= self.bit[one]
 
     @functools.lru_cache(maxsize=100_000)
     def seats_of(self, counties):
@@ -327,20 +307,16 @@ class Round:
         least, most = max(1, -(-scaled // ((whole + part) * self.problem.total))), scaled // ((whole - part) * self.problem.total)
         return (least, most) if least <= most else None
 
-    def part_around(self, county, inside):
-        """The connected part of the counties inside that has the county."""
-        part, new = 0, county
-        while new:
-            part |= new
-            met = 0
-            for it in bits(new):
-                met |= self.neighbours[it]
-            new = met & inside & ~part
-        return part
-
     def parts_of(self, counties):
+        """The connected parts of a set."""
         while counties:
-            part = self.part_around(counties & -counties, counties)
+            part, new = 0, counties & -counties
+            while new:
+                part |= new
+                met = 0
+                for it in bits(new):
+                    met |= self.neighbours[it]
+                new = met & counties & ~part
             yield part
             counties &= ~part
 
@@ -359,17 +335,14 @@ class Round:
                     waiting.append((group | it, touching | self.neighbours[it] & free, free, count + 1, heavy + weights.get(it, 0)))
 
 
-class State:
+class State(collections.namedtuple("State", "round closed rest least")):
     """Closed groups, the rest, and for each county of the rest the least size of a group that it may lie in (where that isn't 0)."""
 
-    def __init__(self, its_round, closed, rest, least):
-        self.round, self.closed, self.rest, self.least = its_round, closed, rest, least
-
     def close(self, group):
-        return State(self.round, self.closed + [group], self.rest & ~group, self.least)
+        return self._replace(closed=[*self.closed, group], rest=self.rest & ~group)
 
     def raise_past(self, county, most):
-        return State(self.round, self.closed, self.rest, {**self.least, county: most + 1})
+        return self._replace(least={**self.least, county: most + 1})
 
     def open_to(self, count):
         """The counties of the rest that may lie in a group of so many."""
@@ -386,57 +359,50 @@ class State:
             return False
         return not self.round.is_wide or not any(map(self.is_stuck, self.round.parts_of(self.rest & ~group)))
 
-    def groups_at(self, county, most):
-        """All groups that fit, have the county and have at most so many counties, by size and then by places."""
-        found = [it for it in self.round.connected_sets(county, self.open_to(most), most, {}) if self.fits(it)]
-        return sorted(found, key=lambda group: (size(group), list(bits(group))))
+
+# A branch whose `mark` is still to come, with the groups that are still to be taken, the next one last.
+Branch = collections.namedtuple("Branch", "state county most groups")
 
 
-class Branch:
-    """A branch whose `mark` is still to come, with the groups that are still to be taken, the next one last."""
+def branch_at(state, line, code_of_county, most):
+    """The groups of a branch are all that fit, have the county and have at most so many counties, by size and then by places."""
+    county, is_open = state.round.bit.get(code_of_county, 0), state.open_to(most)
+    need(is_open, "NoLeaf", line)
+    is_right = county & is_open if state.round.is_wide else county == is_open & -is_open
+    need(is_right and most <= state.round.limit, "WrongCounty", line)
+    groups = [it for it in state.round.connected_sets(county, is_open, most, {}) if state.fits(it)]
+    return Branch(state, county, most, sorted(groups, key=lambda group: (size(group), list(bits(group))), reverse=True))
 
-    def __init__(self, state, line, county, most):
-        self.state, self.county, self.most = state, state.round.bit.get(county, 0), most
-        is_open = state.open_to(most)
-        need(is_open, "NoLeaf", line)
-        is_first = self.county == is_open & -is_open
-        need(most <= state.round.limit and self.county & is_open and (state.round.is_wide or is_first), "WrongCounty", line)
-        self.groups = state.groups_at(self.county, most)[::-1]
 
-    def take(self, line, codes):
-        places = [self.state.round.bit.get(it, 0) for it in codes]
-        is_set = all(one < other for one, other in zip([0, *places], places))
-        need(is_set and sum(places) in self.groups, "StrayGroup", line)
-        need(sum(places) == self.groups.pop(), "MissingGroup", line)
-        return self.state.close(sum(places))
-
-    def mark(self, line):
-        need(not self.groups, "MissingGroup", line)
-        return self.state.raise_past(self.county, self.most)
+def take(branch, line, codes):
+    places = [branch.state.round.bit.get(it, 0) for it in codes]
+    is_set = all(one < other for one, other in zip([0, *places], places))
+    need(is_set and sum(places) in branch.groups, "StrayGroup", line)
+    need(sum(places) == branch.groups.pop(), "MissingGroup", line)
+    return branch.state.close(sum(places))
 
 
 def judge_stuck(state, line, code_of_county):
     county = state.round.bit.get(code_of_county, 0)
     need(county & state.rest, "WrongCounty", line)
-    need(state.is_stuck(state.round.part_around(county, state.rest)), "NotStuck", line)
+    need(any(it & county and state.is_stuck(it) for it in state.round.parts_of(state.rest)), "NotStuck", line)
 
 
 def judge_seats(state, line):
     """The least or the greatest numbers of seats of closed groups and parts are to miss the seats left."""
     seats = [state.round.seats_of(it) for it in [*state.closed, *state.round.parts_of(state.rest)]]
-    need(None not in seats, "SeatsOpen", line)
-    least, most = sum(it for it, _ in seats), sum(it for _, it in seats)
-    need(not least <= state.round.problem.seats_left <= most, "SeatsOpen", line)
+    is_open = None in seats or sum(it[0] for it in seats) <= state.round.problem.seats_left <= sum(it[1] for it in seats)
+    need(not is_open, "SeatsOpen", line)
 
 
-def weighed(state, line, count, quota, weights):
+def weighed(state, line, count, quota, *weights):
     """What the counties open to a group of so many weigh, divided by the quota, if no group of this size that fits weighs less than it."""
     need(all(it in state.round.bit for it, _ in weights), "WrongCounty", line)
     weight_of = {state.round.bit[it]: heavy for it, heavy in weights}
     left = state.open_to(count)
     for county in bits(left):
         light = state.round.connected_sets(county, left, count, weight_of, quota)
-        need(not any(size(group) == count and state.fits(group) for group in light), "LightGroup", line)
+        need(not any(size(it) == count and state.fits(it) for it in light), "LightGroup", line)
         left &= ~county
     return sum(weight_of.get(it, 0) for it in bits(state.open_to(count))) // quota
 
@@ -449,7 +415,7 @@ def judge_bound(state, line, allowances, counts):
     for count, (form, values, at) in enumerate(allowances, 1):
         allowed = max(0, size(state.open_to(count)) - used) // count
         if form == "weigh":
-            allowed = min(allowed, weighed(state, at, count, values[0], values[1:]))
+            allowed = min(allowed, weighed(state, at, count, *values))
         of_size = allowed + sum(size(group) == count for group in state.closed)
         need(of_size <= counts[count], "BoundOver", at)
         if of_size < counts[count]:
@@ -464,11 +430,13 @@ def judge_tree(state, tree, counts):
     branches = []
     for line, form, values in tree:
         if form == "branch":
-            branches.append(Branch(state, line, *values, *([] if state.round.is_wide else [state.round.limit])))
+            branches.append(branch_at(state, line, *values, *([] if state.round.is_wide else [state.round.limit])))
         elif form == "take":
-            state = branches[-1].take(line, values)
+            state = take(branches[-1], line, values)
         elif form == "mark":
-            state = branches.pop().mark(line)
+            need(not branches[-1].groups, "MissingGroup", line)
+            state, county, most, _ = branches.pop()
+            state = state.raise_past(county, most)
         elif form == "stuck":
             judge_stuck(state, line, *values)
         elif form == "seats":
@@ -479,15 +447,14 @@ def judge_tree(state, tree, counts):
 
 def judge_target(its_round, target, line):
     """The target is to be lawful."""
-    groups, named = [codes for _, codes in target], [it for _, codes in target for it in codes]
+    named = [it for _, codes in target for it in codes]
     need(all(it in its_round.bit for it in named), "TargetFault UnknownCounty", line)
     need(len({*named}) == len(named), "TargetFault Twice", line)
     need(len(named) == len(its_round.bit), "TargetFault Missing", line)
-    sets = [sum(its_round.bit[it] for it in codes) for codes in groups]
-    need(all(its_round.part_around(it & -it, it) == it for it in sets), "TargetFault NotConnected", line)
-    for (seats, _), it in zip(target, sets):
-        suited = its_round.seats_of(it)
-        need(suited and suited[0] <= seats <= suited[1], "TargetFault OutOfWindow", line)
+    sets = [(seats, sum(its_round.bit[it] for it in codes)) for seats, codes in target]
+    need(all([*its_round.parts_of(it)] == [it] for _, it in sets), "TargetFault NotConnected", line)
+    suited = [(its_round.seats_of(it) or (1, 0), seats) for seats, it in sets]
+    need(all(least <= seats <= most for (least, most), seats in suited), "TargetFault OutOfWindow", line)
     need(sum(seats for seats, _ in target) == its_round.problem.seats_left, "TargetFault SeatsTotal", line)
 
 
@@ -551,6 +518,12 @@ def options_of(words):
     return {"state": 37, "part": 1, "of": 20, **options}
 
 
+def adjacent_pairs(pairs, links, listed):
+    """The pairs of two counties, listed ones or of a link that adds them."""
+    kept = {it for it in pairs if all(county in listed for county in it)} - {*links} | {it for it in links if links[it]}
+    return {it for it in kept if len(it) == 2}
+
+
 def answer(words, load):
     """The text and the exit status for the words of the command. The files are loaded and read in one order, and the first fault is the answer."""
     try:
@@ -563,15 +536,13 @@ def answer(words, load):
         pairs = read_pairs(load(options["adjacency"]))
         links = read_links(load(options["links"])) if "links" in options else {}
         withdrawn = read_withdrawn(load(options["withdrawn"])) if "withdrawn" in options else []
-        adjacent = {it for it in pairs if all(county in listed for county in it)} - {*links} | {it for it in links if links[it]}
-        adjacent = {it for it in adjacent if len(it) == 2}
-        problem = build_problem(listed, adjacent, withdrawn, options["chamber"], (options["part"], options["of"]))
+        problem = build_problem(listed, adjacent_pairs(pairs, links, listed), withdrawn, options["chamber"], (options["part"], options["of"]))
         certificate = read_certificate(load(options["certificate"]))
         judge(problem, certificate)
     except Fault as fault:
-        return f"no {fault} line {fault.line}\n", 1
+        return "no {} line {}\n".format(*fault.args), 1
     except End as end:
-        return f"{end.line}\n", end.status
+        return f"{end.args[0]}\n", end.args[1]
     return report(problem, certificate.target), 0 if certificate.target is not None else 1
 
 
