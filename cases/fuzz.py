@@ -9,14 +9,15 @@ folder. A find is
 
     signal      the program was ended by a signal, as it is where a `prove!` fails
     hang        it took more than --limit seconds of processor time (20)
+    memory      it used more than --memory megabytes (1024)
     report      standard error has a line that doesn't begin with `countygroups: `, as a report of a bad access
     format      the text isn't one that the command writes with this status (TEXTS below), or the status is none that docs/formats.md names
     stored      a file afterwards is neither as it was nor whole in its format, or another file lies there
     checker     tools/check.py contradicts `check`, `list`, or a certificate that `solve` or `share` stored (if it answers within seconds)
     programs    two programs answer otherwise
 
-A program that `rt try` built tells bad accesses, sums that wrap and a false `prove!`; --memory bounds each run (1024). A search gets few steps and a check a
-small budget, so that a turn is short. The same seed and turn make the same case: --turn N runs one turn. Without --program it runs the proved one.
+A program that `rt try` built tells bad accesses, sums that wrap and a false `prove!`. A search gets few steps and a check a small budget, so that a
+turn is short. The same seed and turn make the same case: --turn N runs one turn. Without --program it runs the proved one.
 Without --runs it goes on for --seconds (60). Each find is printed, and kept as the case FOLDER/SEED-TURN/found (--keep, ./fuzz-finds): its `found.txt` says
 what was found, and its `found.out` what the second checker wants, where it wants something. --test tries the parts of this script, and runs no program.
 
@@ -148,15 +149,19 @@ def is_of_format(command, text, status):
 
 @dataclasses.dataclass
 class Given:
-    """What one run is given: its words, the files, and standard input. If it is `told`, words and files are one text on standard input."""
+    """What one run is given: its words, the files, and standard input. If it is `told`, words and files are one text on standard input: `whole`, if the
+    text itself was changed."""
 
     words: list
     files: dict
     stdin: bytes = b""
     is_told: bool = True
+    whole: bytes = None
 
     def text(self):
         """The case text. A file that doesn't end with LF can only stand last, so that the others get one."""
+        if self.whole is not None:
+            return self.whole
         text = " ".join(self.words).encode("utf-8", "surrogateescape") + b"\n"
         for name, held in sorted(self.files.items(), key=lambda it: it[1] != b"" and not it[1].endswith(b"\n")):
             text += b"" if text.endswith(b"\n") else b"\n"
@@ -199,9 +204,10 @@ class Sources:
         run.is_told = run.stdin == b"" and chance.random() < 0.6 or run.is_told and not is_plain(run.words)
         for _ in range(chance.choice((1, 1, 1, 2, 2, 4))):
             self.change(run, chance)
-        option, most = LIMITS.get(run.words[0], ("", ""))
-        if option:
-            run.words = words_without(run.words, option) + [option, most]
+        limit = LIMITS.get(run.words[0], [])
+        run.words = [*words_without(run.words, limit[0]), *limit] if limit else run.words
+        if run.is_told and chance.random() < 0.1:
+            change_whole(run, limit, chance)
         return run
 
     def change(self, run, chance):
@@ -217,8 +223,22 @@ class Sources:
             run.words[one + 1], run.words[other + 1] = run.words[other + 1], run.words[one + 1]
         elif run.files:
             inner = [run.words[place + 1] for place, option in named if option in ("--certificate", "--events", "--grouping", "--assignments")]
-            name = chance.choice(inner if inner and chance.random() < 0.65 else sorted(run.files))
-            run.files[name] = chance.choice(CHANGES)(run.files[name], chance)
+            name = chance.choice(inner if inner and chance.random() < 0.75 else sorted(run.files))
+            run.files[name] = chance.choice(CHANGES if name in inner or chance.random() < 0.4 else MILD_CHANGES)(run.files[name], chance)
+
+
+def change_whole(run, limit, chance):
+    """Changes the text of a case, or the order of its files. A text that loses the limit of its command stays as it was."""
+    files = list(run.files.items())
+    chance.shuffle(files)
+    run.files = dict(files)
+    text = chance.choice(CHANGES)(run.text(), chance)
+    try:
+        words, files = compare_checkers.case_parts(text)
+    except UnicodeDecodeError:
+        words, files = [""], {}
+    if words[-len(limit) :] == [*limit] or words[0] not in TEXTS:
+        run.words, run.files, run.whole = words, files, text
 
 
 def is_plain(words):
@@ -359,6 +379,7 @@ CHANGES = (
     with_changed_fields,
     with_another_code,
 )
+MILD_CHANGES = (with_changed_number, with_another_code, with_changed_lines)
 
 
 # ---- the runs ----
@@ -403,10 +424,12 @@ def shown(text):
     return repr(text[:160])[2:-1]
 
 
-def wrong_ending(run, made, limit):
+def wrong_ending(run, made, asked):
     """What is wrong with the end of a run and its texts, if something is."""
-    if made.status in (128 + signal.SIGXCPU, 128 + signal.SIGKILL):
-        return f"hang: more than {limit} seconds"
+    if made.status == 128 + signal.SIGXCPU:
+        return f"hang: more than {asked.limit} seconds"
+    if made.status == 128 + signal.SIGKILL:
+        return f"memory: more than {asked.memory} megabytes"
     if made.status >= 128:
         return f"signal {made.status - 128}: `{shown(made.told)}`"
     told = made.told.decode("utf-8", "replace")
@@ -500,11 +523,11 @@ def denial(run, made):
     return f"checker: tools/check.py says `{shown(found[0])}`, status {found[1]}; the program `{shown(made.text)}`, status {made.status}", found
 
 
-def faults_of(run, runs, limit):
+def faults_of(run, runs, asked):
     """What is wrong with what each program made of a run; and the answer of the second checker where it differs."""
     faults, wanted = [], None
     for made in runs:
-        why = wrong_ending(run, made, limit) or wrong_files(run, made)
+        why = wrong_ending(run, made, asked) or wrong_files(run, made)
         if why is None:
             why, wanted = denial(run, made)
         faults += [why] if why else []
@@ -565,11 +588,13 @@ def tests():
     yield "a file that was left", wrong_files(folder, made), "stored: c.part is neither as it was nor whole: ``"
     made.files = {"g": b"x"}
     yield "a file that is gone", wrong_files(folder, made), "stored: h is gone"
-    yield "a signal", wrong_ending(run, Made(b"", 134, b"", {}), 60), "signal 6: ``"
-    yield "a hang", wrong_ending(run, Made(b"", 152, b"", {}), 60), "hang: more than 60 seconds"
-    yield "a report of a bad access", wrong_ending(run, Made(b"memory\n", 5, b"ERROR: x\n", {}), 60), "report: status 5, `ERROR: x\\n`"
-    yield "a byte that isn't escaped", wrong_ending(run, Made(b"memory\n", 5, b"countygroups: \x07\n", {}), 60)[:6], "report"
-    yield "an ordinary end", wrong_ending(run, Made(b"memory\n", 5, b"countygroups: x\n", {}), 60), None
+    limits = argparse.Namespace(limit=20, memory=1024)
+    yield "a signal", wrong_ending(run, Made(b"", 134, b"", {}), limits), "signal 6: ``"
+    yield "a hang", wrong_ending(run, Made(b"", 152, b"", {}), limits), "hang: more than 20 seconds"
+    yield "too much memory", wrong_ending(run, Made(b"", 137, b"", {}), limits), "memory: more than 1024 megabytes"
+    yield "a report of a bad access", wrong_ending(run, Made(b"memory\n", 5, b"ERROR: x\n", {}), limits), "report: status 5, `ERROR: x\\n`"
+    yield "a byte that isn't escaped", wrong_ending(run, Made(b"memory\n", 5, b"countygroups: \x07\n", {}), limits)[:6], "report"
+    yield "an ordinary end", wrong_ending(run, Made(b"memory\n", 5, b"countygroups: x\n", {}), limits), None
     yield "both say best", agrees("check", b"answer best\n", 0, (b"answer best\n", 0)), True
     yield "a No that is denied", agrees("check", b"no NoLeaf line 6\n", 1, (b"answer best\n", 0)), False
     yield "a joined board that is denied", agrees("share", b"joined\n", 0, (b"no NotStuck line 6\n", 1)), False
@@ -624,7 +649,7 @@ def fuzz(asked, room):
     while turn < last if last is not None else time.time() - began < asked.seconds:
         run = sources.changed(random.Random(f"{asked.seed} {turn}"))
         runs = [made_by(program, run, room, asked) for program in programs]
-        faults, wanted = faults_of(run, runs, asked.limit)
+        faults, wanted = faults_of(run, runs, asked)
         statuses.update(it.status for it in runs)
         if faults:
             finds += 1
