@@ -174,7 +174,7 @@ class Given:
 
 
 class Sources:
-    """The runs of the cases, and the files by the option that names them."""
+    """The runs of the cases, the checks among them whose text is a certificate, and the files by the option that names them."""
 
     def __init__(self):
         self.runs, self.by_option = [], collections.defaultdict(list)
@@ -188,6 +188,7 @@ class Sources:
                 continue
             for words, files in told or [(it, {**case.files, **case.stored}) for it in case.runs]:
                 self.add(Given(words, files, b"" if told else case.given, bool(told)))
+        self.certified = [it for it in self.runs if it.words[0] == "check" and is_certificate(it.files.get(compare_checkers.certificate_of(it.words), b""))]
 
     def add(self, run):
         if run.words[0] in TEXTS and run.files:
@@ -197,9 +198,11 @@ class Sources:
 
     def changed(self, chance):
         """A run of a case in which one to four things are changed."""
-        of_command = chance.choice(sorted(TEXTS))
-        of_command = of_command if chance.random() < 0.7 else "check"
-        run = chance.choice([it for it in self.runs if it.words[0] == of_command])
+        command = chance.choice(sorted(TEXTS)) if chance.random() < 0.7 else "check"
+        runs = [it for it in self.runs if it.words[0] == command]
+        if command == "check" and chance.random() < 0.75:
+            runs = self.certified
+        run = chance.choice(runs)
         run = dataclasses.replace(run, words=list(run.words), files=dict(run.files))
         run.is_told = run.stdin == b"" and chance.random() < 0.6 or run.is_told and not is_plain(run.words)
         for _ in range(chance.choice((1, 1, 1, 2, 2, 4))):
@@ -224,7 +227,11 @@ class Sources:
         elif run.files:
             inner = [run.words[place + 1] for place, option in named if option in ("--certificate", "--events", "--grouping", "--assignments")]
             name = chance.choice(inner if inner and chance.random() < 0.75 else sorted(run.files))
-            run.files[name] = chance.choice(CHANGES if name in inner or chance.random() < 0.4 else MILD_CHANGES)(run.files[name], chance)
+            if is_certificate(run.files[name]) and chance.random() < 0.6:
+                run.files[name], _ = compare_checkers.mutated(run.files[name], chance)
+            else:
+                changes = CHANGES if name in inner or chance.random() < 0.4 else MILD_CHANGES
+                run.files[name] = chance.choice(changes)(run.files[name], chance)
 
 
 def change_whole(run, limit, chance):
