@@ -646,28 +646,49 @@ def programs_of(asked):
     return programs
 
 
-def fuzz(asked, room):
-    """Runs turns until the time or their number is over: how many runs there were, and how many finds."""
-    programs, sources, statuses = programs_of(asked), Sources(), collections.Counter()
-    # (a machine that is busy gives a run little of its time)
-    cases.SECONDS = 100 * asked.limit
-    began, turn, finds = time.time(), asked.turn or 0, 0
-    last = asked.turn + 1 if asked.turn is not None else asked.runs
-    while turn < last if last is not None else time.time() - began < asked.seconds:
+class Tally:
+    """How many runs ended with each status, and how many finds there were."""
+
+    def __init__(self):
+        self.statuses, self.finds = collections.Counter(), 0
+
+    def turn(self, asked, sources, programs, room, turn):
         run = sources.changed(random.Random(f"{asked.seed} {turn}"))
         runs = [made_by(program, run, room, asked) for program in programs]
         faults, wanted = faults_of(run, runs, asked)
-        statuses.update(it.status for it in runs)
+        self.statuses.update(it.status for it in runs)
+        self.finds += bool(faults)
         if faults:
-            finds += 1
             keep(f"{asked.keep}/{asked.seed}-{turn}", run, faults, wanted, f"seed {asked.seed} turn {turn}")
         for why in faults:
             print(f"FOUND seed {asked.seed} turn {turn}: {why}", flush=True)
-        turn += 1
-    for status, count in sorted(statuses.items()):
-        print(f"status {status}: {count} runs")
-    print(f"{sum(statuses.values())} runs, {finds} finds")
-    return 1 if finds else 0
+
+    def told(self):
+        for status, count in sorted(self.statuses.items()):
+            print(f"status {status}: {count} runs")
+        print(f"{sum(self.statuses.values())} runs, {self.finds} finds")
+
+
+def interrupt(*_):
+    raise KeyboardInterrupt
+
+
+def fuzz(asked, room):
+    """Runs turns until the time or their number is over, or until this program is asked to end."""
+    programs, sources, tally = programs_of(asked), Sources(), Tally()
+    # (a machine that is busy gives a run little of its time)
+    cases.SECONDS = 100 * asked.limit
+    began, turn = time.time(), asked.turn or 0
+    last = asked.turn + 1 if asked.turn is not None else asked.runs
+    signal.signal(signal.SIGTERM, interrupt)
+    try:
+        while turn < last if last is not None else time.time() - began < asked.seconds:
+            tally.turn(asked, sources, programs, room, turn)
+            turn += 1
+    except KeyboardInterrupt:
+        print(f"ended before turn {turn} was over")
+    tally.told()
+    return 1 if tally.finds else 0
 
 
 def main():
