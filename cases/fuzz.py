@@ -179,6 +179,8 @@ class Sources:
     def __init__(self):
         self.runs, self.by_option = [], collections.defaultdict(list)
         for stem in cases.stems([]):
+            if os.path.isfile(f"{stem}.times"):
+                continue
             case = cases.Case(stem)
             if case.program or sum(map(len, case.files.values())) + len(case.given) > MOST_BYTES:
                 continue
