@@ -1,50 +1,64 @@
 #!/usr/bin/env python3
-"""Changes the files and certificates of the worked cases at random, and looks for runs that end in no way that `docs/formats.md` has.
+"""Changes the worked cases at random, runs the program over them, and looks for what `docs/formats.md` doesn't have.
 
-usage: fuzz.py --program FILE [--program FILE ..] [--seconds N] [--runs N] [--seed N] [--turn N] [--limit SECONDS] [--keep FOLDER]
+usage: fuzz.py [--program FILE ..] [--seconds N | --runs N] [--seed N] [--turn N] [--limit SECONDS] [--memory MEGABYTES] [--keep FOLDER]
+       fuzz.py --test
 
-Each turn takes a case of one command, changes some of its files or words, and gives it to each program on standard input. A find is:
+Each turn takes a run of a case, changes some of its files and words, and gives it to each program: as a case on standard input, or as files in a
+folder. A find is
 
-    signal      the program was ended by a signal
-    hang        it ran longer than --limit seconds (60)
-    status      its status isn't 0 to 5
-    format      its text isn't one that the command writes with this status (TEXTS below)
-    programs    two programs gave different answers
-    checker     tools/check.py answers otherwise than `check` did, or denies a certificate that `solve` stored (if it answers within seconds)
+    signal      the program was ended by a signal, as it is where a `prove!` fails
+    hang        it took more than --limit seconds of processor time (20)
+    memory      it used more than --memory megabytes (1024)
+    report      standard error has a line that doesn't begin with `countygroups: `, as a report of a bad access
+    format      the text isn't one that the command writes with this status (TEXTS below), or the status is none that docs/formats.md names
+    stored      a file afterwards is neither as it was nor whole in its format, or another file lies there
+    checker     tools/check.py contradicts `check`, `list`, or a certificate that `solve` or `share` stored (if it answers within seconds)
+    programs    two programs answer otherwise
 
-A search gets few steps and a check a small budget, so that a turn is short. The same seed and turn give the same case: --turn N runs one turn.
-Each find is printed with its seed and turn, and its case is stored as FOLDER/SEED-TURN.case (--keep, ./fuzz-finds).
-Without --runs it goes on for --seconds (60). Statuses: 0 no find, 1 finds, 2 these words can't be run. The last line is `N runs, M finds`.
+A program that `rt try` built tells bad accesses, sums that wrap and a false `prove!`. A search gets few steps and a check a small budget, so that a
+turn is short. The same seed and turn make the same case: --turn N runs one turn. Without --program it runs the proved one.
+Without --runs it goes on for --seconds (60). Each find is printed, and kept as the case FOLDER/SEED-TURN/found (--keep, ./fuzz-finds): its `found.txt` says
+what was found, and its `found.out` what the second checker wants, where it wants something. --test tries the parts of this script, and runs no program.
+
+Statuses: 0 no find, 1 finds, 2 these words can't be run. The last line is `N runs, M finds`.
 """
 import argparse
+import collections
+import dataclasses
 import os
 import random
 import re
 import signal
-import subprocess
 import sys
+import tempfile
 import time
 
 HERE = os.path.dirname(os.path.realpath(__file__))
 sys.path[:0] = [HERE, f"{HERE}/../tools"]
 import cases  # noqa: E402
+import check  # noqa: E402
 import compare_checkers  # noqa: E402
 
-MOST_BYTES, MOST_STEPS, QUICK_SECONDS = 100_000, 300, 5
+MOST_BYTES, QUICK_SECONDS = 40_000, 3
+LIMITS = {"solve": ("--steps", "300"), "piece": ("--steps", "300"), "check": ("--budget", "3000"), "list": ("--budget", "3000"), "share": ("--budget", "3000")}
 NUMBERS = (
-    "0 1 2 3 20 127 128 129 999 1000 1001 65535 65536 1000000 1000001 256000000 256000001 4294967295 4294967296 18446744073709551616 007"
+    "0 1 2 3 127 128 129 255 256 257 999 1000 1001 65535 65536 65537 1000000 1000001 16777216 256000000 256000001 4294967295 4294967296"
+    " 18446744073709551615 18446744073709551616 4294967296000000000000 007 -1 +1 1.0 1e3"
 ).split()
-BYTES = [b"\n", b"\r", b"\r\n", b" ", b"  ", b"|", b":", b",", b"-", b"+", b"\0", b"\t", b"\xff", b"\xef\xbb\xbf", b"0", b"9", b"x", b"none"]
+BYTES = [b"\n", b"\r", b"\r\n", b" ", b"  ", b"|", b":", b",", b"-", b"+", b"\0", b"\t", b"\x7f", b"\xff", b"\xc3", b"\xe2\x80\x8b", b"\xef\xbb\xbf", b"0", b"9", b"x"]
 
 # ---- what the command writes, by docs/formats.md: whole texts, with their status ----
 
 NUMBER, CODE, SET = r"(?:0|[1-9][0-9]*)", r"[0-9]{5}", r"(?:group|withdrawn) [1-9][0-9]*"
 CODES = rf"{CODE}(?: {CODE})*"
-HEAD = rf"people {NUMBER}\nchamber {NUMBER}\nseats left {NUMBER}\ncounties {NUMBER}\n"
-GROUPS = rf"counts (?:none|{NUMBER}(?: {NUMBER})*)\n(?:group {NUMBER} seats {NUMBER} people {NUMBER} counties {CODES}\n)*"
+FIRST = rf"people {NUMBER}\nchamber {NUMBER}\n(?:window {NUMBER} {NUMBER}\n)?"
+HEAD = rf"{FIRST}seats left {NUMBER}\ncounties {NUMBER}\n"
+COUNTS = rf"counts (?:none|{NUMBER}(?: {NUMBER})*)\n"
+GROUPS = rf"{COUNTS}(?:group {NUMBER} seats {NUMBER} people {NUMBER} counties {CODES}\n)*"
 LIST_GROUP = rf"group seats {NUMBER}(?: to {NUMBER})? people {NUMBER} counties {CODES}\n"
 REGION = rf"region {NUMBER} counties {NUMBER} alternatives {NUMBER}\n(?:alternative {NUMBER}\n(?:{LIST_GROUP})+)+"
-LISTED = rf"answer all\ncounts (?:none|{NUMBER}(?: {NUMBER})*)\nbest groupings {NUMBER}\nshared groups {NUMBER}\n(?:{LIST_GROUP})*(?:{REGION})*"
+LISTED = rf"answer all\n{COUNTS}best groupings {NUMBER}\nshared groups {NUMBER}\n(?:{LIST_GROUP})*(?:{REGION})*"
 CHOICES = rf"(?:every choice\n|(?:grouping {NUMBER} alternatives {NUMBER}(?: {NUMBER})*\n)+)"
 FAULT = (
     rf"(?:EmptyGroup group {NUMBER}|UnknownCounty group {NUMBER} county {CODE}|Twice county {CODE}|Missing county {CODE}"
@@ -55,51 +69,74 @@ FINDING = (
     rf"(?:Grouping {FAULT}|(?:UnknownBlock|BlockTwice|Unassigned) [0-9]{{15}}|Crosses {LABEL} {SET} {SET}"
     rf"|WrongNumber {SET} seats {NUMBER} districts {NUMBER}|DistrictSize {LABEL} people {NUMBER})\n"
 )
-TEXT_FAULT = r"Text (?:BadHead|BadWord|BadNumber|NotCanonical|CutShort|AfterEnd|TooDeep)"
-TREE_FAULT = (
-    r"(?:WrongOrder|LimitTooSmall|WrongCounty|MissingGroup|StrayGroup|LightGroup|BoundOver|BoundLength|NotStuck|SeatsOpen"
+WORD_KIND = r"(?:BadHead|BadWord|BadNumber|NotCanonical|CutShort|AfterEnd|TooDeep)"
+TREE_KIND = (
+    r"(?:WrongWindow|WrongOrder|LimitTooSmall|WrongCounty|MissingGroup|StrayGroup|LightGroup|BoundOver|BoundLength|NotStuck|SeatsOpen"
     r"|BoundWithoutTarget|NoLeaf)"
 )
-TARGET_FAULT = r"TargetFault (?:UnknownCounty|Twice|Missing|NotConnected|OutOfWindow|SeatsTotal)"
+TARGET_KIND = r"TargetFault (?:UnknownCounty|Twice|Missing|NotConnected|OutOfWindow|SeatsTotal)"
 FILE_KIND = (
     r"(?:TooFewFields|BadCode|BadNumber|DoubleRecord|NoRecord|DoubleCounty|DoubleBlock|NoCounties|NoBlocks|TooMany|BadSign|BadSeats|BadLabel"
     r"|LineTooLong|TooManyLines)"
 )
 PROBLEM_KIND = (
-    rf"(?:TooManyCounties|NoPeople|UnknownWithdrawn {CODE}|WithdrawnTwice {CODE}|WithdrawnSeats|EmptyWithdrawn {NUMBER}|UnknownPair {CODE} {CODE})"
+    rf"(?:BadWindow|TooManyCounties|NoPeople|UnknownWithdrawn {CODE}|WithdrawnTwice {CODE}|WithdrawnSeats|EmptyWithdrawn {NUMBER}"
+    rf"|UnknownPair {CODE} {CODE})"
 )
+BOARD_KIND = r"(?:DepthOutOfRange|Target|LimitTooSmall|LimitTooLarge|TooManyPieces)"
 REFUSED = [
     (4, rf"refused (?:geo|segment1|adjacency|links|withdrawn|grouping|assignments) {FILE_KIND} line {NUMBER}\n"),
+    (4, rf"refused events {WORD_KIND} line {NUMBER}\n"),
     (4, rf"refused problem {PROBLEM_KIND}\n"),
     (4, r"refused case TooLarge line 0\n"),
     (5, r"device [^\n]* (?:Missing|TooLarge|Device)\n"),
     (5, r"memory\n"),
-    (2, r"(?:error: .*\n)?"),
-    (2, r".*Usage: countygroups.*"),
+    (2, r""),
+    (2, r"(?:error: |.*Usage: countygroups).*"),
     (0, r".*Usage: countygroups.*|countygroups [^\n]*\n"),
 ]
-NO = (1, rf"no (?:{TEXT_FAULT}|{TREE_FAULT}|{TARGET_FAULT}) line {NUMBER}\n")
-STORED = r"(?:file .*)?"
+NO = (1, rf"no (?:Text {WORD_KIND}|{TREE_KIND}|{TARGET_KIND}) line {NUMBER}\n")
+BUDGET, BOARD = (3, r"budget\n"), (4, rf"refused board {BOARD_KIND}\n")
+REPLY = (
+    rf"(?:piece {NUMBER} {NUMBER}|nothing left|accepted|split into {NUMBER} to {NUMBER}|new round {NUMBER}|old round|no such piece|already done"
+    r"|already split|cant split|not a proof|not better|cant widen|too many pieces|budget|memory)\n"
+)
+WEIGHED = rf"weigh {NUMBER}(?: {CODE}:{NUMBER})*"
+TREE = rf"(?:(?:branch {CODE}(?: {NUMBER})?|take {CODES}|mark|stuck {CODE}|seats|bound {NUMBER}|room|{WEIGHED})\n)+"
+CERTIFICATE = (
+    rf"county-groups (?:wide )?certificate (?:1\n|2\nwindow {NUMBER} {NUMBER}\n)order(?: {CODE})*\nlimit {NUMBER}\ntarget (?:none|{NUMBER})\n"
+    rf"(?:group {NUMBER} {CODES}\n)*{TREE}end\n"
+)
+GROUPING = rf"(?:{NUMBER}\|{CODE}(?:\|{CODE})*\n)*"
 TEXTS = {
-    "size": [
-        (0, rf"people {NUMBER}\nchamber {NUMBER}\ndistrict (?:none|{NUMBER} to {NUMBER})\n(?:{CODE}\|{NUMBER}\|(?:none|{NUMBER}\|{NUMBER})\n)+")
-    ],
+    "size": [(0, rf"{FIRST}district (?:none|{NUMBER} to {NUMBER})\n(?:{CODE}\|{NUMBER}\|(?:none|{NUMBER}\|{NUMBER})\n)+")],
     "judge": [(0, rf"{HEAD}answer lawful\n{GROUPS}"), (1, rf"fault {FAULT}\n")],
     "solve": [
-        (0, rf"{HEAD}answer best\n{GROUPS}{STORED}"),
-        (1, rf"{HEAD}answer impossible\n{STORED}"),
-        (3, rf"{HEAD}answer open after {NUMBER} steps\n(?:grouping none\n|{GROUPS}{STORED})"),
+        (0, rf"{HEAD}answer best\n{GROUPS}"),
+        (1, rf"{HEAD}answer impossible\n"),
+        (3, rf"{HEAD}answer open after {NUMBER} steps\n(?:grouping none\n|{GROUPS})"),
     ],
-    "check": [(0, rf"{HEAD}answer best\n{GROUPS}"), (1, rf"{HEAD}answer impossible\n"), NO, (3, r"budget\n")],
+    "check": [(0, rf"{HEAD}answer best\n{GROUPS}"), (1, rf"{HEAD}answer impossible\n"), NO, BUDGET],
     "list": [
-        (0, rf"{HEAD}{LISTED}{CHOICES}{STORED}"),
+        (0, rf"{HEAD}{LISTED}{CHOICES}"),
         (1, rf"{HEAD}answer impossible\n"),
         NO,
-        (3, rf"budget\n|open (?:CountiesLeft|SeatsOff) line {NUMBER}\n"),
+        BUDGET,
+        (3, rf"open (?:CountiesLeft|SeatsOff) line {NUMBER}\n"),
         (4, r"no such grouping\n"),
+    ],
+    "share": [(0, rf"(?:{REPLY})*joined\n"), (3, rf"(?:{REPLY})*left {NUMBER}\n(?:open {NUMBER} {NUMBER}\n)*"), BUDGET, BOARD],
+    "piece": [
+        (0, rf"result {NUMBER} {NUMBER}\n{TREE}|better {NUMBER} {NUMBER}\n(?:group {NUMBER} {CODES}\n)*|wider {NUMBER}\n"),
+        (3, rf"split {NUMBER} {NUMBER} {CODE} {NUMBER}\n|open\n"),
+        (4, r"no such piece\n"),
+        BUDGET,
+        BOARD,
     ],
     "audit": [(0, r"findings 0\n"), (1, rf"findings [1-9][0-9]*\n(?:{FINDING})+")],
 }
+# (what stands on standard error behind a failed store: the report of a search)
+TOLD = rf"(?:countygroups: [^\n]*\n|(?:{HEAD}answer [a-z0-9 ]+\n(?:grouping none\n|{GROUPS})?))*"
 
 
 def is_of_format(command, text, status):
@@ -110,88 +147,112 @@ def is_of_format(command, text, status):
 # ---- what is changed ----
 
 
+@dataclasses.dataclass
+class Given:
+    """What one run is given: its words, the files, and standard input. If it is `told`, words and files are one text on standard input: `whole`, if the
+    text itself was changed."""
+
+    words: list
+    files: dict
+    stdin: bytes = b""
+    is_told: bool = True
+    whole: bytes = None
+
+    def text(self):
+        """The case text. A file that doesn't end with LF can only stand last, so that the others get one."""
+        if self.whole is not None:
+            return self.whole
+        text = " ".join(self.words).encode("utf-8", "surrogateescape") + b"\n"
+        for name, held in sorted(self.files.items(), key=lambda it: it[1] != b"" and not it[1].endswith(b"\n")):
+            text += b"" if text.endswith(b"\n") else b"\n"
+            text += b"file " + name.encode() + b"\n" + held
+        return text
+
+    def named(self):
+        """The options that name a file which is there, each with its place among the words."""
+        return [(place, option) for place, option in enumerate(self.words[:-1]) if option.startswith("--") and self.words[place + 1] in self.files]
+
+
 class Sources:
-    """The words and files of each case of one command, and all files by the option that names them."""
+    """The runs of the cases, the checks among them whose text is a certificate, and the files by the option that names them."""
 
     def __init__(self):
-        self.cases, self.by_option = [], {}
+        self.runs, self.by_option = [], collections.defaultdict(list)
         for stem in cases.stems([]):
+            if os.path.isfile(f"{stem}.times"):
+                continue
             case = cases.Case(stem)
-            if case.program or len(case.runs) != 1:
+            if case.program or sum(map(len, case.files.values())) + len(case.given) > MOST_BYTES:
                 continue
             try:
-                words, files = compare_checkers.case_parts(case.given) if case.runs == [[]] else (case.runs[0], case.files)
+                told = [compare_checkers.case_parts(case.given)] if case.runs == [[]] else []
             except UnicodeDecodeError:
                 continue
-            if words[0] in TEXTS and files and sum(map(len, files.values())) <= MOST_BYTES:
-                self.cases.append((words, files))
-                for option, name in zip(words, words[1:]):
-                    if option.startswith("--") and name in files:
-                        self.by_option.setdefault(option, []).append(files[name])
+            for words, files in told or [(it, {**case.files, **case.stored}) for it in case.runs]:
+                self.add(Given(words, files, b"" if told else case.given, bool(told)))
+        self.certified = [it for it in self.runs if it.words[0] == "check" and is_certificate(it.files.get(compare_checkers.certificate_of(it.words), b""))]
+
+    def add(self, run):
+        if run.words[0] in TEXTS and run.files:
+            self.runs.append(run)
+            for place, option in run.named():
+                self.by_option[option].append(run.files[run.words[place + 1]])
+
+    def changed(self, chance):
+        """A run of a case in which one to four things are changed."""
+        command = chance.choice(sorted(TEXTS)) if chance.random() < 0.7 else "check"
+        runs = [it for it in self.runs if it.words[0] == command]
+        if command == "check" and chance.random() < 0.75:
+            runs = self.certified
+        run = chance.choice(runs)
+        run = dataclasses.replace(run, words=list(run.words), files=dict(run.files))
+        run.is_told = run.stdin == b"" and chance.random() < 0.6 or run.is_told and not is_plain(run.words)
+        for _ in range(chance.choice((1, 1, 1, 2, 2, 4))):
+            self.change(run, chance)
+        limit = LIMITS.get(run.words[0], [])
+        run.words = [*words_without(run.words, limit[0]), *limit] if limit else run.words
+        if run.is_told and chance.random() < 0.1:
+            change_whole(run, limit, chance)
+        return run
+
+    def change(self, run, chance):
+        """Changes one thing of a run: most often a file that is no Census file."""
+        named, way = run.named(), chance.random()
+        if way < 0.07:
+            run.words = changed_words(run.words, chance)
+        elif way < 0.15 and named:
+            place, option = chance.choice(named)
+            run.files[run.words[place + 1]] = chance.choice(self.by_option[option])
+        elif way < 0.18 and len(named) > 1:
+            (one, _), (other, _) = chance.sample(named, 2)
+            run.words[one + 1], run.words[other + 1] = run.words[other + 1], run.words[one + 1]
+        elif run.files:
+            inner = [run.words[place + 1] for place, option in named if option in ("--certificate", "--events", "--grouping", "--assignments")]
+            name = chance.choice(inner if inner and chance.random() < 0.75 else sorted(run.files))
+            if is_certificate(run.files[name]) and chance.random() < 0.6:
+                run.files[name], _ = compare_checkers.mutated(run.files[name], chance)
+            else:
+                changes = CHANGES if name in inner or chance.random() < 0.4 else MILD_CHANGES
+                run.files[name] = chance.choice(changes)(run.files[name], chance)
 
 
-def changed_word(word, chance):
-    if not word.isdigit() or chance.random() < 0.2:
-        return chance.choice(NUMBERS).encode()
-    if chance.random() < 0.3:
-        return chance.choice((b"0" + word, word[:-1], word + b"0"))
-    return b"%0*d" % (len(word), max(0, int(word[:18]) + chance.choice((-2, -1, 1, 2))))
+def change_whole(run, limit, chance):
+    """Changes the text of a case, or the order of its files. A text that loses the limit of its command stays as it was."""
+    files = list(run.files.items())
+    chance.shuffle(files)
+    run.files = dict(files)
+    text = chance.choice(CHANGES)(run.text(), chance)
+    try:
+        words, files = compare_checkers.case_parts(text)
+    except UnicodeDecodeError:
+        words, files = [""], {}
+    if words[-len(limit) :] == [*limit] or words[0] not in TEXTS:
+        run.words, run.files, run.whole = words, files, text
 
 
-def with_changed_bytes(text, chance):
-    at, length = chance.randrange(len(text) + 1), chance.choice((0, 1, 1, 2, 5))
-    new = chance.choice((b"", chance.choice(BYTES), bytes([chance.randrange(256)])))
-    return chance.choice((text[:at] + new + text[at + length :], text[:at], text.replace(b"\n", chance.choice((b"\r\n", b"\n\n")))))
-
-
-def with_changed_lines(text, chance):
-    lines = text.splitlines(keepends=True) or [b"\n"]
-    one, other = chance.randrange(len(lines)), chance.randrange(len(lines))
-    way = chance.randrange(5)
-    if way == 0:
-        del lines[one]
-    elif way == 1:
-        lines.insert(other, lines[one])
-    elif way == 2:
-        lines.insert(other, lines.pop(one))
-    elif way == 3:
-        lines[one] = lines[other]
-    else:
-        lines[one : one + chance.randrange(1, 6)] = []
-    return b"".join(lines)
-
-
-def with_changed_number(text, chance):
-    found = list(re.finditer(rb"[0-9]+|[A-Za-z]+", text))
-    if not found:
-        return text
-    word, other = chance.choice(found), chance.choice(found)
-    new = other[0] if chance.random() < 0.3 else changed_word(word[0], chance)
-    return text[: word.start()] + new + text[word.end() :]
-
-
-def changed_case(sources, chance):
-    """A case text: a case in which some words, or one to four places of its files, are changed."""
-    words, files = chance.choice(sources.cases)
-    words, files = list(words), dict(files)
-    named = [(option, name) for option, name in zip(words, words[1:]) if option.startswith("--") and name in files]
-    for _ in range(chance.choice((1, 1, 1, 2, 4))):
-        option, name = chance.choice(named) if named else (None, chance.choice(list(files)))
-        if any(it[0] == "--certificate" for it in named) and chance.random() < 0.6:
-            option, name = next(it for it in named if it[0] == "--certificate")
-        way = chance.randrange(12)
-        if way == 0:
-            files[name] = chance.choice(sources.by_option.get(option, [b""]))
-        elif way == 1:
-            place = chance.randrange(len(words))
-            words[place] = changed_word(words[place].encode(), chance).decode() if words[place].isdigit() else words[place]
-        else:
-            change = chance.choice((with_changed_bytes, with_changed_lines, with_changed_lines, with_changed_number, with_changed_number))
-            files[name] = change(files[name], chance)
-    for limit, command in (("--steps", "solve"), ("--budget", "check"), ("--budget", "list")):
-        if words[0] == command:
-            words = words_without(words, limit) + [limit, str(MOST_STEPS)]
-    return given(words, files)
+def is_plain(words):
+    """Whether no word leads out of the folder of a run."""
+    return not any(".." in word or word.startswith("/") and word != "/dev/stdin" for word in words)
 
 
 def words_without(words, option):
@@ -201,31 +262,221 @@ def words_without(words, option):
     return words[:place] + words[place + 2 :]
 
 
-def given(words, files):
-    """The case text. A file that doesn't end with LF can only stand last, so that the others get one."""
-    text = " ".join(words).encode() + b"\n"
-    for name, held in sorted(files.items(), key=lambda it: it[1] != b"" and not it[1].endswith(b"\n")):
-        text += b"" if text.endswith(b"\n") else b"\n"
-        text += b"file " + name.encode() + b"\n" + held
-    return text
+def changed_words(words, chance):
+    """The words with a number changed, an option left out or said twice, one that stands in front, or one that the case hasn't."""
+    way = chance.randrange(8)
+    options = [place for place, word in enumerate(words) if word.startswith("--")]
+    numbers = [place for place, word in enumerate(words) if word.isdigit()]
+    words = list(words)
+    if way < 4 and numbers:
+        place = chance.choice(numbers)
+        words[place] = changed_word(words[place].encode(), chance).decode()
+    elif way == 4 and options:
+        words = words_without(words, words[chance.choice(options)])
+    elif way == 5 and options:
+        place = chance.choice(options)
+        words += words[place : place + 2]
+    elif way == 6:
+        words += [chance.choice(("--state", "--part", "--of", "--limit", "--depth", "--budget", "--number", "--round", "--steps")), chance.choice(NUMBERS)]
+    elif options:
+        words += [chance.choice(("--links", "--withdrawn", "--certificate", "--out", "--events")), words[chance.choice(options) + 1] if words[-1] else ""]
+    return words
+
+
+def changed_word(word, chance):
+    if not word.isdigit() or chance.random() < 0.4:
+        return chance.choice(NUMBERS).encode()
+    if chance.random() < 0.3:
+        return chance.choice((b"0" + word, word[:-1], word + b"0"))
+    return b"%0*d" % (len(word), max(0, int(word[:18]) + chance.choice((-2, -1, 1, 2))))
+
+
+def with_changed_bytes(text, chance):
+    """Some bytes put in, in the place of others or between them."""
+    at, length = chance.randrange(len(text) + 1), chance.choice((0, 0, 1, 1, 2, 5))
+    new = chance.choice((b"", chance.choice(BYTES), chance.choice(BYTES), bytes([chance.randrange(256)])))
+    return text[:at] + new + text[at + length :]
+
+
+def with_other_ends(text, chance):
+    """Other ends of lines, a byte order mark, a text that is cut, one without its last LF or one of other bytes."""
+    lines = text.split(b"\n")
+    place = chance.randrange(len(lines))
+    ways = [
+        lambda: text.replace(b"\n", b"\r\n"),
+        lambda: text.replace(b"\n", b"\n\n"),
+        lambda: text.replace(b"\n", b"\r"),
+        lambda: b"\xef\xbb\xbf" + text,
+        lambda: text[: chance.randrange(len(text) + 1)],
+        lambda: text[:-1],
+        lambda: b"\n".join(lines[:place] + [lines[place] + b"\r"] + lines[place + 1 :]),
+        lambda: b"\n".join(lines[:place] + [lines[place].ljust(chance.choice((65_535, 65_536, 65_537)), chance.choice((b"x", b" ", b"0")))] + lines[place + 1 :]),
+        lambda: bytes(chance.randrange(256) for _ in range(chance.randrange(200))),
+        lambda: b"",
+    ]
+    return chance.choice(ways)()
+
+
+def with_changed_lines(text, chance):
+    """Lines left out, doubled, moved, swapped, put in the place of another, or said many times."""
+    lines = text.splitlines(keepends=True) or [b"\n"]
+    one, other = chance.randrange(len(lines)), chance.randrange(len(lines))
+    way = chance.randrange(8)
+    if way == 0:
+        del lines[one]
+    elif way == 1:
+        lines.insert(other, lines[one])
+    elif way == 2:
+        lines.insert(other, lines.pop(one))
+    elif way == 3:
+        lines[one] = lines[other]
+    elif way == 4:
+        lines[one], lines[other] = lines[other], lines[one]
+    elif way == 5:
+        del lines[one : one + chance.randrange(1, 6)]
+    elif way == 6:
+        del lines[one:]
+    else:
+        many = lines[one : one + chance.randrange(1, 4)]
+        lines[one:one] = many * chance.choice((2, 255, 256, 257))
+    return b"".join(lines)
+
+
+def with_changed_number(text, chance):
+    """One number or word changed, or another of the text put in its place."""
+    found = list(re.finditer(rb"[0-9]+|[A-Za-z]+", text))
+    if not found:
+        return text
+    word, other = chance.choice(found), chance.choice(found)
+    new = other[0] if chance.random() < 0.4 else changed_word(word[0], chance)
+    return text[: word.start()] + new + text[word.end() :]
+
+
+def with_changed_fields(text, chance):
+    """Two fields of a line swapped, or one left out or doubled."""
+    lines = text.split(b"\n")
+    place = chance.randrange(len(lines))
+    by = b"|" if b"|" in lines[place] else b" "
+    fields = lines[place].split(by)
+    one, other, way = chance.randrange(len(fields)), chance.randrange(len(fields)), chance.randrange(3)
+    if way == 0:
+        fields[one], fields[other] = fields[other], fields[one]
+    elif way == 1:
+        del fields[one]
+    else:
+        fields.insert(other, fields[one])
+    lines[place] = by.join(fields)
+    return b"\n".join(lines)
+
+
+def with_another_code(text, chance):
+    """A code of five digits changed to another one of the text, which most often stays a text that can be read."""
+    found = list(re.finditer(rb"(?<![0-9])[0-9]{5}(?![0-9])", text))
+    if not found:
+        return text
+    one, other = chance.choice(found), chance.choice(found)
+    return text[: one.start()] + other[0] + text[one.end() :]
+
+
+CHANGES = (
+    with_changed_bytes,
+    with_other_ends,
+    with_changed_lines,
+    with_changed_lines,
+    with_changed_number,
+    with_changed_number,
+    with_changed_fields,
+    with_another_code,
+)
+MILD_CHANGES = (with_changed_number, with_another_code, with_changed_lines)
 
 
 # ---- the runs ----
 
 
-def ran(program, text, limit):
+@dataclasses.dataclass
+class Made:
+    """What a run made: its text, its status, standard error, and the files that lie there afterwards. Of a told run, those are the files that its text
+    shows as stored."""
+
+    text: bytes
+    status: int
+    told: bytes
+    files: dict
+
+
+def made_by(program, run, room, asked):
+    folder, text = cases.fresh_folder(room, {} if run.is_told else run.files), run.text() if run.is_told else run.stdin
+    made = cases.run(program, [] if run.is_told else run.words, folder, text, most=asked.memory, seconds=asked.limit)
+    wrote, files = made.wrote, cases.files_below(folder)
+    if run.is_told and not files:
+        wrote, files = parted(wrote, outputs_of(run.words))
+    return Made(wrote, made.status, made.told, files)
+
+
+def outputs_of(words):
+    """The names under which a run may store a certificate and a grouping."""
+    certificate = cases.named_by(words, "--certificate") if words[0] in ("solve", "share") else None
+    return certificate, cases.named_by(words, "--out") if words[0] in ("solve", "list") else None
+
+
+def parted(wrote, outputs):
+    """The text of a told run, and the stored files behind it."""
+    names = [re.escape(it.encode("utf-8", "surrogateescape")) for it in outputs if it is not None]
+    heads = list(re.finditer(rb"^file (" + b"|".join(names) + rb")\n", wrote, re.MULTILINE)) if names else []
+    ends = [it.start() for it in heads[1:]] + [len(wrote)]
+    files = {it[1].decode("utf-8", "surrogateescape"): wrote[it.end() : end] for it, end in zip(heads, ends)}
+    return wrote[: heads[0].start()] if heads else wrote, files
+
+
+def shown(text):
+    return repr(text[:160])[2:-1]
+
+
+def wrong_ending(run, made, asked):
+    """What is wrong with the end of a run and its texts, if something is."""
+    if made.status == 128 + signal.SIGXCPU:
+        return f"hang: more than {asked.limit} seconds"
+    if made.status == 128 + signal.SIGKILL:
+        return f"memory: more than {asked.memory} megabytes"
+    if made.status >= 128:
+        return f"signal {made.status - 128}: `{shown(made.told)}`"
+    told = made.told.decode("utf-8", "replace")
+    if not re.fullmatch(TOLD, told) or "\ufffd" in told or re.search(r"[\0-\x09\x0b-\x1f\x7f]", told):
+        return f"report: status {made.status}, `{shown(made.told)}`"
+    if not is_of_format(run.words[0], made.text.decode("latin-1"), made.status):
+        return f"format: status {made.status}, `{shown(made.text)}`"
+    return None
+
+
+def is_certificate(text):
+    """Whether a text spells a certificate."""
     try:
-        made = subprocess.run([program], input=text, stdout=subprocess.PIPE, stderr=subprocess.DEVNULL, timeout=limit)
-    except subprocess.TimeoutExpired:
-        return b"", None
-    return made.stdout, made.returncode
+        check.read_certificate(text)
+    except check.Fault:
+        return False
+    return re.fullmatch(CERTIFICATE, text.decode("latin-1")) is not None
+
+
+def wrong_files(run, made):
+    """What is wrong with the files after a run, if something is: each is as it was, or a whole certificate or grouping under its name."""
+    before = {} if run.is_told else run.files
+    certificate, grouping = outputs_of(run.words)
+    for name, held in made.files.items():
+        if before.get(name) == held:
+            continue
+        whole = name == certificate and is_certificate(held) or name == grouping and re.fullmatch(GROUPING, held.decode("latin-1"))
+        if not whole:
+            return f"stored: {name} is neither as it was nor whole: `{shown(held)}`"
+    gone = [name for name in before if name not in made.files]
+    return f"stored: {gone[0]} is gone" if gone else None
 
 
 class TooSlow(Exception):
     pass
 
 
-def checked(words, files):
+def second_answer(words, files):
     """What the second checker answers, or None if it isn't quick."""
 
     def give_up(*_):
@@ -242,76 +493,225 @@ def checked(words, files):
         signal.alarm(0)
 
 
-def denied(text, wrote, status):
-    """Whether the second checker answers otherwise: to a run of `check`, or to a certificate that `solve` stored."""
+def asked_of_second(run, made):
+    """The words and files of a check, and what the second checker is to answer, or None if it isn't asked. A list says what a check says up to its
+    answer; of a certificate that was stored, only the answer is known."""
+    command, certificate = run.words[0], cases.named_by(run.words, "--certificate")
+    if made.status in (2, 5) or b"Usage:" in made.text or made.text == b"budget\n" or certificate is None:
+        return None
+    kept = ["check"]
+    for option in ("--geo", "--segment", "--chamber", "--state", "--part", "--of", "--adjacency", "--links", "--withdrawn", "--certificate"):
+        kept += [option, cases.named_by(run.words, option)] if cases.named_by(run.words, option) is not None else []
+    if command in ("check", "list"):
+        return kept, run.files, made.text
+    if command in ("solve", "share") and outputs_of(run.words)[1] != certificate and made.files.get(certificate, run.files.get(certificate)) != run.files.get(certificate):
+        return kept, {**run.files, certificate: made.files[certificate]}, made.text
+    return None
+
+
+def agrees(command, text, status, found):
+    """Whether the answer of a run agrees with the text and the status of the second checker."""
+    if command == "check":
+        return found == (text, status)
+    best, impossible = b"answer best\n" in found[0], b"answer impossible\n" in found[0]
+    if command == "solve":
+        return found == (text, status) if status in (0, 1) else False
+    if command == "share":
+        return best
+    if status == 1 or b"refused" in text:
+        return found == (text, status)
+    return best and (status != 0 or found[0].split(b"answer")[0] == text.split(b"answer")[0])
+
+
+def denial(run, made):
+    """What the second checker says against a run, and its whole answer, if it says something."""
+    asked = asked_of_second(run, made)
+    found = second_answer(asked[0], asked[1]) if asked else None
+    if found is None or agrees(run.words[0], made.text, made.status, found):
+        return None, None
+    return f"checker: tools/check.py says `{shown(found[0])}`, status {found[1]}; the program `{shown(made.text)}`, status {made.status}", found
+
+
+def faults_of(run, runs, asked):
+    """What is wrong with what each program made of a run; and the answer of the second checker where it differs."""
+    faults, wanted = [], None
+    for made in runs:
+        why = wrong_ending(run, made, asked) or wrong_files(run, made)
+        if why is None:
+            why, wanted = denial(run, made)
+        faults += [why] if why else []
+    if any((it.text, it.status, it.files) != (runs[0].text, runs[0].status, runs[0].files) for it in runs) and not any(it.text == b"memory\n" for it in runs):
+        faults.append("programs: " + " and ".join(f"status {it.status}, `{shown(it.text)}`" for it in runs))
+    return faults, wanted
+
+
+def keep(folder, run, faults, wanted, how):
+    """Keeps a run as a case that repeats it."""
+    os.makedirs(folder)
+    files = {"found.txt": "".join(f"{it}\n" for it in [how, *faults]).encode()}
+    files["found.out"] = wanted[0] + b"exit %d\n" % wanted[1] if wanted else b"an answer of the formats\n"
+    if run.is_told:
+        files["found.case"] = run.text()
+    else:
+        files["found.words"] = "".join(f"{it}\n" for it in run.words).encode("utf-8", "surrogateescape")
+        files["found.case"] = run.stdin
+        files.update({f"found.files/{name}": held for name, held in run.files.items()})
+    for name, held in files.items():
+        os.makedirs(os.path.dirname(f"{folder}/{name}"), exist_ok=True)
+        with open(f"{folder}/{name}", "wb") as file:
+            file.write(held)
+
+
+# ---- tests ----
+
+
+def tests():
+    """What is tested of this script: a name, what is found, and what is wanted."""
+    report = "people 400\nchamber 4\nseats left 4\ncounties 4\nanswer best\ncounts 2 1\ngroup 1 seats 1 people 100 counties 37001\n"
+    yield "a report", is_of_format("check", report, 0), True
+    yield "a report with a window", is_of_format("check", report.replace("seats left", "window 1 10\nseats left"), 0), True
+    yield "a report with another status", is_of_format("check", report, 1), False
+    yield "a report of another command", is_of_format("judge", report, 0), False
+    yield "a report that is cut", is_of_format("check", report[:-1], 0), False
+    yield "a number with a leading zero", is_of_format("check", report.replace("400", "0400"), 0), False
+    yield "no leaf", is_of_format("list", "no NoLeaf line 8\n", 1), True
+    yield "a refused file", is_of_format("size", "refused geo DoubleCounty line 3\n", 4), True
+    yield "a kind that isn't there", is_of_format("size", "refused geo Memory line 3\n", 4), False
+    yield "replies", is_of_format("share", "piece 1 1\naccepted\nmemory\nleft 1\nopen 1 2\n", 3), True
+    yield "replies without an end", is_of_format("share", "accepted\n", 3), False
+    yield "a piece", is_of_format("piece", "result 1 1\nbound 1\nweigh 2 37001:1\n", 0), True
+    yield "a status that isn't named", is_of_format("size", "", 101), False
+    run = Given(["solve", "--geo", "g", "--certificate", "c", "--out", "o"], {"g": b"x", "h": b"y\n"})
+    yield "a case text", run.text(), b"solve --geo g --certificate c --out o\nfile h\ny\nfile g\nx"
+    yield "options that name a file", run.named(), [(1, "--geo")]
+    certificate = b"county-groups certificate 1\norder\nlimit 0\ntarget none\nseats\nend\n"
+    wrote = b"answer best\nfile c\n" + certificate + b"file o\n1|37001\n"
+    yield "stored files", parted(wrote, outputs_of(run.words)), (b"answer best\n", {"c": certificate, "o": b"1|37001\n"})
+    yield "a file that isn't stored", parted(b"file g\nx\n", ("c", None)), (b"file g\nx\n", {})
+    made = Made(b"", 0, b"", {"c": certificate, "o": b"1|37001\n"})
+    yield "whole files", wrong_files(run, made), None
+    made.files["c"] = certificate[:-1]
+    yield "a torn certificate", wrong_files(run, made), f"stored: c is neither as it was nor whole: `{shown(made.files['c'])}`"
+    folder = dataclasses.replace(run, is_told=False)
+    made.files = {"g": b"x", "h": b"y\n", "c.part": b""}
+    yield "a file that was left", wrong_files(folder, made), "stored: c.part is neither as it was nor whole: ``"
+    made.files = {"g": b"x"}
+    yield "a file that is gone", wrong_files(folder, made), "stored: h is gone"
+    limits = argparse.Namespace(limit=20, memory=1024)
+    yield "a signal", wrong_ending(run, Made(b"", 134, b"", {}), limits), "signal 6: ``"
+    yield "a hang", wrong_ending(run, Made(b"", 152, b"", {}), limits), "hang: more than 20 seconds"
+    yield "too much memory", wrong_ending(run, Made(b"", 137, b"", {}), limits), "memory: more than 1024 megabytes"
+    yield "a report of a bad access", wrong_ending(run, Made(b"memory\n", 5, b"ERROR: x\n", {}), limits), "report: status 5, `ERROR: x\\n`"
+    yield "a byte that isn't escaped", wrong_ending(run, Made(b"memory\n", 5, b"countygroups: \x07\n", {}), limits)[:6], "report"
+    yield "an ordinary end", wrong_ending(run, Made(b"memory\n", 5, b"countygroups: x\n", {}), limits), None
+    yield "both say best", agrees("check", b"answer best\n", 0, (b"answer best\n", 0)), True
+    yield "a No that is denied", agrees("check", b"no NoLeaf line 6\n", 1, (b"answer best\n", 0)), False
+    yield "a joined board that is denied", agrees("share", b"joined\n", 0, (b"no NotStuck line 6\n", 1)), False
+    yield "a list behind a best one", agrees("list", b"people 1\nanswer all\n", 0, (b"people 1\nanswer best\n", 0)), True
+    yield "an open list of no certificate", agrees("list", b"open SeatsOff line 6\n", 3, (b"no NotStuck line 6\n", 1)), False
+    yield "words without an option", words_without(run.words, "--geo"), ["solve", "--certificate", "c", "--out", "o"]
+    yield from tests_of_changes()
+
+
+def tests_of_changes():
+    sources = Sources()
+    yield "each command has runs", {it.words[0] for it in sources.runs}, {*TEXTS}
+    turns = [sources.changed(random.Random(f"1 {turn}")) for turn in range(300)]
+    yield "the same seed and turn", turns[7], sources.changed(random.Random("1 7"))
+    yield "few runs are as they were", sum(it in sources.runs for it in turns) < 30, True
+    yield "a folder's words stay in it", all(it.is_told or is_plain(it.words) for it in turns), True
+    yield "both kinds of run", {it.is_told for it in turns}, {True, False}
+    for change in dict.fromkeys(CHANGES):
+        made = [change(text, random.Random(turn)) for turn in range(200) for text in (b"", b"\n", b"take 37001 37003\nmark\n")]
+        yield f"{change.__name__} gives bytes", all(isinstance(it, bytes) for it in made), True
+        yield f"{change.__name__} changes something", len(set(made)) > 3, True
+
+
+def test():
+    passed = failed = 0
+    for name, found, wanted in tests():
+        passed, failed = passed + (found == wanted), failed + (found != wanted)
+        if found != wanted:
+            print(f"FAILED {name}: wanted {wanted}, found {found}")
+    print(f"{passed} passed, {failed} failed")
+    return 1 if failed else 0
+
+
+# ---- the command ----
+
+
+def programs_of(asked):
+    programs = [os.path.realpath(it) for it in asked.program or [cases.built_program("countygroups")]]
+    for program in programs:
+        if not os.access(program, os.X_OK):
+            cases.stop(f"{program} isn't there: `rt run` or `rt ci` builds it")
+    return programs
+
+
+class Tally:
+    """How many runs ended with each status, and how many finds there were."""
+
+    def __init__(self):
+        self.statuses, self.finds = collections.Counter(), 0
+
+    def turn(self, asked, sources, programs, room, turn):
+        run = sources.changed(random.Random(f"{asked.seed} {turn}"))
+        runs = [made_by(program, run, room, asked) for program in programs]
+        faults, wanted = faults_of(run, runs, asked)
+        self.statuses.update(it.status for it in runs)
+        self.finds += bool(faults)
+        if faults:
+            keep(f"{asked.keep}/{asked.seed}-{turn}", run, faults, wanted, f"seed {asked.seed} turn {turn}")
+        for why in faults:
+            print(f"FOUND seed {asked.seed} turn {turn}: {why}", flush=True)
+
+    def told(self):
+        for status, count in sorted(self.statuses.items()):
+            print(f"status {status}: {count} runs")
+        print(f"{sum(self.statuses.values())} runs, {self.finds} finds")
+
+
+def interrupt(*_):
+    raise KeyboardInterrupt
+
+
+def fuzz(asked, room):
+    """Runs turns until the time or their number is over, or until this program is asked to end."""
+    programs, sources, tally = programs_of(asked), Sources(), Tally()
+    # (a machine that is busy gives a run little of its time)
+    cases.SECONDS = 100 * asked.limit
+    began, turn = time.time(), asked.turn or 0
+    last = asked.turn + 1 if asked.turn is not None else asked.runs
+    signal.signal(signal.SIGTERM, interrupt)
     try:
-        words, files = compare_checkers.case_parts(text)
-    except UnicodeDecodeError:
-        return None
-    name = compare_checkers.certificate_of(words)
-    if words[0] == "solve" and status in (0, 1) and name and name not in words_without(words, "--certificate") and b"\nfile " in wrote:
-        report, _, stored = wrote.partition(b"\nfile ")
-        files[name] = compare_checkers.case_parts(b"x\nfile " + stored)[1][name]
-        words, wrote = ["check", *words_without(words_without(words[1:], "--steps"), "--out")], report + b"\n"
-    elif words[0] != "check" or status in (2, 3) or wrote == b"memory\n" or b"Usage:" in wrote:
-        return None
-    found = checked(words, files)
-    if found in (None, (wrote, status)):
-        return None
-    return f"checker: tools/check.py says `{found[0][:120].decode(errors='replace')}`, status {found[1]}"
-
-
-def faults_of(programs, text, limit):
-    """What is wrong with the runs of one case."""
-    command = text.split(b"\n")[0].split(b" ")[0].decode(errors="replace")
-    answers = [ran(program, text, limit) for program in programs]
-    for wrote, status in answers:
-        if status is None:
-            yield f"hang: more than {limit} seconds"
-        elif status < 0:
-            yield f"signal {-status}"
-        elif status > 5:
-            yield f"status {status}"
-        elif not is_of_format(command, wrote.decode("latin-1"), status):
-            yield f"format: status {status}, `{wrote[:200].decode(errors='replace')}`"
-        else:
-            why = denied(text, wrote, status)
-            if why:
-                yield f"{why}; the program `{wrote[:120].decode(errors='replace')}`, status {status}"
-    if any(it != answers[0] for it in answers):
-        yield "programs: " + " and ".join(f"status {status}, `{wrote[:80].decode(errors='replace')}`" for wrote, status in answers)
+        while turn < last if last is not None else time.time() - began < asked.seconds:
+            tally.turn(asked, sources, programs, room, turn)
+            turn += 1
+    except KeyboardInterrupt:
+        print(f"ended before turn {turn} was over")
+    tally.told()
+    return 1 if tally.finds else 0
 
 
 def main():
-    parser = argparse.ArgumentParser(usage=__doc__.split("usage: ")[1].split("\n\n")[0])
-    parser.add_argument("--program", action="append", required=True)
+    if {"-h", "--help"} & {*sys.argv[1:]}:
+        print(__doc__, end="")
+        return 0
+    parser = argparse.ArgumentParser(usage=__doc__.split("usage: ")[1].split("\n\n")[0], add_help=False)
+    parser.add_argument("--program", action="append")
     parser.add_argument("--seconds", type=float, default=60)
     parser.add_argument("--runs", type=int)
     parser.add_argument("--seed", type=int, default=1)
     parser.add_argument("--turn", type=int)
-    parser.add_argument("--limit", type=float, default=60)
+    parser.add_argument("--limit", type=int, default=20)
+    parser.add_argument("--memory", type=int, default=1024)
     parser.add_argument("--keep", default="fuzz-finds")
+    parser.add_argument("--test", action="store_true")
     asked = parser.parse_args()
-    programs = [os.path.realpath(it) for it in asked.program]
-    for program in programs:
-        if not os.access(program, os.X_OK):
-            cases.stop(f"{program} isn't there")
-    sources, began, turn, finds = Sources(), time.time(), asked.turn or 0, 0
-    last = asked.turn + 1 if asked.turn is not None else asked.runs
-    while turn < last if last is not None else time.time() - began < asked.seconds:
-        text = changed_case(sources, random.Random(f"{asked.seed} {turn}"))
-        wrong = list(faults_of(programs, text, asked.limit))
-        if wrong:
-            finds += 1
-            os.makedirs(asked.keep, exist_ok=True)
-            with open(f"{asked.keep}/{asked.seed}-{turn}.case", "wb") as file:
-                file.write(text)
-        for why in wrong:
-            print(f"FOUND seed {asked.seed} turn {turn}: {why}", flush=True)
-        turn += 1
-    runs = turn - (asked.turn or 0)
-    print(f"{runs} runs, {finds} finds")
-    return 1 if finds else 0
+    if asked.test:
+        return test()
+    with tempfile.TemporaryDirectory(prefix="fuzz-") as room:
+        return fuzz(asked, os.path.realpath(room))
 
 
 if __name__ == "__main__":

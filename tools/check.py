@@ -10,9 +10,8 @@ What it shares with the program: nothing. What is a proof it has from `docs/defi
 `docs/formats.md`, with the order of the faults ("Which fault"). It reads both kinds of certificate, plain and wide, of both versions.
 What it trusts: Python, its whole numbers without limit, and the files that it is given. No number is rounded.
 
-How it goes: the files are read (`read_..`), the problem is built (`Problem`), and the text of the certificate becomes a list of its lines
-(`read_certificate`). Then `judge_certificate` goes through the lines of the tree once, with one `State` at each. Whoever reads the rules alone
-begins there. A set of counties is a whole number: the county at place p of the order is its bit p.
+How it goes: the files are read (`read_..`), the problem is built, and the certificate becomes a list of lines (`Lines`). Then `judge` goes through the
+lines of the tree once, with one `State` at each. A set of counties is a whole number: the county at place p of the order is its bit p.
 
 Statuses: 0 best, 1 impossible or no certificate, 2 these are no words of the command, 4 a file or the problem is refused, 5 a file can't be read.
 """
@@ -27,356 +26,252 @@ MOST_COUNTIES, MOST_NUMBER = 256, 4_294_967_295
 
 
 class End(Exception):
-    """The run ends with one line in place of a report."""
+    """The run ends: a line in the place of a report, and a status."""
 
-    def __init__(self, line, status):
-        self.line, self.status = line, status
+
+class Fault(Exception):
+    """A kind of fault, and its line, which is None if the caller knows it."""
+
+
+def need(holds, kind, line=None):
+    if not holds:
+        raise Fault(kind, line)
+
+
+def number(word, least=0, most=MOST_NUMBER, kind="BadNumber"):
+    digits = word.lstrip(b"0") or b"0"
+    need(re.fullmatch(rb"[0-9]+", word) and len(digits) <= 20 and least <= int(digits) <= most, kind)
+    return int(digits)
+
+
+def code(word, kind="BadCode"):
+    need(re.fullmatch(rb"[0-9]{5}", word), kind)
+    return word.decode()
 
 
 # ---- the files ----
 
 
-def refused(file, kind, line):
-    return End(f"refused {file} {kind} line {line}", 4)
-
-
-def cut_text(file, text):
-    """The number and the fields of each line that isn't blank."""
+def read_file(file, text, least, read_fields):
+    """Reads the fields of each line that isn't blank. There are to be so many fields at least."""
     pieces = text.split(b"\n")
-    if pieces[-1] == b"":
-        pieces.pop()
-    for number, piece in enumerate(pieces, 1):
-        if number > TEXT_LINES:
-            raise refused(file, "TooManyLines", 0)
-        if len(piece) > LINE_BYTES:
-            raise refused(file, "LineTooLong", number)
-        if number == 1 and piece.startswith(b"\xef\xbb\xbf"):
-            piece = piece[3:]
-        if piece.endswith(b"\r"):
-            piece = piece[:-1]
-        if piece:
-            yield number, piece.split(b"|")
+    for line, piece in enumerate(pieces if pieces[-1] else pieces[:-1], 1):
+        try:
+            need(line <= TEXT_LINES, "TooManyLines")
+            need(len(piece) <= LINE_BYTES, "LineTooLong")
+            piece = piece[3:] if line == 1 and piece.startswith(b"\xef\xbb\xbf") else piece
+            fields = (piece[:-1] if piece.endswith(b"\r") else piece).split(b"|")
+            if fields != [b""]:
+                need(len(fields) >= least, "TooFewFields")
+                read_fields(fields)
+        except Fault as fault:
+            raise End(f"refused {file} {fault.args[0]} line {line if line <= TEXT_LINES else 0}", 4) from None
 
 
-def is_digits(word, length):
-    return len(word) == length and re.fullmatch(rb"[0-9]+", word) is not None
-
-
-def number_of(word, least, most):
-    """The number that the digits spell, or None if it isn't in its range."""
-    if not re.fullmatch(rb"[0-9]+", word) or len(word.lstrip(b"0")) > 20:
-        return None
-    number = int(word.lstrip(b"0") or b"0")
-    return number if least <= number <= most else None
-
-
-def read_records(text):
-    """The people of each record of segment 1."""
-    people_of = {}
-    for line, fields in cut_text("segment1", text):
-        if len(fields) < 6:
-            raise refused("segment1", "TooFewFields", line)
-        record, people = (number_of(it, 0, MOST_NUMBER) for it in fields[4:6])
-        if record is None or people is None:
-            raise refused("segment1", "BadNumber", line)
-        if record in people_of:
-            raise refused("segment1", "DoubleRecord", line)
-        people_of[record] = people
-    return people_of
-
-
-def read_counties(text, people_of, state):
+def read_counties(geo, segment, state):
     """The people of each listed county, by its code."""
-    counties = {}
-    for line, fields in cut_text("geo", text):
-        if len(fields) < 15:
-            raise refused("geo", "TooFewFields", line)
-        if (fields[2], fields[4], fields[12]) != (b"050", b"00", b"%02d" % state):
-            continue
-        if not is_digits(fields[14], 3):
-            raise refused("geo", "BadCode", line)
-        record, code = number_of(fields[7], 0, MOST_NUMBER), (fields[12] + fields[14]).decode()
-        if record is None:
-            raise refused("geo", "BadNumber", line)
-        if record not in people_of:
-            raise refused("geo", "NoRecord", line)
-        if code in counties:
-            raise refused("geo", "DoubleCounty", line)
-        counties[code] = people_of[record]
+    people_of, counties = {}, {}
+
+    def read_record(fields):
+        record, people = number(fields[4]), number(fields[5])
+        need(record not in people_of, "DoubleRecord")
+        people_of[record] = people
+
+    def read_county(fields):
+        if (fields[2], fields[4], fields[12]) == (b"050", b"00", b"%02d" % state):
+            county, record = code(fields[12] + fields[14]), number(fields[7])
+            need(record in people_of, "NoRecord")
+            need(county not in counties, "DoubleCounty")
+            counties[county] = people_of[record]
+
+    read_file("segment1", segment, 6, read_record)
+    read_file("geo", geo, 15, read_county)
     if not counties:
-        raise refused("geo", "NoCounties", 0)
-    return dict(sorted(counties.items()))
-
-
-def codes_of(file, line, fields):
-    if not all(is_digits(it, 5) for it in fields):
-        raise refused(file, "BadCode", line)
-    return [it.decode() for it in fields]
+        raise End("refused geo NoCounties line 0", 4)
+    return counties
 
 
 def read_pairs(text):
-    """The pairs of the adjacency file, whatever counties they name."""
-    pairs, is_first = set(), True
-    for line, fields in cut_text("adjacency", text):
-        is_header = is_first and (len(fields) < 2 or not is_digits(fields[1], 5))
-        is_first = False
-        if is_header:
-            continue
-        if len(fields) < 4:
-            raise refused("adjacency", "TooFewFields", line)
-        pairs.add(frozenset(codes_of("adjacency", line, [fields[1], fields[3]])))
+    """The pairs of the adjacency file, whatever counties they name. A first line without a code is a header."""
+    pairs, rows = set(), []
+
+    def read_pair(fields):
+        rows.append(fields[1:2])
+        if len(rows) > 1 or re.fullmatch(rb"[0-9]{5}", b"".join(rows[0])):
+            need(len(fields) >= 4, "TooFewFields")
+            pairs.add(frozenset((code(fields[1]), code(fields[3]))))
+
+    read_file("adjacency", text, 0, read_pair)
     return pairs
 
 
 def read_links(text):
     """For each pair that a link names, whether the last one adds it."""
     is_added = {}
-    for line, fields in cut_text("links", text):
-        if len(fields) < 3:
-            raise refused("links", "TooFewFields", line)
-        if fields[0] not in (b"+", b"-"):
-            raise refused("links", "BadSign", line)
-        is_added[frozenset(codes_of("links", line, fields[1:3]))] = fields[0] == b"+"
+
+    def read_link(fields):
+        need(fields[0] in (b"+", b"-"), "BadSign")
+        is_added[frozenset((code(fields[1]), code(fields[2])))] = fields[0] == b"+"
+
+    read_file("links", text, 3, read_link)
     return is_added
 
 
 def read_withdrawn(text):
     """The seats and the codes of each withdrawn set."""
     sets = []
-    for line, fields in cut_text("withdrawn", text):
-        if len(fields) < 2:
-            raise refused("withdrawn", "TooFewFields", line)
-        seats = number_of(fields[0], 1, 1000)
-        if seats is None:
-            raise refused("withdrawn", "BadSeats", line)
-        sets.append((seats, codes_of("withdrawn", line, fields[1:])))
+    read_file("withdrawn", text, 2, lambda fields: sets.append((number(fields[0], 1, 1000, "BadSeats"), [code(it) for it in fields[1:]])))
     return sets
 
 
-# ---- the problem ----
+# The people of each county of the problem and of all listed ones, the adjacent pairs, the seats, and the allowance, which is a fraction.
+Problem = collections.namedtuple("Problem", "people total pairs chamber seats_left window")
 
 
-class Problem:
-    """The counties with their people and neighbours, and the seats."""
-
-    def __init__(self, listed, pairs, withdrawn, chamber, window):
-        """The people of a district may miss the ideal population by a fraction of it, `window`. `pairs` are those that are adjacent, of two listed counties or of two that a link adds."""
-        gone = [code for _, codes in withdrawn for code in codes]
-        unknown = [code for code in gone if code not in listed]
-        twice = [code for place, code in enumerate(gone) if code in gone[:place]]
-        foreign = sorted(sorted(pair) for pair in pairs if not all(code in listed for code in pair))
-        self.total, self.chamber, self.window = sum(listed.values()), chamber, window
-        self.seats_left = chamber - sum(seats for seats, _ in withdrawn)
-        faults = [
-            (2 * window[0] > window[1], "BadWindow"),
-            (len(listed) > MOST_COUNTIES, "TooManyCounties"),
-            (self.total == 0, "NoPeople"),
-            (unknown, f"UnknownWithdrawn {unknown[:1]}"),
-            (twice, f"WithdrawnTwice {twice[:1]}"),
-            (self.seats_left < 0, "WithdrawnSeats"),
-            (foreign, f"UnknownPair {foreign[:1]}"),
-        ]
-        for stands, fault in faults:
-            if stands:
-                raise End("refused problem " + re.sub(r"[\[\]',]", "", fault), 4)
-        self.people = {code: people for code, people in listed.items() if code not in gone}
-        self.neighbours = {code: set() for code in self.people}
-        for one, other in map(sorted, pairs):
-            if one in self.people and other in self.people:
-                self.neighbours[one].add(other)
-                self.neighbours[other].add(one)
-
-    @functools.lru_cache(maxsize=None)
-    def seats_of(self, people):
-        """The least and the greatest number of seats k that the people suit, or None: they miss k ideal districts by no more than the
-        allowance, where the ideal district has total / chamber people."""
-        part, whole = self.window
-        scaled = whole * people * self.chamber
-        least, most = max(1, -(-scaled // ((whole + part) * self.total))), scaled // ((whole - part) * self.total)
-        return (least, most) if least <= most else None
-
-    def is_connected(self, codes):
-        met, waiting = set(), [codes[0]]
-        while waiting:
-            code = waiting.pop()
-            if code not in met:
-                met.add(code)
-                waiting.extend(self.neighbours[code] & set(codes))
-        return met == set(codes)
-
-    def fault_of(self, grouping):
-        """The first kind of fault for which the grouping isn't lawful, or None."""
-        codes = [code for _, group in grouping for code in group]
-        if not all(code in self.people for code in codes):
-            return "UnknownCounty"
-        if len(set(codes)) < len(codes):
-            return "Twice"
-        if len(codes) < len(self.people):
-            return "Missing"
-        if not all(self.is_connected(group) for _, group in grouping):
-            return "NotConnected"
-        for seats, group in grouping:
-            suited = self.seats_of(sum(self.people[code] for code in group))
-            if suited is None or not suited[0] <= seats <= suited[1]:
-                return "OutOfWindow"
-        return None if sum(seats for seats, _ in grouping) == self.seats_left else "SeatsTotal"
+def build_problem(listed, pairs, withdrawn, chamber, window):
+    total, gone = sum(listed.values()), [county for _, codes in withdrawn for county in codes]
+    unknown = [county for county in gone if county not in listed]
+    twice = [county for place, county in enumerate(gone) if county in gone[:place]]
+    foreign = sorted(sorted(pair) for pair in pairs if not all(county in listed for county in pair))
+    seats_left = chamber - sum(seats for seats, _ in withdrawn)
+    faults = [
+        (2 * window[0] > window[1], "BadWindow"),
+        (len(listed) > MOST_COUNTIES, "TooManyCounties"),
+        (total == 0, "NoPeople"),
+        (unknown, f"UnknownWithdrawn {''.join(unknown[:1])}"),
+        (twice, f"WithdrawnTwice {''.join(twice[:1])}"),
+        (seats_left < 0, "WithdrawnSeats"),
+        (foreign, f"UnknownPair {' '.join(sum(foreign[:1], []))}"),
+    ]
+    for stands, fault in faults:
+        if stands:
+            raise End(f"refused problem {fault}", 4)
+    people = {county: count for county, count in listed.items() if county not in gone}
+    return Problem(people, total, pairs, chamber, seats_left, window)
 
 
 # ---- the text of a certificate ----
 
 
-def text_fault(kind, line):
-    return End(f"no Text {kind} line {line}", 1)
+def plain(least, most):
+    """A reader of plain decimal numbers in a range."""
 
-
-def code(word):
-    if not is_digits(word, 5):
-        raise ValueError("BadNumber")
-    return word.decode()
-
-
-def number(least, most):
     def read(word):
-        if not re.fullmatch(rb"[0-9]+", word):
-            raise ValueError("BadNumber")
-        if word.startswith(b"0") and word != b"0":
-            raise ValueError("NotCanonical")
-        found = number_of(word, least, most)
-        if found is None:
-            raise ValueError("BadNumber")
-        return found
+        need(re.fullmatch(rb"[0-9]+", word), "BadNumber")
+        need(word == b"0" or not word.startswith(b"0"), "NotCanonical")
+        return number(word, least, most)
 
     return read
 
 
-def target(word):
-    return None if word == b"none" else number(0, MOST_COUNTIES)(word)
+def county(word):
+    return code(word, "BadNumber")
 
 
 def weight(word):
-    if word.count(b":") != 1:
-        raise ValueError("BadNumber")
-    county, heavy = word.split(b":")
-    return code(county), number(1, 1_000_000)(heavy)
+    need(word.count(b":") == 1, "BadNumber")
+    of, heavy = word.split(b":")
+    return county(of), plain(1, 1_000_000)(heavy)
 
 
-# What the words of a line behind its first are: one each, and then the last so many times.
-HEADS = {b"county-groups %scertificate %d" % (b"wide " * is_wide, version): (is_wide, version) for is_wide in (False, True) for version in (1, 2)}
+def groups(word):
+    return None if word == b"none" else plain(0, MOST_COUNTIES)(word)
+
+
+# What follows the first word of a line: a word for each reader; then words for one reader, how many at least and at most.
 FORMS = {
-    "window": ([number(0, 500), number(1, 1000)], None, 0, 0),
-    "order": ([], code, 0, MOST_COUNTIES),
-    "limit": ([number(0, MOST_COUNTIES)], None, 0, 0),
-    "target": ([target], None, 0, 0),
-    "group": ([number(0, 65_535)], code, 1, MOST_COUNTIES),
-    "take": ([], code, 1, MOST_COUNTIES),
+    "window": ([plain(0, 500), plain(1, 1000)], None, 0, 0),
+    "order": ([], county, 0, MOST_COUNTIES),
+    "limit": ([plain(0, MOST_COUNTIES)], None, 0, 0),
+    "target": ([groups], None, 0, 0),
+    "group": ([plain(0, 65_535)], county, 1, MOST_COUNTIES),
+    "branch": ([county], None, 0, 0),
+    "wide branch": ([county, plain(1, MOST_COUNTIES)], None, 0, 0),
+    "take": ([], county, 1, MOST_COUNTIES),
     "mark": ([], None, 0, 0),
-    "stuck": ([code], None, 0, 0),
+    "stuck": ([county], None, 0, 0),
     "seats": ([], None, 0, 0),
-    "bound": ([number(0, MOST_COUNTIES)], None, 0, 0),
+    "bound": ([plain(0, MOST_COUNTIES)], None, 0, 0),
     "room": ([], None, 0, 0),
-    "weigh": ([number(1, 256_000_000)], weight, 0, LINE_BYTES),
+    "weigh": ([plain(1, 256_000_000)], weight, 0, LINE_BYTES),
     "end": ([], None, 0, 0),
 }
-BRANCH = {False: ([code], None, 0, 0), True: ([code, number(1, MOST_COUNTIES)], None, 0, 0)}
-TREE = ("branch", "stuck", "seats", "bound")
+LEAVES = ("stuck", "seats", "bound")
+
+# The window is None if none is named. The target is None, or the seats and the codes of each group. The tree is a list of lines: number, form and
+# values of each. The values of a bound line are the lines that belong to it.
+Certificate = collections.namedtuple("Certificate", "is_wide window order limit target tree")
 
 
 class Lines:
-    """The lines of a certificate one after the other, each tested on its own."""
+    """The lines of a certificate, read one after the other. `line` is the number of the last one that was looked at."""
 
     def __init__(self, text):
         self.pieces, self.line, self.is_wide = text.split(b"\n"), 0, False
 
     def piece(self):
+        piece = self.pieces[self.line] if self.line < len(self.pieces) else b""
         self.line += 1
-        piece = self.pieces[self.line - 1] if self.line <= len(self.pieces) else b""
-        if len(piece) > LINE_BYTES:
-            raise text_fault("BadWord", self.line)
-        if self.line >= len(self.pieces):
-            raise text_fault("CutShort", self.line)
+        need(len(piece) <= LINE_BYTES, "BadWord")
+        need(self.line < len(self.pieces), "CutShort")
         return piece
-
-    def head(self):
-        piece = self.piece()
-        if piece not in HEADS:
-            raise text_fault("BadHead", self.line)
-        self.is_wide, version = HEADS[piece]
-        return version
 
     def next(self, *wanted):
         """The form of the next line, which is one of those wanted, and the values of its words."""
         piece = self.piece()
-        if not re.fullmatch(rb"[!-~]+( [!-~]+)*", piece):
-            raise text_fault("NotCanonical", self.line)
+        need(re.fullmatch(rb"[!-~]+( [!-~]+)*", piece), "NotCanonical")
         first, *words = piece.split(b" ")
         form = first.decode()
-        if form not in wanted:
-            raise text_fault("BadWord", self.line)
-        once, repeated, least, most = BRANCH[self.is_wide] if form == "branch" else FORMS[form]
-        if not len(once) + least <= len(words) <= len(once) + most:
-            raise text_fault("BadWord", self.line)
-        try:
-            values = [read(word) for read, word in zip(once + [repeated] * (len(words) - len(once)), words)]
-        except ValueError as fault:
-            raise text_fault(fault, self.line) from None
-        if form == "window" and 2 * values[0] > values[1]:
-            raise text_fault("BadNumber", self.line)
-        if form == "weigh" and any(one[0] >= other[0] for one, other in zip(values[1:], values[2:])):
-            raise text_fault("NotCanonical", self.line)
+        need(form in wanted, "BadWord")
+        once, repeated, least, most = FORMS["wide branch" if form == "branch" and self.is_wide else form]
+        need(least <= len(words) - len(once) <= most, "BadWord")
+        values = [read(word) for read, word in zip(once + [repeated] * len(words), words)]
+        need(form != "window" or 2 * values[0] <= values[1], "BadNumber")
+        need(form != "weigh" or all(one[0] < other[0] for one, other in zip(values[1:], values[2:])), "NotCanonical")
         return form, values
 
+    def certificate(self):
+        head = re.fullmatch(rb"county-groups (wide )?certificate ([12])", self.piece())
+        need(head, "BadHead")
+        self.is_wide = head[1] is not None
+        window = self.next("window")[1] if head[2] == b"2" else None
+        order, limit, count = self.next("order")[1], self.next("limit")[1][0], self.next("target")[1][0]
+        named = [self.next("group")[1] for _ in range(count or 0)]
+        tree = self.tree(len(order))
+        self.next("end")
+        self.line += 1
+        need(self.pieces[self.line - 1 :] == [b""], "AfterEnd")
+        return Certificate(self.is_wide, window, order, limit, None if count is None else [(it[0], it[1:]) for it in named], tree)
 
-# The window is None if none is named. The target is None, or the seats and the codes of each group. The tree is a list of lines: number, form and values of each. The values of a
-# bound line are the lines that belong to it: form, values and number of each.
-Certificate = collections.namedtuple("Certificate", "is_wide window order limit target tree")
-
-
-def read_tree(lines, counties):
-    """The lines of a tree. `open_branches` are those whose `mark` is still to come, each with its depth."""
-    tree, open_branches, depth, wanted = [], [], 0, TREE
-    while True:
-        form, values = lines.next(*wanted)
-        line = lines.line
-        if form == "bound":
-            values = [(*lines.next("room", "weigh"), lines.line) for _ in range(values[0])]
-        tree.append((line, form, values))
-        if form == "branch":
-            if depth >= counties:
-                raise text_fault("TooDeep", line)
-            open_branches.append(depth)
-            wanted = ("take", "mark")
-        elif form == "take":
-            depth, wanted = open_branches[-1] + 1, TREE
-        elif form == "mark":
-            depth, wanted = open_branches.pop() + (0 if lines.is_wide else 1), TREE
-        elif open_branches:
-            wanted = ("take", "mark")
-        else:
-            return tree
+    def tree(self, counties):
+        """The lines of a tree. `depths` are those of the branches whose `mark` is still to come."""
+        tree, depths, depth, wanted = [], [], 0, ("branch", *LEAVES)
+        while True:
+            (form, values), line = self.next(*wanted), self.line
+            if form == "bound":
+                values = [(*self.next("room", "weigh"), self.line) for _ in range(values[0])]
+            tree.append((line, form, values))
+            if form == "branch":
+                need(depth < counties, "TooDeep")
+                depths.append(depth)
+            elif form == "take":
+                depth = depths[-1] + 1
+            elif form == "mark":
+                depth = depths.pop() + (0 if self.is_wide else 1)
+            elif not depths:
+                return tree
+            wanted = ("branch", *LEAVES) if form in ("take", "mark") else ("take", "mark")
 
 
 def read_certificate(text):
     lines = Lines(text)
-    window = lines.next("window")[1] if lines.head() == 2 else None
-    order = lines.next("order")[1]
-    limit = lines.next("limit")[1][0]
-    groups = lines.next("target")[1][0]
-    target = None
-    if groups is not None:
-        found = [lines.next("group")[1] for _ in range(groups)]
-        target = [(seats, codes) for seats, *codes in found]
-    tree = read_tree(lines, len(order))
-    lines.next("end")
-    if lines.line + 1 < len(lines.pieces) or lines.pieces[-1]:
-        raise text_fault("AfterEnd", lines.line + 1)
-    return Certificate(lines.is_wide, window, order, limit, target, tree)
+    try:
+        return lines.certificate()
+    except Fault as fault:
+        raise Fault(f"Text {fault.args[0]}", lines.line) from None
 
 
 # ---- whether a certificate is a proof ----
-
-
-def no(kind, line):
-    return End(f"no {kind} line {line}", 1)
 
 
 def bits(counties):
@@ -394,67 +289,60 @@ class Round:
     """The problem by the places of a certificate's order."""
 
     def __init__(self, problem, certificate):
-        self.problem, self.order, self.limit, self.is_wide = problem, certificate.order, certificate.limit, certificate.is_wide
-        self.bit = {code: 1 << place for place, code in enumerate(self.order)}
-        self.people = {self.bit[code]: people for code, people in problem.people.items()}
-        self.neighbours = {self.bit[code]: sum(self.bit[it] for it in met) for code, met in problem.neighbours.items()}
-        self.counts = None
-        if certificate.target is not None:
-            sizes = [len(codes) for _, codes in certificate.target]
-            self.counts = [sizes.count(it) for it in range(MOST_COUNTIES + 1)]
+        self.problem, self.limit, self.is_wide = problem, certificate.limit, certificate.is_wide
+        self.bit = {it: 1 << place for place, it in enumerate(certificate.order)}
+        self.people = {self.bit[it]: people for it, people in problem.people.items()}
+        self.neighbours = dict.fromkeys(self.people, 0)
+        for one, other in problem.pairs:
+            if one in self.bit and other in self.bit:
+                self.neighbours[self.bit[one]] |= self.bit[other]
+                self.neighbours[self.bit[other]] |= self.bit[one]
 
     @functools.lru_cache(maxsize=100_000)
     def seats_of(self, counties):
-        return self.problem.seats_of(sum(self.people[it] for it in bits(counties)))
-
-    def part_around(self, county, inside):
-        """The connected part of the counties inside that has the county."""
-        part, new = 0, county
-        while new:
-            part |= new
-            met = 0
-            for it in bits(new):
-                met |= self.neighbours[it]
-            new = met & inside & ~part
-        return part
+        """The least and the greatest number of seats k that the people of the counties suit, or None: they miss k ideal districts by no more than
+        the allowance, where the ideal district has total / chamber people."""
+        part, whole = self.problem.window
+        scaled = whole * self.problem.chamber * sum(self.people[it] for it in bits(counties))
+        least, most = max(1, -(-scaled // ((whole + part) * self.problem.total))), scaled // ((whole - part) * self.problem.total)
+        return (least, most) if least <= most else None
 
     def parts_of(self, counties):
         """The connected parts of a set."""
         while counties:
-            part = self.part_around(counties & -counties, counties)
+            part, new = 0, counties & -counties
+            while new:
+                part |= new
+                met = 0
+                for it in bits(new):
+                    met |= self.neighbours[it]
+                new = met & counties & ~part
             yield part
             counties &= ~part
 
-    def connected_sets(self, county, inside, most, weights=None, quota=1):
+    def connected_sets(self, county, inside, most, weights, quota=1):
         """Each connected set with the county, of counties inside and `most` at most, that weighs less than the quota, once. A set grows by a
         county that touches it; this county is then out of all sets that are grown later from the same one. No weight is below 0, so a set
         that weighs the quota grows no further."""
-        weights = weights or {}
         waiting = [(county, self.neighbours[county] & inside & ~county, inside & ~county, 1, weights.get(county, 0))] if most else []
         while waiting:
             group, touching, free, count, heavy = waiting.pop()
-            if heavy >= quota:
-                continue
-            yield group
-            if count == most:
-                continue
-            for it in bits(touching):
-                free &= ~it
-                touching &= ~it
-                waiting.append((group | it, touching | self.neighbours[it] & free, free, count + 1, heavy + weights.get(it, 0)))
+            if heavy < quota:
+                yield group
+                for it in bits(touching if count < most else 0):
+                    free &= ~it
+                    touching &= ~it
+                    waiting.append((group | it, touching | self.neighbours[it] & free, free, count + 1, heavy + weights.get(it, 0)))
 
 
-class State:
+class State(collections.namedtuple("State", "round closed rest least")):
     """Closed groups, the rest, and for each county of the rest the least size of a group that it may lie in (where that isn't 0)."""
 
-    def __init__(self, its_round, closed, rest, least):
-        self.round, self.closed, self.rest, self.least = its_round, closed, rest, least
-
     def close(self, group):
-        return State(self.round, self.closed + [group], self.rest & ~group, self.least)
+        return self._replace(closed=[*self.closed, group], rest=self.rest & ~group)
 
     def raise_past(self, county, most):
-        return State(self.round, self.closed, self.rest, {**self.least, county: most + 1})
+        return self._replace(least={**self.least, county: most + 1})
 
     def open_to(self, count):
         """The counties of the rest that may lie in a group of so many."""
@@ -471,126 +359,117 @@ class State:
             return False
         return not self.round.is_wide or not any(map(self.is_stuck, self.round.parts_of(self.rest & ~group)))
 
-    def groups_at(self, county, most):
-        """All groups that fit, have the county and have at most so many counties, by size and then by places."""
-        found = [it for it in self.round.connected_sets(county, self.open_to(most), most) if self.fits(it)]
-        return sorted(found, key=lambda group: (size(group), list(bits(group))))
+
+# A branch whose `mark` is still to come, with the groups that are still to be taken, the next one last.
+Branch = collections.namedtuple("Branch", "state county most groups")
 
 
-class Branch:
-    """A branch whose `mark` is still to come, with the groups that are still to be taken, the next one last."""
-
-    def __init__(self, state, line, code, most):
-        open_counties, county = state.open_to(most), state.round.bit.get(code, 0)
-        if not open_counties:
-            raise no("NoLeaf", line)
-        is_first = county == open_counties & -open_counties
-        if most > state.round.limit or not county & open_counties or not (state.round.is_wide or is_first):
-            raise no("WrongCounty", line)
-        self.state, self.county, self.most = state, county, most
-        self.groups = state.groups_at(county, most)[::-1]
-
-    def take(self, line, codes):
-        places = [self.state.round.bit.get(code, 0) for code in codes]
-        is_set = 0 not in places and all(one < other for one, other in zip(places, places[1:]))
-        if not is_set or sum(places) not in self.groups:
-            raise no("StrayGroup", line)
-        if sum(places) != self.groups.pop():
-            raise no("MissingGroup", line)
-        return self.state.close(sum(places))
-
-    def mark(self, line):
-        if self.groups:
-            raise no("MissingGroup", line)
-        return self.state.raise_past(self.county, self.most)
+def branch_at(state, line, code_of_county, most):
+    """The groups of a branch are all that fit, have the county and have at most so many counties, by size and then by places."""
+    county, is_open = state.round.bit.get(code_of_county, 0), state.open_to(most)
+    need(is_open, "NoLeaf", line)
+    is_right = county & is_open if state.round.is_wide else county == is_open & -is_open
+    need(is_right and most <= state.round.limit, "WrongCounty", line)
+    groups = [it for it in state.round.connected_sets(county, is_open, most, {}) if state.fits(it)]
+    return Branch(state, county, most, sorted(groups, key=lambda group: (size(group), list(bits(group))), reverse=True))
 
 
-def judge_stuck(state, line, code):
-    county = state.round.bit.get(code, 0)
-    if not county & state.rest:
-        raise no("WrongCounty", line)
-    if not state.is_stuck(state.round.part_around(county, state.rest)):
-        raise no("NotStuck", line)
+def take(branch, line, codes):
+    places = [branch.state.round.bit.get(it, 0) for it in codes]
+    is_set = all(one < other for one, other in zip([0, *places], places))
+    need(is_set and sum(places) in branch.groups, "StrayGroup", line)
+    need(sum(places) == branch.groups.pop(), "MissingGroup", line)
+    return branch.state.close(sum(places))
+
+
+def judge_stuck(state, line, code_of_county):
+    county = state.round.bit.get(code_of_county, 0)
+    need(county & state.rest, "WrongCounty", line)
+    need(any(it & county and state.is_stuck(it) for it in state.round.parts_of(state.rest)), "NotStuck", line)
 
 
 def judge_seats(state, line):
     """The least or the greatest numbers of seats of closed groups and parts are to miss the seats left."""
     seats = [state.round.seats_of(it) for it in [*state.closed, *state.round.parts_of(state.rest)]]
-    left = state.round.problem.seats_left
-    if None in seats or sum(least for least, _ in seats) <= left <= sum(most for _, most in seats):
-        raise no("SeatsOpen", line)
+    is_open = None in seats or sum(it[0] for it in seats) <= state.round.problem.seats_left <= sum(it[1] for it in seats)
+    need(not is_open, "SeatsOpen", line)
 
 
-def weighed(state, line, count, quota, weights):
+def weighed(state, line, count, quota, *weights):
     """What the counties open to a group of so many weigh, divided by the quota, if no group of this size that fits weighs less than it."""
-    bit, inside = state.round.bit, state.open_to(count)
-    if not all(code in bit for code, _ in weights):
-        raise no("WrongCounty", line)
-    weight_of = {bit[code]: heavy for code, heavy in weights}
-    left = inside
-    for county in bits(inside):
-        for group in state.round.connected_sets(county, left, count, weight_of, quota):
-            if size(group) == count and state.fits(group):
-                raise no("LightGroup", line)
+    need(all(it in state.round.bit for it, _ in weights), "WrongCounty", line)
+    weight_of = {state.round.bit[it]: heavy for it, heavy in weights}
+    left = state.open_to(count)
+    for county in bits(left):
+        light = state.round.connected_sets(county, left, count, weight_of, quota)
+        need(not any(size(it) == count and state.fits(it) for it in light), "LightGroup", line)
         left &= ~county
-    return sum(weight_of.get(county, 0) for county in bits(inside)) // quota
+    return sum(weight_of.get(it, 0) for it in bits(state.open_to(count))) // quota
 
 
-def judge_bound(state, line, allowances):
+def judge_bound(state, line, allowances, counts):
     """Line i is to allow no more groups of i counties than the target has, with those that are closed."""
-    wanted, limit, used = state.round.counts, state.round.limit, 0
-    if wanted is None:
-        raise no("BoundWithoutTarget", line)
-    if len(allowances) > limit:
-        raise no("BoundLength", line)
+    need(counts is not None, "BoundWithoutTarget", line)
+    need(len(allowances) <= state.round.limit, "BoundLength", line)
+    used = 0
     for count, (form, values, at) in enumerate(allowances, 1):
         allowed = max(0, size(state.open_to(count)) - used) // count
         if form == "weigh":
-            allowed = min(allowed, weighed(state, at, count, values[0], values[1:]))
+            allowed = min(allowed, weighed(state, at, count, *values))
         of_size = allowed + sum(size(group) == count for group in state.closed)
-        if of_size > wanted[count]:
-            raise no("BoundOver", at)
-        if of_size < wanted[count]:
-            if count < len(allowances):
-                raise no("BoundLength", line)
+        need(of_size <= counts[count], "BoundOver", at)
+        if of_size < counts[count]:
+            need(count == len(allowances), "BoundLength", line)
             return
         used += count * allowed
-    if len(allowances) < limit:
-        raise no("BoundLength", line)
+    need(len(allowances) == state.round.limit, "BoundLength", line)
 
 
-def judge_tree(state, tree):
+def judge_tree(state, tree, counts):
     """Goes through the lines of a tree. `branches` are those whose `mark` is still to come, the innermost last."""
     branches = []
     for line, form, values in tree:
         if form == "branch":
-            branches.append(Branch(state, line, *values, *([] if state.round.is_wide else [state.round.limit])))
+            branches.append(branch_at(state, line, *values, *([] if state.round.is_wide else [state.round.limit])))
         elif form == "take":
-            state = branches[-1].take(line, values)
+            state = take(branches[-1], line, values)
         elif form == "mark":
-            state = branches.pop().mark(line)
+            need(not branches[-1].groups, "MissingGroup", line)
+            state, county, most, _ = branches.pop()
+            state = state.raise_past(county, most)
         elif form == "stuck":
             judge_stuck(state, line, *values)
         elif form == "seats":
             judge_seats(state, line)
         else:
-            judge_bound(state, line, values)
+            judge_bound(state, line, values, counts)
 
 
-def judge_certificate(problem, certificate):
-    """Ends the run if the certificate is no proof. Else its target is best, or no grouping is lawful if it has none."""
+def judge_target(its_round, target, line):
+    """The target is to be lawful."""
+    named = [it for _, codes in target for it in codes]
+    need(all(it in its_round.bit for it in named), "TargetFault UnknownCounty", line)
+    need(len({*named}) == len(named), "TargetFault Twice", line)
+    need(len(named) == len(its_round.bit), "TargetFault Missing", line)
+    sets = [(seats, sum(its_round.bit[it] for it in codes)) for seats, codes in target]
+    need(all([*its_round.parts_of(it)] == [it] for _, it in sets), "TargetFault NotConnected", line)
+    suited = [(its_round.seats_of(it) or (1, 0), seats) for seats, it in sets]
+    need(all(least <= seats <= most for (least, most), seats in suited), "TargetFault OutOfWindow", line)
+    need(sum(seats for seats, _ in target) == its_round.problem.seats_left, "TargetFault SeatsTotal", line)
+
+
+def judge(problem, certificate):
+    """Ends in a fault if the certificate is no proof. Else its target is best, or no grouping is lawful if it has none."""
     line, window = (1, (1, 20)) if certificate.window is None else (2, certificate.window)
-    if window[0] * problem.window[1] != problem.window[0] * window[1]:
-        raise no("WrongWindow", line)
-    if sorted(certificate.order) != sorted(problem.people):
-        raise no("WrongOrder", line + 1)
-    if any(len(codes) > certificate.limit for _, codes in certificate.target or []):
-        raise no("LimitTooSmall", line + 2)
-    fault = certificate.target is not None and problem.fault_of(certificate.target)
-    if fault:
-        raise no(f"TargetFault {fault}", line + 3)
-    its_round = Round(problem, certificate)
-    judge_tree(State(its_round, [], sum(its_round.bit.values()), {}), certificate.tree)
+    need(window[0] * problem.window[1] == problem.window[0] * window[1], "WrongWindow", line)
+    need(sorted(certificate.order) == sorted(problem.people), "WrongOrder", line + 1)
+    its_round, counts = Round(problem, certificate), None
+    if certificate.target is not None:
+        sizes = [len(codes) for _, codes in certificate.target]
+        counts = [sizes.count(it) for it in range(MOST_COUNTIES + 1)]
+        need(max(sizes, default=0) <= certificate.limit, "LimitTooSmall", line + 2)
+        judge_target(its_round, certificate.target, line + 3)
+    judge_tree(State(its_round, [], sum(its_round.bit.values()), {}), certificate.tree, counts)
 
 
 # ---- the command ----
@@ -607,8 +486,7 @@ def report(problem, grouping):
     counts = [str(sizes.count(it)) for it in range(1, max(sizes, default=0) + 1)]
     text += f"answer best\ncounts {' '.join(counts) or 'none'}\n"
     for place, (seats, codes) in enumerate(grouping, 1):
-        people = sum(problem.people[code] for code in codes)
-        text += f"group {place} seats {seats} people {people} counties {' '.join(codes)}\n"
+        text += f"group {place} seats {seats} people {sum(problem.people[it] for it in codes)} counties {' '.join(codes)}\n"
     return text
 
 
@@ -617,49 +495,54 @@ def load(name):
     try:
         with open(name, "rb") as file:
             text = file.read(FILE_BYTES + 1)
-    except FileNotFoundError:
-        raise End(f"device {name} Missing", 5) from None
-    except OSError:
-        raise End(f"device {name} Device", 5) from None
+    except OSError as error:
+        raise End(f"device {name} {'Missing' if isinstance(error, FileNotFoundError) else 'Device'}", 5) from None
     if len(text) > FILE_BYTES:
         raise End(f"device {name} TooLarge", 5)
     return text
 
 
+FILES = ("geo", "segment", "adjacency", "certificate", "links", "withdrawn")
+RANGES = {"chamber": (1, 1000), "state": (0, 99), "part": (0, 500), "of": (1, 1000), "budget": (0, 2**64 - 1)}
+
+
 def options_of(words):
-    """The options of the command, or the end of the run: each has one value and stands once."""
-    ranges = {"chamber": (1, 1000), "state": (0, 99), "part": (0, 500), "of": (1, 1000), "budget": (0, 2**64 - 1)}
-    required = ["geo", "segment", "chamber", "adjacency", "certificate"]
-    options, waiting = {}, list(words)
-    while waiting:
-        name, equals, value = waiting.pop(0).partition("=")
-        name = name[2:] if name.startswith("--") else ""
-        if name in options or name not in [*required, "state", "links", "withdrawn", "part", "of", "budget"] or not equals and not waiting:
-            raise End("", 2)
-        value = value if equals else waiting.pop(0)
-        if name in ranges:
-            value = number_of(re.sub(r"^\+", "", value).encode(), *ranges[name])
-        options[name] = value
-    if None in options.values() or not all(name in options for name in required):
-        raise End("", 2)
+    """The options of the command: each has one value and stands once."""
+    options, words = {}, iter(words)
+    for word in words:
+        name, equals, value = word[2:].partition("=")
+        value = value if equals else next(words, None)
+        need(word.startswith("--") and name in (*FILES, *RANGES) and name not in options and value is not None, "")
+        options[name] = number(re.sub(r"^\+", "", value).encode(), *RANGES[name]) if name in RANGES else value
+    need(all(name in options for name in ("chamber", *FILES[:4])), "")
     return {"state": 37, "part": 1, "of": 20, **options}
+
+
+def adjacent_pairs(pairs, links, listed):
+    """The pairs of two counties, listed ones or of a link that adds them."""
+    kept = {it for it in pairs if all(county in listed for county in it)} - {*links} | {it for it in links if links[it]}
+    return {it for it in kept if len(it) == 2}
 
 
 def answer(words, load):
     """The text and the exit status for the words of the command. The files are loaded and read in one order, and the first fault is the answer."""
     try:
         options = options_of(words)
+    except Fault:
+        return "", 2
+    try:
         geo, segment = load(options["geo"]), load(options["segment"])
-        listed = read_counties(geo, read_records(segment), options["state"])
+        listed = read_counties(geo, segment, options["state"])
         pairs = read_pairs(load(options["adjacency"]))
         links = read_links(load(options["links"])) if "links" in options else {}
         withdrawn = read_withdrawn(load(options["withdrawn"])) if "withdrawn" in options else []
-        adjacent = {it for it in pairs if all(code in listed for code in it)} - {*links} | {it for it in links if links[it]}
-        problem = Problem(listed, {it for it in adjacent if len(it) == 2}, withdrawn, options["chamber"], (options["part"], options["of"]))
+        problem = build_problem(listed, adjacent_pairs(pairs, links, listed), withdrawn, options["chamber"], (options["part"], options["of"]))
         certificate = read_certificate(load(options["certificate"]))
-        judge_certificate(problem, certificate)
+        judge(problem, certificate)
+    except Fault as fault:
+        return "no {} line {}\n".format(*fault.args), 1
     except End as end:
-        return end.line + "\n" if end.line else "", end.status
+        return f"{end.args[0]}\n", end.args[1]
     return report(problem, certificate.target), 0 if certificate.target is not None else 1
 
 

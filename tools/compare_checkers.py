@@ -7,7 +7,7 @@ Without --program: each run of `check` among the cases whose wanted answer isn't
 and to end with its status. If the words are no command or ask for help, the text is that of `clap`: then the status alone is compared,
 and help isn't run. A run over a file that an earlier run of the case makes takes it from what the case has stored. If the case
 hasn't it, the run is left out, since that needs a program.
---all takes the cases of millions of lines too, which take minutes.
+--all takes the cases of millions of lines too, which take minutes, but for those that bound the memory: the second checker holds a whole text.
 --program FILE makes certificates of North Carolina's two chambers (data/nc2020; --chamber: of these) too. Both checkers check them, and each
 of them with one line changed at random, N times (--mutations, 20 unless said otherwise; --seed, 1).
 
@@ -27,8 +27,8 @@ sys.path[:0] = [f"{TOP}/cases", f"{TOP}/tools"]
 import cases  # noqa: E402
 import check  # noqa: E402
 
-# Cases that take long in Python, by the beginnings of their names.
-LONG = ("a_plain_text_of_a_million_marks", "a_wide_text_of_a_million_raises")
+# Cases that take long in Python, by their folder or the beginnings of their names.
+LONG = re.compile(r"/huge/|/long/(a_plain_text_of_a_million_marks|a_wide_text_of_a_million_raises)")
 SECONDS = 900
 
 
@@ -103,7 +103,7 @@ class Tally:
 def compare_cases(stems, tally):
     for stem in stems:
         case = cases.Case(stem)
-        if case.program:
+        if case.program or case.memory:
             continue
         began = time.time()
         for words, files, wanted in checks_of(case):
@@ -193,7 +193,7 @@ def main():
     parser.add_argument("folders", nargs="*")
     asked = parser.parse_args()
     tally = Tally()
-    compare_cases([it for it in cases.stems(asked.folders) if asked.all or not os.path.basename(it).startswith(LONG)], tally)
+    compare_cases([it for it in cases.stems(asked.folders) if asked.all or not LONG.search(os.path.realpath(it))], tally)
     if asked.program:
         for chamber in asked.chamber or (120, 50):
             compare_chamber(os.path.realpath(asked.program), chamber, asked, tally)
