@@ -1,5 +1,5 @@
-use Rattle.std.proofs.Common.{Option, subst}
-use Rattle.std.specs.Prelude.{Err, option_map}
+use Rattle.std.proofs.Common.{ℕ, List, Option, refl, subst}
+use Rattle.std.specs.Prelude.{Ok, Err, option_map}
 use Rattle.grouping_problem.specs.ProblemValue.{ProblemValue}
 use Rattle.command_words.specs.declared.words.ListWords.{ListWords}
 use Rattle.shelves.specs.Files.{Files}
@@ -8,7 +8,7 @@ use Rattle.command_runs.specs.Course.{Course, ◌>>=◌, load_step, value_step}
 use Rattle.command_runs.specs.ProblemCourse.{problem_in}
 use Rattle.command_runs.specs.ListCourse.{IsListed, Listed}
 use Rattle.command_runs.specs.Texts.{listed_of}
-use Rattle.command_runs.proofs.RunLemmas.{handed_on, went_on}
+use Rattle.command_runs.proofs.RunLemmas.{came, handed_on, went_on}
 use Rattle.cli.proofs.list.list_files.Goals as goal
 
 -- the list by the certificate of a file, where the problem is known
@@ -27,3 +27,23 @@ returns-in_err-text-clause-course g c =
     let met = subst (λ (f : Option Files). Meets c.in_err-text.field-0.0 (λ a. load_step f words.check.certificate.now between after (Err a))) c.load_problem.ensures.same c.in_err-text.ensures.course in
     went_on listed_of c.from_residual-in_err-text.result (problem_in files words.check.problem) (with_problem files words) v before between after c.in_ok-problem.ensures.course
     (handed_on listed_of c.in_err-text.field-0.0 c.from_residual-in_err-text.result (load_step files words.check.certificate.now) (λ text. value_step (IsListed v words.check.budget (option_map (λ w. w.number) words.stored) text)) between after c.from_residual-in_err-text.ensures.1 met)
+
+pub returns-clause-course : goal.returns-clause-course
+unfolding with_problem
+returns-clause-course g c =
+    let files = g.H.Shelf.contents c.args.shelf.now in
+    let before = g.H.Shelf.history c.args.shelf.now in
+    let between = g.H.Shelf.history c.load_problem.new.shelf in
+    let after = g.H.Shelf.history c.load.new.shelf in
+    let words = c.args.words in
+    let name = words.check.certificate.now in
+    let budget = words.check.budget in
+    let v = c.in_ok-problem.problem in
+    let text = c.in_ok-text.text.items in
+    let said = listed_of c.in_ok-listed.listed in
+    let number = option_map (λ w. w.number) words.stored in
+    let loaded = subst (λ (f : Option Files). load_step f name between after (Ok text)) c.load_problem.ensures.same c.in_ok-text.ensures.course in
+    let counted = subst (λ (n : Option ℕ). IsListed v budget n c.deref.result.now said) c.number_in-number.ensures c.in_ok-listed.ensures in
+    let listed = subst (λ (t : List ℕ). IsListed v budget number t said) c.deref.ensures.value counted in
+    came (problem_in files words.check.problem) (with_problem files words) v before between after (Ok said) c.in_ok-problem.ensures.course
+    (came (load_step files name) (λ t. value_step (IsListed v budget number t)) text between after after (Ok said) loaded (refl, listed))
