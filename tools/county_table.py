@@ -1,4 +1,4 @@
-"""Reads the table that `countygroups` stores under `--table`: a line for each listed county, with its group.
+"""Reads a table of the counties: a line for each listed county, with its group.
 
 `docs/formats.md` has the form of a table. A table that isn't of this form is refused with one sentence.
 """

@@ -2,7 +2,7 @@
 
 usage: python3 tools/map.py TABLE OUTLINES OUT.svg
 
-TABLE is a table that `countygroups` stored under --table, and OUTLINES is GeoJSON with a GEOID for each county. If a file can't be
+TABLE is a table of the counties (docs/formats.md), and OUTLINES is GeoJSON with a GEOID for each county. If a file can't be
 used, one sentence on standard error says why, and the status is 1. Without the three words the status is 2.
 """
 import os

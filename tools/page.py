@@ -2,8 +2,8 @@
 
 usage: python3 tools/page.py TABLE LIST OUTLINES RECORD OUT.html
 
-TABLE is a table that `countygroups` stored under --table, LIST the text that `countygroups list` wrote, OUTLINES GeoJSON with a GEOID
-for each county, and RECORD what the run stored under --record. If a file can't be used, one sentence on standard error says why, and
+TABLE is a table of the counties, LIST the text that `countygroups list` wrote, OUTLINES GeoJSON with a GEOID for each county, and
+RECORD the record of a run (docs/formats.md). If a file can't be used, one sentence on standard error says why, and
 the status is 1. Without the five words the status is 2.
 """
 import json
