@@ -206,7 +206,7 @@ class Sources:
             runs = self.certified
         run = chance.choice(runs)
         run = dataclasses.replace(run, words=list(run.words), files=dict(run.files))
-        run.is_told = run.stdin == b"" and chance.random() < 0.6 or run.is_told and not is_plain(run.words)
+        run.is_told = run.stdin == b"" and chance.random() < 0.6 or run.is_told and not fits_folder(run)
         for _ in range(chance.choice((1, 1, 1, 2, 2, 4))):
             self.change(run, chance)
         limit = LIMITS.get(run.words[0], [])
@@ -253,6 +253,14 @@ def change_whole(run, limit, chance):
 def is_plain(words):
     """Whether no word leads out of the folder of a run."""
     return not any(".." in word or word.startswith("/") and word != "/dev/stdin" for word in words)
+
+
+def fits_folder(run):
+    """Whether a folder can have the files of a run under their names, and its words stay in the folder."""
+    names = set(run.files)
+    above = {name[:place] for name in names for place, letter in enumerate(name) if letter == "/"}
+    can_stand = all(name and "\0" not in name and not name.endswith("/") and len(name) <= 200 for name in names)
+    return can_stand and not names & above and is_plain([*run.words, *names])
 
 
 def words_without(words, option):
@@ -619,6 +627,8 @@ def tests_of_changes():
     turns = [sources.changed(random.Random(f"1 {turn}")) for turn in range(300)]
     yield "the same seed and turn", turns[7], sources.changed(random.Random("1 7"))
     yield "few runs are as they were", sum(it in sources.runs for it in turns) < 30, True
+    nameless = Given(["size", "--geo", ""], {"": b"x"}, b"", True)
+    yield "a file without a name is in no folder", fits_folder(nameless), False
     yield "a folder's words stay in it", all(it.is_told or is_plain(it.words) for it in turns), True
     yield "both kinds of run", {it.is_told for it in turns}, {True, False}
     for change in dict.fromkeys(CHANGES):
