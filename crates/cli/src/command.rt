@@ -4,6 +4,7 @@ ghost use Rattle.program_answers.specs.Answer.{Answered};
 ghost use Rattle.program_answers.specs.Answers.{answer_of, said_by};
 ghost use Rattle.command_runs.specs.Storing.{HasStored};
 ghost use Rattle.command_runs.specs.Run.{CommandRun, IsEndAnswer, IsRunAnswer, HasState};
+ghost use Rattle.command_runs.specs.Told.{RunTells};
 ghost use Rattle.cli.specs.Delivery.{Delivers, texts};
 ghost use Rattle.cli.specs.Ends.{said_of};
 
@@ -127,9 +128,16 @@ pub fn run_with_end<H: Shelf, W: Sink, V: Watcher>(
     out: &mut W,
     watcher: &mut V,
 ) -> (u8, End)
-    ensures { (a : Answered) × (stored : List File)
+
+    // The answer is that of the steps of the words' command, its files are stored, and its text is written.
+    ensures run { (a : Answered) × (stored : List File)
         × HasStored (H.contents shelf.old) (H.contents shelf.new) (H.stored shelf.old) (H.stored shelf.new) stored
         × IsRunAnswer (H.contents shelf.old) (texts words.now) (H.history shelf.old) (H.history shelf.new) stored a
+        × Delivers (W.is_failed out.new) (W.contents out.old) (W.contents out.new) a result.0 }
+
+    // If the status is 0 or 1, what is written tells of the machine's files what the command promises.
+    ensures told { (a : Answered)
+        × RunTells (texts words.now) (H.history shelf.old) (H.history shelf.new) a
         × Delivers (W.is_failed out.new) (W.contents out.old) (W.contents out.new) a result.0 }
 {
     let mut end = End::new();
@@ -142,6 +150,10 @@ pub fn run_with_end<H: Shelf, W: Sink, V: Watcher>(
 /// Runs one command and answers the exit status. The words are those after the program's name. The answer
 /// is composed whole, files are stored, and then the answer is written.
 ///
+/// If `solve` or `check` answers with status 0, the text is the report of a grouping that is best for the problem of the
+/// files that were read. This holds of any files by which the shelf's loads and readers answered, so of the machine's
+/// files too. `specs/Told` of `command_runs` says what the other answers tell.
+///
 /// The status is 0 for an answer, for help and for the version, 1 where `judge` finds a fault of the grouping, `audit` finds anything,
 /// `solve`, `check` or `list` that no grouping is lawful, or `check` or `list` that the text is no certificate, 2 for usage, 3 where
 /// the steps of `solve` or `piece` or the budget of `check`, `list` or `share` ran out, the certificate of `list` doesn't show which
@@ -150,9 +162,16 @@ pub fn run_with_end<H: Shelf, W: Sink, V: Watcher>(
 /// `memory`), and 5 where the writing failed: how much went out is then not said. Only `solve`, `list` and `share` store files: `solve`
 /// the certificate, and then the grouping, `list` a grouping, `share` a certificate. What was stored before a fault stays stored.
 pub fn run<H: Shelf, W: Sink>(alloc: Global, words: &[&str], shelf: &mut H, out: &mut W) -> u8
-    ensures { (a : Answered) × (stored : List File)
+
+    // The answer is that of the steps of the words' command, its files are stored, and its text is written.
+    ensures run { (a : Answered) × (stored : List File)
         × HasStored (H.contents shelf.old) (H.contents shelf.new) (H.stored shelf.old) (H.stored shelf.new) stored
         × IsRunAnswer (H.contents shelf.old) (texts words.now) (H.history shelf.old) (H.history shelf.new) stored a
+        × Delivers (W.is_failed out.new) (W.contents out.old) (W.contents out.new) a result }
+
+    // If the status is 0 or 1, what is written tells of the machine's files what the command promises.
+    ensures told { (a : Answered)
+        × RunTells (texts words.now) (H.history shelf.old) (H.history shelf.new) a
         × Delivers (W.is_failed out.new) (W.contents out.old) (W.contents out.new) a result }
 {
     run_with_end(alloc, words, shelf, out, &mut NoWatcher).0

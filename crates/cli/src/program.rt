@@ -4,6 +4,7 @@ ghost use Rattle.shelves.specs.declared.whole.WholeFault.{WholeFault};
 ghost use Rattle.program_answers.specs.Answer.{Answered};
 ghost use Rattle.command_runs.specs.Storing.{HasStored};
 ghost use Rattle.command_runs.specs.Run.{IsRunAnswer};
+ghost use Rattle.command_runs.specs.Told.{RunTells};
 ghost use Rattle.cli.specs.Delivery.{Delivers, texts};
 ghost use Rattle.cli.specs.CaseRun.{IsWhole, IsReadAnswer, DeliversCase};
 
@@ -32,6 +33,11 @@ pub fn run_program<H: Shelf, R: Source, W: Sink, V: Watcher>(
     ensures words { words.now ≢ [] → (a : Answered) × (stored : List File)
         × HasStored (H.contents shelf.old) (H.contents shelf.new) (H.stored shelf.old) (H.stored shelf.new) stored
         × IsRunAnswer (H.contents shelf.old) (texts words.now) (H.history shelf.old) (H.history shelf.new) stored a
+        × Delivers (W.is_failed out.new) (W.contents out.old) (W.contents out.new) a result.0 }
+
+    // With words, an answer with status 0 or 1 tells of the machine's files what their command promises.
+    ensures told { words.now ≢ [] → (a : Answered)
+        × RunTells (texts words.now) (H.history shelf.old) (H.history shelf.new) a
         × Delivers (W.is_failed out.new) (W.contents out.old) (W.contents out.new) a result.0 }
 
     // Without any, the case was run that the input holds.

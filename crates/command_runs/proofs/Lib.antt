@@ -9,6 +9,8 @@ pub mod Checking
 pub mod Agrees
 pub mod Lifting
 pub mod OfTheirLoads
+pub mod FilesProblemLemmas
+pub mod Telling
 mod Ending
 mod TextAgain
 mod Listings

@@ -1,4 +1,4 @@
--- Steps over files that aren't told are steps over the files that their loads and readers answered by.
+-- Steps over files, told or not, are steps over any files by which their loads and readers answered.
 use Rattle.std.proofs.Common.{◌≡◌, ℕ, List, [], ◌∷◌, ◌++◌, Option, Some, None, inl, inr, sym, ap, ◌∙◌, append_assoc}
 use Rattle.std.specs.Prelude.{Result, Ok, Err}
 use Rattle.std.specs.List.{All}
@@ -32,7 +32,7 @@ All_split P (x ∷ xs) ys h =
     let rest = All_split P xs ys (All-tail P x (xs ++ ys) h) in
     (All-cons P x xs (All-head P x (xs ++ ys) h) rest.0, rest.1)
 
-module _ (files : Files) where
+module _ (given : Option Files) (files : Files) where
   -- what holds of the events of steps and of others behind them holds of both
   pub answered_split : (before between after : History) → Extends before between → Extends between after → AnsweredBy files before after
       → AnsweredBy files before between × AnsweredBy files between after
@@ -53,21 +53,21 @@ module _ (files : Files) where
   fault_of_files failures name Device h = tt
   fault_of_files failures name Memory h = tt
 
-  -- steps over files that aren't told only add events, and where these answered by the files they are the steps over those files
+  -- the steps only add events; if the files answered these, the steps are also steps over the files
   pub record Lifts {X : Type 0} (untold told : Course X) : Type 0 where
     pub extends : (before after : History) (end : Result X Answered) → untold before after end → Extends before after
     pub lifts : (before after : History) (end : Result X Answered) → untold before after end → AnsweredBy files before after → told before after end
 
-  load_extends : (name : List ℕ) (before after : History) (end : Result (List ℕ) Answered) → load_step None name before after end → Extends before after
+  load_extends : (name : List ℕ) (before after : History) (end : Result (List ℕ) Answered) → load_step given name before after end → Extends before after
   load_extends name before after (Ok bytes) h = (_, h.1.1)
   load_extends name before after (Err a) h = (_, h.2.1)
 
-  load_lifted : (name : List ℕ) (before after : History) (end : Result (List ℕ) Answered) → load_step None name before after end → AnsweredBy files before after
+  load_lifted : (name : List ℕ) (before after : History) (end : Result (List ℕ) Answered) → load_step given name before after end → AnsweredBy files before after
       → load_step (Some files) name before after end
   load_lifted name before after (Ok bytes) h by = (one_answer before after _ h.1.1 by, h.1, h.2)
   load_lifted name before after (Err a) h by = (h.0, fault_of_files before.failures name h.0 (one_answer before after _ h.2.1 by), h.2, h.3)
 
-  pub lifts_load : (name : List ℕ) → Lifts (load_step None name) (load_step (Some files) name)
+  pub lifts_load : (name : List ℕ) → Lifts (load_step given name) (load_step (Some files) name)
   lifts_load name = record { extends = load_extends name; lifts = load_lifted name }
 
   -- steps without an event
@@ -128,28 +128,28 @@ module _ (files : Files) where
   ends_lift l before after a (inr h) by = inr (l.lifts before after (Err a) h by)
 
   -- steps that read files
-  open_extends : (name : List ℕ) (before after : History) (end : Result (Unit {0}) Answered) → open_step None name before after end → Extends before after
+  open_extends : (name : List ℕ) (before after : History) (end : Result (Unit {0}) Answered) → open_step given name before after end → Extends before after
   open_extends name before after (Ok opened) h = extends_same before after h
   open_extends name before after (Err a) h = load_extends name before after (Err a) h
 
-  open_lifted : (name : List ℕ) (before after : History) (end : Result (Unit {0}) Answered) → open_step None name before after end → AnsweredBy files before after
+  open_lifted : (name : List ℕ) (before after : History) (end : Result (Unit {0}) Answered) → open_step given name before after end → AnsweredBy files before after
       → open_step (Some files) name before after end
   open_lifted name before after (Ok opened) h by = h
   open_lifted name before after (Err a) h by = load_lifted name before after (Err a) h by
 
-  lifts_open : (name : List ℕ) → Lifts (open_step None name) (open_step (Some files) name)
+  lifts_open : (name : List ℕ) → Lifts (open_step given name) (open_step (Some files) name)
   lifts_open name = record { extends = open_extends name; lifts = open_lifted name }
 
-  read_extends : (name : List ℕ) (before after : History) (end : Result Given Answered) → read_step None name before after end → Extends before after
+  read_extends : (name : List ℕ) (before after : History) (end : Result Given Answered) → read_step given name before after end → Extends before after
   read_extends name before after (Ok g) h = (_, h.1.1)
   read_extends name before after (Err a) h = absurd h
 
-  read_lifted : (name : List ℕ) (before after : History) (end : Result Given Answered) → read_step None name before after end → AnsweredBy files before after
+  read_lifted : (name : List ℕ) (before after : History) (end : Result Given Answered) → read_step given name before after end → AnsweredBy files before after
       → read_step (Some files) name before after end
   read_lifted name before after (Ok g) h by = (one_answer before after _ h.1.1 by, h.1)
   read_lifted name before after (Err a) h by = absurd h
 
-  lifts_read : (name : List ℕ) → Lifts (read_step None name) (read_step (Some files) name)
+  lifts_read : (name : List ℕ) → Lifts (read_step given name) (read_step (Some files) name)
   lifts_read name = record { extends = read_extends name; lifts = read_lifted name }
 
   whole_same : (name : List ℕ) (g : Given) (before after : History) (end : Result (List ℕ) Answered) → whole_step name g before after end → after ≡ before
@@ -172,23 +172,23 @@ module _ (files : Files) where
   lifts_either f n = record { extends = either_extends _ _ _ _ f n; lifts = either_lifted _ _ _ _ f n }
 
   -- the whole texts of one file, and of two
-  lifts_read_one : (name : List ℕ) → Lifts (read_one None name) (read_one (Some files) name)
+  lifts_read_one : (name : List ℕ) → Lifts (read_one given name) (read_one (Some files) name)
   lifts_read_one name = lifts_bind (lifts_open name) (λ opened. lifts_read name)
 
-  pub lifts_text : (name : List ℕ) → Lifts (text_of None name) (text_of (Some files) name)
+  pub lifts_text : (name : List ℕ) → Lifts (text_of given name) (text_of (Some files) name)
   lifts_text name = lifts_bind (lifts_read_one name) (λ g. lifts_either (lifts_whole name g) (lifts_load name))
 
-  lifts_back : (first second : List ℕ) → Lifts (back_step None first second) (back_step (Some files) first second)
+  lifts_back : (first second : List ℕ) → Lifts (back_step given first second) (back_step (Some files) first second)
   lifts_back first second = lifts_bind (lifts_read second) (λ h. lifts_bind (lifts_read first) (λ g. lifts_value (λ pair. pair ≡ (g, h))))
 
-  lifts_read_both : (first second : List ℕ) → Lifts (read_both None first second) (read_both (Some files) first second)
+  lifts_read_both : (first second : List ℕ) → Lifts (read_both given first second) (read_both (Some files) first second)
   lifts_read_both first second = lifts_bind (lifts_open first) (λ opened. lifts_bind (lifts_open second) (λ both. lifts_back first second))
 
   lifts_whole_pair : (first second : List ℕ) (given : Given × Given) → Lifts (whole_pair first second given) (whole_pair first second given)
   lifts_whole_pair first second given = lifts_bind (lifts_whole second given.1) (λ y. lifts_bind (lifts_whole first given.0) (λ x. lifts_value (λ pair. pair ≡ (x, y))))
 
-  lifts_load_pair : (first second : List ℕ) → Lifts (load_pair None first second) (load_pair (Some files) first second)
+  lifts_load_pair : (first second : List ℕ) → Lifts (load_pair given first second) (load_pair (Some files) first second)
   lifts_load_pair first second = lifts_bind (lifts_load first) (λ x. lifts_bind (lifts_load second) (λ y. lifts_value (λ pair. pair ≡ (x, y))))
 
-  pub lifts_texts : (first second : List ℕ) → Lifts (texts_of None first second) (texts_of (Some files) first second)
+  pub lifts_texts : (first second : List ℕ) → Lifts (texts_of given first second) (texts_of (Some files) first second)
   lifts_texts first second = lifts_bind (lifts_read_both first second) (λ given. lifts_either (lifts_whole_pair first second given) (lifts_load_pair first second))

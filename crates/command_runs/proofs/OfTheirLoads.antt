@@ -1,4 +1,4 @@
--- Runs over files that aren't told are runs over the files that their loads and readers answered by.
+-- Runs over files, told or not, are runs over any files by which their loads and readers answered.
 use Rattle.std.proofs.Common.{◌≡◌, ℕ, length, List, [], ◌∷◌, Option, Some, None, inl, inr, sym, ap, ◌∙◌}
 use Rattle.std.specs.Borrow.{Bor}
 use Rattle.std.specs.Prelude.{Ok, Err, option_map}
@@ -53,104 +53,104 @@ stores_extend (f ∷ fs) before after stored refusal (inr h) =
     let more = stores_extend fs h.0 after h.1 refusal h.4 in
     (_, extends_twice before h.0 after (_, h.2.1) more)
 
-module _ (files : Files) where
-  counties_lift : (words : CommonWords) → Lifts files (counties_of None words) (counties_of (Some files) words)
-  counties_lift words = lifts_bind files (lifts_texts files words.geo.now words.segment.now) (λ texts.
-      lifts_call files pl94_answer (λ counties. county_list texts.0 texts.1 words.state ≡ counties))
+module _ (given : Option Files) (files : Files) where
+  counties_lift : (words : CommonWords) → Lifts given files (counties_of given words) (counties_of (Some files) words)
+  counties_lift words = lifts_bind given files (lifts_texts given files words.geo.now words.segment.now) (λ texts.
+      lifts_call given files pl94_answer (λ counties. county_list texts.0 texts.1 words.state ≡ counties))
 
-  pairs_lift : (listed name : List ℕ) → Lifts files (pairs_of None listed name) (pairs_of (Some files) listed name)
-  pairs_lift listed name = lifts_bind files (lifts_load files name) (λ text. lifts_call files (code_file_answer input.Adjacency) (IsPairsAnswer text listed))
+  pairs_lift : (listed name : List ℕ) → Lifts given files (pairs_of given listed name) (pairs_of (Some files) listed name)
+  pairs_lift listed name = lifts_bind given files (lifts_load given files name) (λ text. lifts_call given files (code_file_answer input.Adjacency) (IsPairsAnswer text listed))
 
-  links_lift : (name : Option (Bor (List ℕ))) → Lifts files (links_of None name) (links_of (Some files) name)
-  links_lift name = lifts_optional files [] name (λ file. lifts_bind files (lifts_load files file) (λ text. lifts_call files (code_file_answer input.Links) (λ links. link_list text ≡ links)))
+  links_lift : (name : Option (Bor (List ℕ))) → Lifts given files (links_of given name) (links_of (Some files) name)
+  links_lift name = lifts_optional given files [] name (λ file. lifts_bind given files (lifts_load given files file) (λ text. lifts_call given files (code_file_answer input.Links) (λ links. link_list text ≡ links)))
 
-  withdrawn_lift : (name : Option (Bor (List ℕ))) → Lifts files (withdrawn_of None name) (withdrawn_of (Some files) name)
-  withdrawn_lift name = lifts_optional files [] name (λ file. lifts_bind files (lifts_load files file) (λ text. lifts_call files (code_file_answer input.Withdrawn) (λ sets. withdrawn_list text ≡ sets)))
+  withdrawn_lift : (name : Option (Bor (List ℕ))) → Lifts given files (withdrawn_of given name) (withdrawn_of (Some files) name)
+  withdrawn_lift name = lifts_optional given files [] name (λ file. lifts_bind given files (lifts_load given files file) (λ text. lifts_call given files (code_file_answer input.Withdrawn) (λ sets. withdrawn_list text ≡ sets)))
 
-  adjacency_lift : (listed : List ℕ) (words : ProblemWords) → Lifts files (adjacency_of None listed words) (adjacency_of (Some files) listed words)
-  adjacency_lift listed words = lifts_bind files (pairs_lift listed words.adjacency.now) (λ pairs. lifts_bind files (links_lift words.links) (λ links. lifts_value files (AreLinked pairs links)))
+  adjacency_lift : (listed : List ℕ) (words : ProblemWords) → Lifts given files (adjacency_of given listed words) (adjacency_of (Some files) listed words)
+  adjacency_lift listed words = lifts_bind given files (pairs_lift listed words.adjacency.now) (λ pairs. lifts_bind given files (links_lift words.links) (λ links. lifts_value given files (AreLinked pairs links)))
 
-  problem_lifts : (words : ProblemWords) → Lifts files (problem_in None words) (problem_in (Some files) words)
+  problem_lifts : (words : ProblemWords) → Lifts given files (problem_in given words) (problem_in (Some files) words)
   problem_lifts words =
-      lifts_bind files (counties_lift words.common) (λ counties. lifts_bind files (adjacency_lift (codes_of counties) words) (λ pairs. lifts_bind files (withdrawn_lift words.withdrawn) (λ withdrawn.
-      lifts_call files problem_answer (IsBuilt counties pairs withdrawn words.common.chamber words.common.window))))
+      lifts_bind given files (counties_lift words.common) (λ counties. lifts_bind given files (adjacency_lift (codes_of counties) words) (λ pairs. lifts_bind given files (withdrawn_lift words.withdrawn) (λ withdrawn.
+      lifts_call given files problem_answer (IsBuilt counties pairs withdrawn words.common.chamber words.common.window))))
 
-  grouping_lifts : (name : List ℕ) → Lifts files (grouping_of None name) (grouping_of (Some files) name)
-  grouping_lifts name = lifts_bind files (lifts_load files name) (λ text. lifts_call files (code_file_answer input.Grouping) (λ grouping. grouping_list text ≡ grouping))
+  grouping_lifts : (name : List ℕ) → Lifts given files (grouping_of given name) (grouping_of (Some files) name)
+  grouping_lifts name = lifts_bind given files (lifts_load given files name) (λ text. lifts_call given files (code_file_answer input.Grouping) (λ grouping. grouping_list text ≡ grouping))
 
-  blocks_lift : (words : CommonWords) → Lifts files (blocks_of None words) (blocks_of (Some files) words)
-  blocks_lift words = lifts_bind files (lifts_texts files words.geo.now words.segment.now) (λ texts.
-      lifts_call files pl94_answer (λ blocks. block_list texts.0 texts.1 words.state ≡ blocks))
+  blocks_lift : (words : CommonWords) → Lifts given files (blocks_of given words) (blocks_of (Some files) words)
+  blocks_lift words = lifts_bind given files (lifts_texts given files words.geo.now words.segment.now) (λ texts.
+      lifts_call given files pl94_answer (λ blocks. block_list texts.0 texts.1 words.state ≡ blocks))
 
-  assignments_lift : (name : List ℕ) → Lifts files (assignments_of None name) (assignments_of (Some files) name)
-  assignments_lift name = lifts_bind files (lifts_load files name) (λ text. lifts_call files assignment_answer (λ lines. assignment_list text ≡ lines))
+  assignments_lift : (name : List ℕ) → Lifts given files (assignments_of given name) (assignments_of (Some files) name)
+  assignments_lift name = lifts_bind given files (lifts_load given files name) (λ text. lifts_call given files assignment_answer (λ lines. assignment_list text ≡ lines))
 
-  size_lifts : (words : CommonWords) → Lifts files (size_course None words) (size_course (Some files) words)
-  size_lifts words = lifts_bind files (counties_lift words) (λ counties. lifts_bind files (lifts_call files problem_answer (IsBuilt counties [] [] words.chamber words.window)) (λ v. lifts_value files (λ a. a ≡ success (size_text v))))
+  size_lifts : (words : CommonWords) → Lifts given files (size_course given words) (size_course (Some files) words)
+  size_lifts words = lifts_bind given files (counties_lift words) (λ counties. lifts_bind given files (lifts_call given files problem_answer (IsBuilt counties [] [] words.chamber words.window)) (λ v. lifts_value given files (λ a. a ≡ success (size_text v))))
 
-  judge_lifts : (words : JudgeWords) → Lifts files (judge_course None words) (judge_course (Some files) words)
-  judge_lifts words = lifts_bind files (problem_lifts words.problem) (λ v. lifts_bind files (grouping_lifts words.grouping.now) (λ g. lifts_call files verdict_answer (IsJudged v g)))
+  judge_lifts : (words : JudgeWords) → Lifts given files (judge_course given words) (judge_course (Some files) words)
+  judge_lifts words = lifts_bind given files (problem_lifts words.problem) (λ v. lifts_bind given files (grouping_lifts words.grouping.now) (λ g. lifts_call given files verdict_answer (IsJudged v g)))
 
-  audit_lifts : (words : AuditWords) → Lifts files (audit_course None words) (audit_course (Some files) words)
+  audit_lifts : (words : AuditWords) → Lifts given files (audit_course given words) (audit_course (Some files) words)
   audit_lifts words =
-      lifts_bind files (problem_lifts words.problem) (λ v. lifts_bind files (blocks_lift words.problem.common) (λ blocks. lifts_bind files (grouping_lifts words.grouping.now) (λ g.
-      lifts_bind files (assignments_lift words.assignments.now) (λ lines. lifts_value files (IsAudited v g blocks lines)))))
+      lifts_bind given files (problem_lifts words.problem) (λ v. lifts_bind given files (blocks_lift words.problem.common) (λ blocks. lifts_bind given files (grouping_lifts words.grouping.now) (λ g.
+      lifts_bind given files (assignments_lift words.assignments.now) (λ lines. lifts_value given files (IsAudited v g blocks lines)))))
 
-  check_lifts : (words : CheckWords) → Lifts files (check_course None words) (check_course (Some files) words)
-  check_lifts words = lifts_bind files (problem_lifts words.problem) (λ v. lifts_bind files (lifts_text files words.certificate.now) (λ text. lifts_value files (IsChecked v words.budget text)))
+  check_lifts : (words : CheckWords) → Lifts given files (check_course given words) (check_course (Some files) words)
+  check_lifts words = lifts_bind given files (problem_lifts words.problem) (λ v. lifts_bind given files (lifts_text given files words.certificate.now) (λ text. lifts_value given files (IsChecked v words.budget text)))
 
-  solve_lifts : (words : SolveWords) → Lifts files (solve_course None words) (solve_course (Some files) words)
-  solve_lifts words = lifts_bind files (problem_lifts words.problem) (λ v. lifts_value files (IsSolved v words.steps))
+  solve_lifts : (words : SolveWords) → Lifts given files (solve_course given words) (solve_course (Some files) words)
+  solve_lifts words = lifts_bind given files (problem_lifts words.problem) (λ v. lifts_value given files (IsSolved v words.steps))
 
-  list_lifts : (words : ListWords) → Lifts files (list_course None words) (list_course (Some files) words)
-  list_lifts words = lifts_bind files (problem_lifts words.check.problem) (λ v. lifts_bind files (lifts_load files words.check.certificate.now) (λ text.
-      lifts_value files (IsListed v words.check.budget (option_map (λ w. w.number) words.stored) text)))
+  list_lifts : (words : ListWords) → Lifts given files (list_course given words) (list_course (Some files) words)
+  list_lifts words = lifts_bind given files (problem_lifts words.check.problem) (λ v. lifts_bind given files (lifts_load given files words.check.certificate.now) (λ text.
+      lifts_value given files (IsListed v words.check.budget (option_map (λ w. w.number) words.stored) text)))
 
-  events_lift : (language : rounds.Language) (counties : ℕ) (name : List ℕ) → Lifts files (events_of None language counties name) (events_of (Some files) language counties name)
-  events_lift language counties name = lifts_bind files (lifts_load files name) (λ text. lifts_call files events_answer (AreEvents language counties text))
+  events_lift : (language : rounds.Language) (counties : ℕ) (name : List ℕ) → Lifts given files (events_of given language counties name) (events_of (Some files) language counties name)
+  events_lift language counties name = lifts_bind given files (lifts_load given files name) (λ text. lifts_call given files events_answer (AreEvents language counties text))
 
   named_events_lift : (language : rounds.Language) (counties : ℕ) (name : Option (Bor (List ℕ)))
-      → Lifts files (named_events_of None language counties name) (named_events_of (Some files) language counties name)
-  named_events_lift language counties name = lifts_optional files [] name (λ file. events_lift language counties file)
+      → Lifts given files (named_events_of given language counties name) (named_events_of (Some files) language counties name)
+  named_events_lift language counties name = lifts_optional given files [] name (λ file. events_lift language counties file)
 
-  share_lifts : (words : ShareWords) → Lifts files (share_course None words) (share_course (Some files) words)
+  share_lifts : (words : ShareWords) → Lifts given files (share_course given words) (share_course (Some files) words)
   share_lifts words =
-      lifts_bind files (problem_lifts words.board.problem) (λ v. lifts_bind files (grouping_lifts words.board.grouping.now) (λ g.
-      lifts_bind files (events_lift (language_of words.board.round) (length v.counties) words.events.now) (λ events.
-      lifts_call files board_answer (AnswersOnBoard v g words.board.round words.budget (λ round. IsShared (problem_of v) (depth_of words.board.round) words.budget round events)))))
+      lifts_bind given files (problem_lifts words.board.problem) (λ v. lifts_bind given files (grouping_lifts words.board.grouping.now) (λ g.
+      lifts_bind given files (events_lift (language_of words.board.round) (length v.counties) words.events.now) (λ events.
+      lifts_call given files board_answer (AnswersOnBoard v g words.board.round words.budget (λ round. IsShared (problem_of v) (depth_of words.board.round) words.budget round events)))))
 
-  piece_lifts : (words : PieceWords) → Lifts files (piece_course None words) (piece_course (Some files) words)
+  piece_lifts : (words : PieceWords) → Lifts given files (piece_course given words) (piece_course (Some files) words)
   piece_lifts words =
-      lifts_bind files (problem_lifts words.board.problem) (λ v. lifts_bind files (grouping_lifts words.board.grouping.now) (λ g.
-      lifts_bind files (named_events_lift (language_of words.board.round) (length v.counties) words.events) (λ events.
-      lifts_bind files (lifts_call files board_answer (AnswersOnBoard v g words.board.round piece_budget (λ round. IsAnswered (problem_of v) (depth_of words.board.round) round events words.number))) (λ piece.
-      lifts_value files (λ a. a ≡ piece_said words.round words.number piece)))))
+      lifts_bind given files (problem_lifts words.board.problem) (λ v. lifts_bind given files (grouping_lifts words.board.grouping.now) (λ g.
+      lifts_bind given files (named_events_lift (language_of words.board.round) (length v.counties) words.events) (λ events.
+      lifts_bind given files (lifts_call given files board_answer (AnswersOnBoard v g words.board.round piece_budget (λ round. IsAnswered (problem_of v) (depth_of words.board.round) round events words.number))) (λ piece.
+      lifts_value given files (λ a. a ≡ piece_said words.round words.number piece)))))
 
-  storing_ends : {S : Type 0} (steps told : Course S) (files_of : S → List File) (answer : S → Answered) → Lifts files steps told
+  storing_ends : {S : Type 0} (steps told : Course S) (files_of : S → List File) (answer : S → Answered) → Lifts given files steps told
       → (before after : History) (stored : List File) (a : Answered) → EndsStoring steps files_of answer before after stored a → AnsweredBy files before after
       → EndsStoring told files_of answer before after stored a
   storing_ends steps told files_of answer lift before after stored a (inl h) by = inl (lift.lifts before after (Err a) h.0 by, h.1)
   storing_ends steps told files_of answer lift before after stored a (inr h) by =
-      let parts = answered_split files before h.1 after (lift.extends before h.1 (Ok h.0) h.3) (stores_extend _ h.1 after stored h.2 h.4) by in
+      let parts = answered_split given files before h.1 after (lift.extends before h.1 (Ok h.0) h.3) (stores_extend _ h.1 after stored h.2 h.4) by in
       inr (h.0, h.1, h.2, lift.lifts before h.1 (Ok h.0) h.3 parts.0, h.4, h.5)
 
-  command_ends : (command : CommandWords) (before after : History) (stored : List File) (a : Answered) → CommandEnds None command before after stored a → AnsweredBy files before after
+  command_ends : (command : CommandWords) (before after : History) (stored : List File) (a : Answered) → CommandEnds given command before after stored a → AnsweredBy files before after
       → CommandEnds (Some files) command before after stored a
-  command_ends (Size words) before after stored a h by = (ends_lift files (size_lifts words) before after a h.0 by, h.1)
-  command_ends (Judge words) before after stored a h by = (ends_lift files (judge_lifts words) before after a h.0 by, h.1)
+  command_ends (Size words) before after stored a h by = (ends_lift given files (size_lifts words) before after a h.0 by, h.1)
+  command_ends (Judge words) before after stored a h by = (ends_lift given files (judge_lifts words) before after a h.0 by, h.1)
   command_ends (Solve words) before after stored a h by = storing_ends _ _ (files_to_store words) (λ s. s.answer) (solve_lifts words) before after stored a h by
-  command_ends (Check words) before after stored a h by = (ends_lift files (check_lifts words) before after a h.0 by, h.1)
-  command_ends (Audit words) before after stored a h by = (ends_lift files (audit_lifts words) before after a h.0 by, h.1)
+  command_ends (Check words) before after stored a h by = (ends_lift given files (check_lifts words) before after a h.0 by, h.1)
+  command_ends (Audit words) before after stored a h by = (ends_lift given files (audit_lifts words) before after a h.0 by, h.1)
   command_ends (ListAll words) before after stored a h by = storing_ends _ _ (listed_file words) (λ s. s.answer) (list_lifts words) before after stored a h by
   command_ends (Share words) before after stored a h by = storing_ends _ _ (joined_file words) share_answer (share_lifts words) before after stored a h by
-  command_ends (Piece words) before after stored a h by = (ends_lift files (piece_lifts words) before after a h.0 by, h.1)
+  command_ends (Piece words) before after stored a h by = (ends_lift given files (piece_lifts words) before after a h.0 by, h.1)
 
-  command_run : (command : CommandWords) (before after : History) (stored : List File) (a : Answered) → CommandRun None command before after stored a → AnsweredBy files before after
+  command_run : (command : CommandWords) (before after : History) (stored : List File) (a : Answered) → CommandRun given command before after stored a → AnsweredBy files before after
       → CommandRun (Some files) command before after stored a
   command_run command before after stored a (inl none) by = inl none
   command_run command before after stored a (inr ends) by = inr (command_ends command before after stored a ends by)
 
-  run_answer : (words : List (List ℕ)) (before after : History) (stored : List File) (a : Answered) → IsRunAnswer None words before after stored a → AnsweredBy files before after
+  run_answer : (words : List (List ℕ)) (before after : History) (stored : List File) (a : Answered) → IsRunAnswer given words before after stored a → AnsweredBy files before after
       → IsRunAnswer (Some files) words before after stored a
   run_answer words before after stored a (inl none) by = inl none
   run_answer words before after stored a (inr (inl at_words)) by = inr (inl at_words)

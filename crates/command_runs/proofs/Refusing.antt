@@ -17,21 +17,26 @@ use Rattle.share_board.specs.declared.fault.BoardFault.TheVariants as board
 use Rattle.grouping_problem.specs.declared.fault.ProblemFault.{ProblemFault}
 use Rattle.grouping_problem.specs.declared.fault.ProblemFault.TheVariants as problem
 use Rattle.grouping_problem.specs.ProblemValue.{codes_of}
-use Rattle.pl94_counties.specs.Counties.{county_list}
+use Rattle.pl94_counties.specs.Counties.{county_list, block_list}
 use Rattle.adjacency_reader.specs.Pairs.{IsPairsAnswer}
 use Rattle.adjacency_reader.specs.Links.{link_list}
 use Rattle.adjacency_reader.specs.Withdrawn.{withdrawn_list}
 use Rattle.adjacency_reader.specs.Adjacent.{AreLinked}
 use Rattle.seat_lines.specs.GroupingLines.{grouping_list}
+use Rattle.assignment_file.specs.declared.fault.AssignmentFault.{AssignmentFault}
+use Rattle.assignment_file.specs.declared.fault.AssignmentKind.{AssignmentKind}
+use Rattle.assignment_file.specs.declared.fault.AssignmentKind.TheVariants as assigned
+use Rattle.assignment_file.specs.Assignments.{assignment_list}
 use Rattle.program_answers.specs.declared.refusal.InputFile.{InputFile}
 use Rattle.program_answers.specs.declared.refusal.InputFile.TheVariants.{Adjacency, Links, Withdrawn, Grouping}
 use Rattle.program_answers.specs.Answer.{Answered}
-use Rattle.program_answers.specs.Refusals.{shelf_answer, file_answer, pl94_answer, code_line_answer, code_file_answer, problem_answer, events_line_answer, events_answer, board_answer}
+use Rattle.program_answers.specs.Refusals.{shelf_answer, file_answer, pl94_answer, code_line_answer, code_file_answer, problem_answer, assignment_line_answer, assignment_answer, events_line_answer, events_answer, board_answer}
 use Rattle.command_words.specs.declared.words.CommonWords.{CommonWords}
 use Rattle.command_words.specs.declared.words.ProblemWords.{ProblemWords}
 use Rattle.command_runs.specs.Course.{Course, ◌>>=◌, load_step, call_step, value_step, optional_step}
-use Rattle.command_runs.specs.Reading.{texts_of}
-use Rattle.command_runs.proofs.Texts.{shelf_status, texts_cut}
+use Rattle.command_runs.specs.Reading.{text_of, texts_of}
+use Rattle.command_runs.specs.PlanCourse.{blocks_of, assignments_of}
+use Rattle.command_runs.proofs.Texts.{shelf_status, text_cuts, texts_cut}
 use Rattle.command_runs.specs.ProblemCourse.{counties_of, pairs_of, pairs_in, links_of, links_in, withdrawn_of, withdrawn_in, adjacency_of, IsBuilt, problem_in, grouping_in, grouping_of}
 
 -- the status of a refusal: 4 for a file, a problem or a board, 5 for a shelf or for memory, and 3 for a budget that is too small
@@ -59,6 +64,14 @@ code_line_status file lines.BadSeats line = inl refl
 code_line_status file lines.BadCode line = inl refl
 code_line_status file (lines.Lower fault) line = inl refl
 code_line_status file lines.Memory line = inr (inl refl)
+
+assignment_status : (kind : AssignmentKind) (line : ℕ) → IsRefusal (assignment_line_answer kind line)
+assignment_status assigned.TooFewFields line = inl refl
+assignment_status assigned.BadCode line = inl refl
+assignment_status assigned.BadLabel line = inl refl
+assignment_status assigned.TooMany line = inl refl
+assignment_status (assigned.Lower fault) line = inl refl
+assignment_status assigned.Memory line = inr (inl refl)
 
 problem_status : (fault : ProblemFault) → IsRefusal (problem_answer fault)
 problem_status problem.BadWindow = inl refl
@@ -124,6 +137,10 @@ optional_refuses : {X : Type 0} (value : X) (steps : List ℕ → Course X) (nam
 optional_refuses value steps None all = value_refuses (λ x. x ≡ value)
 optional_refuses value steps (Some name) all = all name.now
 
+-- a text that isn't had
+pub text_refuses : (files : Option Files) (name : List ℕ) → Refuses (text_of files name)
+text_refuses files name before after a h = inr (inl (text_cuts files name before after a h))
+
 -- texts that aren't had
 texts_refuse : (files : Option Files) (first second : List ℕ) → Refuses (texts_of files first second)
 texts_refuse files first second before after a h = inr (inl (texts_cut files first second before after a h))
@@ -158,3 +175,15 @@ problem_refuses files words =
     bind_refuses _ _ (adjacency_refuses files (codes_of counties) words) (λ pairs.
     bind_refuses _ _ (withdrawn_refuses files words.withdrawn) (λ withdrawn.
     call_refuses problem_answer (IsBuilt counties pairs withdrawn words.common.chamber words.common.window) problem_status)))
+
+-- census blocks that aren't had
+pub blocks_refuse : (files : Option Files) (words : CommonWords) → Refuses (blocks_of files words)
+blocks_refuse files words =
+    bind_refuses (texts_of files words.geo.now words.segment.now) _ (texts_refuse files words.geo.now words.segment.now) (λ texts.
+    call_refuses pl94_answer (λ blocks. block_list texts.0 texts.1 words.state ≡ blocks) (λ fault. file_status _ fault.kind fault.line))
+
+-- assignments that aren't had
+pub assignments_refuse : (files : Option Files) (name : List ℕ) → Refuses (assignments_of files name)
+assignments_refuse files name =
+    bind_refuses (load_step files name) _ (load_refuses files name) (λ text.
+    call_refuses assignment_answer (λ lines. assignment_list text ≡ lines) (λ fault. assignment_status fault.kind fault.line))

@@ -12,6 +12,8 @@ pub mod PieceCourse
 pub mod Storing
 pub mod Run
 pub mod Loads
+pub mod FilesProblem
+pub mod Told
 pub mod Headline
 pub mod ListHeadline
 pub mod ShareHeadline

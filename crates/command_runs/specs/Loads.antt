@@ -1,5 +1,5 @@
--- Runs over files that aren't told, where their loads and readers answered as some files have it.
-use Rattle.std.specs.Prelude.{◌≡◌, ◌<◌, ◌++◌, ℕ, List, length, Some, None, Result, Ok, Err}
+-- Runs whose loads and readers answered as some files have it.
+use Rattle.std.specs.Prelude.{◌≡◌, ◌<◌, ◌++◌, ℕ, List, length, Option, Some, None, Result, Ok, Err}
 use Rattle.std.specs.List.{All}
 use Rattle.command_words.specs.declared.words.CommandWords.{CommandWords}
 use Rattle.shelves.specs.declared.shelf.ShelfFault.{ShelfFault}
@@ -31,9 +31,10 @@ Answers files (Stored name bytes taken) = Unit {0}
 abbrev pub AnsweredBy : Files → History → History → Type 0
 AnsweredBy files before after = (more : List Event) × (after.events ≡ before.events ++ more) × All (Answers files) more
 
--- A run over files that aren't told is also a run over any files that its loads and readers answered by; likewise the run of a command.
+-- A run over a shelf that tells its files, or that tells none, is also a run over any files by which its loads and readers answered. The same
+-- holds of the run of a command.
 pub record RunsAreOfTheirLoads : Type 0 where
-  pub answer : (files : Files) (words : List (List ℕ)) (before after : History) (stored : List File) (a : Answered)
-      → IsRunAnswer None words before after stored a → AnsweredBy files before after → IsRunAnswer (Some files) words before after stored a
-  pub run : (files : Files) (command : CommandWords) (before after : History) (stored : List File) (a : Answered)
-      → CommandRun None command before after stored a → AnsweredBy files before after → CommandRun (Some files) command before after stored a
+  pub answer : (given : Option Files) (files : Files) (words : List (List ℕ)) (before after : History) (stored : List File) (a : Answered)
+      → IsRunAnswer given words before after stored a → AnsweredBy files before after → IsRunAnswer (Some files) words before after stored a
+  pub run : (given : Option Files) (files : Files) (command : CommandWords) (before after : History) (stored : List File) (a : Answered)
+      → CommandRun given command before after stored a → AnsweredBy files before after → CommandRun (Some files) command before after stored a
