@@ -19,7 +19,7 @@ use Rattle.shelves.specs.History.{History}
 use Rattle.command_runs.specs.Course.{Course, ◌>>=◌, GoesOn}
 use Rattle.command_runs.specs.ProblemCourse.{counties_of, links_of, withdrawn_of, adjacency_of, problem_in, grouping_of}
 use Rattle.command_runs.specs.PlanCourse.{blocks_of, assignments_of}
-use Rattle.command_runs.specs.FilesProblem.{ReadsIfNamed, AreCountiesOfFiles, AreBlocksOfFiles, AreAdjacentByFiles, IsProblemOfFiles, IsGroupingOfFile, AreAssignmentsOfFile}
+use Rattle.command_runs.specs.FilesProblem.{IsReadAsIfNamed, AreCountiesOfFiles, AreBlocksOfFiles, AreAdjacentByFiles, IsProblemOfFiles, IsGroupingOfFile, AreAssignmentsOfFile}
 use Rattle.command_runs.proofs.Texts.{texts_told}
 
 -- steps that come to a value went on behind the first of them
@@ -52,13 +52,13 @@ module _ (files : Files) where
         are = are_blocks t.value.0 t.value.1 words.state blocks t.goes_on.1;
       }
 
-  links_told : (name : Option (Bor (List ℕ))) (before after : History) (links : List Link) → links_of (Some files) name before after (Ok links) → ReadsIfNamed link_list files name links
+  links_told : (name : Option (Bor (List ℕ))) (before after : History) (links : List Link) → links_of (Some files) name before after (Ok links) → IsReadAsIfNamed link_list files name links
   links_told None before after links h = h.1
   links_told (Some name) before after links h =
       let t = went _ _ before after links h in
       (t.value, t.given.0, t.goes_on.1)
 
-  withdrawn_told : (name : Option (Bor (List ℕ))) (before after : History) (sets : List Withdrawn) → withdrawn_of (Some files) name before after (Ok sets) → ReadsIfNamed withdrawn_list files name sets
+  withdrawn_told : (name : Option (Bor (List ℕ))) (before after : History) (sets : List Withdrawn) → withdrawn_of (Some files) name before after (Ok sets) → IsReadAsIfNamed withdrawn_list files name sets
   withdrawn_told None before after sets h = h.1
   withdrawn_told (Some name) before after sets h =
       let t = went _ _ before after sets h in

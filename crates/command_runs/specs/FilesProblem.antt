@@ -22,13 +22,13 @@ use Rattle.command_words.specs.declared.words.ProblemWords.{ProblemWords}
 use Rattle.shelves.specs.Files.{Files}
 
 -- the bytes under a name are read as this value
-abbrev pub Reads : {X F : Type 0} → (List ℕ → Result X F) → Files → List ℕ → X → Type 0
-Reads read files name value = (text : List ℕ) × (files name ≡ Some text) × (read text ≡ Ok value)
+abbrev pub IsReadAs : {X F : Type 0} → (List ℕ → Result X F) → Files → List ℕ → X → Type 0
+IsReadAs read files name value = (text : List ℕ) × (files name ≡ Some text) × (read text ≡ Ok value)
 
 -- the same of a file that need not be named: without one the list is empty
-abbrev pub ReadsIfNamed : {X F : Type 0} → (List ℕ → Result (List X) F) → Files → Option (Bor (List ℕ)) → List X → Type 0
-ReadsIfNamed read files None list = list ≡ []
-ReadsIfNamed read files (Some name) list = Reads read files name.now list
+abbrev pub IsReadAsIfNamed : {X F : Type 0} → (List ℕ → Result (List X) F) → Files → Option (Bor (List ℕ)) → List X → Type 0
+IsReadAsIfNamed read files None list = list ≡ []
+IsReadAsIfNamed read files (Some name) list = IsReadAs read files name.now list
 
 -- the counties of the state by the bytes of the geographic header and of segment 1
 pub record AreCountiesOfFiles (files : Files) (words : CommonWords) (counties : List County) : Type 0 where
@@ -49,11 +49,11 @@ pub record AreBlocksOfFiles (files : Files) (words : CommonWords) (blocks : List
 -- The adjacent pairs: those of the rows of the adjacency file between listed counties, and then the links over them.
 pub record AreAdjacentByFiles (files : Files) (words : ProblemWords) (listed : List ℕ) (pairs : List (ℕ × ℕ)) : Type 0 where
   pub rows : List (ℕ × ℕ)
-  pub rows_are : Reads row_list files words.adjacency.now rows
+  pub rows_are : IsReadAs row_list files words.adjacency.now rows
   pub named : List (ℕ × ℕ)
   pub named_are : ArePairs listed rows named
   pub links : List Link
-  pub links_are : ReadsIfNamed link_list files words.links links
+  pub links_are : IsReadAsIfNamed link_list files words.links links
   pub linked : AreLinked named links pairs
 
 -- The problem of the files: its counties, its adjacent pairs and its withdrawn sets are those of the files' bytes, and its chamber and its
@@ -64,13 +64,13 @@ pub record IsProblemOfFiles (files : Files) (words : ProblemWords) (v : ProblemV
   pub pairs : List (ℕ × ℕ)
   pub pairs_are : AreAdjacentByFiles files words (codes_of counties) pairs
   pub withdrawn : List county.Withdrawn
-  pub withdrawn_are : ReadsIfNamed withdrawn_list files words.withdrawn withdrawn
+  pub withdrawn_are : IsReadAsIfNamed withdrawn_list files words.withdrawn withdrawn
   pub problem : IsProblemOf counties pairs withdrawn words.common.chamber words.common.window v
 
 -- the grouping of a file
 abbrev pub IsGroupingOfFile : Files → List ℕ → groups.Grouping → Type 0
-IsGroupingOfFile files name grouping = Reads grouping_list files name grouping
+IsGroupingOfFile files name grouping = IsReadAs grouping_list files name grouping
 
 -- the assignments of a file
 abbrev pub AreAssignmentsOfFile : Files → List ℕ → List Assignment → Type 0
-AreAssignmentsOfFile files name lines = Reads assignment_list files name lines
+AreAssignmentsOfFile files name lines = IsReadAs assignment_list files name lines
