@@ -12,7 +12,7 @@ const ABOUT: &str =
 
 /// What `--version` says after the program's name.
 const VERSION: &str =
-    "0.1.0 (Rattle kit 13f, logic dac8208d650f15bf; the program can't tell whether its build was proved: `rt run` proves it first, `rt try` doesn't)";
+    "0.1.0 (Rattle kit 13b, logic dac8208d650f15bf; the program can't tell whether its build was proved: `rt run` proves it first, `rt try` doesn't)";
 
 /// What `--help` ends with.
 const AFTER_HELP: &str = "\
