@@ -22,7 +22,7 @@ use Rattle.shelves.specs.History.{History}
 use Rattle.program_answers.specs.Answer.{Answered, memory_answer}
 use Rattle.program_answers.specs.Refusals.{verdict_answer}
 use Rattle.command_runs.specs.Course.{Course, ◌>>=◌, value_step}
-use Rattle.command_runs.specs.ProblemCourse.{problem_in}
+use Rattle.command_runs.specs.ProblemCourse.{problem_in, grouping_of}
 use Rattle.command_runs.specs.JudgeCourse.{IsAudited, judge_step, judge_course, audit_course}
 use Rattle.command_runs.specs.CheckCourse.{IsChecked, check_course, verdict_said}
 use Rattle.command_runs.specs.Headline.{ShowsBest, ShowsImpossible as SolvesNone}
@@ -142,7 +142,7 @@ module _ (files : Files) where
       }
 
   -- the steps end in no answer with status 0
-  IsNoAnswer : {X : Type 0} → Course X → Type 0
+  abbrev IsNoAnswer : {X : Type 0} → Course X → Type 0
   IsNoAnswer steps = (before after : History) (a : Answered) → steps before after (Err a) → a.status ≢ 0
 
   refused_none : {X : Type 0} (steps : Course X) → Refuses steps → IsNoAnswer steps
@@ -153,8 +153,8 @@ module _ (files : Files) where
   bind_none first next f n before after a (inr on) = n on.value on.between after a on.goes_on
 
   judge_none : (words : JudgeWords) → IsNoAnswer (judge_course (Some files) words)
-  judge_none words = bind_none _ _ (refused_none _ (problem_refuses (Some files) words.problem)) (λ v.
-      bind_none _ _ (refused_none _ (grouping_refuses (Some files) words.grouping.now)) (λ g before after a h zero.
+  judge_none words = bind_none (problem_in (Some files) words.problem) _ (refused_none (problem_in (Some files) words.problem) (problem_refuses (Some files) words.problem)) (λ v.
+      bind_none (grouping_of (Some files) words.grouping.now) _ (refused_none (grouping_of (Some files) words.grouping.now) (grouping_refuses (Some files) words.grouping.now)) (λ g before after a h zero.
       fault_status h.1.0 (sym (same_status a _ h.1.2) ∙ zero)))
 
   -- ---- audit
