@@ -244,10 +244,11 @@ fn judge_words<'a>(found: &ArgMatches<'a>) -> JudgeWords<'a>
     ensures { SaysJudge (rows_of (found_of found.now)) result }
 {
     let (problem, grouping) = grouping_words(found);
+    let file = found.get_str("certificate");
     JudgeWords {
         problem,
         grouping,
-        certificate: found.get_str("certificate"),
+        certificate: file,
         budget: found.get_one::<u64>("budget").unwrap(),
     }
 }

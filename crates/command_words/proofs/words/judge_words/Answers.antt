@@ -35,7 +35,7 @@ returns c =
     record {
       problem = c.grouping_words.ensures.problem;
       grouping = c.grouping_words.ensures.grouping;
-      certificate = text_given f _ refl (certificate m c.requires) c.get_str.result c.get_str.ensures;
+      certificate = text_given f _ refl (certificate m c.requires) c.get_str-file.result c.get_str-file.ensures;
       budget = number_given f _ (budget m c.requires) c.unwrap.result most.2;
       default = λ none. is_ten_million c.unwrap.result (default_spells f _ (budget m c.requires) (codes "10000000") c.unwrap.result none refl most.2);
     }
