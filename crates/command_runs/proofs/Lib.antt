@@ -15,3 +15,4 @@ mod Listings
 mod Lists
 mod Boards
 mod Joined
+mod Judgments

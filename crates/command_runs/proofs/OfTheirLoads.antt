@@ -1,5 +1,5 @@
 -- Runs over files that aren't told are runs over the files that their loads and readers answered by.
-use Rattle.std.proofs.Common.{◌≡◌, ℕ, length, List, [], ◌∷◌, Option, Some, None, inl, inr, sym, ap, ◌∙◌}
+use Rattle.std.proofs.Common.{◌≡◌, ℕ, length, List, [], ◌∷◌, Option, Some, None, inl, inr}
 use Rattle.std.specs.Borrow.{Bor}
 use Rattle.std.specs.Prelude.{Ok, Err, option_map}
 use Rattle.pl94_counties.specs.Counties.{county_list, block_list}
@@ -28,6 +28,7 @@ use Rattle.program_answers.specs.Answer.{Answered, success}
 use Rattle.program_answers.specs.Refusals.{pl94_answer, code_file_answer, problem_answer, assignment_answer, verdict_answer, events_answer, board_answer}
 use Rattle.command_runs.specs.ProblemCourse.{counties_of, pairs_of, links_of, withdrawn_of, adjacency_of, IsBuilt, problem_in, grouping_of}
 use Rattle.command_runs.specs.PlanCourse.{blocks_of, assignments_of}
+use Rattle.command_runs.specs.JudgeWithCertificate.{certificate_of}
 use Rattle.command_runs.specs.JudgeCourse.{size_course, IsJudged, judge_course, IsAudited, audit_course}
 use Rattle.command_runs.specs.SolveCourse.{IsSolved, solve_course, files_to_store}
 use Rattle.command_runs.specs.CheckCourse.{IsChecked, check_course}
@@ -88,8 +89,13 @@ module _ (files : Files) where
   size_lifts : (words : CommonWords) → Lifts files (size_course None words) (size_course (Some files) words)
   size_lifts words = lifts_bind files (counties_lift words) (λ counties. lifts_bind files (lifts_call files problem_answer (IsBuilt counties [] [] words.chamber words.window)) (λ v. lifts_value files (λ a. a ≡ success (size_text v))))
 
+  certificate_lifts : (name : Option (Bor (List ℕ))) → Lifts files (certificate_of None name) (certificate_of (Some files) name)
+  certificate_lifts name = lifts_optional files None name (λ file. lifts_bind files (lifts_load files file) (λ text. lifts_value files (λ held. held ≡ Some text)))
+
   judge_lifts : (words : JudgeWords) → Lifts files (judge_course None words) (judge_course (Some files) words)
-  judge_lifts words = lifts_bind files (problem_lifts words.problem) (λ v. lifts_bind files (grouping_lifts words.grouping.now) (λ g. lifts_call files verdict_answer (IsJudged v g)))
+  judge_lifts words =
+      lifts_bind files (problem_lifts words.problem) (λ v. lifts_bind files (grouping_lifts words.grouping.now) (λ g. lifts_bind files (certificate_lifts words.certificate) (λ text.
+      lifts_call files verdict_answer (IsJudged v g words.budget text))))
 
   audit_lifts : (words : AuditWords) → Lifts files (audit_course None words) (audit_course (Some files) words)
   audit_lifts words =
