@@ -13,7 +13,8 @@ folder. A find is
     report      standard error has a line that doesn't begin with `countygroups: `, as a report of a bad access
     format      the text isn't one that the command writes with this status (TEXTS below), or the status is none that docs/formats.md names
     stored      a file afterwards is neither as it was nor whole in its format, or another file lies there
-    checker     tools/check.py contradicts `check`, `list`, or a certificate that `solve` or `share` stored (if it answers within seconds)
+    checker     tools/check.py contradicts `check`, `list`, `judge` where it says best, or a certificate that `solve` or `share` stored (if it answers
+                within seconds)
     programs    two programs answer otherwise
 
 A program that `rt try` built tells bad accesses, sums that wrap and a false `prove!`. A search gets few steps and a check a small budget, so that a
@@ -41,7 +42,7 @@ import check  # noqa: E402
 import compare_checkers  # noqa: E402
 
 MOST_BYTES, QUICK_SECONDS = 40_000, 3
-LIMITS = {"solve": ("--steps", "300"), "piece": ("--steps", "300"), "check": ("--budget", "3000"), "list": ("--budget", "3000"), "share": ("--budget", "3000")}
+LIMITS = {name: ("--steps", "300") for name in ("solve", "piece")} | {name: ("--budget", "3000") for name in ("check", "judge", "list", "share")}
 NUMBERS = (
     "0 1 2 3 127 128 129 255 256 257 999 1000 1001 65535 65536 65537 1000000 1000001 16777216 256000000 256000001 4294967295 4294967296"
     " 18446744073709551615 18446744073709551616 4294967296000000000000 007 -1 +1 1.0 1e3"
@@ -110,7 +111,7 @@ CERTIFICATE = (
 GROUPING = rf"(?:{NUMBER}\|{CODE}(?:\|{CODE})*\n)*"
 TEXTS = {
     "size": [(0, rf"{FIRST}district (?:none|{NUMBER} to {NUMBER})\n(?:{CODE}\|{NUMBER}\|(?:none|{NUMBER}\|{NUMBER})\n)+")],
-    "judge": [(0, rf"{HEAD}answer lawful\n{GROUPS}"), (1, rf"fault {FAULT}\n")],
+    "judge": [(0, rf"{HEAD}answer (?:lawful|best)\n{GROUPS}"), (1, rf"fault {FAULT}\n")],
     "solve": [
         (0, rf"{HEAD}answer best\n{GROUPS}"),
         (1, rf"{HEAD}answer impossible\n"),
@@ -503,14 +504,14 @@ def second_answer(words, files):
 
 def asked_of_second(run, made):
     """The words and files of a check, and what the second checker is to answer, or None if it isn't asked. A list says what a check says up to its
-    answer; of a certificate that was stored, only the answer is known."""
+    answer, and a grouping that `judge` calls best has the counts of the check; of a certificate that was stored, only the answer is known."""
     command, certificate = run.words[0], cases.named_by(run.words, "--certificate")
     if made.status in (2, 5) or b"Usage:" in made.text or made.text == b"budget\n" or certificate is None:
         return None
     kept = ["check"]
     for option in ("--geo", "--segment", "--chamber", "--state", "--part", "--of", "--adjacency", "--links", "--withdrawn", "--certificate"):
         kept += [option, cases.named_by(run.words, option)] if cases.named_by(run.words, option) is not None else []
-    if command in ("check", "list"):
+    if command in ("check", "list") or command == "judge" and b"answer best\n" in made.text:
         return kept, run.files, made.text
     if command in ("solve", "share") and outputs_of(run.words)[1] != certificate and made.files.get(certificate, run.files.get(certificate)) != run.files.get(certificate):
         return kept, {**run.files, certificate: made.files[certificate]}, made.text
@@ -526,6 +527,8 @@ def agrees(command, text, status, found):
         return found == (text, status) if status in (0, 1) else False
     if command == "share":
         return best
+    if command == "judge":
+        return best and found[0].split(b"group ")[0] == text.split(b"group ")[0]
     if status == 1 or b"refused" in text:
         return found == (text, status)
     return best and (status != 0 or found[0].split(b"answer")[0] == text.split(b"answer")[0])
@@ -579,7 +582,7 @@ def tests():
     yield "a report", is_of_format("check", report, 0), True
     yield "a report with a window", is_of_format("check", report.replace("seats left", "window 1 10\nseats left"), 0), True
     yield "a report with another status", is_of_format("check", report, 1), False
-    yield "a report of another command", is_of_format("judge", report, 0), False
+    yield "a report of another command", is_of_format("list", report, 0), False
     yield "a report that is cut", is_of_format("check", report[:-1], 0), False
     yield "a number with a leading zero", is_of_format("check", report.replace("400", "0400"), 0), False
     yield "no leaf", is_of_format("list", "no NoLeaf line 8\n", 1), True
@@ -615,6 +618,9 @@ def tests():
     yield "both say best", agrees("check", b"answer best\n", 0, (b"answer best\n", 0)), True
     yield "a No that is denied", agrees("check", b"no NoLeaf line 6\n", 1, (b"answer best\n", 0)), False
     yield "a joined board that is denied", agrees("share", b"joined\n", 0, (b"no NotStuck line 6\n", 1)), False
+    best, lesser = b"answer best\ncounts 0 2\ngroup 1 seats 1\n", b"answer best\ncounts 0 1\ngroup 1 seats 2\n"
+    yield "another grouping that is best", agrees("judge", best, 0, (best.replace(b"seats 1", b"seats 3"), 0)), True
+    yield "a lesser grouping called best", agrees("judge", lesser, 0, (best, 0)), False
     yield "a list behind a best one", agrees("list", b"people 1\nanswer all\n", 0, (b"people 1\nanswer best\n", 0)), True
     yield "an open list of no certificate", agrees("list", b"open SeatsOff line 6\n", 3, (b"no NotStuck line 6\n", 1)), False
     yield "words without an option", words_without(run.words, "--geo"), ["solve", "--certificate", "c", "--out", "o"]

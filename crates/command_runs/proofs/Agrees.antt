@@ -15,6 +15,7 @@ use Rattle.shelves.specs.History.{History}
 use Rattle.program_answers.specs.Answer.{Answered, memory_answer}
 use Rattle.command_runs.specs.ProblemCourse.{problem_in}
 use Rattle.command_runs.specs.SolveCourse.{Solved, Says, IsSolved, solve_course, files_to_store}
+use Rattle.command_runs.specs.JudgeWithCertificate.{best_answer}
 use Rattle.command_runs.specs.CheckCourse.{IsChecked}
 use Rattle.command_runs.specs.Storing.{named_file}
 use Rattle.command_runs.specs.Run.{CommandRun}
@@ -22,7 +23,7 @@ use Rattle.command_runs.specs.Headline.{ChecksAs, IsStoredProof, ShowsBest, Show
 use Rattle.command_runs.proofs.Refusing.{Refuses, bind_refuses, problem_refuses, value_refuses}
 use Rattle.command_runs.proofs.Ending.{same_status, not_refused, has_ended}
 use Rattle.command_runs.proofs.SameProblem.{problem_repeats}
-use Rattle.command_runs.proofs.Checking.{IsAgreed, best_answer, impossible_answer, checked_best, checked_impossible, check_agrees}
+use Rattle.command_runs.proofs.Checking.{IsAgreed, impossible_answer, checked_best, checked_impossible, check_agrees}
 
 -- what a run said, after it stored all its files
 pub record HasSaid (files : Files) (words : SolveWords) (before : History) (stored : List File) (a : Answered) : Type 0 where

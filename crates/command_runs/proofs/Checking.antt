@@ -16,6 +16,7 @@ use Rattle.shelves.specs.History.{History}
 use Rattle.program_answers.specs.Answer.{Answered, success}
 use Rattle.command_runs.specs.Course.{EndsIn}
 use Rattle.command_runs.specs.ProblemCourse.{problem_in}
+use Rattle.command_runs.specs.JudgeWithCertificate.{best_answer}
 use Rattle.command_runs.specs.CheckCourse.{IsChecked, check_course, verdict_said}
 use Rattle.command_runs.specs.Headline.{IsCutOff}
 use Rattle.command_runs.proofs.Repeating.{IsSame}
@@ -27,10 +28,7 @@ use Rattle.command_runs.proofs.TextAgain.{given_again, cut_again}
 abbrev pub IsAgreed : Answered → Answered → Type 0
 IsAgreed a b = (b ≡ a) ⊎ IsCutOff b
 
--- what is said where a grouping is best, and where none is lawful
-abbrev pub best_answer : ProblemValue → Grouping → Answered
-best_answer v g = success (report_text v (codes "best") g)
-
+-- what is said where no grouping is lawful
 abbrev pub impossible_answer : ProblemValue → Answered
 impossible_answer v = record { text = outcome_text v outcome.Impossible; status = 1 }
 

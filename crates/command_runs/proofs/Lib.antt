@@ -17,3 +17,4 @@ mod Listings
 mod Lists
 mod Boards
 mod Joined
+mod Judgments

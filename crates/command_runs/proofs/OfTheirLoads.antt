@@ -1,5 +1,5 @@
 -- Runs over files, told or not, are runs over any files by which their loads and readers answered.
-use Rattle.std.proofs.Common.{◌≡◌, ℕ, length, List, [], ◌∷◌, Option, Some, None, inl, inr, sym, ap, ◌∙◌}
+use Rattle.std.proofs.Common.{◌≡◌, ℕ, length, List, [], ◌∷◌, Option, Some, None, inl, inr}
 use Rattle.std.specs.Borrow.{Bor}
 use Rattle.std.specs.Prelude.{Ok, Err, option_map}
 use Rattle.pl94_counties.specs.Counties.{county_list, block_list}
@@ -28,6 +28,7 @@ use Rattle.program_answers.specs.Answer.{Answered, success}
 use Rattle.program_answers.specs.Refusals.{pl94_answer, code_file_answer, problem_answer, assignment_answer, verdict_answer, events_answer, board_answer}
 use Rattle.command_runs.specs.ProblemCourse.{counties_of, pairs_of, links_of, withdrawn_of, adjacency_of, IsBuilt, problem_in, grouping_of}
 use Rattle.command_runs.specs.PlanCourse.{blocks_of, assignments_of}
+use Rattle.command_runs.specs.JudgeWithCertificate.{certificate_of}
 use Rattle.command_runs.specs.JudgeCourse.{size_course, IsJudged, judge_course, IsAudited, audit_course}
 use Rattle.command_runs.specs.SolveCourse.{IsSolved, solve_course, files_to_store}
 use Rattle.command_runs.specs.CheckCourse.{IsChecked, check_course}
@@ -88,8 +89,13 @@ module _ (given : Option Files) (files : Files) where
   size_lifts : (words : CommonWords) → Lifts given files (size_course given words) (size_course (Some files) words)
   size_lifts words = lifts_bind given files (counties_lift words) (λ counties. lifts_bind given files (lifts_call given files problem_answer (IsBuilt counties [] [] words.chamber words.window)) (λ v. lifts_value given files (λ a. a ≡ success (size_text v))))
 
+  certificate_lifts : (name : Option (Bor (List ℕ))) → Lifts given files (certificate_of given name) (certificate_of (Some files) name)
+  certificate_lifts name = lifts_optional given files None name (λ file. lifts_bind given files (lifts_load given files file) (λ text. lifts_value given files (λ held. held ≡ Some text)))
+
   judge_lifts : (words : JudgeWords) → Lifts given files (judge_course given words) (judge_course (Some files) words)
-  judge_lifts words = lifts_bind given files (problem_lifts words.problem) (λ v. lifts_bind given files (grouping_lifts words.grouping.now) (λ g. lifts_call given files verdict_answer (IsJudged v g)))
+  judge_lifts words =
+      lifts_bind given files (problem_lifts words.problem) (λ v. lifts_bind given files (grouping_lifts words.grouping.now) (λ g. lifts_bind given files (certificate_lifts words.certificate) (λ text.
+      lifts_call given files verdict_answer (IsJudged v g words.budget text))))
 
   audit_lifts : (words : AuditWords) → Lifts given files (audit_course given words) (audit_course (Some files) words)
   audit_lifts words =

@@ -1,8 +1,6 @@
 -- What an answer with status 0 or 1 tells of the files.
 use Rattle.std.proofs.Common.{◌≡◌, ◌≢◌, ◌≤◌, ◌⊎◌, ℕ, List, Option, Some, None, inl, inr, refl, sym, ap, subst, ◌∙◌, arith}
 use Rattle.std.specs.Prelude.{Result, Ok, Err, true}
-use Rattle.grouping_judge.specs.declared.grouping_fault.GroupingFault.{GroupingFault}
-use Rattle.grouping_judge.specs.declared.grouping_fault.GroupingFault.TheVariants as judged
 use Rattle.grouping_problem.specs.ProblemValue.{ProblemValue, problem_of}
 use Rattle.certificate_checker.specs.Answered.{IsAnswer, NamesBest, ShowsImpossible}
 use Rattle.certificate_checker.specs.declared.verdict.Verdict.{Verdict}
@@ -20,17 +18,18 @@ use Rattle.command_words.specs.Words.{EndsTaken, takes_words}
 use Rattle.shelves.specs.Files.{File, Files}
 use Rattle.shelves.specs.History.{History}
 use Rattle.program_answers.specs.Answer.{Answered, memory_answer}
-use Rattle.program_answers.specs.Refusals.{verdict_answer}
 use Rattle.command_runs.specs.Course.{Course, ◌>>=◌, value_step}
-use Rattle.command_runs.specs.ProblemCourse.{problem_in, grouping_of}
-use Rattle.command_runs.specs.JudgeCourse.{IsAudited, judge_step, judge_course, audit_course}
+use Rattle.command_runs.specs.ProblemCourse.{problem_in}
+use Rattle.command_runs.specs.JudgeCourse.{IsAudited, audit_course}
 use Rattle.command_runs.specs.CheckCourse.{IsChecked, check_course, verdict_said}
 use Rattle.command_runs.specs.Headline.{ShowsBest, ShowsImpossible as SolvesNone}
 use Rattle.command_runs.specs.ListHeadline.{ShowsAllBest}
+use Rattle.command_runs.specs.JudgeHeadline.{ShowsJudged}
 use Rattle.command_runs.specs.Run.{CommandRun, IsEndAnswer, IsRunAnswer}
 use Rattle.command_runs.specs.Loads.{AnsweredBy}
-use Rattle.command_runs.specs.Told.{TellsBest, TellsImpossible, TellsFault, TellsLawful, TellsAllBest, TellsFindings, Tells, TellsOfFiles, RunTells}
+use Rattle.command_runs.specs.Told.{TellsBest, TellsImpossible, TellsFault, TellsJudged, TellsAllBest, TellsFindings, Tells, TellsOfFiles, RunTells}
 use Rattle.command_runs.proofs.Agrees.{agrees}
+use Rattle.command_runs.proofs.Judgments as judgments
 use Rattle.command_runs.proofs.Lists.{runs}
 use Rattle.command_runs.proofs.Ending.{same_status, not_refused}
 use Rattle.command_runs.proofs.OfTheirLoads.{of_their_loads}
@@ -118,44 +117,15 @@ module _ (files : Files) where
       verdict_told words before p.between t.between p.value t.value a p.given (text_told files words.certificate.now p.between t.between t.value t.given) c.verdict c.is c.best c.impossible c.said
 
   -- ---- judge
-  fault_status : (fault : GroupingFault) → (verdict_answer fault).status ≢ 0
-  fault_status (judged.EmptyGroup group) = λ e. omega arith
-  fault_status (judged.UnknownCounty group code) = λ e. omega arith
-  fault_status (judged.Twice code) = λ e. omega arith
-  fault_status (judged.Missing code) = λ e. omega arith
-  fault_status (judged.NotConnected group) = λ e. omega arith
-  fault_status (judged.OutOfWindow group) = λ e. omega arith
-  fault_status (judged.SeatsTotal seats left) = λ e. omega arith
-  fault_status judged.Memory = λ e. omega arith
-
-  judge_told : (words : JudgeWords) (before after : History) (a : Answered) → judge_course (Some files) words before after (Ok a) → TellsLawful files words a.text
-  judge_told words before after a h =
-      let p = went _ _ before after a h in
-      let g = went _ _ p.between after a p.goes_on in
-      record {
-        v = p.value;
-        problem = problem_told files words.problem before p.between p.value p.given;
-        grouping = g.value;
-        grouping_is = grouping_told files words.grouping.now p.between g.between g.value g.given;
-        lawful = g.goes_on.1.0;
-        report = text_is a _ g.goes_on.1.1;
-      }
-
-  -- the steps end in no answer with status 0
-  abbrev IsNoAnswer : {X : Type 0} → Course X → Type 0
-  IsNoAnswer steps = (before after : History) (a : Answered) → steps before after (Err a) → a.status ≢ 0
-
-  refused_none : {X : Type 0} (steps : Course X) → Refuses steps → IsNoAnswer steps
-  refused_none steps refuses before after a h zero = no_refusal a (omega (arith, zero)) (refuses before after a h)
-
-  bind_none : {X Y : Type 0} (first : Course X) (next : X → Course Y) → IsNoAnswer first → ((x : X) → IsNoAnswer (next x)) → IsNoAnswer (first >>= next)
-  bind_none first next f n before after a (inl stop) = f before after a stop
-  bind_none first next f n before after a (inr on) = n on.value on.between after a on.goes_on
-
-  judge_none : (words : JudgeWords) → IsNoAnswer (judge_course (Some files) words)
-  judge_none words = bind_none (problem_in (Some files) words.problem) _ (refused_none (problem_in (Some files) words.problem) (problem_refuses (Some files) words.problem)) (λ v.
-      bind_none (grouping_of (Some files) words.grouping.now) _ (refused_none (grouping_of (Some files) words.grouping.now) (grouping_refuses (Some files) words.grouping.now)) (λ g before after a h zero.
-      fault_status h.1.0 (sym (same_status a _ h.1.2) ∙ zero)))
+  judge_told : (words : JudgeWords) (before : History) (a : Answered) → ShowsJudged files words before a → TellsJudged files words a
+  judge_told words before a s = record {
+    v = s.v;
+    problem = problem_told files words.problem before s.between s.v s.problem;
+    grouping = s.grouping;
+    grouping_is = (s.text, s.held, s.read);
+    lawful = s.lawful;
+    report = s.said;
+  }
 
   -- ---- audit
   audit_refuses : (words : AuditWords) → Refuses (audit_course (Some files) words)
@@ -193,9 +163,7 @@ module _ (files : Files) where
   command_tells (Check words) before after stored a (inl none) low = absurd (no_refusal a low (inr (inl (same_status a memory_answer none.0))))
   command_tells (Check words) before after stored a (inr (inl given, kept)) low = check_told words before after a low given
   command_tells (Check words) before after stored a (inr (inr stop, kept)) low = absurd (no_refusal a low (check_refuses words before after a stop))
-  command_tells (Judge words) before after stored a (inl none) low = λ zero. absurd (no_refusal a low (inr (inl (same_status a memory_answer none.0))))
-  command_tells (Judge words) before after stored a (inr (inl given, kept)) low = λ zero. judge_told words before after a given
-  command_tells (Judge words) before after stored a (inr (inr stop, kept)) low = λ zero. absurd (judge_none words before after a stop zero)
+  command_tells (Judge words) before after stored a run low = λ zero. judge_told words before a (judgments.runs files words before after stored a run zero)
   command_tells (Audit words) before after stored a (inl none) low = λ also. absurd (no_refusal a low (inr (inl (same_status a memory_answer none.0))))
   command_tells (Audit words) before after stored a (inr (inl given, kept)) low = λ also. audit_told words before after a given
   command_tells (Audit words) before after stored a (inr (inr stop, kept)) low = λ also. absurd (no_refusal a low (audit_refuses words before after a stop))

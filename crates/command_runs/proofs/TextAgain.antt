@@ -1,5 +1,5 @@
 -- Steps that build a problem and have a text, where the problem and the text are had again.
-use Rattle.std.proofs.Common.{◌≡◌, ℕ, List, Some, inl, inr, ap, subst₂, ◌∙◌}
+use Rattle.std.proofs.Common.{◌≡◌, ℕ, List, Some, inl, inr, subst₂}
 use Rattle.std.specs.Prelude.{Result, Ok, Err}
 use Rattle.grouping_problem.specs.ProblemValue.{ProblemValue}
 use Rattle.command_words.specs.declared.words.ProblemWords.{ProblemWords}

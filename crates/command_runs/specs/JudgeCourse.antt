@@ -1,11 +1,10 @@
 -- The steps of the commands that store no file: the size table, the judge of a grouping and the audit of a plan.
-use Rattle.std.specs.Prelude.{◌≡◌, ℕ, List, [], ◌∷◌, Option, Result, Ok, Err, codes}
+use Rattle.std.specs.Prelude.{◌≡◌, ℕ, List, [], ◌∷◌, Option, Result, Ok, Err}
 use Rattle.grouping_judge.specs.declared.grouping_fault.GroupingFault.{GroupingFault}
 use Rattle.grouping_problem.specs.ProblemValue.{ProblemValue, problem_of}
 use Rattle.grouping_laws.specs.Grouping.{Grouping, Lawful}
 use Rattle.grouping_judge.specs.Judging.{IsFault}
 use Rattle.grouping_report.specs.SizeTable.{size_text}
-use Rattle.grouping_report.specs.Report.{report_text}
 use Rattle.grouping_report.specs.FindingsText.{findings_text}
 use Rattle.pl94_counties.specs.declared.blocks.Block.{Block}
 use Rattle.assignment_file.specs.declared.assignments.Assignment.{Assignment}
@@ -19,24 +18,26 @@ use Rattle.program_answers.specs.Answer.{Answered, success}
 use Rattle.program_answers.specs.Refusals.{verdict_answer}
 use Rattle.command_runs.specs.Course.{Course, ◌>>=◌, call_step, value_step}
 use Rattle.command_runs.specs.ProblemCourse.{counties_of, build_step, problem_in, grouping_of}
+use Rattle.command_runs.specs.JudgeWithCertificate.{IsSaidOf, certificate_of}
 use Rattle.command_runs.specs.PlanCourse.{blocks_of, assignments_of}
 
 -- `size`: the size table of the counties, without pairs and withdrawn sets
 abbrev pub size_course : Option Files → CommonWords → Course Answered
 size_course files words = counties_of files words >>= λ counties. build_step words.chamber words.window counties [] [] >>= λ v. value_step (λ a. a ≡ success (size_text v))
 
--- the report of a lawful grouping, or the fault of one that isn't
-abbrev pub IsJudged : ProblemValue → Grouping → Result Answered GroupingFault → Type 0
-IsJudged v g (Ok a) = Lawful (problem_of v) g × (a ≡ success (report_text v (codes "lawful") g))
-IsJudged v g (Err fault) = IsFault (problem_of v) g fault
+-- what is said of a lawful grouping, with the text of a certificate or without one, or the fault of a grouping that isn't lawful
+abbrev pub IsJudged : ProblemValue → Grouping → ℕ → Option (List ℕ) → Result Answered GroupingFault → Type 0
+IsJudged v g budget text (Ok a) = Lawful (problem_of v) g × IsSaidOf v g budget text a
+IsJudged v g budget text (Err fault) = IsFault (problem_of v) g fault
 
 -- the step that judges a grouping
-abbrev pub judge_step : ProblemValue → Grouping → Course Answered
-judge_step v g = call_step verdict_answer (IsJudged v g)
+abbrev pub judge_step : ProblemValue → Grouping → ℕ → Option (List ℕ) → Course Answered
+judge_step v g budget text = call_step verdict_answer (IsJudged v g budget text)
 
--- `judge`: the problem is built before the grouping is loaded and read
+-- `judge`: the problem is built before the grouping is loaded and read, and then the certificate is loaded, where one is named
 abbrev pub judge_course : Option Files → JudgeWords → Course Answered
-judge_course files words = problem_in files words.problem >>= λ v. grouping_of files words.grouping.now >>= judge_step v
+judge_course files words =
+    problem_in files words.problem >>= λ v. grouping_of files words.grouping.now >>= λ g. certificate_of files words.certificate >>= judge_step v g words.budget
 
 -- the exit status of an audit: 0 where nothing is found, else 1
 abbrev pub findings_status : List Finding → ℕ

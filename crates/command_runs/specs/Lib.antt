@@ -2,6 +2,7 @@ pub mod Course
 pub mod Reading
 pub mod ProblemCourse
 pub mod PlanCourse
+pub mod JudgeWithCertificate
 pub mod JudgeCourse
 pub mod SolveCourse
 pub mod CheckCourse
@@ -17,4 +18,5 @@ pub mod Told
 pub mod Headline
 pub mod ListHeadline
 pub mod ShareHeadline
+pub mod JudgeHeadline
 pub mod Texts

@@ -1,12 +1,11 @@
 -- Steps that read files: a file is opened, and the history has what its reader gave once it is given back.
 use Rattle.std.specs.Prelude.{◌≡◌, ◌⊎◌, ℕ, List, Option, Result, Ok, Err}
 use Rattle.shelves.specs.declared.shelf.ReadEnd.{ReadEnd}
-use Rattle.shelves.specs.declared.shelf.ReadEnd.TheVariants.{Whole, Part}
+use Rattle.shelves.specs.declared.shelf.ReadEnd.TheVariants.{Whole}
 use Rattle.shelves.specs.declared.shelf.ShelfFault.{ShelfFault}
 use Rattle.shelves.specs.Files.{Files}
 use Rattle.shelves.specs.Shelf.{IsRead}
 use Rattle.shelves.specs.History.{HasRead}
-use Rattle.program_answers.specs.Answer.{Answered}
 use Rattle.program_answers.specs.Refusals.{shelf_answer}
 use Rattle.command_runs.specs.Course.{Course, ◌>>=◌, load_step, value_step}
 

@@ -1,10 +1,9 @@
 -- What a run tells of the files by which its loads and readers answered, whatever files these are.
-use Rattle.std.specs.Prelude.{◌≡◌, ◌≤◌, ◌⊎◌, ℕ, true, List, Some, codes}
+use Rattle.std.specs.Prelude.{◌≡◌, ◌≤◌, ◌⊎◌, ℕ, true, List, Some}
 use Rattle.grouping_problem.specs.ProblemValue.{ProblemValue, problem_of}
 use Rattle.grouping_laws.specs.Grouping as groups
 use Rattle.grouping_laws.specs.Grouping.{IsBest, IsImpossible, Lawful}
 use Rattle.grouping_report.specs.Outcomes.{outcome_text}
-use Rattle.grouping_report.specs.Report.{report_text}
 use Rattle.grouping_report.specs.FindingsText.{findings_text}
 use Rattle.grouping_report.specs.declared.outcome.Outcome.TheVariants as outcome
 use Rattle.county_codes.specs.declared.group.Grouping.{Grouping}
@@ -31,6 +30,7 @@ use Rattle.shelves.specs.History.{History}
 use Rattle.program_answers.specs.Answer.{Answered}
 use Rattle.program_answers.specs.CheckLines.{no_answer}
 use Rattle.command_runs.specs.FilesProblem.{IsProblemOfFiles, AreBlocksOfFiles, IsGroupingOfFile, AreAssignmentsOfFile}
+use Rattle.command_runs.specs.JudgeWithCertificate.{lawful_answer, best_answer}
 use Rattle.command_runs.specs.JudgeCourse.{findings_status}
 use Rattle.command_runs.specs.Loads.{AnsweredBy}
 
@@ -60,14 +60,15 @@ pub record TellsFault (files : Files) (words : CheckWords) (text : List ℕ) : T
   pub verdict : IsAnswer (problem_of v) certificate words.budget (No fault line)
   pub report : text ≡ (no_answer fault line).text
 
--- the text is the report of the grouping of a file, which is lawful for the problem of the files
-pub record TellsLawful (files : Files) (words : JudgeWords) (text : List ℕ) : Type 0 where
+-- The answer is the report of the grouping of a file, which is lawful for the problem of the files. If the report calls the grouping best, no
+-- lawful grouping is better.
+pub record TellsJudged (files : Files) (words : JudgeWords) (a : Answered) : Type 0 where
   pub v : ProblemValue
   pub problem : IsProblemOfFiles files words.problem v
   pub grouping : groups.Grouping
   pub grouping_is : IsGroupingOfFile files words.grouping.now grouping
   pub lawful : Lawful (problem_of v) grouping
-  pub report : text ≡ report_text v (codes "lawful") grouping
+  pub report : (a ≡ lawful_answer v grouping) ⊎ ((a ≡ best_answer v grouping) × IsBest (problem_of v) grouping)
 
 -- the text is the listing of all groupings that are best for the problem of the files, in order
 pub record TellsAllBest (files : Files) (words : ListWords) (text : List ℕ) : Type 0 where
@@ -93,13 +94,13 @@ pub record TellsFindings (files : Files) (words : AuditWords) (a : Answered) : T
   pub report : a ≡ record { text = findings_text findings; status = findings_status findings }
 
 -- What an answer with status 0 or 1 tells of the files. `solve` and `check` tell that a grouping is best or that none is lawful, and `check`
--- tells besides that a certificate is at fault. `judge` tells that a grouping is lawful, `list` which groupings are best, `audit` the findings.
+-- tells besides that a certificate is at fault. `judge` tells that a grouping is lawful, or best, `list` which groupings are best, `audit` the findings.
 abbrev pub Tells : Files → CommandWords → Answered → Type 0
 Tells files (Solve words) a = ((a.status ≡ 0) → TellsBest files words.problem a.text) × ((a.status ≡ 1) → TellsImpossible files words.problem a.text)
 Tells files (Check words) a =
     ((a.status ≡ 0) → TellsBest files words.problem a.text)
     × ((a.status ≡ 1) → TellsImpossible files words.problem a.text ⊎ TellsFault files words a.text)
-Tells files (Judge words) a = (a.status ≡ 0) → TellsLawful files words a.text
+Tells files (Judge words) a = (a.status ≡ 0) → TellsJudged files words a
 Tells files (ListAll words) a = (a.status ≡ 0) → TellsAllBest files words a.text
 Tells files (Audit words) a = (a.status ≤ 1) → TellsFindings files words a
 Tells files command a = Unit {0}

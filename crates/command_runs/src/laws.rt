@@ -1,6 +1,7 @@
 //! Laws of runs: each function does nothing, and its contract is the law.
 
 ghost use Rattle.command_runs.specs.Headline.{RunsAgree};
+ghost use Rattle.command_runs.specs.JudgeHeadline.{RunsJudge};
 ghost use Rattle.command_runs.specs.ListHeadline.{RunsList};
 ghost use Rattle.command_runs.specs.Loads.{RunsAreOfTheirLoads};
 ghost use Rattle.command_runs.specs.ShareHeadline.{RunsShare};
@@ -11,6 +12,12 @@ ghost use Rattle.command_runs.specs.ShareHeadline.{RunsShare};
 /// refused.
 pub fn runs_agree()
     ensures { RunsAgree }
+{}
+
+/// Where `judge` ends with status 0 over files that are told, the grouping of its file is lawful for the problem of those files. Where its
+/// report says `best`, no lawful grouping of that problem is better.
+pub fn runs_judge()
+    ensures { RunsJudge }
 {}
 
 /// What is promised of runs over files that are told holds of runs over the machine's files too, wherever its loads answered as some

@@ -42,9 +42,14 @@ abbrev pub problem_options : List Rule
 problem_options = common_options ++ required (text_option (codes "adjacency")) ∷ text_option (codes "links")
     ∷ text_option (codes "withdrawn") ∷ []
 
--- the options of `judge`: those that give a problem, and the file of the grouping
+-- the options that give a problem and the file of a grouping
+abbrev pub grouping_options : List Rule
+grouping_options = problem_options ++ required (text_option (codes "grouping")) ∷ []
+
+-- the options of `judge`: those that give a problem and a grouping, the file of a certificate, which need not be given, and the most
+-- steps of its checker
 abbrev pub judge_options : List Rule
-judge_options = problem_options ++ required (text_option (codes "grouping")) ∷ []
+judge_options = grouping_options ++ text_option (codes "certificate") ∷ of_steps (text_option (codes "budget")) ∷ []
 
 -- the options of `solve`: those that give a problem, the most steps of the search, and the files of the
 -- certificate and of the grouping, which need not be given
@@ -55,18 +60,18 @@ solve_options = problem_options ++ of_steps (text_option (codes "steps")) ∷ te
 abbrev pub check_options : List Rule
 check_options = problem_options ++ required (text_option (codes "certificate")) ∷ of_steps (text_option (codes "budget")) ∷ []
 
--- the options of `audit`: those of `judge`, and the file of the assignments
+-- the options of `audit`: those that give a problem and a grouping, and the file of the assignments
 abbrev pub audit_options : List Rule
-audit_options = judge_options ++ required (text_option (codes "assignments")) ∷ []
+audit_options = grouping_options ++ required (text_option (codes "assignments")) ∷ []
 
 -- the options of `list`: those of `check`, the number of a listed grouping, and the file that it is written to; these two need not be given
 abbrev pub list_options : List Rule
 list_options = check_options ++ of_number 0 4294967295 (text_option (codes "number")) ∷ text_option (codes "out") ∷ []
 
--- the options that give a board: those of `judge`, the limit of its first round in counties, and how many branchings stand above
--- its pieces at most; these two need not be given
+-- the options that give a board: those that give a problem and a grouping, the limit of its first round in counties, and how many
+-- branchings stand above its pieces at most; these two need not be given
 abbrev pub board_options : List Rule
-board_options = judge_options ++ of_number 0 65535 (text_option (codes "limit")) ∷ of_number 0 255 (text_option (codes "depth")) ∷ []
+board_options = grouping_options ++ of_number 0 65535 (text_option (codes "limit")) ∷ of_number 0 255 (text_option (codes "depth")) ∷ []
 
 -- the options of `share`: those that give a board, the file of the events, the most steps of a test, and the file of the
 -- certificate, which need not be given

@@ -79,10 +79,14 @@ pub record SaysProblem (rows : List Row) (words : ProblemWords) : Type 0 where
   pub links : GivesText (codes "links") rows words.links
   pub withdrawn : GivesText (codes "withdrawn") rows words.withdrawn
 
--- the values of the options of `judge` say which problem and which grouping are meant
+-- the values of the options of `judge` say which problem and which grouping are meant, which certificate if one is given, and how many
+-- steps its checker may take
 pub record SaysJudge (rows : List Row) (words : JudgeWords) : Type 0 where
   pub problem : SaysProblem rows words.problem
   pub grouping : first_of (codes "grouping") rows ≡ Some words.grouping.now
+  pub certificate : GivesText (codes "certificate") rows words.certificate
+  pub budget : GivesNumber (codes "budget") rows words.budget
+  pub default : is_given (codes "budget") rows ≡ false → words.budget ≡ 10000000
 
 -- the values of the options of `solve` say which problem is meant, how many steps the search may take, and
 -- the files that its certificate and its grouping are written to

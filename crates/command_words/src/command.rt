@@ -44,6 +44,10 @@ Exit status:
 
 /// What `judge --help` ends with.
 const AFTER_JUDGE: &str = "\
+With --certificate it asks whether the grouping is best, too. If the certificate proves that a
+grouping with the same counts is best, the report says `answer best` in place of `answer lawful`.
+Else standard error says why not.
+
 Example:
   countygroups judge --geo nc2020geo.pl --segment nc000012020.pl --chamber 50 \\
       --adjacency county_adjacency2023.txt --grouping senate2023.grouping
@@ -285,11 +289,24 @@ fn judge_command<'a>(alloc: Global) -> Result<Command<'a>, AllocError>
     ensures { IfOk result (λ c. HasShape c (subcommand (codes "judge") judge_options)) }
 {
     let judge = Command::new(alloc, "judge")
-        .about("Judges whether a grouping is lawful")
+        .about("Judges whether a grouping is lawful, and by a certificate whether it is best")
         .after_help(AFTER_JUDGE);
     let made = with_problem_options(alloc, judge);
     let grouping = file_option(alloc, "grouping", "The groups, each with its seats");
-    with_option(made, grouping)
+    let made = with_option(made, grouping);
+    let certificate = text_option(
+        alloc,
+        "certificate",
+        "FILE",
+        "A certificate that may show that the grouping is best",
+    );
+    let made = with_option(made, certificate);
+    let budget = steps_option(
+        alloc,
+        "budget",
+        "The most steps of the certificate's checker",
+    );
+    with_option(made, budget)
 }
 
 /// The subcommand `solve`.

@@ -1,10 +1,10 @@
 //! The command that the words name.
-ghost use Rattle.std.specs.Prelude.{◌≡◌, ◌≢◌, [], IfErr, IfOk, MatchResult, true, codes};
+ghost use Rattle.std.specs.Prelude.{◌≡◌, ◌≢◌, [], IfErr, IfOk, MatchResult, Some, true, codes};
 ghost use Rattle.std.specs.Option.{IsSomeAnd};
 ghost use Rattle.clap.specs.Takes.{is_given};
 ghost use Rattle.clap.specs.Walk.{texts};
-ghost use Rattle.clap.specs.Words.{FailsBy, found_of, kind_of, rows_of, subcommand_rows_of};
-ghost use Rattle.command_words.specs.Command.{audit_options, board_options, check_options, common_options, judge_options, list_options, piece_options, problem_options, share_options, solve_options};
+ghost use Rattle.clap.specs.Words.{FailsBy, first_of, found_of, kind_of, rows_of, subcommand_rows_of};
+ghost use Rattle.command_words.specs.Command.{audit_options, board_options, check_options, common_options, grouping_options, judge_options, list_options, piece_options, problem_options, share_options, solve_options};
 ghost use Rattle.command_words.specs.Options.{HasCommand, HasValues};
 ghost use Rattle.command_words.specs.Words.{AreUnpaired, EndsFor, EndsTaken, GivesRound, GivesStored, IsLone, LacksLimit, Means, SaysAudit, SaysBoard, SaysCheck, SaysCommand, SaysCommon, SaysJudge, SaysList, SaysPiece, SaysProblem, SaysShare, SaysSolve, SaysWindow, faults_of, subcommand_in, takes_words};
 ghost use Rattle.command_words.specs.declared.end.LoneOption.TheVariants.{Depth, NumberOrOut};
@@ -75,6 +75,10 @@ pub struct JudgeWords<'a> {
     pub problem: ProblemWords<'a>,
     /// The name of the file of the grouping.
     pub grouping: &'a str,
+    /// The name of the file of a certificate, where the words give one.
+    pub certificate: Option<&'a str>,
+    /// The most steps of its checker; 10,000,000 where the words give none.
+    pub budget: u64,
 }
 
 /// The options of `solve`.
@@ -224,14 +228,28 @@ fn problem_words<'a>(found: &ArgMatches<'a>) -> ProblemWords<'a>
     }
 }
 
+/// The problem that the values of the options say, and the name of the file of the grouping.
+fn grouping_words<'a>(found: &ArgMatches<'a>) -> (ProblemWords<'a>, &'a str)
+    requires { HasValues grouping_options (rows_of (found_of found.now)) }
+    ensures problem { SaysProblem (rows_of (found_of found.now)) result.0 }
+    ensures grouping { first_of (codes "grouping") (rows_of (found_of found.now)) ≡ Some result.1.now }
+{
+    let problem = problem_words(found);
+    (problem, found.get_str("grouping").unwrap())
+}
+
 /// What the values of the options of `judge` say.
 fn judge_words<'a>(found: &ArgMatches<'a>) -> JudgeWords<'a>
     requires { HasValues judge_options (rows_of (found_of found.now)) }
     ensures { SaysJudge (rows_of (found_of found.now)) result }
 {
+    let (problem, grouping) = grouping_words(found);
+    let file = found.get_str("certificate");
     JudgeWords {
-        problem: problem_words(found),
-        grouping: found.get_str("grouping").unwrap(),
+        problem,
+        grouping,
+        certificate: file,
+        budget: found.get_one::<u64>("budget").unwrap(),
     }
 }
 
@@ -337,7 +355,7 @@ fn board_words<'a>(found: &ArgMatches<'a>) -> Result<BoardWords<'a>, LoneOption>
         (λ lone. (lone ≡ Depth) × LacksLimit (rows_of (found_of found.now))) }
 {
     let round = round_words(found)?;
-    let JudgeWords { problem, grouping } = judge_words(found);
+    let (problem, grouping) = grouping_words(found);
     Ok(BoardWords {
         problem,
         grouping,

@@ -1,4 +1,4 @@
-use Rattle.std.proofs.Common.{◌≡◌, ℕ, List, [], ◌++◌, refl, subst}
+use Rattle.std.proofs.Common.{ℕ, List, [], refl, subst}
 use Rattle.std.proofs.lemmas.List.{append-nil}
 use Rattle.grouping_problem.specs.ProblemValue.{problem_of}
 use Rattle.certificate_checker.specs.Answered.{IsAnswer}

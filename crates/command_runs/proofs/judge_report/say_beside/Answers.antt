@@ -1,0 +1,10 @@
+use Rattle.std.proofs.Common.{IfOk, subst, sym}
+use Rattle.certificate_checker.specs.declared.verdict.Verdict.{Verdict}
+use Rattle.program_answers.specs.Answers.{answer_of}
+use Rattle.command_runs.specs.JudgeWithCertificate.{SaysBeside}
+use Rattle.command_runs.proofs.judge_report.say_beside.Goals as goal
+
+pub returns-in-Best : goal.returns-in-Best
+returns-in-Best c =
+    subst (λ (verdict : Verdict). IfOk c.say_beside_best.result (λ j. SaysBeside c.args.problem.now c.args.grouping.groups.items verdict (answer_of j.answer)))
+    (sym c.in-Best.is) c.say_beside_best.ensures

@@ -1,0 +1,164 @@
+//! What `judge` says of a lawful grouping.
+
+ghost use Rattle.std.specs.Prelude.{◌≡◌, ℕ, IfOk, option_map};
+ghost use Rattle.grouping_problem.specs.ProblemValue.{problem_of};
+ghost use Rattle.grouping_laws.specs.Grouping.{Lawful, counts, sets_of};
+ghost use Rattle.grouping_judge.specs.CountList.{count_at};
+ghost use Rattle.grouping_report.specs.Outcomes.{NamesLawful, outcome_text};
+ghost use Rattle.certificate_checker.specs.Answered.{NamesBest};
+ghost use Rattle.program_answers.specs.Answer.{success};
+ghost use Rattle.program_answers.specs.Answers.{answer_of};
+ghost use Rattle.command_runs.specs.JudgeWithCertificate.{IsSaidBy, IsSaidOf, NamesSameCounts, SaysBeside, lawful_answer};
+
+use certificate_checker::{CheckFault, Verdict, check};
+use county_codes::Grouping;
+use grouping_judge::{Counts, compare, judge};
+use grouping_problem::Problem;
+use grouping_report::{Outcome, report};
+use program_answers::Answer;
+use std::alloc::{AllocError, Global};
+use std::cmp::Ordering;
+
+/// Why a certificate doesn't show that a lawful grouping is best, for whoever explains it to a person; no clause speaks of it.
+#[derive(Drop)]
+pub enum Unshown {
+    /// The text is no certificate: its first fault, and the line, which counts from 1.
+    NoCertificate(CheckFault, u64),
+    /// The text shows that no grouping is lawful. A lawful one then can't be.
+    Impossible,
+    /// The budget was too small.
+    Budget,
+    /// The certificate's grouping is best, and has greater counts: those of the grouping that is judged, and then those.
+    Lesser(Counts, Counts),
+}
+
+/// What `judge` says of a lawful grouping, and why a certificate doesn't show that it is best.
+#[derive(Drop)]
+pub struct Judged {
+    /// The report, with status 0.
+    pub answer: Answer,
+    /// Why it doesn't say `best`; none where it does, and where no certificate was given.
+    pub unshown: Option<Unshown>,
+}
+
+/// The report of an outcome, with status 0.
+fn reported(alloc: Global, problem: &Problem, outcome: &Outcome) -> Result<Answer, AllocError>
+    requires { NamesLawful problem.now outcome.now }
+    ensures { IfOk result (λ a. answer_of a ≡ success (outcome_text problem.now outcome.now)) }
+{
+    let text = report(alloc, problem, outcome)?;
+    Ok(Answer { text, status: 0 })
+}
+
+/// What is said of a lawful grouping that isn't shown to be best.
+fn left_lawful(
+    alloc: Global,
+    problem: &Problem,
+    grouping: Grouping,
+    unshown: Option<Unshown>,
+) -> Result<Judged, AllocError>
+    requires { Lawful (problem_of problem.now) grouping.groups.items }
+    ensures { IfOk result (λ j. answer_of j.answer ≡ lawful_answer problem.now grouping.groups.items) }
+{
+    let answer = reported(alloc, problem, &Outcome::Lawful(grouping))?;
+    Ok(Judged { answer, unshown })
+}
+
+/// The counts of a lawful grouping: its judge can meet nothing but want of memory.
+fn counts_of(alloc: Global, problem: &Problem, grouping: &Grouping) -> Result<Counts, AllocError>
+    requires { Lawful (problem_of problem.now) grouping.now.groups.items }
+    ensures { IfOk result (λ list. (size : ℕ) → count_at list size ≡ counts (sets_of grouping.now.groups.items) size) }
+{
+    match judge(alloc, problem, grouping) {
+        Ok(counts) => Ok(counts),
+        Err(_) => Err(AllocError),
+    }
+}
+
+/// What is said of a lawful grouping, where the target of a certificate is best: if both have the same counts, that it is best.
+fn say_beside_best(
+    alloc: Global,
+    problem: &Problem,
+    grouping: Grouping,
+    own: Counts,
+    target: Grouping,
+) -> Result<Judged, AllocError>
+    requires lawful { Lawful (problem_of problem.now) grouping.groups.items }
+    requires own { (size : ℕ) → count_at own size ≡ counts (sets_of grouping.groups.items) size }
+    requires best { NamesBest (problem_of problem.now) (Verdict.Best target) }
+    ensures { IfOk result (λ j. SaysBeside problem.now grouping.groups.items (Verdict.Best target) (answer_of j.answer)) }
+{
+    let best = counts_of(alloc, problem, &target)?;
+    match compare(&own, &best) {
+        Ordering::Equal => Ok(Judged {
+            answer: reported(alloc, problem, &Outcome::Best(grouping))?,
+            unshown: None,
+        }),
+        _ => left_lawful(alloc, problem, grouping, Some(Unshown::Lesser(own, best))),
+    }
+}
+
+/// What is said of a lawful grouping beside a verdict.
+fn say_beside(
+    alloc: Global,
+    problem: &Problem,
+    grouping: Grouping,
+    own: Counts,
+    verdict: Verdict,
+) -> Result<Judged, AllocError>
+    requires lawful { Lawful (problem_of problem.now) grouping.groups.items }
+    requires own { (size : ℕ) → count_at own size ≡ counts (sets_of grouping.groups.items) size }
+    requires best { NamesBest (problem_of problem.now) verdict }
+    ensures { IfOk result (λ j. SaysBeside problem.now grouping.groups.items verdict (answer_of j.answer)) }
+{
+    match verdict {
+        Verdict::Best(target) => say_beside_best(alloc, problem, grouping, own, target),
+        Verdict::Impossible => left_lawful(alloc, problem, grouping, Some(Unshown::Impossible)),
+        Verdict::No(fault, line) => {
+            let unshown = Unshown::NoCertificate(fault, line);
+            left_lawful(alloc, problem, grouping, Some(unshown))
+        }
+        Verdict::Budget => left_lawful(alloc, problem, grouping, Some(Unshown::Budget)),
+    }
+}
+
+/// What is said of a lawful grouping by the text of a certificate.
+fn say_by(
+    alloc: Global,
+    problem: &Problem,
+    grouping: Grouping,
+    own: Counts,
+    text: &[u8],
+    budget: u64,
+) -> Result<Judged, AllocError>
+    requires lawful { Lawful (problem_of problem.now) grouping.groups.items }
+    requires own { (size : ℕ) → count_at own size ≡ counts (sets_of grouping.groups.items) size }
+    ensures { IfOk result (λ j. IsSaidBy problem.now grouping.groups.items budget text.now (answer_of j.answer)) }
+{
+    let verdict = check(alloc, problem, text, budget)?;
+    say_beside(alloc, problem, grouping, own, verdict)
+}
+
+/// What `judge` says of a lawful grouping with these counts: that it is lawful; or that it is best, where a certificate shows it. The
+/// certificate's checker has a budget.
+///
+/// # Errors
+///
+/// `AllocError` where memory was refused.
+pub fn judge_and_say(
+    alloc: Global,
+    problem: &Problem,
+    grouping: Grouping,
+    own: Counts,
+    certificate: Option<&Vec<u8>>,
+    budget: u64,
+) -> Result<Judged, AllocError>
+    requires lawful { Lawful (problem_of problem.now) grouping.groups.items }
+    requires own { (size : ℕ) → count_at own size ≡ counts (sets_of grouping.groups.items) size }
+    ensures { IfOk result (λ j. IsSaidOf problem.now grouping.groups.items budget (option_map (λ t. t.now.items) certificate.entry) (answer_of j.answer)) }
+{
+    match certificate {
+        Some(text) => say_by(alloc, problem, grouping, own, text, budget),
+        None => left_lawful(alloc, problem, grouping, None),
+    }
+}
