@@ -129,10 +129,10 @@ fn is_stranded<C: CountySet>(
         result
         (λ found. IsTrue found → IsStranded (problem_at ordered.now) (state_of C.test state.now) (C.test free.now) (places_of (length ordered.now.order) (C.test part.now))) }
 {
-    if part.meets(free) {
-        return is_too_small(alloc, ordered, state, part, free);
+    if !part.meets(free) {
+        return Ok(is_stuck(ordered, state, part));
     }
-    Ok(is_stuck(ordered, state, part))
+    is_too_small(alloc, ordered, state, part, free)
 }
 
 /// Whether some connected part of the region is stranded.
