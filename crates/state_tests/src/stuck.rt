@@ -9,7 +9,7 @@ ghost use Rattle.proof_trees.specs.Stuck.{CannotFill};
 ghost use Rattle.proof_trees.specs.Fitting.{IsLive};
 ghost use Rattle.proof_trees.specs.Leaves.{IsStuck};
 ghost use Rattle.state_tests.specs.Cut.{CutOff};
-ghost use Rattle.state_tests.specs.Stranding.{NoneFits};
+ghost use Rattle.state_tests.specs.Stranding.{NoneFits, IsTooSmall, IsStranded, StrandedPart};
 
 use crate::sums::people_in;
 use county_regions::part_around;
@@ -88,8 +88,83 @@ pub fn has_stuck_part<C: CountySet>(
     Ok(false)
 }
 
+/// Whether the set has a place that is not free, and nothing of the set around such a place can be filled: the set has
+/// fewer people than one seat asks for, or fewer places than the place asks for.
+fn is_too_small<C: CountySet>(
+    alloc: Global,
+    ordered: &Ordered,
+    state: &State<C>,
+    part: &C,
+    free: &C,
+) -> Result<bool, AllocError>
+    requires places { length state.now.least.items ≡ length ordered.now.order }
+    requires below { (x : ℕ) → C.test part.now x ≡ true → x < length ordered.now.order }
+    ensures { IfOk
+        result
+        (λ small. IsTrue small → IsTooSmall (problem_at ordered.now) (state_of C.test state.now) (C.test free.now) (places_of (length ordered.now.order) (C.test part.now))) }
+{
+    let _places = ordered.places();
+    let kept = part.copy(alloc)?.minus(free);
+    let Some(_place) = kept.next(0) else {
+        return Ok(false);
+    };
+    let problem = ordered.problem();
+    if people_in(ordered, part) < problem.district_bounds(1).0 {
+        return Ok(true);
+    }
+    Ok(asks_more(state, &kept, part.size()))
+}
+
+/// Whether the set has no free place and can't be filled, or has another place and is too small for it.
+fn is_stranded<C: CountySet>(
+    alloc: Global,
+    ordered: &Ordered,
+    state: &State<C>,
+    part: &C,
+    free: &C,
+) -> Result<bool, AllocError>
+    requires places { length state.now.least.items ≡ length ordered.now.order }
+    requires below { (x : ℕ) → C.test part.now x ≡ true → x < length ordered.now.order }
+    ensures { IfOk
+        result
+        (λ found. IsTrue found → IsStranded (problem_at ordered.now) (state_of C.test state.now) (C.test free.now) (places_of (length ordered.now.order) (C.test part.now))) }
+{
+    if !part.meets(free) {
+        return Ok(is_stuck(ordered, state, part));
+    }
+    is_too_small(alloc, ordered, state, part, free)
+}
+
+/// Whether some connected part of the region is stranded.
+fn has_stranded_part<C: CountySet>(
+    alloc: Global,
+    ordered: &Ordered,
+    near: &[C],
+    state: &State<C>,
+    region: C,
+    free: &C,
+) -> Result<bool, AllocError>
+    requires fits { length ordered.now.order ≤ C.PLACES }
+    requires rows { AreRows C C.test (problem_at ordered.now) (length ordered.now.order) near.now }
+    requires places { length state.now.least.items ≡ length ordered.now.order }
+    requires below { (x : ℕ) → C.test region x ≡ true → x < length ordered.now.order }
+    ensures { IfOk result (λ found. IsTrue found → StrandedPart (problem_at ordered.now) (state_of C.test state.now) (C.test region) (C.test free.now)) }
+{
+    let mut rest = region;
+    while let Some(place) = rest.next(0) {
+        let (part, left) = part_around(alloc, ordered, near, &rest, place)?;
+        let stranded = is_stranded(alloc, ordered, state, &part, free)?;
+        if stranded {
+            return Ok(true);
+        }
+        rest = left;
+    }
+    Ok(false)
+}
+
 /// Whether each group that has all of the set, else only free places, leaves a part behind that can't be filled:
-/// one that no free place can reach. In a plain language no group is left out for that.
+/// one that no free place can reach, or one in a part of what the set leaves that is too small for a place that is not
+/// free. In a plain language no group is left out for that.
 ///
 /// # Errors
 ///
@@ -117,7 +192,7 @@ pub fn strands<C: CountySet>(
         Language::Plain => Ok(false),
         Language::Wide => {
             let left = state.rest.copy(alloc)?.minus(set);
-            has_stuck_part(alloc, ordered, near, state, left, free)
+            has_stranded_part(alloc, ordered, near, state, left, free)
         }
     }
 }
