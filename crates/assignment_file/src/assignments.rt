@@ -1,3 +1,5 @@
+//! The assignments of a block assignment file, read from its lines: a census block and the label of its district.
+
 ghost use Rattle.std.specs.Prelude.{◌≡◌, ◌≤◌, IfOk, OnOk, vec_len};
 ghost use Rattle.field_lines.specs.Values.{GivesUnless};
 ghost use Rattle.assignment_file.specs.Assignments.{IsMemory, AddsUnlessMemory, has_pipe, delimiter_of, is_header, assignment_on, rows_after, assignment_list};

@@ -1,3 +1,5 @@
+//! What may be wrong with an assignment file, and on which line.
+
 use field_lines::LineFault;
 use thiserror::Error;
 

@@ -1,3 +1,5 @@
+//! The lines of a cut text that is pulled from a source.
+
 ghost use Rattle.std.specs.Prelude.{◌≡◌, ◌+◌, ◌<◌, ◌≤◌, IfOk, IfErr, IfSome, length};
 ghost use Rattle.field_lines.specs.Fault.{most_lines, most_bytes, line_of_fault};
 ghost use Rattle.field_lines.specs.ReadLine.{TakesPiece, TakesLine};

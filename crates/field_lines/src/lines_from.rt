@@ -1,3 +1,5 @@
+//! The lines of a cut text, either in memory or pulled from a source.
+
 ghost use Rattle.std.specs.Prelude.{ℕ, Bool, false, List, [], ◌≤◌, ◌+◌, IfOk, IfErr, IfSome, length};
 ghost use Rattle.std.specs.Borrow.{sem};
 ghost use Rattle.std.specs.Io.BufRead.{Rests};

@@ -1,3 +1,5 @@
+//! The pieces of a text that is pulled from a source.
+
 ghost use Rattle.std.specs.Prelude.{◌≡◌};
 ghost use Rattle.field_lines.specs.ReadPiece.{raw_fault_at, TakesRaw};
 

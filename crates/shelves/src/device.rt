@@ -1,3 +1,5 @@
+//! The machine's files as a shelf.
+
 ghost use Rattle.std.specs.Prelude.{◌≡◌, ◌≢◌, ◌-◌, ◌^◌, ◌<◌, ◌≤◌, None, IfOk, vec_len};
 ghost use Rattle.shelves.specs.Shelf.{CountsFault, IsCounted};
 ghost use Rattle.shelves.specs.History.{no_history};

@@ -1,3 +1,5 @@
+//! A file of the machine, read as it comes.
+
 ghost use Rattle.std.specs.Prelude.{◌≡◌, ◌==◌, [], false, if◌then◌else◌};
 ghost use Rattle.std.specs.Option.{is_some};
 ghost use Rattle.shelves.specs.declared.shelf.ReadEnd.TheVariants.{Whole, Part};

@@ -1,3 +1,5 @@
+//! A file put under a name whole or not at all.
+
 use std::alloc::Global;
 use std::fs::{File, OpenFile};
 use std::io::{Error, ErrorKind, Write};

@@ -1,3 +1,5 @@
+//! Shelves: named files that are loaded, opened and stored.
+
 ghost use Rattle.std.specs.Prelude.{◌≡◌, ℕ, ◌<◌, ◌≤◌, false, List, [], Option, IfOk, OnOk, OnErr, option_map, vec_len};
 ghost use Rattle.shelves.specs.Files.{File, Files, with_file, with_bytes};
 ghost use Rattle.shelves.specs.Shelf.{IsLoad, Opens, IsRead, IsStore};
