@@ -1,3 +1,5 @@
+//! The kinds of findings, and the sets of counties that they name.
+
 use assignment_file::Label;
 use grouping_judge::GroupingFault;
 

@@ -1,3 +1,5 @@
+//! The listed census blocks with their people, and the set of counties in which a block lies.
+
 ghost use Rattle.std.specs.Prelude.{◌≡◌, ◌<◌, ℕ, IfOk, IfSome, OnOk, All, length};
 ghost use Rattle.std.specs.List.{position_from};
 ghost use Rattle.std.specs.Ordering.{nat_cmp};

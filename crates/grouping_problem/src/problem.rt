@@ -1,3 +1,5 @@
+//! The problem as a value: its counties, withdrawn sets, adjacent pairs, chamber, seats and allowance.
+
 ghost use Rattle.std.specs.Prelude.{◌≡◌, ℕ, true, ◌+◌, ◌<◌, ◌≤◌, ◌^◌, IfOk, is_some, length};
 ghost use Rattle.std.specs.List.Sorted.{IsStrictlyIncreasing};
 ghost use Rattle.county_codes.specs.Limits.{most_counties};
