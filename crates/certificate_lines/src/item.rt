@@ -1,3 +1,5 @@
+//! What a line of a certificate says, and what is wanted of the next line.
+
 ghost use Rattle.std.specs.Prelude.{◌≡◌, IfOk};
 
 use crate::weights::Weights;

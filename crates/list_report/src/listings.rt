@@ -1,3 +1,5 @@
+//! The text of a list of groupings, as a whole.
+
 ghost use Rattle.std.specs.Prelude.{◌≡◌, ℕ, ◌++◌, ◌≤◌, List, length, map, IfOk, OnOk};
 ghost use Rattle.county_codes.specs.Counties.{codes_of};
 ghost use Rattle.list_report.specs.Shared.{shared_sets};
