@@ -1,3 +1,5 @@
+//! What a board came to: the lines of its replies, the pieces that wait, and the certificate.
+
 /// What a board came to when all events were taken.
 #[derive(Drop)]
 pub struct Shared {

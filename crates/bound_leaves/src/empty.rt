@@ -1,3 +1,5 @@
+//! Bound leaves for a state where no group of at most so many counties fits.
+
 ghost use Rattle.std.specs.Prelude.{◌≡◌, ℕ, ◌≤◌, map, length, ⊤, ◌⊎◌, IfOk, MatchOption};
 ghost use Rattle.county_codes.specs.Limits.{most_counties};
 ghost use Rattle.grouping_problem.specs.ProblemValue.{problem_of};

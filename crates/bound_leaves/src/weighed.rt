@@ -1,3 +1,5 @@
+//! Bound leaves that end with `weigh`: the weights of the open counties allow too few groups.
+
 ghost use Rattle.std.specs.Prelude.{◌≡◌, ℕ, true, cond, ◌<◌, ◌≤◌, List, length, get_or, All, ⊤, IfOk, MatchOption};
 ghost use Rattle.county_codes.specs.Limits.{most_counties};
 ghost use Rattle.grouping_laws.specs.Sets.{total};

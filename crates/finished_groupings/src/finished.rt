@@ -1,3 +1,5 @@
+//! The lawful grouping of a state that a search can't go on from.
+
 ghost use Rattle.std.specs.Prelude.{◌≡◌, ℕ, ◌≤◌, length, filter, All, AllPairs, IfOk};
 ghost use Rattle.grouping_laws.specs.Sets.{member};
 ghost use Rattle.grouping_laws.specs.Grouping.{sets_of};

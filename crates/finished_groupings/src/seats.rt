@@ -1,3 +1,5 @@
+//! Seats for sets that have each county once.
+
 ghost use Rattle.std.specs.Prelude.{◌≡◌, ℕ, length, map, IfOk};
 ghost use Rattle.grouping_laws.specs.Sets.{total};
 ghost use Rattle.grouping_laws.specs.Problem.{people_of};

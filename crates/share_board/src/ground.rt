@@ -1,3 +1,5 @@
+//! What the opening of a round goes by: the problem, the round, and the budget of a branch.
+
 use ordered_counties::Ordered;
 use proof_trees::Round;
 use std::alloc::Global;
