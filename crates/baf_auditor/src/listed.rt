@@ -52,7 +52,7 @@ pub(crate) fn place_of_block(problem: &Problem, grouping: &Grouping, code: u64) 
     }
 }
 
-/// Adds a block to those before, if its county is in a set.
+/// Adds a block to the listed ones, if its county is in a set.
 fn add_block(
     listed: &mut BTreeMap<u64, u32>,
     problem: &Problem,

@@ -44,7 +44,7 @@ pub record IsJoined (p : Problem) (b : Content) (text : List ℕ) : Type 0 where
   pub target_is : b.round.target ≡ Some target
   pub best : IsBest p target
 
--- there is a text exactly where no piece waits
+-- the text of a certificate is there exactly where no piece waits
 abbrev pub AreJoined : Problem → Content → List ℕ → Option (List ℕ) → Type 0
 AreJoined p b [] (Some text) = IsJoined p b text
 AreJoined p b (piece ∷ found) None = joined b.skeleton ≡ None

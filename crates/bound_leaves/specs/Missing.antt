@@ -29,7 +29,7 @@ pub record MayEndAt (wanted : ℕ → ℕ) (s : State) (limit size : ℕ) : Type
   pub level : IsLevel wanted s (size - 1)
   pub last : ((1 ≤ size) × (counts s.closed size < wanted size)) ⊎ ((size ≡ limit) × IsLevel wanted s size)
 
--- the same of the round's target
+-- where no group fits, a bound leaf may end at this size by the counts of the round's target
 abbrev pub TargetEndsAt : Round → State → ℕ → Type 0
 TargetEndsAt round s size = (t : Grouping) × (round.target ≡ Some t) × MayEndAt (counts (sets_of t)) s round.limit size
 

@@ -62,7 +62,7 @@ IsNextItem old (Ok (Some item)) new = old ≡ first item new
 IsNextItem old (Ok None) new = (old ≡ nothing) × (new ≡ nothing)
 IsNextItem old (Err fault) new = ((IsUnread fault → ⊥) → old ≡ only_fault fault) × (new ≡ only_fault fault)
 
--- the same of a call that doesn't keep the fault
+-- The first of what is to come is given, and what is to come then, by a call that doesn't keep the fault.
 abbrev pub IsNextLine : Course → Result (Option Item) TextFault → Course → Type 0
 IsNextLine old (Ok (Some item)) new = old ≡ first item new
 IsNextLine old (Ok None) new = (old ≡ nothing) × (new ≡ nothing)

@@ -65,7 +65,7 @@ Through old before new after Holds = (all : List ℕ) → Foresees new.ended aft
 abbrev pub IsNextOf : ItemsLeft → List ℕ → Result (Option Item) TextFault → ItemsLeft → List ℕ → Type 0
 IsNextOf old before answer new after = Through old before new after (λ a b. IsNextItem a answer b)
 
--- the same of a call that doesn't keep the fault
+-- what a call of a source of items answers that doesn't keep the fault
 abbrev pub ReadsNext : ItemsLeft → List ℕ → Result (Option Item) TextFault → ItemsLeft → List ℕ → Type 0
 ReadsNext old before answer new after = Through old before new after (λ a b. IsNextLine a answer b)
 

@@ -95,7 +95,7 @@ AnswersRead None old given_before failed_before answer new given_after failed_af
 abbrev pub IsNextRead : Held → List ℕ → Bool → Result (Option (ℕ × Bor (List ℕ))) LineFault → Held → List ℕ → Bool → Type 0
 IsNextRead old given_before failed_before answer new given_after failed_after = AnswersRead old.fault old given_before failed_before answer new given_after failed_after
 
--- the same for a call of any reader of lines, where it has answered no fault so far
+-- what a call of any reader of lines answers, where the reader has answered no fault so far
 abbrev pub IsNext : LinesLeft → List ℕ → Bool → Result (Option (ℕ × Bor (List ℕ))) LineFault → LinesLeft → List ℕ → Bool → Type 0
 IsNext old given_before failed_before answer new given_after failed_after =
     old.fault ≡ None → IsNextFrom old given_before failed_before (line_answered answer) new given_after failed_after

@@ -71,7 +71,7 @@ AnswersRaw None old given_before failed_before answer new given_after failed_aft
 abbrev pub IsRawRead : Held → List ℕ → Bool → Result (Option Piece) LineFault → Held → List ℕ → Bool → Type 0
 IsRawRead old given_before failed_before answer new given_after failed_after = AnswersRaw old.fault old given_before failed_before answer new given_after failed_after
 
--- the same for a call of any reader of pieces, where it has answered no fault so far
+-- what a call of any reader of pieces answers, where the reader has answered no fault so far
 abbrev pub IsNextOf : PiecesLeft → List ℕ → Bool → Result (Option Piece) LineFault → PiecesLeft → List ℕ → Bool → Type 0
 IsNextOf old given_before failed_before answer new given_after failed_after =
     old.fault ≡ None → IsNextPieceFrom old given_before failed_before answer new given_after failed_after

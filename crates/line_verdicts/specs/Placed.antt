@@ -15,7 +15,7 @@ state_at order test s = in_codes order (state_of test s)
 abbrev pub codes_of_set : {C : Type 0} → List ℕ → (C → ℕ → Bool) → C → List ℕ
 codes_of_set order test set = codes_at order (places_of (length order) (test set))
 
--- those of each of the sets
+-- for each set, the codes of its places, in their order
 abbrev pub codes_of_sets : {C : Type 0} → List ℕ → (C → ℕ → Bool) → List C → List (List ℕ)
 codes_of_sets order test sets = map (codes_of_set order test) sets
 

@@ -1,5 +1,5 @@
--- The plain language said by itself: a county is marked where it lies in a group above the one limit. That this is the plain language of
--- the other definitions.
+-- The plain language said by itself: a county is marked where it lies in a group above the one limit. The laws say
+-- that this is the plain language of the other definitions.
 use Rattle.std.specs.Prelude.{ℕ, ◌+◌, ◌-◌, ◌*◌, ◌/◌, ◌≡◌, ◌≤◌, ◌<◌, min, cond, Bool, true, false, not, nat_le, ◌&&◌, ◌||◌, List, [], ◌∷◌, ◌++◌, length, ◌==◌, All, Contains, filter, Some, None, ◌⊎◌, ◌↔◌, ⊤}
 use Rattle.county_codes.specs.declared.group.Group.{Group}
 use Rattle.grouping_laws.specs.Sets.{digit, total, stands, member, Inside, SameSet}
@@ -113,11 +113,11 @@ abbrev mutual
 abbrev pub as_state : ℕ → MarkedState → State
 as_state limit s = record { closed = s.closed; rest = unsettled s; least = λ c. cond (s.marked c) (limit + 1) 0 }
 
--- and back: the counties of the rest that ask for more than the limit are marked
+-- a state as a marked state: the counties of the rest that ask for more than the limit are marked
 abbrev pub as_marked : ℕ → State → MarkedState
 as_marked limit s = record { closed = s.closed; marked = λ c. s.rest c && not (nat_le (s.least c) limit); rest = open_to s limit }
 
--- In a plain round the two say the same, word for word.
+-- In a plain round the plain language by marks and the general one say the same, word for word.
 pub record PlainIsMarked : Type 0 where
   -- the states are the same
   pub states : (p : Problem) (round : Round) (s : MarkedState) → round.language ≡ Plain → IsMarkedState p round.limit s → IsState p round (as_state round.limit s)
@@ -130,7 +130,7 @@ pub record PlainIsMarked : Type 0 where
   -- the groups of a branch are those from the first place of the rest, inside the rest
   pub takes : (p : Problem) (round : Round) (s : State) (c : ℕ) (groups : List (List ℕ)) → round.language ≡ Plain → IsState p round s → BeginsWith c (filter (open_to s round.limit) round.order)
       → AreGroupsAt p round s c round.limit groups ↔ AreGroupsFrom p round.order round.limit c (open_to s round.limit) groups
-  -- and they are looked for among sets that begin with that place
+  -- the groups of a branch are looked for among sets that begin with the first place of the rest
   pub sets : (p : Problem) (order : List ℕ) (s : State) (c limit : ℕ) (g : List ℕ) → BeginsWith c (filter (open_to s limit) order) → IsSetAt p order s c limit g → IsSetFrom p order limit c g
   -- the valid leaves and the proof trees are the same
   pub leaves : (p : Problem) (round : Round) (s : MarkedState) (l : Leaf) → round.language ≡ Plain → IsMarkedState p round.limit s → IsMarkedLeaf p round s l ↔ IsValidLeaf p round (as_state round.limit s) l

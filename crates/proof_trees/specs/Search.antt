@@ -26,7 +26,7 @@ pub record IsCountLine (language : Language) (p : Problem) (s : State) (i : ℕ)
   pub ascending : AllPairs (λ v w. v.county < w.county) weights
   pub each : (w : Weight) → Contains weights w ↔ ((w.weight ≡ 1) × IsCounted language p s i w.county)
 
--- such lines for sizes i, i + 1 and so on
+-- count lines for the sizes i, i + 1 and so on
 abbrev pub AreCountLines : Language → Problem → State → ℕ → List Allowance → Type 0
 AreCountLines language p s i [] = ⊤
 AreCountLines language p s i (line ∷ lines) = IsCountLine language p s i line × AreCountLines language p s (i + 1) lines
@@ -46,7 +46,7 @@ pub record FinishedBeats (p : Problem) (round : Round) (s : State) (parts : List
   -- each part is above the limit, so where there is none all groups are within it
   pub large : All (λ codes. round.limit < length codes) parts
 
--- So it is where no group of at most the limit fits and no leaf is valid.
+-- If no group within the limit fits and no leaf is valid, the closed groups and the parts of the rest beat the target.
 abbrev pub FinishedStateBeats : Type 0
 FinishedStateBeats =
     (p : Problem) (round : Round) (s : State) (parts : List (List ℕ))
@@ -57,7 +57,7 @@ FinishedStateBeats =
 abbrev pub IsFound : Problem → Round → State → Grouping → Type 0
 IsFound p round s g = Lawful p g × Agrees s g × Beats round.target (counts (sets_of g))
 
--- a proof tree, or such a grouping
+-- a proof tree, or a lawful grouping that agrees with the state and is greater than the target
 abbrev pub Outcome : Problem → Round → State → Type 0
 Outcome p round s = ((tree : Tree) × Proves tree p round s) ⊎ ((g : Grouping) × IsFound p round s g)
 

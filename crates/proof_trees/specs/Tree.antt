@@ -1,7 +1,7 @@
 -- Trees as plain data: leaves, and branches at a county. What a tree proves is said in `Proving`.
 use Rattle.std.specs.Prelude.{ℕ, List, [], ◌∷◌, Option}
 
--- so much for a county of a group
+-- the weight of a county
 pub record Weight : Type 0 where
   pub county : ℕ
   pub weight : ℕ

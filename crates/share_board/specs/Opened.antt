@@ -40,7 +40,8 @@ pub record IsOpened {C : Type 0} (test : C → ℕ → Bool) (p : Problem) (roun
   pub shows : (fates : List Fate) → AllWait fates first next → ShowsAbove fates tree first next skeleton
   pub stand : (k : ℕ) (t : State) → StandsAt skeleton round s (k + 1) t → IsStateAt round.order test states k t
 
--- so it may where each of these groups is closed
+-- at the states where each of these groups is closed the round may open with these takes, and with pieces that stand at
+-- the places from one on up to the next
 pub record AreOpened {C : Type 0} (test : C → ℕ → Bool) (p : Problem) (round : Round) (depth : ℕ) (s : State) (groups : List (List ℕ)) (takes : Takes) (first next : ℕ) (states : List (StateHeld C)) : Type 0 where
   pub parts : Parts
   pub groups_are : groups_in parts ≡ groups

@@ -24,7 +24,7 @@ use place_sets::CountySet;
 use proof_trees::{Round, State};
 use std::alloc::Global;
 
-/// With what a round begins: the branches above its pieces, which all wait, and the states at which these stand.
+/// What a round begins with: the branches above its pieces, which all wait, and the states at which the pieces stand.
 #[derive(Drop)]
 pub(crate) struct Opening<C> {
     pub(crate) above: Tree,

@@ -15,7 +15,7 @@ Loads view files failures name (Err TooLarge) = (bytes : List ℕ) × (files nam
 Loads view files failures name (Err Device) = Unit {0}
 Loads view files failures name (Err Memory) = Unit {0}
 
--- the same where the shelf may not tell its files
+-- what a load of a name answers: nothing is said of it where the shelf doesn't tell its files
 abbrev pub IsLoad : {X : Type 0} → (X → List ℕ) → Option Files → ℕ → List ℕ → Result X ShelfFault → Type 0
 IsLoad view None failures name loaded = Unit {0}
 IsLoad view (Some files) failures name loaded = Loads view files failures name loaded
@@ -33,7 +33,7 @@ Reads files name bytes (Ok Whole) = files name ≡ Some bytes
 Reads files name bytes (Ok Part) = (later : List ℕ) × (files name ≡ Some (bytes ++ later))
 Reads files name bytes (Err fault) = Unit {0}
 
--- the same where the shelf may not tell its files
+-- what a reader of a name gave: nothing is said of it where the shelf doesn't tell its files
 abbrev pub IsRead : Option Files → List ℕ → List ℕ → Result ReadEnd ShelfFault → Type 0
 IsRead None name bytes answer = Unit {0}
 IsRead (Some files) name bytes answer = Reads files name bytes answer
@@ -43,7 +43,7 @@ abbrev pub CountsFault : ℕ → ℕ → ShelfFault → Type 0
 CountsFault before after Device = before < after
 CountsFault before after fault = before ≤ after
 
--- the same of a call's result
+-- the count of failures never falls by a call, and rises where its result is a fault of the device
 abbrev pub IsCounted : {X : Type 0} → ℕ → ℕ → Result X ShelfFault → Type 0
 IsCounted before after (Ok x) = before ≤ after
 IsCounted before after (Err fault) = CountsFault before after fault

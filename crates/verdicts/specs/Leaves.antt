@@ -43,11 +43,11 @@ allowed p s i used line = counts s.closed i + allowance p s i used line
 abbrev pub IsWithinTarget : Language → Problem → State → (ℕ → ℕ) → ℕ → ℕ → Allowance → Type 0
 IsWithinTarget language p s wanted i used line = IsFair language p s i line × (allowed p s i used line ≤ wanted i)
 
--- and it allows fewer
+-- The line for size i allows fewer groups than the target has.
 abbrev pub IsLoss : Problem → State → (ℕ → ℕ) → ℕ → ℕ → Allowance → Type 0
 IsLoss p s wanted i used line = allowed p s i used line < wanted i
 
--- and it allows as many, so the lines behind it count
+-- The line for size i allows as many groups as the target has, so the lines behind it count.
 abbrev pub IsEven : Problem → State → (ℕ → ℕ) → ℕ → ℕ → Allowance → Type 0
 IsEven p s wanted i used line = allowed p s i used line ≡ wanted i
 
