@@ -5,7 +5,8 @@ use Rattle.proof_trees.specs.Regions.{listed}
 use Rattle.proof_trees.specs.State.{State, open_to}
 use Rattle.proof_trees.specs.Tree.{Allowance, room, weigh, Leaf, bound}
 
--- the line for a size i without a group that fits: `room` where fewer than i counties are open to groups of i, else `weigh 1` without weights
+-- the line for a size i without a group that fits: `room` where fewer than i counties are open to groups of i, else
+-- `weigh 1` without weights
 abbrev pub IsEmptyLine : Problem → State → ℕ → Allowance → Type 0
 IsEmptyLine p s i room = length (listed p (open_to s i)) < i
 IsEmptyLine p s i (weigh quota weights) = (quota ≡ 1) × (weights ≡ [])

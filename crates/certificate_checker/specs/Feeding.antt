@@ -84,7 +84,8 @@ pub record Reaches (p : Problem) (round : Round) (old new : FeedValue) (before a
   pub ends : (end : End) → WorkEnds after p round (new.line + 1) end → WorkEnds before p round (old.line + 1) end
   pub looks : (n : ℕ) → WorkLooks before p round n → (m : ℕ) × WorkLooks after p round m × (new.used + old.line + 2 * m ≤ old.used + new.line + 2 * n)
 
--- The reading stopped in what is left, with the rest behind it: at its fault, or where the limit of steps is not enough for it.
+-- The reading stopped in what is left, with the rest behind it: at its fault, or where the limit of steps is not enough
+-- for it.
 abbrev pub Halts : Problem → Round → FeedValue → List Open → List Item → Stop → Type 0
 Halts p round old work rest (stop.Fault fault line) = (named : Fault) × (fault_of fault ≡ Some named) × WorkEnds work p round (old.line + 1) (faulty named line)
 Halts p round old work rest stop.Unspelled = ⊥
@@ -117,7 +118,8 @@ Passes old (Ok true) new = (length old.items ≡ length new.items + 1) × (new.f
 Passes old (Ok false) new = old ≡ nothing
 Passes old (Err fault) new = (IsUnread fault → ⊥) → old ≡ only_fault fault
 
--- All lines were read: the text has no fault, or this one; or there are as many lines as steps, where the end counts as one more.
+-- All lines were read: the text has no fault, or this one; or there are as many lines as steps, where the end counts as
+-- one more.
 abbrev pub IsRestRead : FeedValue → Result (Unit {0}) Stop → Type 0
 IsRestRead old (Ok done) = old.course.fault ≡ None
 IsRestRead old (Err (stop.Text fault)) = old.course.fault ≡ Some fault

@@ -56,7 +56,8 @@ pub enum Opening {
 
 /// The version that a head names.
 ///
-/// A certificate of version 2 names its allowance on the second line. One of version 1 has no such line: its allowance is a twentieth.
+/// A certificate of version 2 names its allowance on the second line. One of version 1 has no such line: its allowance
+/// is a twentieth.
 #[derive(Clone, Copy, Debug, PartialEq, Eq)]
 pub enum Version {
     /// Version 1.

@@ -8,7 +8,8 @@ use Rattle.field_lines.specs.Held.{MayCome, StaysEnded}
 use Rattle.field_lines.specs.declared.fault.LineFault.{LineFault}
 use Rattle.field_lines.specs.declared.fault.LineFault.TheVariants.{LineTooLong, TooManyLines, ReadFault, Memory}
 
--- what a reader of lines has: the bytes that it holds, whether the source has ended, the number of the next line, and its fault
+-- what a reader of lines has: the bytes that it holds, whether the source has ended, the number of the next line, and
+-- its fault
 pub record Held : Type 0 where
   pub bytes : List ℕ
   pub ended : Bool
@@ -19,8 +20,8 @@ pub record Held : Type 0 where
 abbrev pub nothing_read : Held
 nothing_read = record { bytes = []; ended = false; number = 1; fault = None }
 
--- what is left of lines that are read: their cut, by the bytes that come later; whether the source has ended; the fault that
--- was answered; and how many lines there are at most
+-- what is left of lines that are read: their cut, by the bytes that come later; whether the source has ended; the fault
+-- that was answered; and how many lines there are at most
 pub record LinesLeft : Type 0 where
   pub cut : List ℕ → Cut
   pub ended : Bool

@@ -9,8 +9,8 @@ use Rattle.field_lines.specs.declared.raw.Piece.{Piece}
 use Rattle.field_lines.specs.declared.fault.LineFault.{LineFault}
 use Rattle.field_lines.specs.declared.fault.LineFault.TheVariants.{LineTooLong, TooManyLines, ReadFault, Memory}
 
--- what is left of pieces that are read: the pieces, by the bytes that come later; whether the source has ended; the fault
--- that was answered; and how many pieces there are at most
+-- what is left of pieces that are read: the pieces, by the bytes that come later; whether the source has ended; the
+-- fault that was answered; and how many pieces there are at most
 pub record PiecesLeft : Type 0 where
   pub pieces : List ℕ → List RawLine
   pub ended : Bool

@@ -116,13 +116,13 @@ impl LineReader {
         }
     }
 
-    /// The next line that isn't blank, with its number, which counts from 1, lent until the next call. `None` at the end
-    /// of the text, then and at each later call. Each call is lent the same source.
+    /// The next line that isn't blank, with its number, which counts from 1, lent until the next call. `None` at the
+    /// end of the text, then and at each later call. Each call is lent the same source.
     ///
     /// # Errors
     ///
-    /// `TooManyLines` and `LineTooLong` as `Lines` answers them; `ReadFault` where the source failed, with the line that
-    /// was being read. Each later call answers the same fault, and pulls nothing.
+    /// `TooManyLines` and `LineTooLong` as `Lines` answers them; `ReadFault` where the source failed, with the line
+    /// that was being read. Each later call answers the same fault, and pulls nothing.
     pub fn next_line<S: Source>(
         &mut self,
         source: &mut S,

@@ -22,8 +22,8 @@ pub trait LinesFrom<F> {
     /// The lines that are left.
     ghost left: { Self → LinesLeft };
 
-    /// The next line that isn't blank, with its number, which counts from 1, lent until the next call. `None` at the end
-    /// of the text.
+    /// The next line that isn't blank, with its number, which counts from 1, lent until the next call. `None` at the
+    /// end of the text.
     ///
     /// # Errors
     ///

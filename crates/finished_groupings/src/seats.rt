@@ -32,8 +32,8 @@ fn people_of_sets<C: CountySet>(
     Ok(people)
 }
 
-/// Seats for sets that have each county once, in turn: a number for each set that its people suit, with the seats left of
-/// the problem as their sum. There are such numbers.
+/// Seats for sets that have each county once, in turn: a number for each set that its people suit, with the seats left
+/// of the problem as their sum. There are such numbers.
 pub(crate) fn seats_for<C: CountySet>(
     alloc: Global,
     ordered: &Ordered,

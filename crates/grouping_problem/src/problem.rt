@@ -56,7 +56,8 @@ impl Model for Problem {
         × (length p.withdrawn.items ≤ p.chamber) × (is_window p.window ≡ true) };
 }
 
-/// How many counties and withdrawn sets there are, the people, the seats and the allowance; the lists themselves are left out.
+/// How many counties and withdrawn sets there are, the people, the seats and the allowance; the lists themselves are
+/// left out.
 impl fmt::Debug for Problem {
     fn fmt<W: fmt::Write>(&self, f: &mut fmt::Formatter<W>) -> fmt::Result {
         f.debug_struct("Problem")
@@ -111,7 +112,8 @@ impl Problem {
         self.window
     }
 
-    /// The allowance that a certificate for this problem names: none if it is one twentieth, and else the problem's own.
+    /// The allowance that a certificate for this problem names: none if it is one twentieth, and else the problem's
+    /// own.
     pub fn named_window(&self) -> Option<Window>
         ensures value { result ≡ named_window (problem_of self.now) }
         ensures range { FitsRange result }

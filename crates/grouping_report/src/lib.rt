@@ -1,5 +1,5 @@
-//! The texts of a problem and its groupings: the size table, the report, the grouping text and the findings of an audit.
-//! `seat_lines` reads groupings from their lines.
+//! The texts of a problem and its groupings: the size table, the report, the grouping text and the findings of an
+//! audit. `seat_lines` reads groupings from their lines.
 #![tactic(auto)]
 
 mod faults;

@@ -52,15 +52,16 @@ pub record AgreesAbove (limit : ℕ) (s : MarkedState) (g : Grouping) : Type 0 w
   pub closed : All (λ k. (m : Group) × Contains g m × SameSet m.codes k) s.closed
   pub marked : (c : ℕ) → s.marked c ≡ true → (m : Group) × Contains g m × (member m.codes c ≡ true) × (limit < length m.codes)
 
--- The connected part around the county suits no number of seats, or holds a marked county and has at most as many counties as the limit.
+-- The connected part around the county suits no number of seats, or holds a marked county and has at most as many
+-- counties as the limit.
 pub record IsMarkedStuck (p : Problem) (limit : ℕ) (s : MarkedState) (county : ℕ) : Type 0 where
   pub part : List ℕ
   pub is_part : IsPart p (unsettled s) part
   pub around : member part county ≡ true
   pub wrong : ((k : ℕ) → ¬ Suits p (people_of p part) k) ⊎ ((c : ℕ) × (member part c ≡ true) × (s.marked c ≡ true) × (length part ≤ limit))
 
--- Each connected part suits some number of seats, and the least numbers over closed groups and parts add up to more than the seats left,
--- or the greatest to less.
+-- Each connected part suits some number of seats, and the least numbers over closed groups and parts add up to more
+-- than the seats left, or the greatest to less.
 pub record IsMarkedOff (p : Problem) (s : MarkedState) : Type 0 where
   pub parts : List (List ℕ)
   pub are_parts : AreParts p (unsettled s) parts

@@ -37,8 +37,8 @@ pub record HasNoLeaf (p : Problem) (round : Round) (most : ℕ) (s : State) : Ty
   pub no_seats : ¬ IsValidLeaf p round s seats
   pub no_count : (lines : List Allowance) → length lines ≤ most → AreCountLines round.language p s 1 lines → ¬ IsValidLeaf p round s (bound lines)
 
--- Some seats suit the closed groups and the connected parts of the rest and add up to the seats left, and whichever do so make
--- a lawful grouping that agrees with the state and is greater than the target.
+-- Some seats suit the closed groups and the connected parts of the rest and add up to the seats left, and whichever do
+-- so make a lawful grouping that agrees with the state and is greater than the target.
 pub record FinishedBeats (p : Problem) (round : Round) (s : State) (parts : List (List ℕ)) : Type 0 where
   pub some : (ks : List ℕ) × SuitAll p (s.closed ++ parts) ks × (total (λ k. k) ks ≡ p.seats_left)
   pub all : (ks : List ℕ) → SuitAll p (s.closed ++ parts) ks → total (λ k. k) ks ≡ p.seats_left

@@ -33,7 +33,8 @@ use Rattle.share_board.specs.BoardValue.{IsStateAt}
 abbrev pub AllWait : List Fate → ℕ → ℕ → Type 0
 AllWait fates first next = (k : ℕ) → first ≤ k → k < next → IsAt fates k Waits
 
--- at a state the round may open with these branches, and with pieces that stand at the places from one on up to the next
+-- at a state the round may open with these branches, and with pieces that stand at the places from one on up to the
+-- next
 pub record IsOpened {C : Type 0} (test : C → ℕ → Bool) (p : Problem) (round : Round) (depth : ℕ) (s : State) (tree : Tree) (first next : ℕ) (states : List (StateHeld C)) : Type 0 where
   pub skeleton : Skeleton
   pub opens : Opens depth skeleton p round s (first + 1) (next + 1)
@@ -89,7 +90,8 @@ pub record IsBranching {C : Type 0} (test : C → ℕ → Bool) (g : Ground C) (
 abbrev pub IsBelowLine : Problem → Round → ℕ → Type 0
 IsBelowLine p round share = (m : ℕ) → AreSoMany round.order (IsSmallSet p round) m → share < 3 * (m + 1)
 
--- why the round isn't opened at a state, where so many pieces stand before it; and why not where each of these groups is closed
+-- why the round isn't opened at a state, where so many pieces stand before it; and why not where each of these groups
+-- is closed
 abbrev pub IsHalted : Problem → Round → ℕ → ℕ → State → ℕ → OpeningStop → Type 0
 IsHalted p round share depth s first stop.TooManyPieces = OpensWithMore p round depth s first
 IsHalted p round share depth s first stop.Budget = (1 ≤ depth) × IsBelowLine p round share

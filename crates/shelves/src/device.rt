@@ -39,8 +39,8 @@ impl<R: Files + AllocGlobal> FileShelf<R> {
         }
     }
 
-    /// What sort of error the system gave at the last load, opening, reading or store that failed. `None` where none has
-    /// failed, or where the system gave no error: the file was too large, or memory was refused.
+    /// What sort of error the system gave at the last load, opening, reading or store that failed. `None` where none
+    /// has failed, or where the system gave no error: the file was too large, or memory was refused.
     pub fn reason(&self) -> Option<ErrorKind> {
         self.reason
     }

@@ -31,7 +31,8 @@ impl EventLog {
         ensures { self.new.events ≡ with_load (λ v. v.items) self.old.events _name.now _answer.now }
     {}
 
-    /// Puts a reader at the end that is given back: the bytes of the file's name, what it gave, and what the call answers.
+    /// Puts a reader at the end that is given back: the bytes of the file's name, what it gave, and what the call
+    /// answers.
     pub fn note_read(
         &mut self,
         _name: &[u8],

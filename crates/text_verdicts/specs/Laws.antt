@@ -39,7 +39,8 @@ pub record TextVerdictsShow : Type 0 where
   pub no : (p : Problem) (text : List ℕ) (fault : Fault) (line : ℕ) → IsTextVerdict p text (No fault line) → (c : Certificate) → IsSpelling text c → ¬ IsCertificate p c.round c.tree
   -- the text of a certificate has the verdict of its target
   pub certified : (p : Problem) (text : List ℕ) (c : Certificate) → IsSpelling text c → IsCertificate p c.round c.tree → IsTextVerdict p text (shown c.round.target)
-  -- there is one verdict: two are the same, it can't be that a text that spells a certificate has none, and a text with a fault has none
+  -- there is one verdict: two are the same, it can't be that a text that spells a certificate has none, and a text with
+  -- a fault has none
   pub one : (p : Problem) (text : List ℕ) (x y : Verdict) → IsTextVerdict p text x → IsTextVerdict p text y → x ≡ y
   pub some : (p : Problem) (text : List ℕ) (c : Certificate) → IsSpelling text c → ((x : Verdict) → ¬ IsTextVerdict p text x) → ⊥
   pub apart : (p : Problem) (text : List ℕ) (fault : TextFault) (x : Verdict) → HasTextFault text fault → IsTextVerdict p text x → ⊥
