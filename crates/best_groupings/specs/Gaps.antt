@@ -26,8 +26,8 @@ IsLeafGap (stuck county) p round s gap = ⊥
 IsLeafGap seats p round s gap = ⊥
 IsLeafGap (bound lines) p round s gap = (falls_short p s (wanted round.target) 1 0 lines ≡ false) × IsGap p s gap
 
--- The first such leaf of a tree whose lines begin at this one, and the leaf's first line: what stands before it is
--- complete.
+-- The first gap of a tree whose lines begin at this one: the first bound leaf that comes to the target's counts where
+-- the state isn't filled, and the leaf's first line. What stands before the leaf is complete.
 abbrev mutual
   pub IsFirstGap : Tree → Problem → Round → State → (line : ℕ) → Gap → (at : ℕ) → Type 0
   IsFirstGap (leaf l) p round s line gap at = IsLeafGap l p round s gap × (at ≡ line)

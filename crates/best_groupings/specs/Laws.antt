@@ -1,4 +1,4 @@
--- What listings and first gaps keep to.
+-- Laws of listings and of first gaps.
 use Rattle.std.specs.Prelude.{ℕ, ◌≡◌, List, map}
 use Rattle.grouping_laws.specs.Problem.{Problem}
 use Rattle.grouping_laws.specs.Grouping.{Grouping, sets_of}

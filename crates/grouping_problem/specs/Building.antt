@@ -35,7 +35,7 @@ is_strange listed q = not (q.0 == q.1) && not (member listed q.0 && member liste
 abbrev pub fault_if : Bool → ProblemFault → Option ProblemFault
 fault_if holds fault = if holds then Some fault else None
 
--- the first that is one
+-- the first fault of a list, if there is one
 abbrev pub first_of : List (Option ProblemFault) → Option ProblemFault
 first_of [] = None
 first_of (None ∷ more) = first_of more

@@ -1,4 +1,4 @@
--- That what is joined depends on what came, and not on the order in which it came.
+-- Laws of joined certificates: what is joined depends on the events that came, and not on their order.
 use Rattle.std.specs.Prelude.{ℕ, ◌≡◌, List, Some, ◌↔◌}
 use Rattle.grouping_laws.specs.Problem.{Problem}
 use Rattle.grouping_laws.specs.Allowance.{named_window}

@@ -19,7 +19,7 @@ use Rattle.proof_trees.specs.Certificate.{Beats}
 abbrev pub IsCounted : Language → Problem → State → ℕ → ℕ → Type 0
 IsCounted language p s i c = (g : List ℕ) × Fits language p s g × (length g ≡ i) × (member g c ≡ true)
 
--- the line for size i whose quota is i and whose weights are 1 for each such county
+-- a count line, for size i: the quota is i, and each county of some group of i counties that fits has weight 1
 pub record IsCountLine (language : Language) (p : Problem) (s : State) (i : ℕ) (line : Allowance) : Type 0 where
   pub weights : List Weight
   pub is : line ≡ weigh i weights

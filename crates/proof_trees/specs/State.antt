@@ -1,6 +1,5 @@
 -- Where a search stands: closed groups, the other counties, and how large a group each of these asks for. States are
--- the project's own; that closed groups are lawful and small is what a search for the most small groups keeps (Carter
--- et al.).
+-- the project's own. A search for the most small groups keeps that closed groups are lawful and small.
 use Rattle.std.specs.Prelude.{ℕ, ◌+◌, ◌≡◌, ◌≤◌, Bool, false, cond, nat_le, ◌&&◌, List, [], ◌∷◌, ◌++◌, length, ◌==◌, All, ◌⊎◌, ⊤}
 use Rattle.grouping_laws.specs.Sets.{digit, stands, member}
 use Rattle.grouping_laws.specs.Problem.{Problem, LawfulGroup}

@@ -1,4 +1,4 @@
--- That rounds open, and with how many pieces.
+-- Laws of opening rounds: that a round opens, and with how many pieces.
 use Rattle.std.specs.Prelude.{ℕ, ◌+◌, ◌≡◌, ◌≤◌, ◌<◌, ◌⊎◌}
 use Rattle.grouping_laws.specs.Problem.{Problem, IsProblem}
 use Rattle.grouping_laws.specs.Grouping.{Grouping}

@@ -108,7 +108,7 @@ IsOpeningStop p depth budget round stop.TooManyPieces = OpensWithMore p round de
 IsOpeningStop p depth budget round stop.Budget = IsBelowOpening p depth budget round
 IsOpeningStop p depth budget round stop.Memory = ⊤
 
--- what is replied then
+-- what is replied where a round isn't opened
 abbrev pub reply_to : {C : Type 0} → OpeningStop → ReplyHeld C
 reply_to stop.TooManyPieces = held.TooManyPieces
 reply_to stop.Budget = held.Budget

@@ -141,7 +141,8 @@ abbrev pub LeadsOver : Problem → ℕ → Content → List Answered → Content
 LeadsOver p depth b [] c = c ≡ b
 LeadsOver p depth b (first ∷ more) c = (between : Content) × Leads p depth b first.event first.reply between × LeadsOver p depth between more c
 
--- What stands at every moment. A round names the allowance that a certificate for the problem names.
+-- What holds of the content of a board at every moment. A round names the allowance that a certificate for the problem
+-- names.
 pub record IsContent (p : Problem) (b : Content) : Type 0 where
   pub window : b.round.window ≡ named_window p
   pub order : IsOrder p b.round.order

@@ -1,4 +1,5 @@
 //! What a shelf did, for proofs alone.
+
 ghost use Rattle.std.specs.Prelude.{◌≡◌, List, []};
 ghost use Rattle.std.specs.Borrow.{ftrue};
 ghost use Rattle.shelves.specs.History.{Event, with_load, with_read, with_store};

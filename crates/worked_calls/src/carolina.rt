@@ -1,5 +1,6 @@
 //! The counties of North Carolina 2020: the pairs that are adjacent, and how many lawful groups of at most four
 //! counties Senate and House have, out of how many connected sets, by each form of sets.
+
 ghost use Rattle.std.specs.Prelude.{◌≤◌};
 
 use crate::room::room_for;
