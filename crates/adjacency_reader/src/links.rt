@@ -16,7 +16,7 @@ use std::alloc::Global;
 pub enum Sign {
     /// The two counties are adjacent.
     Add,
-    /// They are not.
+    /// The two counties are not adjacent.
     Cut,
 }
 

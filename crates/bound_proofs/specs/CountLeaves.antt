@@ -1,5 +1,5 @@
--- Lists of the groups of each size that fit a state, by places, and what is known of the bound leaves of count lines
--- that they give.
+-- Lists of the groups of each size that fit a state, by places, and the bound leaves of count lines that the lists
+-- give.
 use Rattle.std.specs.Prelude.{ℕ, ◌+◌, ◌≡◌, ◌≤◌, Bool, ◌&&◌, List, [], ◌∷◌, length, ⊤}
 use Rattle.grouping_laws.specs.Sets.{member}
 use Rattle.grouping_laws.specs.Problem.{Problem}

@@ -114,7 +114,7 @@ fn load_fault(error: &Error, failures: &mut u64) -> ShelfFault
     }
 }
 
-/// The fault that one of a file's read is.
+/// The fault of the shelf that a fault of reading a file is.
 fn read_fault(fault: WholeFault, failures: &mut u64) -> ShelfFault
     ensures { CountsFault failures.old failures.new result }
 {
