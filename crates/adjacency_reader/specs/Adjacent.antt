@@ -15,8 +15,8 @@ joined_by (Some Add) before = true
 joined_by (Some Cut) before = false
 joined_by None before = before
 
--- two different listed counties are adjacent where the last link on them adds them, or where no link names them both and
--- some row does, in either order
+-- two different listed counties are adjacent where the last link on them adds them, or where no link names them both
+-- and some row does, in either order
 pub record Adjacent (listed : List ℕ) (rows : List (ℕ × ℕ)) (links : List Link) (a b : ℕ) : Type 0 where
   pub apart : a ≢ b
   pub first_listed : member listed a ≡ true

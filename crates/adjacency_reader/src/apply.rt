@@ -1,3 +1,5 @@
+//! Links applied to the adjacent pairs: the last link that names two counties adds or cuts their pair.
+
 ghost use Rattle.std.specs.Prelude.{◌≡◌, ℕ, ◌&&◌, not, nat_lt, List, IfOk, OnOk, Some, None, if◌then◌else◌};
 ghost use Rattle.std.specs.BTreeSet.{contains};
 ghost use Rattle.adjacency_reader.specs.Pairs.{by_codes, names, ArePairs};

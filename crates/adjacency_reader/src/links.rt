@@ -1,3 +1,5 @@
+//! Links, which add or cut a pair of adjacent counties, read from their lines.
+
 ghost use Rattle.std.specs.Prelude.{◌≡◌};
 ghost use Rattle.field_lines.specs.Values.{GivesUnless, AddsUnless};
 ghost use Rattle.seat_lines.specs.Faults.{IsMemory};
@@ -14,7 +16,7 @@ use std::alloc::Global;
 pub enum Sign {
     /// The two counties are adjacent.
     Add,
-    /// They are not.
+    /// The two counties are not adjacent.
     Cut,
 }
 

@@ -1,3 +1,5 @@
+//! The adjacent pairs of listed counties, read from the Census Bureau's county adjacency file.
+
 ghost use Rattle.std.specs.Prelude.{◌≡◌, ℕ, ◌&&◌, ◌||◌, nat_lt, IfOk, OnOk, filter};
 ghost use Rattle.std.specs.Ordering.{nat_cmp};
 ghost use Rattle.std.specs.List.Sorted.{IsStrictlySortedBy};

@@ -1,3 +1,5 @@
+//! The rows of an adjacency file: each names a county and a neighbour.
+
 ghost use Rattle.std.specs.Prelude.{◌≡◌};
 ghost use Rattle.field_lines.specs.Values.{GivesUnless, AddsUnless};
 ghost use Rattle.seat_lines.specs.Faults.{IsMemory};

@@ -1,3 +1,5 @@
+//! Withdrawn sets, read from their lines: the seats of a set and the codes of its counties.
+
 ghost use Rattle.std.specs.Prelude.{◌≡◌};
 ghost use Rattle.field_lines.specs.Values.{GivesUnless, AddsUnless};
 ghost use Rattle.seat_lines.specs.Faults.{IsMemory};

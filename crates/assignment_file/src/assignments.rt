@@ -1,3 +1,5 @@
+//! The assignments of a block assignment file, read from its lines: a census block and the label of its district.
+
 ghost use Rattle.std.specs.Prelude.{◌≡◌, ◌≤◌, IfOk, OnOk, vec_len};
 ghost use Rattle.field_lines.specs.Values.{GivesUnless};
 ghost use Rattle.assignment_file.specs.Assignments.{IsMemory, AddsUnlessMemory, has_pipe, delimiter_of, is_header, assignment_on, rows_after, assignment_list};
@@ -101,9 +103,9 @@ fn read_rows(
 }
 
 /// The assignments of a text in the order of their lines, a block's GEOCODE and the label of its district on each. The
-/// text is a cut text (`Lines` of `field_lines`). A line is cut into fields at each pipe where the first line that isn't
-/// blank has one, else at each comma. That first line is a header, and dropped, where its first field isn't fifteen
-/// digits. On every other line field 1 is a block of fifteen digits, and field 2 a label.
+/// text is a cut text (`Lines` of `field_lines`). A line is cut into fields at each pipe where the first line that
+/// isn't blank has one, else at each comma. That first line is a header, and dropped, where its first field isn't
+/// fifteen digits. On every other line field 1 is a block of fifteen digits, and field 2 a label.
 ///
 /// # Errors
 ///

@@ -1,3 +1,5 @@
+//! What may be wrong with an assignment file, and on which line.
+
 use field_lines::LineFault;
 use thiserror::Error;
 
@@ -24,8 +26,8 @@ pub enum AssignmentKind {
     Memory,
 }
 
-/// Why an assignment file gives nothing. The line counts from 1, with blank lines counted; for `Lower` it is that of the
-/// line fault, and for `Memory` it is left open.
+/// Why an assignment file gives nothing. The line counts from 1, with blank lines counted; for `Lower` it is that of
+/// the line fault, and for `Memory` it is left open.
 #[derive(Clone, Copy, Debug, PartialEq, Eq, Error)]
 #[error("line {line}: {kind}")]
 pub struct AssignmentFault {

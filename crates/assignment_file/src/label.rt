@@ -1,3 +1,5 @@
+//! Labels of districts: at most 32 printed bytes, compared byte by byte.
+
 ghost use Rattle.std.specs.Prelude.{◌≡◌, IfOk};
 ghost use Rattle.assignment_file.specs.Labels.{is_printable, is_label, label_of, assigns};
 

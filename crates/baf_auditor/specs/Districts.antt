@@ -20,7 +20,7 @@ Given = (List ℕ × ℕ) × ℕ
 abbrev pub with_people : List ℕ → List ℕ → ℕ → Option ℕ → Option ℕ
 with_people label own people before = if bytes_eq own label then Some (unwrap_or before 0 + people) else before
 
--- and after further blocks
+-- the people of the district of a label after further blocks of districts
 abbrev pub people_after : List ℕ → Option ℕ → List Given → Option ℕ
 people_after label before [] = before
 people_after label before (e ∷ es) = people_after label (with_people label e.0.0 e.1 before) es
@@ -48,7 +48,7 @@ shows drawn key own = is_place (place_of drawn (county_of own.1)) key.1 && bytes
 abbrev pub after_shown : List DrawnSet → List ℕ × ℕ → Option (Unit {0}) → List ℕ × ℕ → Option (Unit {0})
 after_shown drawn key before own = if shows drawn key own then Some tt else before
 
--- and after further blocks
+-- whether a district stands in a set, after further blocks of districts
 abbrev pub stands_after : List DrawnSet → List ℕ × ℕ → Option (Unit {0}) → List (List ℕ × ℕ) → Option (Unit {0})
 stands_after drawn key before [] = before
 stands_after drawn key before (own ∷ more) = stands_after drawn key (after_shown drawn key before own) more
@@ -87,7 +87,7 @@ districts_at place keys = total (λ k. digit (k.1 == place)) keys
 abbrev pub number_finding : Set → ℕ → ℕ → List Finding
 number_finding name seats districts = if districts == seats then [] else WrongNumber name seats districts ∷ []
 
--- those of sets, the first of which has this place
+-- the findings of sets with another number of districts than seats, where the first set has this place
 abbrev pub numbers_from : List (List ℕ × ℕ) → ℕ → List DrawnSet → List Finding
 numbers_from keys place [] = []
 numbers_from keys place (d ∷ ds) = number_finding d.name d.seats (districts_at place keys) ++ numbers_from keys (place + 1) ds

@@ -21,6 +21,6 @@ gives key line = assigns line.label && (bytes_eq line.label key.0 && line.block 
 abbrev pub giving : (ℕ → Option ℕ) → List Assignment → List ℕ × ℕ → Option ℕ
 giving listed lines key = if list_any (gives key) lines then listed key.1 else None
 
--- and after a further line
+-- the people of a listed block that lines give to a district, after a further line
 abbrev pub after_given : (ℕ → Option ℕ) → List ℕ × ℕ → Option ℕ → Assignment → Option ℕ
 after_given listed key before line = if gives key line then option_or (listed key.1) before else before

@@ -23,7 +23,7 @@ people_in_set drawn block = if is_some (place_of drawn (county_of block.code)) t
 abbrev pub after_block : List DrawnSet → ℕ → Option ℕ → Block → Option ℕ
 after_block drawn code before block = if block.code == code then option_or (people_in_set drawn block) before else before
 
--- and after further blocks
+-- the people of the block of a code after further blocks
 abbrev pub after_blocks : List DrawnSet → ℕ → Option ℕ → List Block → Option ℕ
 after_blocks drawn code before [] = before
 after_blocks drawn code before (b ∷ bs) = after_blocks drawn code (after_block drawn code before b) bs

@@ -1,3 +1,5 @@
+//! The audit of a plan over a problem and a grouping: all findings, in their order.
+
 ghost use Rattle.std.specs.Prelude.{◌≡◌, ◌≢◌, ◌<◌, ◌≤◌, ◌↔◌, [], ◌∷◌, length, map, All, IfOk, OnOk, MatchOption};
 ghost use Rattle.std.specs.List.Sorted.{IsStrictlyIncreasing};
 ghost use Rattle.std.specs.BTreeMap.{btree_map_len, keys};
@@ -93,9 +95,9 @@ fn only_finding(alloc: Global, fault: GroupingFault) -> Result<Findings, AllocEr
 }
 
 /// All that is wrong with a plan's assignments, by kind and then by block, set or label. The sets are the groups in the
-/// grouping's order and then the withdrawn sets; a block stands in the set that has its county, and one whose county is in
-/// no set counts as not listed. A district is a label that some line gives to a listed block, and its people are those of
-/// its listed blocks, each once. A grouping that isn't lawful is the only finding.
+/// grouping's order and then the withdrawn sets; a block stands in the set that has its county, and one whose county is
+/// in no set counts as not listed. A district is a label that some line gives to a listed block, and its people are
+/// those of its listed blocks, each once. A grouping that isn't lawful is the only finding.
 ///
 /// The blocks ascend by code, as `read_blocks` gives them, and there are at most 4,000,000 assignments, as
 /// `read_assignments` gives them.

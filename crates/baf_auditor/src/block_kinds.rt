@@ -1,3 +1,5 @@
+//! Census blocks at fault by themselves: unlisted ones, those that two lines name, and unassigned ones with people.
+
 ghost use Rattle.std.specs.Prelude.{◌≡◌, ◌<◌, ℕ, IfOk, All, is_none, nat_lt, ◌&&◌, not, map};
 ghost use Rattle.std.specs.List.{filter_map};
 ghost use Rattle.std.specs.List.Sorted.{IsStrictlyIncreasing, IsStrictlySortedBy};

@@ -1,3 +1,5 @@
+//! The findings of single census blocks, by kind and code.
+
 ghost use Rattle.std.specs.Prelude.{◌≡◌, ◌++◌, OnOk, map};
 ghost use Rattle.baf_auditor.specs.Kinds.{code_finding};
 

@@ -1,3 +1,5 @@
+//! The findings of districts that have blocks in two sets of counties.
+
 ghost use Rattle.std.specs.Prelude.{◌≡◌, ◌<◌, ◌≤◌, ◌++◌, All, IfOk, OnOk};
 ghost use Rattle.baf_auditor.specs.Districts.{name_at, crossings_with, crossings};
 

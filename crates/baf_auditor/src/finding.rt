@@ -1,8 +1,10 @@
+//! The kinds of findings, and the sets of counties that they name.
+
 use assignment_file::Label;
 use grouping_judge::GroupingFault;
 
-/// A set of counties in which districts are drawn. Both kinds are numbered from 1; each group comes before each withdrawn
-/// set.
+/// A set of counties in which districts are drawn. Both kinds are numbered from 1; each group comes before each
+/// withdrawn set.
 #[derive(Clone, Copy, Debug, PartialEq, Eq)]
 pub enum Set {
     /// The group of this number in the grouping.

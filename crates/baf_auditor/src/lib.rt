@@ -1,4 +1,8 @@
 //! The audit of a plan's block assignments against a grouping of counties.
+//!
+//! A further kind of finding begins with a variant of `Finding` in `finding.rt` and its definition in
+//! `specs/Findings.antt`. `grouping_report` writes the line of a finding (`findings.rt`, `specs/FindingsText.antt`),
+//! and `findings.rt` of `explanations` tells a person about it.
 #![tactic(auto)]
 
 mod auditing;

@@ -1,3 +1,5 @@
+//! The listed census blocks with their people, and the set of counties in which a block lies.
+
 ghost use Rattle.std.specs.Prelude.{◌≡◌, ◌<◌, ℕ, IfOk, IfSome, OnOk, All, length};
 ghost use Rattle.std.specs.List.{position_from};
 ghost use Rattle.std.specs.Ordering.{nat_cmp};
@@ -50,7 +52,7 @@ pub(crate) fn place_of_block(problem: &Problem, grouping: &Grouping, code: u64) 
     }
 }
 
-/// Adds a block to those before, if its county is in a set.
+/// Adds a block to the listed ones, if its county is in a set.
 fn add_block(
     listed: &mut BTreeMap<u64, u32>,
     problem: &Problem,

@@ -1,3 +1,5 @@
+//! The findings of sets whose number of districts isn't their number of seats.
+
 ghost use Rattle.std.specs.Prelude.{◌≡◌, ◌<◌, ◌≤◌, ◌+◌, ◌++◌, IfOk, OnOk, length};
 ghost use Rattle.baf_auditor.specs.Findings.{groups_from, withdrawn_from};
 ghost use Rattle.baf_auditor.specs.Districts.{districts_at, number_finding, numbers_from};

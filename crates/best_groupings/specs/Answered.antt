@@ -32,8 +32,8 @@ pub record IsReady (p : Problem) (text : List ℕ) (c : CertificateHeld) (target
   pub target_is : target_of c.round.target ≡ Some (groups_in target)
   pub counts_are : (i : ℕ) → count_at wanted i ≡ counts (sets_of (groups_in target)) i
 
--- All comes of a certificate with a target and a complete tree, Open of one with a target whose tree has its first gap there. Any other
--- answer is that of the checker.
+-- All comes of a certificate with a target and a complete tree, Open of one with a target whose tree has its first gap
+-- there. Any other answer is that of the checker.
 abbrev pub IsListing : Problem → List ℕ → ℕ → Listing → Type 0
 IsListing p text budget (All list) = (c : Certificate) × SpellsTarget p text c × IsComplete c.tree p c.round (empty_state p)
 IsListing p text budget (Open gap line) = (c : Certificate) × SpellsTarget p text c × IsFirstGap c.tree p c.round (empty_state p) (first_line c.round) gap line

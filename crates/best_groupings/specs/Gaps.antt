@@ -1,4 +1,5 @@
--- Where a tree isn't complete: its first bound leaf that comes to the target's counts at a state that isn't filled, and the leaf's line.
+-- Where a tree isn't complete: its first bound leaf that comes to the target's counts at a state that isn't filled, and
+-- the leaf's line.
 use Rattle.std.specs.Prelude.{ℕ, ◌+◌, ◌≡◌, ◌≢◌, true, false, List, ◌⊎◌}
 use Rattle.grouping_laws.specs.Sets.{total}
 use Rattle.grouping_laws.specs.Problem.{Problem}
@@ -13,7 +14,8 @@ use Rattle.complete_lists.specs.Complete.{IsComplete, EachIsComplete}
 use Rattle.best_groupings.specs.declared.gap.Gap.{Gap}
 use Rattle.best_groupings.specs.declared.gap.Gap.TheVariants.{CountiesLeft, SeatsOff}
 
--- the state isn't filled: a county is left; or none is, and no seats suit the closed groups and add up to the seats left
+-- the state isn't filled: a county is left; or none is, and no seats suit the closed groups and add up to the seats
+-- left
 abbrev pub IsGap : Problem → State → Gap → Type 0
 IsGap p s CountiesLeft = (c : ℕ) × (s.rest c ≡ true)
 IsGap p s SeatsOff = ((c : ℕ) → s.rest c ≡ false) × ((ks : List ℕ) → SuitAll p s.closed ks → total (λ k. k) ks ≢ p.seats_left)
@@ -24,7 +26,8 @@ IsLeafGap (stuck county) p round s gap = ⊥
 IsLeafGap seats p round s gap = ⊥
 IsLeafGap (bound lines) p round s gap = (falls_short p s (wanted round.target) 1 0 lines ≡ false) × IsGap p s gap
 
--- The first such leaf of a tree whose lines begin at this one, and the leaf's first line: what stands before it is complete.
+-- The first gap of a tree whose lines begin at this one: the first bound leaf that comes to the target's counts where
+-- the state isn't filled, and the leaf's first line. What stands before the leaf is complete.
 abbrev mutual
   pub IsFirstGap : Tree → Problem → Round → State → (line : ℕ) → Gap → (at : ℕ) → Type 0
   IsFirstGap (leaf l) p round s line gap at = IsLeafGap l p round s gap × (at ≡ line)
@@ -38,6 +41,7 @@ abbrev mutual
       IsFirstGap tree p round (close codes s) (line + 1) gap at
       ⊎ (IsComplete tree p round (close codes s) × IsFirstGapIn others p round s (line + 1 + tree_lines tree) gap at)
 
--- the line of a certificate on which its tree begins: head, allowance if one is named, order, limit and target stand before it
+-- the line of a certificate on which its tree begins: head, allowance if one is named, order, limit and target stand
+-- before it
 abbrev pub first_line : Round → ℕ
 first_line round = window_line round.window + 4 + group_lines round.target

@@ -19,7 +19,7 @@ pub record IsInOrder (g : Grouping) : Type 0 where
   pub codes : All (λ x. IsStrictlyIncreasing x) (sets_of g)
   pub groups : AllPairs IsLesserSet (sets_of g)
 
--- and so do the groupings, by their lists of groups
+-- each grouping is in order, and the groupings ascend by their lists of groups
 pub record AreInOrder (list : List Grouping) : Type 0 where
   pub each : All IsInOrder list
   pub groupings : AllPairs (λ g h. IsLesserList (sets_of g) (sets_of h)) list

@@ -1,4 +1,4 @@
--- What listings and first gaps keep to.
+-- Laws of listings and of first gaps.
 use Rattle.std.specs.Prelude.{ℕ, ◌≡◌, List, map}
 use Rattle.grouping_laws.specs.Problem.{Problem}
 use Rattle.grouping_laws.specs.Grouping.{Grouping, sets_of}
@@ -17,9 +17,9 @@ ListsAgree = (p : Problem) (xs ys : List Grouping) → AreAllBest p xs → AreAl
 
 -- A tree is complete, or it has one first gap.
 pub record GapsTell : Type 0 where
-  -- a complete tree has none
+  -- a complete tree has no first gap
   pub none : (tree : Tree) (p : Problem) (round : Round) (s : State) (line : ℕ) (gap : Gap) (at : ℕ) → IsComplete tree p round s → ¬ IsFirstGap tree p round s line gap at
-  -- two are the same
+  -- two first gaps of a tree are the same
   pub one : (tree : Tree) (p : Problem) (round : Round) (s : State) (line : ℕ) (gap other : Gap) (at there : ℕ) → IsFirstGap tree p round s line gap at → IsFirstGap tree p round s line other there → (gap ≡ other) × (at ≡ there)
-  -- it can't be that a tree has none and isn't complete
+  -- it can't be that a tree has no first gap and isn't complete
   pub some : (tree : Tree) (p : Problem) (round : Round) (s : State) (line : ℕ) → ((gap : Gap) (at : ℕ) → ¬ IsFirstGap tree p round s line gap at) → (IsComplete tree p round s → ⊥) → ⊥

@@ -38,7 +38,8 @@ pub record HasAdded (p : Problem) (lists : List (List (List ℕ))) (old new : Li
   pub sets : HaveSets p (map groups_in more) lists
   pub in_order : All (λ g. IsInOrder (groups_in g)) more
 
--- A part of so many lines was gone through: it is complete, and its ends were added. Or the walk stopped at its first gap.
+-- A part of so many lines was gone through: it is complete, and its ends were added. Or the walk stopped at its first
+-- gap.
 abbrev pub HasWalked : Problem → (Complete : Type 0) → (Gaps : Gap → ℕ → Type 0) → (lists : List (List (List ℕ))) → (lines : ℕ) → Found → Result (Unit {0}) Stop → Found → Type 0
 HasWalked p Complete Gaps lists lines old (Ok done) new = Complete × (new.line ≡ old.line + lines) × HasAdded p lists old.list.items new.list.items
 HasWalked p Complete Gaps lists lines old (Err (stop.Open gap at)) new = Gaps gap at

@@ -84,12 +84,13 @@ fn read_listing(
 
 /// What the text of a certificate, plain or wide, says of all best groupings of the problem.
 ///
-/// `All` lists them: each grouping is best, no two have the same sets of counties, and each best grouping has the sets of
-/// one that is listed. The codes of a group ascend, the groups of a grouping stand by size and then by codes, and the groupings
-/// by their lists of groups, the lesser first. The seats of a grouping are those of `allot` over its groups in their order.
-/// `Open` says that the target is best, but that the certificate doesn't show which other groupings are: a bound leaf that doesn't
-/// fall short of the target's counts stands where a county is left or where no seats add up. It gives the first such leaf with its line,
-/// from 1. `Impossible`, `No` and `Budget` are what `check` answers with the same budget.
+/// `All` lists them: each grouping is best, no two have the same sets of counties, and each best grouping has the sets
+/// of one that is listed. The codes of a group ascend, the groups of a grouping stand by size and then by codes, and
+/// the groupings by their lists of groups, the lesser first. The seats of a grouping are those of `allot` over its
+/// groups in their order. `Open` says that the target is best, but that the certificate doesn't show which other
+/// groupings are: a bound leaf that doesn't fall short of the target's counts stands where a county is left or where no
+/// seats add up. It gives the first such leaf with its line, from 1. `Impossible`, `No` and `Budget` are what `check`
+/// answers with the same budget.
 ///
 /// # Errors
 ///

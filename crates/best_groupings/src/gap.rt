@@ -1,3 +1,5 @@
+//! Why a certificate doesn't show all best groupings at one of its leaves.
+
 /// Why a bound leaf that doesn't fall short of the target's counts is no best grouping by itself.
 #[derive(Clone, Copy, Debug, PartialEq, Eq)]
 pub enum Gap {

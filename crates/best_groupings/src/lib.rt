@@ -10,9 +10,9 @@
 //! }
 //! ```
 //!
-//! `all_best` asks `check` first, and reads the certificate. `walk` goes through its tree once, from `position` to `position`: at each
-//! bound leaf that doesn't fall short (`shortfall`) it seats the closed groups (`seating`) and finds a grouping, or stops at the first
-//! gap. `sorting` puts groups and groupings in order.
+//! `all_best` asks `check` first, and reads the certificate. `walk` goes through its tree once, from `position` to
+//! `position`: at each bound leaf that doesn't fall short (`shortfall`) it seats the closed groups (`seating`) and
+//! finds a grouping, or stops at the first gap. `sorting` puts groups and groupings in order.
 #![tactic(auto)]
 
 mod answering;

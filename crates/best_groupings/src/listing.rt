@@ -1,3 +1,5 @@
+//! What a text says of all best groupings of a problem: the list, or why there is none.
+
 use crate::gap::Gap;
 use certificate_checker::CheckFault;
 use county_codes::Grouping;

@@ -82,8 +82,8 @@ fn gives_fewer(position: &Position, wanted: &Counts, line: &Allowance, size: u16
     u64::from(wanted.of(size)).saturating_sub(closed) > allowed
 }
 
-/// Whether a valid bound leaf falls short of the target's counts: if it has fewer lines than the limit, or its last line gives
-/// fewer groups than the target has.
+/// Whether a valid bound leaf falls short of the target's counts: if it has fewer lines than the limit, or its last
+/// line gives fewer groups than the target has.
 pub(crate) fn falls_short(
     position: &Position,
     wanted: &Counts,

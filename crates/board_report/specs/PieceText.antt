@@ -16,7 +16,7 @@ event_in round number (Wider g) = Some (wider round)
 event_in round number (Open (Some split)) = Some (split_piece round number split.county split.limit)
 event_in round number (Open None) = None
 
--- its text, or that the piece stays open
+-- the text of an event, or `open` if there is none
 abbrev pub told : Option Event → List ℕ
 told (Some event) = text_of_event event
 told None = codes "open\n"

@@ -7,12 +7,12 @@ use Rattle.grouping_laws.specs.GroupsFrom.{IsOrder}
 use Rattle.proof_trees.specs.Round.{Language, Round}
 use Rattle.share_board.specs.Rounds.{first_round}
 
--- the order has each county of the problem once, by ascending codes; no round but one is so
+-- the first round of a board, of which there is one: its order has each county of the problem once, by ascending codes
 pub record IsFirstRound (p : Problem) (target : Grouping) (limit : ℕ) (language : Language) (round : Round) : Type 0 where
   pub order : IsOrder p round.order
   pub ascending : IsStrictlyIncreasing round.order
   pub is : round ≡ first_round p target round.order limit language
 
--- the round of a problem whose counties are listed so
+-- the first round of a problem whose counties are listed by ascending codes
 abbrev pub round_by_code : Problem → Grouping → ℕ → Language → Round
 round_by_code p target limit language = first_round p target p.counties limit language

@@ -29,7 +29,7 @@ open_lines Wide number found = flat_map (open_line number) found
 abbrev pub left_lines : Language → ℕ → List ℕ → List ℕ
 left_lines language number found = codes "left " ++ decimal (length found) ++ codes "\n" ++ open_lines language number found
 
--- the last lines: that no piece waits, or these
+-- the last lines: `joined` if no piece waits, and else how many pieces wait, and which
 abbrev pub end_lines : Content → List ℕ → List ℕ
 end_lines b [] = codes "joined\n"
 end_lines b (piece ∷ found) = left_lines b.round.language b.number (piece ∷ found)
@@ -44,13 +44,13 @@ pub record IsJoined (p : Problem) (b : Content) (text : List ℕ) : Type 0 where
   pub target_is : b.round.target ≡ Some target
   pub best : IsBest p target
 
--- there is a text exactly where no piece waits
+-- the text of a certificate is there exactly where no piece waits
 abbrev pub AreJoined : Problem → Content → List ℕ → Option (List ℕ) → Type 0
 AreJoined p b [] (Some text) = IsJoined p b text
 AreJoined p b (piece ∷ found) None = joined b.skeleton ≡ None
 AreJoined p b found text = ⊥
 
--- what stands behind the text of the replies, and beside it
+-- the end of the text stands behind the lines of the replies, beside how many pieces wait and the certificate
 pub record IsEnded (p : Problem) (b : Content) (before : List ℕ) (shared : Shared) : Type 0 where
   pub found : List ℕ
   pub found_are : AreOpen b.skeleton found

@@ -36,10 +36,10 @@ pub record HasTaken {C : Type 0} (test : C → ℕ → Bool) (before : Board C) 
   pub takes : Takes (problem_of before.problem) before.depth before.budget b events replies last
   pub is : IsOf test board last
 
--- and a text has the line of each reply, behind what stood there
+-- a board stands for the content after events, and a text has the line of each reply behind the bytes that it had
 abbrev pub HasTold : {C : Type 0} → (C → ℕ → Bool) → Board C → Content → List Event → Board C → List ℕ → List ℕ → Type 0
 HasTold test before b events board old new = (taken : HasTaken test before b events board) × (new ≡ old ++ flat_map reply_line taken.replies)
 
--- or memory was refused to none
+-- a board stands for the content after events, and memory was refused to none of them
 abbrev pub HasHeard : {C : Type 0} → (C → ℕ → Bool) → Board C → Content → List Event → Board C → Type 0
 HasHeard test before b events board = (taken : HasTaken test before b events board) × NoneRefused taken.replies

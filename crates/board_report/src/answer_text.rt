@@ -50,8 +50,8 @@ fn event_lines(
     }
 }
 
-/// What is printed of the answer of a desk, for a round of this number: the text of the event that gives the answer to a board, or
-/// `open` if no branch is proposed.
+/// What is printed of the answer of a desk, for a round of this number: the text of the event that gives the answer to
+/// a board, or `open` if no branch is proposed.
 ///
 /// # Errors
 ///

@@ -5,8 +5,8 @@
 //! let answer = prove_waiting(alloc, &problem, &grouping, shape, events, 3, 100_000)?;
 //! ```
 //!
-//! The definitions stand in `specs/`: `Rounds` (the first round of such a board), `Taking` (events in turn), `Shared`, `Proved` and
-//! `PieceText` (what is said). A board's order is that of ascending codes.
+//! The definitions stand in `specs/`: `Rounds` (the first round of such a board), `Taking` (events in turn), `Shared`,
+//! `Proved` and `PieceText` (what is said). A board's order is that of ascending codes.
 #![tactic(auto)]
 
 mod answer_text;

@@ -94,8 +94,8 @@ fn prove_over<C: CountySet>(
     Ok(answer_at(alloc, problem, &board, number, steps)?)
 }
 
-/// What a desk answers of the piece of this number, with so many steps, once a board has taken the events in turn: none, if that piece
-/// doesn't wait.
+/// What a desk answers of the piece of this number, with so many steps, once a board has taken the events in turn:
+/// none, if that piece doesn't wait.
 ///
 /// The board's first target is the grouping, and its order is that of ascending codes. One event may cost 10,000,000.
 ///

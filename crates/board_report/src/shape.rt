@@ -1,3 +1,5 @@
+//! The language, the limit and the depth of a board's first round.
+
 use proof_trees::Language;
 
 /// How the first round of a board is.

@@ -42,10 +42,11 @@ fn share_over<C: CountySet>(
     Ok(ended(alloc, &board, text)?)
 }
 
-/// What a board comes to by a list of events: the text of its replies and of how it stands then, and the certificate, if no piece waits.
+/// What a board comes to by a list of events: the text of its replies and of how it stands then, and the certificate,
+/// if no piece waits.
 ///
-/// The board's first target is the grouping, its order is that of ascending codes, and one event may cost so much. If memory is refused
-/// to an event, its reply says so, and the next event follows.
+/// The board's first target is the grouping, its order is that of ascending codes, and one event may cost so much. If
+/// memory is refused to an event, its reply says so, and the next event follows.
 ///
 /// # Errors
 ///

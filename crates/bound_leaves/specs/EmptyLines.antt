@@ -5,22 +5,23 @@ use Rattle.proof_trees.specs.Regions.{listed}
 use Rattle.proof_trees.specs.State.{State, open_to}
 use Rattle.proof_trees.specs.Tree.{Allowance, room, weigh, Leaf, bound}
 
--- `room` where fewer than i counties are open to groups of i, else `weigh 1` without weights
+-- the line for a size i without a group that fits: `room` where fewer than i counties are open to groups of i, else
+-- `weigh 1` without weights
 abbrev pub IsEmptyLine : Problem → State → ℕ → Allowance → Type 0
 IsEmptyLine p s i room = length (listed p (open_to s i)) < i
 IsEmptyLine p s i (weigh quota weights) = (quota ≡ 1) × (weights ≡ [])
 
--- such lines for sizes i, i + 1 and so on
+-- lines of sizes without a group that fits, for i, i + 1 and so on
 abbrev pub AreEmptyFrom : Problem → State → ℕ → List Allowance → Type 0
 AreEmptyFrom p s i [] = ⊤
 AreEmptyFrom p s i (line ∷ lines) = IsEmptyLine p s i line × AreEmptyFrom p s (i + 1) lines
 
--- such lines for the sizes from 1 through n
+-- lines of sizes without a group that fits, from 1 through n
 pub record AreEmptyThrough (p : Problem) (s : State) (n : ℕ) (lines : List Allowance) : Type 0 where
   pub number : length lines ≡ n
   pub empty : AreEmptyFrom p s 1 lines
 
--- a bound leaf of such lines for the sizes from 1 below one, and then this line for that size
+-- a bound leaf: for the sizes below this one lines without a group that fits, and for this size the given line
 pub record EndsWith (p : Problem) (s : State) (size : ℕ) (last : Allowance) (leaf : Leaf) : Type 0 where
   pub lines : List Allowance
   pub number : length lines + 1 ≡ size

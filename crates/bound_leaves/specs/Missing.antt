@@ -23,13 +23,14 @@ pub record DiffersAt (wanted : ℕ → ℕ) (s : State) (last size : ℕ) : Type
 abbrev pub IsMissing : Round → State → ℕ → ℕ → Type 0
 IsMissing round s size k = (1 ≤ k) × ((t : Grouping) × (round.target ≡ Some t) × IsLevel (counts (sets_of t)) s (size - 1) × (counts s.closed size + k ≡ counts (sets_of t) size))
 
--- where no group fits, a bound leaf may end at this size: fewer groups of it are closed than are wanted, or as many, and it is the limit
+-- where no group fits, a bound leaf may end at this size: fewer groups of it are closed than are wanted, or as many,
+-- and it is the limit
 pub record MayEndAt (wanted : ℕ → ℕ) (s : State) (limit size : ℕ) : Type 0 where
   pub small : size ≤ limit
   pub level : IsLevel wanted s (size - 1)
   pub last : ((1 ≤ size) × (counts s.closed size < wanted size)) ⊎ ((size ≡ limit) × IsLevel wanted s size)
 
--- the same of the round's target
+-- where no group fits, a bound leaf may end at this size by the counts of the round's target
 abbrev pub TargetEndsAt : Round → State → ℕ → Type 0
 TargetEndsAt round s size = (t : Grouping) × (round.target ≡ Some t) × MayEndAt (counts (sets_of t)) s round.limit size
 
@@ -37,7 +38,8 @@ TargetEndsAt round s size = (t : Grouping) × (round.target ≡ Some t) × MayEn
 abbrev pub StandsLevel : Round → State → Type 0
 StandsLevel round s = (t : Grouping) × (round.target ≡ Some t) × IsLevel (counts (sets_of t)) s round.limit
 
--- a line that allows fewer than k groups of i counties, where no smaller group uses a county up, and is fair; its numbers are in their ranges
+-- a line that allows fewer than k groups of i counties, where no smaller group uses a county up, and is fair; its
+-- numbers are in their ranges
 pub record AllowsFewer (language : Language) (p : Problem) (s : State) (i k : ℕ) (line : Allowance) : Type 0 where
   pub fair : IsFair language p s i (allowance_of line)
   pub fewer : allowance p s i 0 (allowance_of line) < k

@@ -20,7 +20,8 @@ weight_for value c = record { county = c; weight = value c }
 abbrev pub weights_above : (ℕ → ℕ) → List ℕ → List Weight
 weights_above value counties = map (weight_for value) (filter (λ c. nat_lt 0 (value c)) counties)
 
--- the weights of a line: those above 0 of the counties, each as the table has it for the county's place; their numbers are in their ranges
+-- the weights of a line: those above 0 of the counties, each as the table has it for the county's place; their numbers
+-- are in their ranges
 pub record AreTableWeights (order counties table : List ℕ) (weights : List Weight) : Type 0 where
   pub are : weights ≡ weights_above (placed_weight order table) counties
   pub few : length weights ≤ most_counties

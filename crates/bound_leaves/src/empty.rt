@@ -1,3 +1,5 @@
+//! Bound leaves for a state where no group of at most so many counties fits.
+
 ghost use Rattle.std.specs.Prelude.{◌≡◌, ℕ, ◌≤◌, map, length, ⊤, ◌⊎◌, IfOk, MatchOption};
 ghost use Rattle.county_codes.specs.Limits.{most_counties};
 ghost use Rattle.grouping_problem.specs.ProblemValue.{problem_of};
@@ -42,7 +44,7 @@ fn empty_line<C: CountySet>(
     })
 }
 
-/// Such lines for the sizes from 1 through the last one.
+/// The lines of a bound leaf for the sizes from 1 through the last one, where no group has any of the sizes.
 fn empty_lines<C: CountySet>(
     alloc: Global,
     ordered: &Ordered,
@@ -62,7 +64,7 @@ fn empty_lines<C: CountySet>(
     Ok(lines)
 }
 
-/// A bound leaf of such lines for the sizes below one, and then this line for that size.
+/// A bound leaf: for the sizes below this one lines without a group that fits, and for this size the given line.
 pub(crate) fn ending_leaf<C: CountySet>(
     alloc: Global,
     ordered: &Ordered,

@@ -1,10 +1,10 @@
-//! Leaves that a search by branch and bound ends a state with: a stuck or a seats leaf, and bound leaves whose lines
-//! for the sizes below the last one allow no group.
+//! Leaves that a search by branch and bound ends a state with: a stuck leaf, a seats leaf or a bound leaf. The lines of
+//! a bound leaf for the sizes below the last one allow no group.
 //!
 //! Each function tests its leaf's rule before it gives the leaf, and the leaf's numbers are in the ranges of its
-//! lines. A leaf that is given is complete; a leaf of `empty_leaf` may also stand where the closed groups have the target's
-//! counts through the limit. A state is told by the places of an order, and what is said of it by codes. Any form of
-//! sets of places serves. `specs/` has the definitions: `GivenLeaf`, `EmptyLines` and `Missing`.
+//! lines. A leaf that is given is complete; a leaf of `empty_leaf` may also stand where the closed groups have the
+//! target's counts through the limit. A state is told by the places of an order, and what is said of it by codes. Any
+//! form of sets of places serves. `specs/` has the definitions: `GivenLeaf`, `EmptyLines` and `Missing`.
 #![tactic(auto)]
 
 mod empty;

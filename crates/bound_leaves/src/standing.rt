@@ -1,3 +1,5 @@
+//! How the closed groups of a state stand against the target, size by size.
+
 ghost use Rattle.std.specs.Prelude.{◌≡◌, ◌≤◌, ⊤, length, MatchOption};
 ghost use Rattle.county_codes.specs.Limits.{most_counties};
 ghost use Rattle.grouping_laws.specs.Grouping.{counts, sets_of};

@@ -1,3 +1,5 @@
+//! The county of a stuck leaf: one in a connected part of the rest that can't be filled.
+
 ghost use Rattle.std.specs.Prelude.{◌≡◌, ℕ, true, ◌≤◌, length, IfOk, MatchOption};
 ghost use Rattle.grouping_problem.specs.ProblemValue.{problem_of};
 ghost use Rattle.ordered_counties.specs.OrderedValue.{problem_at};

@@ -1,3 +1,5 @@
+//! Bound leaves that end with `weigh`: the weights of the open counties allow too few groups.
+
 ghost use Rattle.std.specs.Prelude.{◌≡◌, ℕ, true, cond, ◌<◌, ◌≤◌, List, length, get_or, All, ⊤, IfOk, MatchOption};
 ghost use Rattle.county_codes.specs.Limits.{most_counties};
 ghost use Rattle.grouping_laws.specs.Sets.{total};
@@ -155,8 +157,8 @@ fn weighed_line<C: CountySet>(
 
 /// A bound leaf that ends with `weigh` at a size, in counties, below which no group fits: by the weights of the
 /// counties that are open to it, with what the lightest of the groups weighs as quota, fewer groups share them than
-/// are wanted. `None` where as many may, where a group weighs nothing, and where `wanted_more` says none. The leaf falls
-/// short, so it is complete.
+/// are wanted. `None` where as many may, where a group weighs nothing, and where `wanted_more` says none. The leaf
+/// falls short, so it is complete.
 ///
 /// The groups are candidates of the size, among them all that fit. There is a weight for each place of the order, at
 /// most 1,000,000. An error comes where memory was refused.

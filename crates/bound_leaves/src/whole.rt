@@ -1,3 +1,5 @@
+//! Leaves on a state as a whole: a stuck leaf, or the seats leaf.
+
 ghost use Rattle.std.specs.Prelude.{◌≡◌, ℕ, ◌≤◌, length, ⊤, IfOk, MatchOption};
 ghost use Rattle.county_codes.specs.Limits.{most_counties};
 ghost use Rattle.grouping_problem.specs.ProblemValue.{problem_of};

@@ -1,4 +1,5 @@
--- Lists of the groups of each size that fit a state, by places, and what is known of the bound leaves of count lines that they give.
+-- Lists of the groups of each size that fit a state, by places, and the bound leaves of count lines that the lists
+-- give.
 use Rattle.std.specs.Prelude.{ℕ, ◌+◌, ◌≡◌, ◌≤◌, Bool, ◌&&◌, List, [], ◌∷◌, length, ⊤}
 use Rattle.grouping_laws.specs.Sets.{member}
 use Rattle.grouping_laws.specs.Problem.{Problem}
@@ -21,7 +22,7 @@ pub record IsListOf {C : Type 0} (test : C → ℕ → Bool) (order : List ℕ) 
   pub groups : AreGroupsOf p round s i (codes_of_sets order test sets)
   pub below : AreBelow (length order) test sets
 
--- such lists for sizes i, i + 1 and so on
+-- for the sizes i, i + 1 and so on, the groups of each size that fit, as sets of places of the order
 abbrev pub AreListsFrom : {C : Type 0} → (C → ℕ → Bool) → List ℕ → Problem → Round → State → ℕ → List (List C) → Type 0
 AreListsFrom test order p round s i [] = ⊤
 AreListsFrom test order p round s i (sets ∷ lists) = IsListOf test order p round s i sets × AreListsFrom test order p round s (i + 1) lists
@@ -31,7 +32,7 @@ abbrev pub BoundBy : Problem → Round → State → (ℕ → ℕ) → ℕ → T
 BoundBy p round s wanted count =
     (lines : List Allowance) → length lines ≡ count → AreCountLines round.language p s 1 lines → Bounds round.language p round.limit s wanted 1 0 lines
 
--- that of no number of count lines up to one does so
+-- no bound leaf of at most so many count lines keeps below the counts that are wanted or comes to them
 abbrev pub BoundByNone : Problem → Round → State → (ℕ → ℕ) → ℕ → Type 0
 BoundByNone p round s wanted most =
     (lines : List Allowance) → length lines ≤ most → AreCountLines round.language p s 1 lines → Bounds round.language p round.limit s wanted 1 0 lines → ⊥

@@ -1,3 +1,5 @@
+//! The lines of a valid bound leaf, if count lines bound the groups of a state.
+
 ghost use Rattle.std.specs.Prelude.{◌≡◌, ℕ, ◌+◌, ◌*◌, ◌≤◌, List, map, length, IfOk, MatchOption};
 ghost use Rattle.std.specs.Vec.{vec_items};
 ghost use Rattle.county_codes.specs.Limits.{most_counties};

@@ -1,3 +1,5 @@
+//! The search for a valid leaf: a stuck leaf, the seats leaf, or a bound leaf of count lines.
+
 ghost use Rattle.std.specs.Prelude.{◌≡◌, ◌≤◌, map, length, IfOk, MatchOption};
 ghost use Rattle.std.specs.Vec.{vec_items};
 ghost use Rattle.grouping_problem.specs.ProblemValue.{problem_of};

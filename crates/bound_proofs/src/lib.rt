@@ -1,6 +1,6 @@
-//! Leaves that are valid at a state of a proof tree, found: a part that is stuck, seats that don't add up, or count
-//! lines that bound the groups of each size. A state is told by the places of an order, and what is said of it by
-//! codes. Any form of sets of places serves.
+//! The search for a leaf that is valid at a state of a proof tree: a stuck leaf, a seats leaf, or count lines. Count
+//! lines bound the groups of each size. A state is told by the places of an order, and what is said of it by codes. Any
+//! form of sets of places serves.
 #![tactic(auto)]
 
 mod bound;

@@ -1,3 +1,5 @@
+//! Count lines: the quota is the size of a group, and each county of a group that fits has weight 1.
+
 ghost use Rattle.std.specs.Prelude.{◌≡◌, ℕ, ◌≤◌, map, length, IfOk};
 ghost use Rattle.std.specs.Vec.{vec_items};
 ghost use Rattle.std.specs.List.{list_any};

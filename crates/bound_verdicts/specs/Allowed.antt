@@ -18,7 +18,8 @@ abbrev pub IsSpelled : AllowanceHeld → Type 0
 IsSpelled Room = ⊤
 IsSpelled (Weigh quota weights) = (1 ≤ quota) × (ascend weights ≡ true)
 
--- the line is fair, and what it allows is fewer groups than the target has, or as many, where so many counties are used up from now on
+-- the line is fair, and what it allows is fewer groups than the target has, or as many, where so many counties are used
+-- up from now on
 abbrev pub IsAllowed : Language → Problem → State → (ℕ → ℕ) → ℕ → ℕ → Allowance → Allowed → Type 0
 IsAllowed language p s wanted i used line Loss = IsFair language p s i line × IsLoss p s wanted i used line
 IsAllowed language p s wanted i used line (Even now) = IsFair language p s i line × IsEven p s wanted i used line × (now ≡ used + i * allowance p s i used line) × (now ≤ most_counties)

@@ -1,3 +1,5 @@
+//! The verdict on a line of a bound leaf: how many groups of one size the line allows.
+
 ghost use Rattle.std.specs.Prelude.{◌≡◌, ℕ, ◌+◌, ◌-◌, ◌*◌, ◌/◌, ◌<◌, ◌≤◌, min, length, IfOk, IsErrOf, MatchResult};
 ghost use Rattle.county_codes.specs.Limits.{most_counties};
 ghost use Rattle.grouping_laws.specs.Grouping.{counts};

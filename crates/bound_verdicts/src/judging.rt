@@ -1,3 +1,5 @@
+//! The verdict on the weights of a line: each group of the size that fits must weigh the quota.
+
 ghost use Rattle.std.specs.Prelude.{◌≡◌, ℕ, ◌+◌, ◌<◌, ◌≤◌, true, map, length, IfOk, IfErr, IsErrOf, ◌⊎◌, MatchResult};
 ghost use Rattle.grouping_laws.specs.Sets.{total};
 ghost use Rattle.grouping_problem.specs.ProblemValue.{problem_of};

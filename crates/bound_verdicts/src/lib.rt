@@ -1,6 +1,6 @@
-//! What a line of a bound leaf is worth at a state: how many groups it allows against the target's, or its fault; and
-//! what any bound goes by, the room for groups of a size and the closed ones of that size. Any form of sets of places
-//! serves.
+//! What a line of a bound leaf is worth at a state: how many groups it allows against the target's, or its fault. Any
+//! bound goes by the room for groups of a size and by the closed groups of that size, which are counted here. Any form
+//! of sets of places serves.
 #![tactic(auto)]
 
 mod bound;

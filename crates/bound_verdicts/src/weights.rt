@@ -1,3 +1,5 @@
+//! The weights of a line, by county: whether a text may spell them, and what each county weighs.
+
 ghost use Rattle.std.specs.Prelude.{◌≡◌, ◌≤◌, true, map, IfOk, IsTrue, ◌↔◌};
 ghost use Rattle.std.specs.List.{list_all};
 ghost use Rattle.grouping_laws.specs.Sets.{member};

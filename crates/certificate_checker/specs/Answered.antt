@@ -42,8 +42,8 @@ abbrev pub ShowsImpossible : Problem → Verdict → Type 0
 ShowsImpossible p Impossible = IsImpossible p
 ShowsImpossible p _ = ⊤
 
--- What was read of items comes to an answer, or was refused: whatever text the source may give in the end, it might give it
--- before, and where its items are those of a certificate's text the answer is the verdict on this.
+-- What was read of items comes to an answer, or was refused: whatever text the source may give in the end, it might
+-- give it before, and where its items are those of a certificate's text the answer is the verdict on this.
 pub record ChecksItems (p : Problem) (left : ItemsLeft) (before : List ℕ) (budget : ℕ) (result : Result Verdict AllocError) (after : List ℕ) : Type 0 where
   pub ended : Bool
   pub answers : (all : List ℕ) → Foresees ended after all → Foresees left.ended before all × ((text : List ℕ) → course_by left before all ≡ certificate_course text → IfOk result (IsAnswer p text budget))

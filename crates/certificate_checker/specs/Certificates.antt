@@ -25,7 +25,8 @@ use Rattle.certificate_checker.specs.Feeding.{FeedValue}
 use Rattle.certificate_checker.specs.declared.feed.Stop.{Stop}
 use Rattle.certificate_checker.specs.declared.feed.Stop.TheVariants as stop
 
--- All of these items were read, a step for each, up to the rest behind them, and gave this; or no step was left for one of them.
+-- All of these items were read, a step for each, up to the rest behind them, and gave this; or no step was left for one
+-- of them.
 abbrev pub AreTaken : {X : Type 0} → (X → Type 0) → List Item → List Item → FeedValue → Result X Stop → FeedValue → Type 0
 AreTaken Gave xs rest old (Ok x) new = Gave x × (new.course.items ≡ rest) × (new.line ≡ old.line + length xs) × (new.used ≡ old.used + length xs)
 AreTaken Gave xs rest old (Err stop.Budget) new = old.limit < old.used + length xs
@@ -65,8 +66,8 @@ AreCounts (Some target) (Some list) = (i : ℕ) → count_at list i ≡ counts (
 abbrev pub FirstLooks : Problem → Round → Tree → ℕ → Type 0
 FirstLooks p round tree n = Where (HasWindow p round.window × IsOrder p round.order × IsLargeEnough round.limit round.target × IsLawfulTarget p round.target) (TreeLooks tree p round (empty_state p)) n
 
--- Behind allowance, order, limit and target a tree was judged, up to the rest behind it; or the judging stopped at the first fault, or where the limit of
--- steps is not enough.
+-- Behind allowance, order, limit and target a tree was judged, up to the rest behind it; or the judging stopped at the
+-- first fault, or where the limit of steps is not enough.
 abbrev pub IsRoundJudged : Problem → Round → Tree → List Item → FeedValue → Result (Unit {0}) Stop → FeedValue → Type 0
 IsRoundJudged p round tree rest old (Ok done) new =
     (rest ≡ new.course.items)
@@ -78,8 +79,8 @@ IsRoundJudged p round tree rest old (Err stop.Refused) new = ⊤
 IsRoundJudged p round tree rest old (Err stop.Unspelled) new = ⊥
 IsRoundJudged p round tree rest old (Err (stop.Text fault)) new = ⊥
 
--- A certificate was judged to its end and its target is given; or the judging stopped at its first fault, or where the limit of steps is
--- below its cost.
+-- A certificate was judged to its end and its target is given; or the judging stopped at its first fault, or where the
+-- limit of steps is below its cost.
 abbrev pub IsCertificateJudged : Problem → Certificate → ℕ → Result (Option GroupingHeld) Stop → Type 0
 IsCertificateJudged p c limit (Ok target) = (target_of target ≡ c.round.target) × ((next : ℕ) × CertificateEnds p c.round c.tree (fine next))
 IsCertificateJudged p c limit (Err (stop.Fault fault line)) = (named : Fault) × (fault_of fault ≡ Some named) × CertificateEnds p c.round c.tree (faulty named line)

@@ -30,7 +30,7 @@ pub record FeedValue : Type 0 where
 abbrev pub feed_at : {S : Type 0} → Course → Feed S → FeedValue
 feed_at course feed = record { course = course; line = feed.line; limit = feed.steps.limit; used = feed.steps.used }
 
--- the same, by the bytes that come later from the source
+-- what is to come by the bytes that the source gives later, with the lines that were read and the steps
 pub record Stream : Type 0 where
   pub left : ItemsLeft
   pub given : List ℕ
@@ -41,7 +41,7 @@ pub record Stream : Type 0 where
 abbrev pub stream_of : {S F : Type 0} → (S → ItemsLeft) → (F → List ℕ) → Feed S → F → Stream
 stream_of left given feed from = record { left = left feed.source; given = given from; line = feed.line; limit = feed.steps.limit; used = feed.steps.used }
 
--- where the source gives this text in the end
+-- the feed where the source gives this text in the end
 abbrev pub fed_by : Stream → List ℕ → FeedValue
 fed_by s all = record { course = course_by s.left s.given all; line = s.line; limit = s.limit; used = s.used }
 
@@ -49,7 +49,7 @@ fed_by s all = record { course = course_by s.left s.given all; line = s.line; li
 abbrev pub ForEach : Stream → Stream → (FeedValue → FeedValue → Type 0) → Type 0
 ForEach old new Holds = (all : List ℕ) → Foresees new.left.ended new.given all → Holds (fed_by old all) (fed_by new all)
 
--- the same; and the source might give the text before
+-- Whatever text the source may give in the end: the source might give it before, and this holds of the two feeds.
 abbrev pub Through : Stream → Stream → (FeedValue → FeedValue → Type 0) → Type 0
 Through old new Holds = (all : List ℕ) → Foresees new.left.ended new.given all → Foresees old.left.ended old.given all × Holds (fed_by old all) (fed_by new all)
 
@@ -70,7 +70,7 @@ pub record Fed (old new : FeedValue) : Type 0 where
   pub later : old.line ≤ new.line
   pub counted : new.line + old.used ≤ new.used + old.line
 
--- the same, unless the text has a fault there or could not be read
+-- Lines were read from the one to the other, unless the text has a fault there or could not be read.
 abbrev pub IsFed : {X : Type 0} → FeedValue → Result X Stop → FeedValue → Type 0
 IsFed old (Ok x) new = Fed old new
 IsFed old (Err (stop.Fault fault line)) new = Fed old new
@@ -84,7 +84,8 @@ pub record Reaches (p : Problem) (round : Round) (old new : FeedValue) (before a
   pub ends : (end : End) → WorkEnds after p round (new.line + 1) end → WorkEnds before p round (old.line + 1) end
   pub looks : (n : ℕ) → WorkLooks before p round n → (m : ℕ) × WorkLooks after p round m × (new.used + old.line + 2 * m ≤ old.used + new.line + 2 * n)
 
--- The reading stopped in what is left, with the rest behind it: at its fault, or where the limit of steps is not enough for it.
+-- The reading stopped in what is left, with the rest behind it: at its fault, or where the limit of steps is not enough
+-- for it.
 abbrev pub Halts : Problem → Round → FeedValue → List Open → List Item → Stop → Type 0
 Halts p round old work rest (stop.Fault fault line) = (named : Fault) × (fault_of fault ≡ Some named) × WorkEnds work p round (old.line + 1) (faulty named line)
 Halts p round old work rest stop.Unspelled = ⊥
@@ -117,7 +118,8 @@ Passes old (Ok true) new = (length old.items ≡ length new.items + 1) × (new.f
 Passes old (Ok false) new = old ≡ nothing
 Passes old (Err fault) new = (IsUnread fault → ⊥) → old ≡ only_fault fault
 
--- All lines were read: the text has no fault, or this one; or there are as many lines as steps, where the end counts as one more.
+-- All lines were read: the text has no fault, or this one; or there are as many lines as steps, where the end counts as
+-- one more.
 abbrev pub IsRestRead : FeedValue → Result (Unit {0}) Stop → Type 0
 IsRestRead old (Ok done) = old.course.fault ≡ None
 IsRestRead old (Err (stop.Text fault)) = old.course.fault ≡ Some fault

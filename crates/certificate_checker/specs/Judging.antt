@@ -44,7 +44,8 @@ AreWanted None (Some list) = ⊥
 AreWanted (Some target) None = ⊥
 AreWanted (Some target) (Some list) = (i : ℕ) → count_at list.now i ≡ counts (sets_of target) i
 
--- the rows are those of the order, which is the round's, the sets have room for its places, and the counts are the target's
+-- the rows are those of the order, which is the round's, the sets have room for its places, and the counts are the
+-- target's
 pub record IsGround {C : Type 0} (places : ℕ) (test : C → ℕ → Bool) (g : Ground C) : Type 0 where
   pub fits : length g.ordered.now.order ≤ places
   pub rows : AreRows C test (problem_at g.ordered.now) (length g.ordered.now.order) g.near.now
@@ -126,7 +127,8 @@ abbrev pub IsSmall : Allowed → Type 0
 IsSmall Loss = ⊤
 IsSmall (Even now) = now ≤ most_counties
 
--- The groups of a branch are listed, whose line was read last: its takes are left then, and behind them what is raised past its limit.
+-- The groups of a branch are listed, whose line was read last: its takes are left then, and behind them what is raised
+-- past its limit.
 abbrev pub IsListed : Problem → Round → State → ℕ → Option ℕ → List (List ℕ) → FeedValue → FeedValue → Type 0
 IsListed p round s county limit groups mid new =
     (old : FeedValue) (x : Item) (takes : Takes) (raised : Tree) (more : List Open)

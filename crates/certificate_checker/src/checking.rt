@@ -40,8 +40,8 @@ fn verdict_after<F, S: ItemSource<F>>(
     }
 }
 
-/// The verdict on the text whose lines are to come. Lines that fit no certificate are met only in front of a fault of the
-/// text.
+/// The verdict on the text whose lines are to come. Lines that fit no certificate are met only in front of a fault of
+/// the text.
 fn check_source<C: CountySet, F, S: ItemSource<F> + Drop>(
     alloc: Global,
     problem: &Problem,
@@ -90,11 +90,11 @@ pub fn check_over<C: CountySet>(
 
 /// The verdict on a text that should be a certificate of the problem, plain or wide.
 ///
-/// `Best` names the target of the text: it is lawful, and no lawful grouping has a lexicographically greater list of counts by
-/// size, as *Stephenson v. Bartlett* asks. `Impossible` says that no grouping is lawful. `No` gives the first fault with its line,
-/// from 1; a fault of the text's words comes before any other. Each line that is read and each set of counties that is met counts
-/// one: `Budget` comes only where the budget is below the cost of the text, three for each of its lines and for each set of counties
-/// that its lines ask to look through.
+/// `Best` names the target of the text: it is lawful, and no lawful grouping has a lexicographically greater list of
+/// counts by size, as *Stephenson v. Bartlett* asks. `Impossible` says that no grouping is lawful. `No` gives the first
+/// fault with its line, from 1; a fault of the text's words comes before any other. Each line that is read and each set
+/// of counties that is met counts one: `Budget` comes only where the budget is below the cost of the text, three for
+/// each of its lines and for each set of counties that its lines ask to look through.
 ///
 /// # Errors
 ///
@@ -149,9 +149,10 @@ pub fn check_from_over<C: CountySet, S: Source>(
 
 /// The verdict on a text that is pulled from a source line by line, as `check` says it of a text in memory.
 ///
-/// It holds one line, and makes no value of a tree. It reads on behind a fault that it finds, up to the end of the text or to a
-/// fault of the text's words, which comes before any other. So it pulls as many lines as the budget has steps at most, also
-/// from a source that never ends. The bytes that were pulled, with whatever may come later, have the verdict that is answered.
+/// It holds one line, and makes no value of a tree. It reads on behind a fault that it finds, up to the end of the text
+/// or to a fault of the text's words, which comes before any other. So it pulls as many lines as the budget has steps
+/// at most, also from a source that never ends. The bytes that were pulled, with whatever may come later, have the
+/// verdict that is answered.
 ///
 /// # Errors
 ///

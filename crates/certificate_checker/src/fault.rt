@@ -1,3 +1,5 @@
+//! What may be wrong with a certificate, and why a text from a source may have no verdict.
+
 ghost use Rattle.std.specs.Prelude.{◌≡◌, Some};
 ghost use Rattle.line_verdicts.specs.LineFaults.{line_fault};
 ghost use Rattle.certificate_checker.specs.CheckFaults.{fault_of};

@@ -1,3 +1,5 @@
+//! The lines that a check reads, counted against its budget of steps.
+
 ghost use Rattle.std.specs.Prelude.{◌≡◌, ◌≤◌, IfOk};
 ghost use Rattle.certificate_lines.specs.ItemsLeft.{Through as ItemsThrough};
 ghost use Rattle.certificate_checker.specs.Feeding.{stream_of, Through, ForEach, CountsSteps, TakesStep, IsFed, TookLine, StopsAtText, Passes, IsRestRead};

@@ -1,3 +1,5 @@
+//! Each form of line, taken where a certificate must have it.
+
 ghost use Rattle.std.specs.Prelude.{◌≡◌, ◌≤◌, option_map};
 ghost use Rattle.certificate_lines.specs.Items.{taken};
 ghost use Rattle.certificate_lines.specs.declared.item.Item.TheVariants as item;

@@ -1,3 +1,5 @@
+//! What the lines of a tree are judged by: the problem, the round, and the counts of its target.
+
 use grouping_judge::Counts;
 use ordered_counties::Ordered;
 use proof_trees::Round;

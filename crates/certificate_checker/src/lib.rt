@@ -9,11 +9,11 @@
 //! }
 //! ```
 //!
-//! `checking` says the verdict of a text, `tree_checking` that of a tree. `certificate` judges order, limit and target, whose lines
-//! `rounds` reads; `tree` reads the lines of a tree one after the other and judges each at its state: branches with their takes
-//! (`branches`), and leaves (`leaves`). `feed` counts lines and steps, `forms` takes lines of one form, and `ground` is what they are
-//! judged by. It makes no value of a tree. Any form of sets of places serves, and any source of items:
-//! `check_from` pulls the text line by line.
+//! `checking` says the verdict of a text, `tree_checking` that of a tree. `certificate` judges order, limit and target,
+//! whose lines `rounds` reads; `tree` reads the lines of a tree one after the other and judges each at its state:
+//! branches with their takes (`branches`), and leaves (`leaves`). `feed` counts lines and steps, `forms` takes lines of
+//! one form, and `ground` is what they are judged by. It makes no value of a tree. Any form of sets of places serves,
+//! and any source of items: `check_from` pulls the text line by line.
 #![tactic(auto)]
 
 mod branches;

@@ -1,3 +1,5 @@
+//! The judging of a tree, line by line and from state to state.
+
 ghost use Rattle.std.specs.Prelude.{◌≡◌, ℕ, ◌≤◌, ◌∷◌, ◌++◌, List, All, length};
 ghost use Rattle.grouping_problem.specs.ProblemValue.{problem_of};
 ghost use Rattle.proof_trees.specs.RoundValue.{round_of};
@@ -70,8 +72,8 @@ fn judge_takes<C: CountySet, F, S: ItemSource<F>>(
     }
 }
 
-/// Judges the tree that begins on the next line, at a state, which is raised as its branches are passed. It goes as deep
-/// as takes nest.
+/// Judges the tree that begins on the next line, at a state, which is raised as its branches are passed. It goes as
+/// deep as takes nest.
 #[cycle(tree_judging)]
 pub(crate) fn judge_tree<C: CountySet, F, S: ItemSource<F>>(
     ground: &Ground<C>,

@@ -100,13 +100,14 @@ fn check_lines<C: CountySet>(
 
 /// The verdict on a tree that should prove a round from a state on.
 ///
-/// `Proof` comes only of proof trees. `Fault` names the first fault: that of its lines where no text spells it, else the first line
-/// that may not stand where it stands, so it comes only of trees that are no proof or have no spelling. Each line that is judged and
-/// each set of counties that is met counts one, and `Budget` comes only where the budget is below the cost of the tree, three for each
-/// of its lines and for each set of counties that they ask to look through.
+/// `Proof` comes only of proof trees. `Fault` names the first fault: that of its lines where no text spells it, else
+/// the first line that may not stand where it stands, so it comes only of trees that are no proof or have no spelling.
+/// Each line that is judged and each set of counties that is met counts one, and `Budget` comes only where the budget
+/// is below the cost of the tree, three for each of its lines and for each set of counties that they ask to look
+/// through.
 ///
-/// The order has each county of the problem once, the target, if there is one, is lawful, and the limit is at most 256 counties. The state
-/// is by places of the order.
+/// The order has each county of the problem once, the target, if there is one, is lawful, and the limit is at most 256
+/// counties. The state is by places of the order.
 ///
 /// # Errors
 ///

@@ -1,3 +1,5 @@
+//! The verdicts on the text of a certificate and on a tree.
+
 use crate::fault::CheckFault;
 use county_codes::Grouping;
 

@@ -1,3 +1,5 @@
+//! The two languages of certificates, plain and wide.
+
 /// The two languages of certificates.
 ///
 /// In a plain one the round's limit serves the whole tree, and branches stand at the first open county of the

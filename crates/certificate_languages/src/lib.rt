@@ -1,5 +1,5 @@
-//! The two languages of certificates, and how each counts the levels of a tree. They stand below the lines of a certificate and
-//! below the laws of its trees, which need nothing else of one another.
+//! The two languages of certificates, and how each counts the levels of a tree. They stand below the lines of a
+//! certificate and below the laws of its trees. Lines and laws need nothing else of one another.
 //!
 //! The definition stands in `specs/`: `Levels`.
 #![tactic(auto)]

@@ -49,8 +49,8 @@ abbrev pub whole : List Item → Option TextFault → Result (List Item) TextFau
 whole items None = Ok items
 whole items (Some fault) = Err fault
 
--- What is to come after what was read: a fault, once it was found, else what the rest has where the things on a stack are
--- wanted, whose top is its last.
+-- What is to come after what was read: a fault, once it was found, else what the rest has where the things on a stack
+-- are wanted, whose top is its last.
 abbrev pub course_left : List Wanted → Rest → Option TextFault → Course
 course_left stack rest None = course_from (reverse stack) rest.number (lines_of rest)
 course_left stack rest (Some fault) = only_fault fault
@@ -62,7 +62,7 @@ IsNextItem old (Ok (Some item)) new = old ≡ first item new
 IsNextItem old (Ok None) new = (old ≡ nothing) × (new ≡ nothing)
 IsNextItem old (Err fault) new = ((IsUnread fault → ⊥) → old ≡ only_fault fault) × (new ≡ only_fault fault)
 
--- the same of a call that doesn't keep the fault
+-- The first of what is to come is given, and what is to come then, by a call that doesn't keep the fault.
 abbrev pub IsNextLine : Course → Result (Option Item) TextFault → Course → Type 0
 IsNextLine old (Ok (Some item)) new = old ≡ first item new
 IsNextLine old (Ok None) new = (old ≡ nothing) × (new ≡ nothing)
@@ -72,8 +72,8 @@ IsNextLine old (Err fault) new = (IsUnread fault → ⊥) → old ≡ only_fault
 abbrev pub HasItem : Wanted → List ℕ → Bool → Result Item TextKind → Type 0
 HasItem wanted bytes ended given = (n : ℕ) → GivesUnless (λ kind. kind ≡ Memory) (λ item. item) given (item_on wanted (record { number = n; bytes = bytes; ended = ended }))
 
--- What is wanted after an item lies on the stack, whose top is its last, in the place of what was wanted. A fault leaves
--- the stack as it is.
+-- What is wanted after an item lies on the stack, whose top is its last, in the place of what was wanted. A fault
+-- leaves the stack as it is.
 abbrev pub IsStacked : Wanted → Result Item TextKind → List Wanted → List Wanted → Type 0
 IsStacked wanted (Ok item) below stack = reverse stack ≡ wanted_after wanted item ++ reverse below
 IsStacked wanted (Err kind) below stack = stack ≡ below

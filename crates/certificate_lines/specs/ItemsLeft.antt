@@ -57,7 +57,8 @@ pub record Foresees (ended : Bool) (given all : List ℕ) : Type 0 where
 abbrev pub course_by : ItemsLeft → List ℕ → List ℕ → Course
 course_by left given all = left.course (drop (length given) all)
 
--- Whatever text the source may give in the end: it might before, and of what was to come and what is to come this holds.
+-- Whatever text the source may give in the end: it might before, and of what was to come and what is to come this
+-- holds.
 abbrev pub Through : ItemsLeft → List ℕ → ItemsLeft → List ℕ → (Course → Course → Type 0) → Type 0
 Through old before new after Holds = (all : List ℕ) → Foresees new.ended after all → Foresees old.ended before all × Holds (course_by old before all) (course_by new after all)
 
@@ -65,7 +66,7 @@ Through old before new after Holds = (all : List ℕ) → Foresees new.ended aft
 abbrev pub IsNextOf : ItemsLeft → List ℕ → Result (Option Item) TextFault → ItemsLeft → List ℕ → Type 0
 IsNextOf old before answer new after = Through old before new after (λ a b. IsNextItem a answer b)
 
--- the same of a call that doesn't keep the fault
+-- what a call of a source of items answers that doesn't keep the fault
 abbrev pub ReadsNext : ItemsLeft → List ℕ → Result (Option Item) TextFault → ItemsLeft → List ℕ → Type 0
 ReadsNext old before answer new after = Through old before new after (λ a b. IsNextLine a answer b)
 

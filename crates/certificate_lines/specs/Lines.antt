@@ -1,4 +1,4 @@
--- What each line says, by the words on it: the first word names the form, the number of words is tested next, and then
+-- What each line says, by the words on it. The first word names the form, the number of words is tested next, and then
 -- the words are read from the left.
 use Rattle.std.specs.Prelude.{ℕ, ◌+◌, ◌*◌, ◌<◌, ◌&&◌, nat_eq, nat_lt, nat_le, Bool, true, false, List, [], ◌∷◌, length, drop, codes, Option, Some, None, Result, Ok, Err, if◌then◌else◌}
 use Rattle.std.specs.Cmp.Lexicographic.{pointwise}

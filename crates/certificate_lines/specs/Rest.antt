@@ -11,7 +11,7 @@ pub record Rest : Type 0 where
   pub number : ℕ
   pub text : List ℕ
 
--- its lines
+-- the lines of the text that is left
 abbrev pub lines_of : Rest → List RawLine
 lines_of rest = raw_lines_from rest.number rest.text
 

@@ -1,3 +1,5 @@
+//! What a line of a certificate says, and what is wanted of the next line.
+
 ghost use Rattle.std.specs.Prelude.{◌≡◌, IfOk};
 
 use crate::weights::Weights;
@@ -54,7 +56,8 @@ pub enum Opening {
 
 /// The version that a head names.
 ///
-/// A certificate of version 2 names its allowance on the second line. One of version 1 has no such line: its allowance is a twentieth.
+/// A certificate of version 2 names its allowance on the second line. One of version 1 has no such line: its allowance
+/// is a twentieth.
 #[derive(Clone, Copy, Debug, PartialEq, Eq)]
 pub enum Version {
     /// Version 1.

@@ -1,3 +1,5 @@
+//! The numbers, codes and weights that words spell, and the bytes that a line may have.
+
 ghost use Rattle.std.specs.Prelude.{◌≡◌, ◌≤◌, IfOk};
 ghost use Rattle.std.specs.List.{list_all};
 ghost use Rattle.std.specs.Char.{is_ascii_digit};

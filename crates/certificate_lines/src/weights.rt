@@ -1,3 +1,5 @@
+//! Weights of counties, as a line of a bound leaf has them.
+
 ghost use Rattle.std.specs.Prelude.{◌≡◌, IfOk};
 
 use county_codes::CountyCode;

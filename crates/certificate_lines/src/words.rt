@@ -1,3 +1,5 @@
+//! The words of a line, read one after the other.
+
 ghost use Rattle.std.specs.Prelude.{◌≡◌, ◌≤◌, ◌<◌, ◌+◌, ◌^◌, ◌==◌, ◌∷◌, length, count_by, drop, IfOk, if◌then◌else◌};
 ghost use Rattle.std.specs.Result.{result_map_both};
 ghost use Rattle.field_lines.specs.Values.{GivesUnless};

@@ -12,7 +12,7 @@ pub record IsSpelling (text : List ℕ) (c : Certificate) : Type 0 where
   pub fits : AllFit (want.Head ∷ []) (items_of_certificate c)
   pub text_is : text ≡ text_of (items_of_certificate c)
 
--- the same for a tree alone, where branches may open so many levels
+-- the text is the items of a tree alone line by line, where branches may open so many levels, and each item fits
 pub record IsTreeSpelling (language : Language) (levels : ℕ) (text : List ℕ) (t : Tree) : Type 0 where
   pub fits : AllFit (want.Tree language levels ∷ []) (items_of_tree t)
   pub text_is : text ≡ text_of (items_of_tree t)

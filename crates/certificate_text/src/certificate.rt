@@ -1,3 +1,5 @@
+//! Certificates: a round and its tree.
+
 use crate::tree::Tree;
 use proof_trees::Round;
 

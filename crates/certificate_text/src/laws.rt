@@ -33,7 +33,8 @@ pub fn certificates_have_one_text()
     ensures no_prefix { (t rest : List ℕ) (c d : Certificate) → IsSpelling t c → IsSpelling (t ++ rest) d → rest ≡ [] }
 {}
 
-/// The same of trees, for a language and a number of counties.
+/// For a language and a number of counties, a tree has one text at most, a text spells one tree at most, and no tree's
+/// text begins another's.
 pub fn trees_have_one_text()
     ensures one_text { (language : Language) (counties : ℕ) (t u : List ℕ) (tree : Tree) → IsTreeSpelling language counties t tree → IsTreeSpelling language counties u tree → t ≡ u }
     ensures one_value { (language : Language) (counties : ℕ) (t : List ℕ) (a b : Tree) → IsTreeSpelling language counties t a → IsTreeSpelling language counties t b → a ≡ b }

@@ -1,3 +1,5 @@
+//! Trees of certificates: branches, the groups that they take, and leaves.
+
 use certificate_lines::Allowance;
 use county_codes::{Codes, CountyCode};
 

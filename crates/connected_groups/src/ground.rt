@@ -1,3 +1,5 @@
+//! What the search for connected groups goes by, and where it stands.
+
 use ordered_counties::Ordered;
 
 /// What a search looks at: the problem by places, for each place the places adjacent to it, how many places

@@ -1,3 +1,5 @@
+//! The set at which a search begins, the places after it, and the most people of one of these.
+
 ghost use Rattle.std.specs.Prelude.{◌≡◌, ℕ, ◌<◌, ◌≤◌, length, IfOk};
 ghost use Rattle.connected_groups.specs.Search.{problem_at, HasMost, later, only};
 

@@ -1,3 +1,5 @@
+//! The allowance: how much of the ideal population the people of a district may miss.
+
 ghost use Rattle.std.specs.Prelude.{◌≡◌, ◌≤◌};
 ghost use Rattle.county_codes.specs.Windows.{is_window, same_window};
 

@@ -1,3 +1,5 @@
+//! Withdrawn sets: counties that were taken out beforehand, with their seats.
+
 ghost use Rattle.std.specs.Prelude.{◌≡◌, IfOk};
 
 use crate::codes::Codes;

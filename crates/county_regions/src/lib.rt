@@ -1,5 +1,5 @@
-//! Regions of places: which places are adjacent to each place, the connected part of a region around one of its
-//! places, and all of its connected parts. Any form of sets of places serves.
+//! Regions of places: the places adjacent to each place, the connected part of a region around a place, and all
+//! connected parts of a region. Any form of sets of places serves.
 #![tactic(auto)]
 
 mod lists;

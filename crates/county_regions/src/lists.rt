@@ -1,3 +1,5 @@
+//! The places of a set as a list.
+
 ghost use Rattle.std.specs.Prelude.{◌≡◌, ℕ, true, ◌<◌, ◌≤◌, IfOk};
 ghost use Rattle.place_lists.specs.PlaceSets.{places_of};
 

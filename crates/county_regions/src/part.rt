@@ -1,3 +1,5 @@
+//! The connected part of a region around one of its places.
+
 ghost use Rattle.std.specs.Prelude.{◌≡◌, ℕ, true, ◌<◌, ◌≤◌, ◌&&◌, not, length, IfOk};
 ghost use Rattle.grouping_laws.specs.Parts.{IsPart};
 ghost use Rattle.place_lists.specs.PlaceSets.{places_of};

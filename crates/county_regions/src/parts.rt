@@ -1,3 +1,5 @@
+//! All connected parts of a region.
+
 ghost use Rattle.std.specs.Prelude.{◌≡◌, ℕ, true, ◌<◌, ◌≤◌, length, map, All, IfOk};
 ghost use Rattle.grouping_laws.specs.Parts.{AreParts};
 ghost use Rattle.place_lists.specs.PlaceSets.{places_of};

@@ -1,3 +1,5 @@
+//! The rows of neighbours: for each place of an order, the places adjacent to it.
+
 ghost use Rattle.std.specs.Prelude.{◌≡◌, ℕ, ◌<◌, ◌≤◌, ◌&&◌, nat_lt, length, IfOk};
 ghost use Rattle.county_regions.specs.Rows.{problem_at, AreRows};
 

@@ -1,3 +1,5 @@
+//! The lines of the table: a header, and a line for each county.
+
 ghost use Rattle.std.specs.Prelude.{◌≡◌, ℕ, ◌≤◌, ◌++◌, IfOk, OnOk, length, map};
 ghost use Rattle.std.specs.Option.{option_copied};
 ghost use Rattle.csv.specs.Writing.{default_writer, row_text};
@@ -80,9 +82,9 @@ fn push_counties(
     Ok(())
 }
 
-/// The table of the listed counties, a comma-separated text (RFC 4180): a header, and for each county its code, its name,
-/// its people, and the label, the seats and the people of its set. The label of a group is its number from 1. The label of
-/// a withdrawn set is `W` and its number from 1. If no set has the county, its last three fields are empty.
+/// The table of the listed counties, a comma-separated text (RFC 4180): a header, and for each county its code, its
+/// name, its people, and the label, the seats and the people of its set. The label of a group is its number from 1. The
+/// label of a withdrawn set is `W` and its number from 1. If no set has the county, its last three fields are empty.
 ///
 /// The counties stand in the order in which they are given. `read_counties` gives counties by code.
 ///

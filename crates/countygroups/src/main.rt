@@ -66,7 +66,8 @@ fn run(rt: &HostRuntime, words: &[&str], out: &mut impl Sink) -> Ran {
     }
 }
 
-/// Runs the words, with the answer on standard output; tells on standard error what is amiss before it, and how it ended.
+/// Runs the words, with the answer on standard output; tells on standard error what is amiss before it, and how it
+/// ended.
 fn run_and_tell(rt: &HostRuntime, words: &[&str]) -> u8 {
     announce(rt, words);
     tell(rt, explain_before(rt, words));

@@ -26,7 +26,8 @@ pub(crate) struct Progress<'a> {
     round: Option<String>,
 }
 
-/// The numbers of groups by size, from one county on. If some group is larger than what is told, two points stand for it.
+/// The numbers of groups by size, from one county on. If some group is larger than what is told, two points stand for
+/// it.
 fn counts(alloc: Global, grouping: &Grouping) -> Result<String, AllocError> {
     let mut text = String::new(alloc);
     let mut left = grouping.groups.len();

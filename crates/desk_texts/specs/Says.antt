@@ -9,14 +9,14 @@ use Rattle.certificate_checker.specs.Answered.{IsAnswer}
 use Rattle.certificate_checker.specs.declared.verdict.Verdict.{Verdict}
 use Rattle.certificate_checker.specs.declared.verdict.Verdict.TheVariants.{Best, Impossible, No, Budget}
 
--- that the grouping is best, or that the budget is too small
+-- a verdict says that the grouping is best, or that the budget is too small
 abbrev pub SaysBest : Grouping → Verdict → Type 0
 SaysBest g (Best target) = target.groups.items ≡ g
 SaysBest g Impossible = ⊥
 SaysBest g (No fault line) = ⊥
 SaysBest g Budget = ⊤
 
--- that no grouping is lawful, or that the budget is too small
+-- a verdict says that no grouping is lawful, or that the budget is too small
 abbrev pub SaysImpossible : Verdict → Type 0
 SaysImpossible (Best target) = ⊥
 SaysImpossible Impossible = ⊤
@@ -25,7 +25,7 @@ SaysImpossible Budget = ⊤
 
 -- What the checker answers to the text of a certificate: what the certificate shows, or that the budget is too small.
 pub record CheckerAgrees : Type 0 where
-  -- with a target, that the target is best
+  -- if the certificate has a target, the answer is that the target is best
   pub best : (p : Problem) (text : List ℕ) (c : Certificate) (g : Grouping) (budget : ℕ) (verdict : Verdict) → IsSpelling text c → IsCertificate p c.round c.tree → c.round.target ≡ Some g → IsAnswer p text budget verdict → SaysBest g verdict
-  -- without one, that no grouping is lawful
+  -- if the certificate has no target, the answer is that no grouping is lawful
   pub impossible : (p : Problem) (text : List ℕ) (c : Certificate) (budget : ℕ) (verdict : Verdict) → IsSpelling text c → IsCertificate p c.round c.tree → c.round.target ≡ None → IsAnswer p text budget verdict → SaysImpossible verdict

@@ -10,8 +10,8 @@ use Rattle.certificate_lines.specs.declared.item.Wanted.{Wanted}
 use Rattle.event_text.specs.Lines.{event_on}
 use Rattle.event_text.specs.Spelled.{wanted_by}
 
--- The first fault on lines, the first of which has the number n, where these things are wanted in turn. If nothing is wanted, an event begins
--- on the next line, or the text ends.
+-- The first fault on lines, the first of which has the number n, where these things are wanted in turn. If nothing is
+-- wanted, an event begins on the next line, or the text ends.
 abbrev pub fault_from : Language → ℕ → List Wanted → ℕ → List RawLine → Option TextFault
 fault_from language counties [] n [] = None
 fault_from language counties [] n (piece ∷ pieces) = elim (by_words event_on piece) as (λ _. Option TextFault) [

@@ -22,6 +22,6 @@ pub record EventsHaveTexts : Type 0 where
   -- a text without a fault spells a list
   pub some_list : (language : Language) (counties : ℕ) (text : List ℕ) → events_fault language counties text ≡ None
       → (es : List Event) × AreSpelled language counties text es
-  -- a fault is one of its lines: no head and no end is wanted, and neither memory nor a source decides it
+  -- the fault of a text of events is one of its lines: no head and no end is wanted, and no memory or source decides it
   pub faults : (language : Language) (counties : ℕ) (text : List ℕ) (fault : TextFault) → events_fault language counties text ≡ Some fault
       → (fault.kind ≢ BadHead) × (fault.kind ≢ AfterEnd) × (fault.kind ≢ ReadFault) × (fault.kind ≢ Memory)

@@ -1,5 +1,5 @@
--- What the first line of an event says, by its words: the first word names the event, the number of words is tested next, and then the words
--- are read from the left.
+-- What the first line of an event says, by its words. The first word names the event, the number of words is tested
+-- next, and then the words are read from the left.
 use Rattle.std.specs.Prelude.{ℕ, List, drop, codes, Result, Ok, Err, if◌then◌else◌}
 use Rattle.field_lines.specs.Chain.{◌>>=◌}
 use Rattle.certificate_lines.specs.Lines.{most, begins, counted, number_at, code_at}

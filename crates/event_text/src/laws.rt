@@ -2,8 +2,9 @@
 
 ghost use Rattle.event_text.specs.Laws.{EventsHaveTexts};
 
-/// A text spells one list of events at most, and a list has one text at most. Texts behind one another spell the events of all.
-/// A text has no fault exactly where it spells a list. A fault is one of a line, never of memory or of a source.
+/// A text spells one list of events at most, and a list has one text at most. Texts behind one another spell the events
+/// of all. A text has no fault exactly where it spells a list. A fault is one of a line, never of memory or of a
+/// source.
 pub fn events_have_texts()
     ensures { EventsHaveTexts }
 {}

@@ -1,3 +1,5 @@
+//! The forms of an event's first line.
+
 use county_codes::CountyCode;
 
 /// What the first line of an event says.

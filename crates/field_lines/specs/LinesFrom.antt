@@ -8,7 +8,8 @@ use Rattle.field_lines.specs.Held.{MayCome, StaysEnded}
 use Rattle.field_lines.specs.declared.fault.LineFault.{LineFault}
 use Rattle.field_lines.specs.declared.fault.LineFault.TheVariants.{LineTooLong, TooManyLines, ReadFault, Memory}
 
--- what a reader of lines has: the bytes that it holds, whether the source has ended, the number of the next line, and its fault
+-- what a reader of lines has: the bytes that it holds, whether the source has ended, the number of the next line, and
+-- its fault
 pub record Held : Type 0 where
   pub bytes : List ℕ
   pub ended : Bool
@@ -19,8 +20,8 @@ pub record Held : Type 0 where
 abbrev pub nothing_read : Held
 nothing_read = record { bytes = []; ended = false; number = 1; fault = None }
 
--- what is left of lines that are read: their cut, by the bytes that come later; whether the source has ended; the fault that
--- was answered; and how many lines there are at most
+-- what is left of lines that are read: their cut, by the bytes that come later; whether the source has ended; the fault
+-- that was answered; and how many lines there are at most
 pub record LinesLeft : Type 0 where
   pub cut : List ℕ → Cut
   pub ended : Bool
@@ -95,7 +96,7 @@ AnswersRead None old given_before failed_before answer new given_after failed_af
 abbrev pub IsNextRead : Held → List ℕ → Bool → Result (Option (ℕ × Bor (List ℕ))) LineFault → Held → List ℕ → Bool → Type 0
 IsNextRead old given_before failed_before answer new given_after failed_after = AnswersRead old.fault old given_before failed_before answer new given_after failed_after
 
--- the same for a call of any reader of lines, where it has answered no fault so far
+-- what a call of any reader of lines answers, where the reader has answered no fault so far
 abbrev pub IsNext : LinesLeft → List ℕ → Bool → Result (Option (ℕ × Bor (List ℕ))) LineFault → LinesLeft → List ℕ → Bool → Type 0
 IsNext old given_before failed_before answer new given_after failed_after =
     old.fault ≡ None → IsNextFrom old given_before failed_before (line_answered answer) new given_after failed_after

@@ -9,8 +9,8 @@ use Rattle.field_lines.specs.declared.raw.Piece.{Piece}
 use Rattle.field_lines.specs.declared.fault.LineFault.{LineFault}
 use Rattle.field_lines.specs.declared.fault.LineFault.TheVariants.{LineTooLong, TooManyLines, ReadFault, Memory}
 
--- what is left of pieces that are read: the pieces, by the bytes that come later; whether the source has ended; the fault
--- that was answered; and how many pieces there are at most
+-- what is left of pieces that are read: the pieces, by the bytes that come later; whether the source has ended; the
+-- fault that was answered; and how many pieces there are at most
 pub record PiecesLeft : Type 0 where
   pub pieces : List ℕ → List RawLine
   pub ended : Bool
@@ -71,7 +71,7 @@ AnswersRaw None old given_before failed_before answer new given_after failed_aft
 abbrev pub IsRawRead : Held → List ℕ → Bool → Result (Option Piece) LineFault → Held → List ℕ → Bool → Type 0
 IsRawRead old given_before failed_before answer new given_after failed_after = AnswersRaw old.fault old given_before failed_before answer new given_after failed_after
 
--- the same for a call of any reader of pieces, where it has answered no fault so far
+-- what a call of any reader of pieces answers, where the reader has answered no fault so far
 abbrev pub IsNextOf : PiecesLeft → List ℕ → Bool → Result (Option Piece) LineFault → PiecesLeft → List ℕ → Bool → Type 0
 IsNextOf old given_before failed_before answer new given_after failed_after =
     old.fault ≡ None → IsNextPieceFrom old given_before failed_before answer new given_after failed_after

@@ -31,7 +31,7 @@ abbrev pub with_value : {X K : Type 0} → List X → Result X K → Result (Lis
 with_value before (Ok x) = Ok (before ++ x ∷ [])
 with_value before (Err kind) = Err kind
 
--- the value of a further line was added to those before, or it is at fault, unless memory was refused
+-- the value of a further line was added to a list, or the line is at fault, unless memory was refused
 abbrev pub AddsUnless : {X K : Type 0} → (K → Type 0) → List X → Result X K → Result (Unit {0}) K → List X → Type 0
 AddsUnless Refused before given (Ok done) after = with_value before given ≡ Ok after
 AddsUnless Refused before given (Err kind) after = (Refused kind → ⊥) → with_value before given ≡ Err kind

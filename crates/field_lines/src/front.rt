@@ -1,4 +1,5 @@
 //! The piece at the front of bytes that were pulled.
+
 ghost use Rattle.std.specs.Prelude.{◌≡◌, ◌+◌, ◌≤◌, length, take, MatchOption};
 ghost use Rattle.field_lines.specs.Front.{HasNoLf, HasLfAt};
 

@@ -1,3 +1,5 @@
+//! The lines of a cut text that is pulled from a source.
+
 ghost use Rattle.std.specs.Prelude.{◌≡◌, ◌+◌, ◌<◌, ◌≤◌, IfOk, IfErr, IfSome, length};
 ghost use Rattle.field_lines.specs.Fault.{most_lines, most_bytes, line_of_fault};
 ghost use Rattle.field_lines.specs.ReadLine.{TakesPiece, TakesLine};
@@ -114,13 +116,13 @@ impl LineReader {
         }
     }
 
-    /// The next line that isn't blank, with its number, which counts from 1, lent until the next call. `None` at the end
-    /// of the text, then and at each later call. Each call is lent the same source.
+    /// The next line that isn't blank, with its number, which counts from 1, lent until the next call. `None` at the
+    /// end of the text, then and at each later call. Each call is lent the same source.
     ///
     /// # Errors
     ///
-    /// `TooManyLines` and `LineTooLong` as `Lines` answers them; `ReadFault` where the source failed, with the line that
-    /// was being read. Each later call answers the same fault, and pulls nothing.
+    /// `TooManyLines` and `LineTooLong` as `Lines` answers them; `ReadFault` where the source failed, with the line
+    /// that was being read. Each later call answers the same fault, and pulls nothing.
     pub fn next_line<S: Source>(
         &mut self,
         source: &mut S,

@@ -1,3 +1,5 @@
+//! The lines of a cut text, either in memory or pulled from a source.
+
 ghost use Rattle.std.specs.Prelude.{ℕ, Bool, false, List, [], ◌≤◌, ◌+◌, IfOk, IfErr, IfSome, length};
 ghost use Rattle.std.specs.Borrow.{sem};
 ghost use Rattle.std.specs.Io.BufRead.{Rests};
@@ -20,8 +22,8 @@ pub trait LinesFrom<F> {
     /// The lines that are left.
     ghost left: { Self → LinesLeft };
 
-    /// The next line that isn't blank, with its number, which counts from 1, lent until the next call. `None` at the end
-    /// of the text.
+    /// The next line that isn't blank, with its number, which counts from 1, lent until the next call. `None` at the
+    /// end of the text.
     ///
     /// # Errors
     ///

@@ -1,3 +1,5 @@
+//! The numbers that fields of digits spell, and a field by its index.
+
 ghost use Rattle.std.specs.Prelude.{◌≡◌, ◌<◌, ◌≤◌, ◌^◌, true, Some, IfSome, length};
 ghost use Rattle.std.specs.List.{list_all, slice_get};
 ghost use Rattle.std.specs.Char.{is_ascii_digit};

@@ -1,3 +1,5 @@
+//! The pieces of a text, either in memory or pulled from a source.
+
 ghost use Rattle.std.specs.Prelude.{ℕ, Bool, false, List, []};
 ghost use Rattle.std.specs.Borrow.{sem};
 ghost use Rattle.std.specs.Io.BufRead.{Rests};

@@ -1,3 +1,5 @@
+//! The pieces of a text that is pulled from a source.
+
 ghost use Rattle.std.specs.Prelude.{◌≡◌};
 ghost use Rattle.field_lines.specs.ReadPiece.{raw_fault_at, TakesRaw};
 
@@ -43,8 +45,8 @@ fn take_raw<S: Source>(
     }
 }
 
-/// The pieces of a text that is pulled from a source, as `RawLines` gives them of a text in memory, where each has at most
-/// `MAX_LINE` bytes. It holds and moves bytes as `LineReader` does.
+/// The pieces of a text that is pulled from a source, as `RawLines` gives them of a text in memory, where each has at
+/// most `MAX_LINE` bytes. It holds and moves bytes as `LineReader` does.
 #[derive(Drop)]
 pub struct RawReader {
     pulled: PulledBytes,
@@ -90,13 +92,14 @@ impl RawReader {
         }
     }
 
-    /// The next piece, lent until the next call. `None` at the end of the text, then and at each later call. Each call is
-    /// lent the same source.
+    /// The next piece, lent until the next call. `None` at the end of the text, then and at each later call. Each call
+    /// is lent the same source.
     ///
     /// # Errors
     ///
-    /// `LineTooLong` at a piece of more than `MAX_LINE` bytes; `ReadFault` where the source failed, with the piece that was
-    /// being read; `Memory` at piece 18,446,744,073,709,551,615. Each later call answers the same fault, and pulls nothing.
+    /// `LineTooLong` at a piece of more than `MAX_LINE` bytes; `ReadFault` where the source failed, with the piece that
+    /// was being read; `Memory` at piece 18,446,744,073,709,551,615. Each later call answers the same fault, and pulls
+    /// nothing.
     pub fn next_piece<S: Source>(&mut self, source: &mut S) -> Result<Option<Piece<'_>>, LineFault>
         ensures bytes { IfOk result (λ next. IfSome next (λ p. length p.bytes.now ≤ most_bytes)) }
         ensures* next { sem 𝓛 (Rests the_row self.entry (λ new. IsRawRead self.old (S.given source.old) (S.is_failed source.old) result new (S.given source.new) (S.is_failed source.new))) }

@@ -1,4 +1,5 @@
 //! Pieces and lines that are taken of the bytes that were pulled.
+
 /// Where a piece lies among the bytes that were taken since the last pull.
 #[derive(Clone, Copy, Debug, PartialEq, Eq)]
 pub(crate) struct TakenPiece {

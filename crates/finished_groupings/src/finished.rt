@@ -1,3 +1,5 @@
+//! The lawful grouping of a state that a search can't go on from.
+
 ghost use Rattle.std.specs.Prelude.{◌≡◌, ℕ, ◌≤◌, length, filter, All, AllPairs, IfOk};
 ghost use Rattle.grouping_laws.specs.Sets.{member};
 ghost use Rattle.grouping_laws.specs.Grouping.{sets_of};
@@ -24,9 +26,9 @@ use proof_trees::{Round, State};
 use std::alloc::{AllocError, Global};
 
 /// The lawful grouping of a state that a search can't go on from: no group of at most the limit fits, no leaf is valid,
-/// and the closed groups are ahead of the target, if there is one. Its sets are the closed groups and the connected parts
-/// of the rest, with seats by `allot`; it agrees with the state and is greater than the target. The first grouping of a
-/// search is that of a round with the limit 0 and no target, at the state where nothing is closed.
+/// and the closed groups are ahead of the target, if there is one. Its sets are the closed groups and the connected
+/// parts of the rest, with seats by `allot`; it agrees with the state and is greater than the target. The first
+/// grouping of a search is that of a round with the limit 0 and no target, at the state where nothing is closed.
 ///
 /// The groups stand by size, in counties, and then by the places of their counties; a group names its counties in the
 /// order of their places. All numbers are in the ranges of a certificate's target. `near` are the rows of the order

@@ -1,3 +1,5 @@
+//! Groups made of sets of places, with given seats.
+
 ghost use Rattle.std.specs.Prelude.{◌≡◌, ℕ, ◌≤◌, length, All, IfOk};
 ghost use Rattle.grouping_laws.specs.Ranges.{seated};
 ghost use Rattle.line_verdicts.specs.Placed.{codes_of_set, codes_of_sets};

@@ -1,3 +1,5 @@
+//! Seats for sets that have each county once.
+
 ghost use Rattle.std.specs.Prelude.{◌≡◌, ℕ, length, map, IfOk};
 ghost use Rattle.grouping_laws.specs.Sets.{total};
 ghost use Rattle.grouping_laws.specs.Problem.{people_of};
@@ -30,8 +32,8 @@ fn people_of_sets<C: CountySet>(
     Ok(people)
 }
 
-/// Seats for sets that have each county once, in turn: a number for each set that its people suit, with the seats left of
-/// the problem as their sum. There are such numbers.
+/// Seats for sets that have each county once, in turn: a number for each set that its people suit, with the seats left
+/// of the problem as their sum. There are such numbers.
 pub(crate) fn seats_for<C: CountySet>(
     alloc: Global,
     ordered: &Ordered,

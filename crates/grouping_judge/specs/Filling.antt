@@ -9,7 +9,8 @@ pub record IsFilling (p : Problem) (region found : List ℕ) : Type 0 where
   pub connected : Connected p found
   pub inside : Inside (member region) found
 
--- The new list goes on from the old one, is a filling if the old one is, and has all the counties of `seen` that are adjacent to `from`.
+-- The new list goes on from the old one, is a filling if the old one is, and has all the counties of `seen` that are
+-- adjacent to `from`.
 pub record IsGrown (p : Problem) (region seen : List ℕ) (from : ℕ) (old new : List ℕ) : Type 0 where
   pub added : List ℕ
   pub more : new ≡ old ++ added

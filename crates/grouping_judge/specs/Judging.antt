@@ -48,23 +48,23 @@ pub record IsFirstNot (P : Group → Type 0) (g : Grouping) (n : ℕ) : Type 0 w
 abbrev pub NoneEmpty : Grouping → Type 0
 NoneEmpty g = first_empty_group g ≡ None
 
--- and every code is a county of the problem
+-- every group has codes, and every code is a county of the problem
 abbrev pub AllKnown : Problem → Grouping → Type 0
 AllKnown p g = NoneEmpty g × (first_unknown p.counties 1 g ≡ None)
 
--- and no code stands twice
+-- every group has codes, all of them are counties of the problem, and no code stands twice
 abbrev pub NoneTwice : Problem → Grouping → Type 0
 NoneTwice p g = AllKnown p g × (first_repeated (codes_read g) ≡ None)
 
--- and every county of the problem stands in a group
+-- every group has codes, and the groups have each county of the problem once and no other code
 abbrev pub NoneMissing : Problem → Grouping → Type 0
 NoneMissing p g = NoneTwice p g × ((c : ℕ) → member p.counties c ≡ true → member (codes_read g) c ≡ true)
 
--- and every group is connected
+-- the groups have each county of the problem once, and every group is connected
 abbrev pub AllConnected : Problem → Grouping → Type 0
 AllConnected p g = NoneMissing p g × All (λ s. Connected p s.codes) g
 
--- and the people of every group suit its seats
+-- the groups have each county once and are connected, and the people of every group suit its seats
 abbrev pub AllSuit : Problem → Grouping → Type 0
 AllSuit p g = AllConnected p g × All (λ s. Suits p (people_of p s.codes) s.seats) g
 

@@ -1,3 +1,5 @@
+//! The counts of a grouping, how many groups have each size, and which counts are greater.
+
 ghost use Rattle.std.specs.Prelude.{◌≡◌, ℕ, ◌+◌, ◌==◌, ◌<◌, ◌≤◌, ◌^◌, ◌↔◌, [], length, IfOk, OnOk};
 ghost use Rattle.grouping_laws.specs.Sets.{digit};
 ghost use Rattle.grouping_laws.specs.Grouping.{IsGreater};

@@ -1,3 +1,5 @@
+//! The connected part of a list of counties around one of them.
+
 ghost use Rattle.std.specs.Prelude.{◌≡◌, ℕ, IfOk, OnOk, true};
 ghost use Rattle.grouping_laws.specs.Sets.{member};
 ghost use Rattle.grouping_laws.specs.Parts.{IsPart};

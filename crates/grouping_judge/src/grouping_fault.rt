@@ -1,3 +1,5 @@
+//! Why a grouping isn't lawful.
+
 ghost use Rattle.std.specs.Prelude.{◌≡◌};
 ghost use Rattle.grouping_judge.specs.declared.grouping_fault.GroupingFault.TheVariants.{Memory};
 

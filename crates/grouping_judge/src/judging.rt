@@ -1,3 +1,5 @@
+//! The judge: the counts of a lawful grouping, or its first fault.
+
 ghost use Rattle.std.specs.Prelude.{◌≡◌, ◌≢◌, ℕ, ◌≤◌, ◌↔◌, length, All, IsTrue, IfOk, IfErr, OnOk, MatchResult};
 ghost use Rattle.county_codes.specs.Limits.{most_counties};
 ghost use Rattle.grouping_judge.specs.declared.grouping_fault.GroupingFault.TheVariants.{Memory};

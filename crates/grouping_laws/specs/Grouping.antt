@@ -16,7 +16,8 @@ sets_of g = map (λ s. s.codes) g
 abbrev pub seats_of : Grouping → ℕ
 seats_of g = total (λ s. s.seats) g
 
--- each group is connected and its people suit its seats, the groups make up the counties of the problem, and the seats are those left
+-- each group is connected and its people suit its seats, the groups make up the counties of the problem, and the seats
+-- are those left
 pub record Lawful (p : Problem) (g : Grouping) : Type 0 where
   -- each county of the problem once, and no other code
   pub once : (c : ℕ) → stands c (sets_of g) ≡ digit (member p.counties c)

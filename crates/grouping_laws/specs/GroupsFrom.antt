@@ -25,7 +25,8 @@ IsBefore order g h = (length g < length h) ⊎ ((length g ≡ length h) × IsLes
 abbrev pub BeginsWith : ℕ → List ℕ → Type 0
 BeginsWith c codes = (others : List ℕ) × (codes ≡ c ∷ others)
 
--- a lawful group inside the region whose first place is the county's, of size at most the limit, its codes in the order of places
+-- a lawful group inside the region whose first place is the county's, of size at most the limit, its codes in the order
+-- of places
 pub record IsGroupFrom (p : Problem) (order : List ℕ) (limit county : ℕ) (region : ℕ → Bool) (g : List ℕ) : Type 0 where
   pub lawful : LawfulGroup p g
   pub in_order : filter (member g) order ≡ g

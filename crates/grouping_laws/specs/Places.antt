@@ -10,7 +10,8 @@ codes_at order places = map (λ i. get_or order i 0) places
 
 -- How sets of places and sets of codes go together, for an order that names each code once.
 pub record PlacesAreCodes : Type 0 where
-  -- the codes at the places that pass a test, in ascending order, are the codes whose places pass it, in the order's order
+  -- the codes at the places that pass a test, in ascending order, are the codes whose places pass it, in the order's
+  -- order
   pub kept : (order : List ℕ) → ((c : ℕ) → often c order ≤ 1) → (test : ℕ → Bool) → codes_at order (filter test (places_below (length order))) ≡ filter (λ c. test (place order c)) order
   -- the places of the codes at places are those places
   pub back : (order : List ℕ) → ((c : ℕ) → often c order ≤ 1) → (places : List ℕ) → All (λ i. i < length order) places → map (place order) (codes_at order places) ≡ places

@@ -2,8 +2,8 @@
 use Rattle.std.specs.Prelude.{ℕ, ◌+◌, ◌-◌, ◌*◌, ◌≡◌, ◌≤◌, ◌<◌, Bool, true, false, List, length}
 use Rattle.grouping_laws.specs.Sets.{total, often, member}
 
--- The counties are named by their codes. `total_people` counts the withdrawn counties too, `seats_left` does not count their seats.
--- A district may miss the ideal population by tolerance / scale of it.
+-- The counties are named by their codes. `total_people` counts the withdrawn counties too, `seats_left` does not count
+-- their seats. A district may miss the ideal population by tolerance / scale of it.
 pub record Problem : Type 0 where
   pub counties : List ℕ
   pub people : ℕ → ℕ

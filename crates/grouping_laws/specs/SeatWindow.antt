@@ -8,8 +8,8 @@ abbrev pub IsRun : (ℕ → Type 0) → Option (ℕ × ℕ) → Type 0
 IsRun P None = (k : ℕ) → ¬ P k
 IsRun P (Some r) = (r.0 ≤ r.1) × ((k : ℕ) → P k ↔ ((r.0 ≤ k) × (k ≤ r.1)))
 
--- the least and the greatest number of seats that the people suit, as quotients, where a district has at least below / whole and
--- at most above / whole of the ideal population; 0 seats suit nobody
+-- the least and the greatest number of seats that the people suit, as quotients, where a district has at least below /
+-- whole and at most above / whole of the ideal population; 0 seats suit nobody
 abbrev pub seats_between : ℕ → ℕ → ℕ → ℕ → ℕ → ℕ → Option (ℕ × ℕ)
 seats_between below whole above total chamber people =
     let share = whole * chamber * people in

@@ -35,7 +35,7 @@ is_strange listed q = not (q.0 == q.1) && not (member listed q.0 && member liste
 abbrev pub fault_if : Bool → ProblemFault → Option ProblemFault
 fault_if holds fault = if holds then Some fault else None
 
--- the first that is one
+-- the first fault of a list, if there is one
 abbrev pub first_of : List (Option ProblemFault) → Option ProblemFault
 first_of [] = None
 first_of (None ∷ more) = first_of more
@@ -75,8 +75,8 @@ is_left withdrawn c = not (member (codes_in withdrawn) c.code)
 abbrev pub joins : List ℕ → ℕ × ℕ → Bool
 joins codes q = not (q.0 == q.1) && (member codes q.0 && member codes q.1)
 
--- The problem: the listed counties that aren't withdrawn, by code, and the pairs of two of them; all listed people count,
--- the withdrawn seats are taken off, and a district may miss the ideal population by the allowance.
+-- The problem: the listed counties that aren't withdrawn, by code, and the pairs of two of them; all listed people
+-- count, the withdrawn seats are taken off, and a district may miss the ideal population by the allowance.
 pub record IsProblemOf (counties : List County) (pairs : List (ℕ × ℕ)) (withdrawn : List Withdrawn) (chamber : ℕ) (window : Window) (v : ProblemValue) : Type 0 where
   pub same : IsPermutation (filter (is_left withdrawn) counties) v.counties
   pub by_code : IsStrictlyIncreasing (codes_of v.counties)

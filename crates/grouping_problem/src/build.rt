@@ -1,3 +1,5 @@
+//! A problem, built from listed counties, adjacent pairs, withdrawn sets and a chamber, or the first fault.
+
 ghost use Rattle.std.specs.Prelude.{◌≡◌, ℕ, ◌+◌, ◌<◌, ◌≤◌, ◌^◌, ◌==◌, ◌&&◌, ◌||◌, not, find, filter, length, map, None, Some, IfOk, IfErr, MatchOption, MatchResult, option_map, true};
 ghost use Rattle.std.specs.List.{position_from, list_any};
 ghost use Rattle.std.specs.List.Sorted.{IsPermutation, IsStrictlyIncreasing};

@@ -1,3 +1,5 @@
+//! Why counties, adjacent pairs, withdrawn sets, a chamber and an allowance make no problem.
+
 ghost use Rattle.std.specs.Prelude.{◌≡◌};
 ghost use Rattle.grouping_problem.specs.declared.fault.ProblemFault.TheVariants.{Memory};
 

@@ -1,3 +1,5 @@
+//! The problem as a value: its counties, withdrawn sets, adjacent pairs, chamber, seats and allowance.
+
 ghost use Rattle.std.specs.Prelude.{◌≡◌, ℕ, true, ◌+◌, ◌<◌, ◌≤◌, ◌^◌, IfOk, is_some, length};
 ghost use Rattle.std.specs.List.Sorted.{IsStrictlyIncreasing};
 ghost use Rattle.county_codes.specs.Limits.{most_counties};
@@ -54,7 +56,8 @@ impl Model for Problem {
         × (length p.withdrawn.items ≤ p.chamber) × (is_window p.window ≡ true) };
 }
 
-/// How many counties and withdrawn sets there are, the people, the seats and the allowance; the lists themselves are left out.
+/// How many counties and withdrawn sets there are, the people, the seats and the allowance; the lists themselves are
+/// left out.
 impl fmt::Debug for Problem {
     fn fmt<W: fmt::Write>(&self, f: &mut fmt::Formatter<W>) -> fmt::Result {
         f.debug_struct("Problem")
@@ -109,7 +112,8 @@ impl Problem {
         self.window
     }
 
-    /// The allowance that a certificate for this problem names: none if it is one twentieth, and else the problem's own.
+    /// The allowance that a certificate for this problem names: none if it is one twentieth, and else the problem's
+    /// own.
     pub fn named_window(&self) -> Option<Window>
         ensures value { result ≡ named_window (problem_of self.now) }
         ensures range { FitsRange result }

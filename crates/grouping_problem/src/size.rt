@@ -1,3 +1,5 @@
+//! The seat window: how many seats suit how many people, and how many people suit a district.
+
 ghost use Rattle.std.specs.Prelude.{◌≡◌, ℕ, true, ◌+◌, ◌-◌, ◌*◌, ◌/◌, ◌<◌, ◌≤◌, ◌^◌};
 ghost use Rattle.county_codes.specs.Windows.{is_window};
 ghost use Rattle.grouping_laws.specs.SeatWindow.{seats_between, some_suit, bounds_of};

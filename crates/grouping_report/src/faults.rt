@@ -1,3 +1,5 @@
+//! The words of a grouping's fault.
+
 ghost use Rattle.std.specs.Prelude.{◌≡◌, ◌++◌, OnOk};
 ghost use Rattle.grouping_report.specs.FaultWords.{with_number, with_code, grouping_fault_words};
 

@@ -124,9 +124,9 @@ fn push_findings(out: &mut Vec<u8>, findings: &[Finding]) -> Result<(), AllocErr
     Ok(())
 }
 
-/// The text of findings: how many there are, and then a line for each, its kind with what it names. A block is written by
-/// the fifteen digits of its GEOCODE, a set as `group` or `withdrawn` with its number. It fails only where a growth was
-/// refused.
+/// The text of findings: how many there are, and then a line for each, its kind with what it names. A block is written
+/// by the fifteen digits of its GEOCODE, a set as `group` or `withdrawn` with its number. It fails only where a growth
+/// was refused.
 pub fn findings_text(alloc: Global, findings: &Findings) -> Result<Vec<u8>, AllocError>
     ensures { IfOk result (λ v. v.items ≡ text_of findings.now.list.items) }
 {

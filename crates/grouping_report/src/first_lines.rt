@@ -28,7 +28,8 @@ fn push_window(out: &mut Vec<u8>, window: Option<Window>) -> Result<(), AllocErr
     }
 }
 
-/// Appends the people, the chamber, and the allowance where it isn't one twentieth. It fails only where a growth was refused.
+/// Appends the people, the chamber, and the allowance where it isn't one twentieth. It fails only where a growth was
+/// refused.
 pub(crate) fn push_first_lines(out: &mut Vec<u8>, problem: &Problem) -> Result<(), AllocError>
     ensures { OnOk result (out.new.items ≡ out.old.items ++ first_lines_of problem.now) }
 {

@@ -1,3 +1,5 @@
+//! The text of a grouping: a line for each group.
+
 ghost use Rattle.std.specs.Prelude.{◌≡◌, ◌<◌, ◌≤◌, ◌++◌, All, Ok, OnOk, IfOk, codes};
 ghost use Rattle.seat_lines.specs.GroupingLines.{grouping_list};
 ghost use Rattle.grouping_report.specs.GroupingText.{group_fields, grouping_text as text_of, IsReadable};

@@ -1,4 +1,5 @@
-//! What the program writes of a problem and its groupings. Groupings are read from their lines by `seat_lines`.
+//! The texts of a problem and its groupings: the size table, the report, the grouping text and the findings of an
+//! audit. `seat_lines` reads groupings from their lines.
 #![tactic(auto)]
 
 mod faults;

@@ -1,3 +1,5 @@
+//! What a report says was found: a lawful grouping, a best one, that none is lawful, or an open search.
+
 ghost use Rattle.std.specs.Prelude.{IfOk};
 ghost use Rattle.grouping_report.specs.Outcomes.{SameOutcome};
 

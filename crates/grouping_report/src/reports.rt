@@ -68,7 +68,8 @@ fn push_numbers(out: &mut Vec<u8>, groups: &[Group]) -> Result<(), AllocError>
     Ok(())
 }
 
-/// Appends how many groups have each size, up to the longest, or `none` without groups. It fails only where a growth was refused.
+/// Appends how many groups have each size, up to the longest, or `none` without groups. It fails only where a growth
+/// was refused.
 pub fn push_counts(out: &mut Vec<u8>, groups: &[Group]) -> Result<(), AllocError>
     ensures { OnOk result (out.new.items ≡ out.old.items ++ counts_line (sets_of groups.now)) }
 {
@@ -168,13 +169,13 @@ fn found_report(
     full_report(alloc, problem, &answer, grouping)
 }
 
-/// The report of a problem: its people, its chamber, its allowance, the seats left and the number of its counties, and the answer.
-/// If the allowance is one twentieth, it has no line.
-/// If the outcome has a grouping, the counts of its groups by size from one county on follow. Then comes each group with its
-/// number from 1, its seats, its people and its counties. If it is open and has none, the line `grouping none` follows.
+/// The report of a problem: its people, its chamber, its allowance, the seats left and the number of its counties, and
+/// the answer. If the allowance is one twentieth, it has no line. If the outcome has a grouping, the counts of its
+/// groups by size from one county on follow. Then comes each group with its number from 1, its seats, its people and
+/// its counties. If it is open and has none, the line `grouping none` follows.
 ///
-/// The grouping has to be lawful. That it is best, that none is lawful, or that so many steps were taken is reported as the
-/// outcome says it.
+/// The grouping has to be lawful. That it is best, that none is lawful, or that so many steps were taken is reported as
+/// the outcome says it.
 ///
 /// # Errors
 ///

@@ -1,3 +1,5 @@
+//! The size table: the bounds of a district, and for each county its people and the seats that they suit.
+
 ghost use Rattle.std.specs.Prelude.{◌≡◌, ◌≤◌, ℕ, ◌++◌, OnOk, IfOk, decimal};
 ghost use Rattle.grouping_report.specs.SizeTable.{size_text, county_line, lines_text, run_text, bounds_text, district_line};
 ghost use Rattle.grouping_problem.specs.Building.{people_in};

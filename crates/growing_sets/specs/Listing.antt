@@ -12,18 +12,18 @@ lists_of n test sets = map (λ s. places_of n (test s)) sets
 abbrev pub AreBelow : {C : Type 0} → ℕ → (C → ℕ → Bool) → List C → Type 0
 AreBelow n test sets = All (λ s. (x : ℕ) → test s x ≡ true → x < n) sets
 
--- no free place has more people than that
+-- no free place has more people than this number
 abbrev pub HasMost : Problem → (ℕ → Bool) → ℕ → Type 0
 HasMost p free most = (c : ℕ) → free c ≡ true → p.people c ≤ most
 
--- Sets are put behind those that were there: the extensions that pass the test.
+-- The extensions that pass the test are put behind the sets of a list.
 pub record IsListed (C : Type 0) (test : C → ℕ → Bool) (p : Problem) (n limit : ℕ) (keep : List ℕ → Bool) (set free : ℕ → Bool) (old new : List C) : Type 0 where
   pub added : List C
   pub more : new ≡ old ++ added
   pub kept : AreKept p n limit keep set free (lists_of n test added)
   pub below : AreBelow n test added
 
--- each step is one for a list of its own that is one of those
+-- each step is taken for one list of the kind, and no two steps for the same list
 pub record OneStepEach (IsOne : List ℕ → Type 0) (before after : ℕ) : Type 0 where
   pub sets : List (List ℕ)
   pub each : All IsOne sets

@@ -1,4 +1,4 @@
--- That what is joined depends on what came, and not on the order in which it came.
+-- Laws of joined certificates: what is joined depends on the events that came, and not on their order.
 use Rattle.std.specs.Prelude.{ℕ, ◌≡◌, List, Some, ◌↔◌}
 use Rattle.grouping_laws.specs.Problem.{Problem}
 use Rattle.grouping_laws.specs.Allowance.{named_window}
@@ -12,8 +12,8 @@ use Rattle.shared_proofs.specs.Skeleton.{joined}
 use Rattle.shared_proofs.specs.Standing.{Held, Holds}
 use Rattle.shared_proofs.specs.Content.{Content, Begins, Answered, LeadsOver}
 
--- a board begins with the allowance that a certificate for the problem names and with a target that fits, and the events with their
--- replies lead from there to this content
+-- a board begins with the allowance that a certificate for the problem names and with a target that fits, and the
+-- events with their replies lead from there to this content
 pub record IsReached (p : Problem) (log : List Answered) (content : Content) : Type 0 where
   pub depth : ℕ
   pub first : Content

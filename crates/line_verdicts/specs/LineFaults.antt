@@ -22,7 +22,8 @@ line_fault SeatsOpen = fault.SeatsOpen
 line_fault BoundWithoutTarget = fault.BoundWithoutTarget
 line_fault NoLeaf = fault.NoLeaf
 
--- Where a call stopped at a fault, this holds of it; where it stopped since no text spells the line, that.
+-- If a call stopped at a fault, the first property holds of the fault. If it stopped because no text spells the line,
+-- the second holds.
 abbrev pub Stops : LineStop → (Fault → Type 0) → Type 0 → Type 0
 Stops (stop.Fault f) IsLineFault HasNone = IsLineFault (line_fault f)
 Stops stop.Unspelled IsLineFault HasNone = HasNone

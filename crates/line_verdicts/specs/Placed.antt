@@ -15,12 +15,12 @@ state_at order test s = in_codes order (state_of test s)
 abbrev pub codes_of_set : {C : Type 0} → List ℕ → (C → ℕ → Bool) → C → List ℕ
 codes_of_set order test set = codes_at order (places_of (length order) (test set))
 
--- those of each of the sets
+-- for each set, the codes of its places, in their order
 abbrev pub codes_of_sets : {C : Type 0} → List ℕ → (C → ℕ → Bool) → List C → List (List ℕ)
 codes_of_sets order test sets = map (codes_of_set order test) sets
 
--- The state has as many places as the order, and its closed groups and its rest take no place twice, so that there are no more closed
--- groups than places.
+-- The state has as many places as the order, and its closed groups and its rest take no place twice, so that there are
+-- no more closed groups than places.
 pub record IsPlaced {C : Type 0} (n : ℕ) (test : C → ℕ → Bool) (s : StateHeld C) : Type 0 where
   pub places : length s.least.items ≡ n
   pub rest : (x : ℕ) → test s.rest x ≡ true → x < n

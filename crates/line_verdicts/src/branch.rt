@@ -1,3 +1,5 @@
+//! The verdict on the line of a branch, with the groups that it must take, and on the line of a take.
+
 ghost use Rattle.std.specs.Prelude.{◌≡◌, ℕ, ◌+◌, ◌*◌, ◌<◌, ◌≤◌, true, length, All, Contains, IfOk, IsErrOf, IsTrue, MatchOption, MatchResult, ◌↔◌};
 ghost use Rattle.grouping_problem.specs.ProblemValue.{problem_of};
 ghost use Rattle.ordered_counties.specs.OrderedValue.{problem_at, code_at};

@@ -1,3 +1,5 @@
+//! What may be wrong with a line of a tree, and why a line is not found fine.
+
 ghost use Rattle.std.specs.Prelude.{◌≡◌};
 ghost use Rattle.line_verdicts.specs.LineFaults.{line_stop};
 ghost use Rattle.line_verdicts.specs.declared.fault.LineStop.TheVariants.{Memory};

@@ -1,3 +1,5 @@
+//! The verdict on the line of a stuck leaf and of a seats leaf.
+
 ghost use Rattle.std.specs.Prelude.{◌≡◌, false, ◌<◌, ◌≤◌, length, IfOk, MatchOption};
 ghost use Rattle.grouping_laws.specs.Sets.{member};
 ghost use Rattle.grouping_problem.specs.ProblemValue.{problem_of};

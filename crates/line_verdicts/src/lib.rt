@@ -1,5 +1,5 @@
-//! What each line of a tree is worth at a state: fine, or its fault. A state is told by the places of an order, and
-//! what is said of it by codes. Any form of sets of places serves.
+//! What the line of a stuck leaf, a seats leaf, a branch or a take is worth at a state: fine, or its fault. A state is
+//! told by the places of an order, and what is said of it by codes. Any form of sets of places serves.
 #![tactic(auto)]
 
 mod branch;

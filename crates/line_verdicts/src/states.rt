@@ -1,3 +1,5 @@
+//! The states of a tree by places: the first one, and those after a group is closed or a county raised.
+
 ghost use Rattle.std.specs.Prelude.{◌≡◌, ℕ, ◌<◌, ◌≤◌, cond, length, get_or, IfOk};
 ghost use Rattle.growing_sets.specs.Listing.{lists_of};
 ghost use Rattle.grouping_problem.specs.ProblemValue.{problem_of};

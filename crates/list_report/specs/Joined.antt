@@ -15,7 +15,8 @@ pub data Joined (sets : List (List ℕ)) : ℕ → ℕ → Type 0 where
 abbrev pub InOneRegion : List ℕ → List (List ℕ) → ℕ → ℕ → Type 0
 InOneRegion unshared sets x y = (region : List ℕ) × Contains (regions unshared sets) region × (member region x ≡ true) × (member region y ≡ true)
 
--- of lawful groupings: two counties that no shared set has lie in one region exactly where a chain of sets that are not shared joins them
+-- of lawful groupings: two counties that no shared set has lie in one region exactly where a chain of sets that are not
+-- shared joins them
 abbrev pub RegionsAreJoined : Type 0
 RegionsAreJoined =
     (p : Problem) (groupings : List Grouping) → All (Lawful p) groupings →

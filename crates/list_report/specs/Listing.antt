@@ -55,7 +55,7 @@ abbrev pub choice_lines : List Region → ℕ → List (List (List ℕ)) → Lis
 choice_lines found i [] = []
 choice_lines found i (g ∷ gs) = (with_number (codes "grouping ") i ++ codes " alternatives" ++ choice_numbers found g ++ codes "\n") ++ choice_lines found (i + 1) gs
 
--- that each combination of alternatives is listed, or the alternatives of each grouping
+-- the line that each combination of alternatives is listed, or a line of alternatives for each grouping
 abbrev pub choices_text : List Region → List (List (List ℕ)) → List ℕ
 choices_text found listed = if product found == length listed then codes "every choice\n" else choice_lines found 1 listed
 

@@ -16,7 +16,7 @@ abbrev pub first_sets : List (List (List ℕ)) → List (List ℕ)
 first_sets [] = []
 first_sets (g ∷ gs) = g
 
--- those of them that each listed grouping has
+-- the shared sets: those sets of the first listed grouping that each listed grouping has
 abbrev pub shared_sets : List (List (List ℕ)) → List (List ℕ)
 shared_sets listed = filter (λ s. list_all (λ g. has_set g s) listed) (first_sets listed)
 

@@ -1,3 +1,5 @@
+//! The text of a list of groupings, as a whole.
+
 ghost use Rattle.std.specs.Prelude.{◌≡◌, ℕ, ◌++◌, ◌≤◌, List, length, map, IfOk, OnOk};
 ghost use Rattle.county_codes.specs.Counties.{codes_of};
 ghost use Rattle.list_report.specs.Shared.{shared_sets};
@@ -45,14 +47,14 @@ fn push_body(
     push_choices(alloc, out, &regions, listed)
 }
 
-/// The text of a list of groupings, at least one: the problem's people, chamber, seats left and counties, `answer all`, and the
-/// counts of the first grouping. Then it says how many groupings are listed, and the groups that all of them share.
-/// The counties of no shared group fall into regions, which chains of the other groups join; for each, the different choices
-/// of the listed groupings follow. The last line says that each combination of alternatives is listed, or a line for each grouping says
-/// which alternatives it has.
+/// The text of a list of groupings, at least one: the problem's people, chamber, seats left and counties, `answer all`,
+/// and the counts of the first grouping. Then it says how many groupings are listed, and the groups that all of them
+/// share. The counties of no shared group fall into regions, which chains of the other groups join; for each, the
+/// different choices of the listed groupings follow. The last line says that each combination of alternatives is
+/// listed, or a line for each grouping says which alternatives it has.
 ///
-/// The groups of each grouping stand in the same order, so that equal groups have equal lists of codes; that the groupings are best, or
-/// all that are best, is reported as the caller says it.
+/// The groups of each grouping stand in the same order, so that equal groups have equal lists of codes; that the
+/// groupings are best, or all that are best, is reported as the caller says it.
 ///
 /// # Errors
 ///

@@ -1,4 +1,4 @@
--- That the text of a list of all best groupings is one, whichever certificate lists them.
+-- Laws of the text of a list of all best groupings: it is one, whichever certificate lists them.
 use Rattle.std.specs.Prelude.{ℕ, ◌≡◌, List, map, Option, Some, None}
 use Rattle.grouping_laws.specs.Grouping.{Grouping}
 use Rattle.grouping_problem.specs.ProblemValue.{ProblemValue, problem_of}

@@ -1,3 +1,5 @@
+//! Seats allotted to numbers of people, so that they add up to the seats left.
+
 ghost use Rattle.std.specs.Prelude.{◌≡◌, ℕ, ◌<◌, ◌≤◌, List, All, IfOk, MatchOption};
 ghost use Rattle.grouping_laws.specs.Sets.{total};
 ghost use Rattle.grouping_problem.specs.ProblemValue.{problem_of};

@@ -1,3 +1,5 @@
+//! Why codes are no order of a problem's counties.
+
 ghost use Rattle.std.specs.Prelude.{◌≡◌};
 ghost use Rattle.ordered_counties.specs.declared.order_fault.OrderFault.TheVariants.{Memory};
 

@@ -1,3 +1,5 @@
+//! The counties of a problem by their places in an order.
+
 ghost use Rattle.std.specs.Prelude.{◌≡◌, ℕ, ◌<◌, ◌≤◌, ◌↔◌, ◌++◌, ◌&&◌, length, map, IsTrue, IfOk, IfErr, OnOk};
 ghost use Rattle.county_codes.specs.Limits.{most_counties};
 ghost use Rattle.ordered_counties.specs.declared.order_fault.OrderFault.TheVariants.{WrongOrder};

@@ -1,3 +1,5 @@
+//! A budget of steps.
+
 ghost use Rattle.std.specs.Prelude.{◌≡◌, ℕ, ◌+◌, ◌<◌, ◌≤◌, MatchBool};
 
 use std::marker::Model;

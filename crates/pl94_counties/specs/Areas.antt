@@ -20,7 +20,7 @@ found_list_in area state records geo = people_in (area_on area state records) (r
 abbrev pub found_list : Area → ℕ → List (ℕ × ℕ) → List ℕ → Result (List (ℕ × ℕ)) Pl94Fault
 found_list area state records geo = found_list_in area state records (cut geo)
 
--- what is wrong where no line is for such an area
+-- what is wrong where no line is for a county, or none for a block
 abbrev pub no_areas : Area → Pl94Kind
 no_areas County = NoCounties
 no_areas Block = NoBlocks
@@ -37,6 +37,6 @@ area_list_in area geo segment1 state = do
   found ← found_list_in area state records geo
   some_areas area found
 
--- the same of whole texts
+-- the people of each area of a state by its code, or the first fault, from whole texts
 abbrev pub area_list : Area → List ℕ → List ℕ → ℕ → Result (List (ℕ × ℕ)) Pl94Fault
 area_list area geo segment1 state = area_list_in area (cut geo) (cut segment1) state

@@ -31,7 +31,8 @@ pub record IsAreaLine (area : Area) (state : ℕ) (line : List ℕ) (code number
   pub code_is : area_code area state fields ≡ Some code
   pub number_is : small_number fields.record_number ≡ Some number
 
--- a code comes from a line of geo that is for such an area, and has the people of the one record with the line's LOGRECNO
+-- a code comes from a line of geo that is for such an area, and has the people of the one record with the line's
+-- LOGRECNO
 pub record IsJoined (area : Area) (geo segment1 : List Line) (state code people : ℕ) : Type 0 where
   pub line : Line
   pub number : ℕ

@@ -36,7 +36,7 @@ name_on line = unwrap_or (field 88 line) []
 abbrev pub code_in : ℕ → GeoFields → Option ℕ
 code_in state g = if is_line_of areas.County state g then county_code state g.county else None
 
--- the same of a line
+-- the code of the county that a line is for, if it is for a county of the state
 abbrev pub code_on : ℕ → List ℕ → Option ℕ
 code_on state line = option_and_then (code_in state) (geo_fields line)
 
@@ -44,7 +44,7 @@ code_on state line = option_and_then (code_in state) (geo_fields line)
 abbrev pub has_bad_name : ℕ → List ℕ → Bool
 has_bad_name state line = is_some (code_on state line) && not (is_utf8 (name_on line))
 
--- the number of the first such line
+-- the number of the first line that is for a county and whose NAME isn't UTF-8
 abbrev pub bad_name : ℕ → List Line → Option ℕ
 bad_name state lines = option_map (λ l. l.number) (find (λ l. has_bad_name state l.bytes) lines)
 

@@ -1,3 +1,5 @@
+//! The join of the geographic header and segment 1: the people of each county or census block, by code.
+
 ghost use Rattle.std.specs.Prelude.{◌≡◌, ◌≤◌, false, Ok, Some, None, IfOk, IfErr, map, All};
 ghost use Rattle.std.specs.List.Sorted.{IsStrictlyIncreasing};
 ghost use Rattle.field_lines.specs.Values.{GivesUnless};

@@ -1,3 +1,5 @@
+//! The census blocks of a state with their people.
+
 ghost use Rattle.std.specs.Prelude.{◌≡◌, ◌≤◌, false, ◌<◌, ◌^◌, IfOk, IfErr, map, All, length};
 ghost use Rattle.std.specs.List.Sorted.{IsStrictlyIncreasing};
 ghost use Rattle.field_lines.specs.Values.{GivesUnless};
@@ -38,9 +40,9 @@ fn list(alloc: Global, found: &BTreeMap<u64, u32>) -> Result<Vec<Block>, AllocEr
         .collect(alloc)
 }
 
-/// The blocks of a state by code, with their people, from the files of which `read_counties` gives the counties. A block
-/// line of geo has SUMLEV (field 3) `750`, GEOCOMP and STATE as a county line has them; its code is GEOCODE (field 10,
-/// fifteen digits), and its COUNTY isn't looked at. Its people are found as a county's are.
+/// The blocks of a state by code, with their people, from the files of which `read_counties` gives the counties. A
+/// block line of geo has SUMLEV (field 3) `750`, GEOCOMP and STATE as a county line has them; its code is GEOCODE
+/// (field 10, fifteen digits), and its COUNTY isn't looked at. Its people are found as a county's are.
 ///
 /// # Errors
 ///
@@ -69,13 +71,13 @@ pub fn read_blocks(
     Ok(blocks)
 }
 
-/// The blocks of a state by code, with their people, as `read_blocks` gives them, from the sources of geo and of segment
-/// 1. Neither has failed. Segment 1 is read first, and geo only where segment 1 has no fault.
+/// The blocks of a state by code, with their people, as `read_blocks` gives them, from the sources of geo and of
+/// segment 1. Neither has failed. Segment 1 is read first, and geo only where segment 1 has no fault.
 ///
 /// # Errors
 ///
-/// As `read_blocks`, for the bytes that the sources gave. Where one failed, the fault is `Lower(ReadFault)`, with its file
-/// and the line that was being read.
+/// As `read_blocks`, for the bytes that the sources gave. Where one failed, the fault is `Lower(ReadFault)`, with its
+/// file and the line that was being read.
 pub fn read_blocks_from<G: Source, S: Source>(
     alloc: Global,
     geo: &mut G,

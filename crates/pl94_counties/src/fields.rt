@@ -1,3 +1,5 @@
+//! The fields of a line of the geographic header or of segment 1.
+
 ghost use Rattle.std.specs.Prelude.{◌≡◌, ◌+◌, OnSome, drop};
 ghost use Rattle.std.specs.List.{slice_get};
 ghost use Rattle.std.specs.Option.{option_map};

@@ -211,7 +211,8 @@ fn comes_after(fault: Pl94Fault, number: u32) -> bool
     }
 }
 
-/// The fault of the files, unless a bad name stands on a line of geo before it. If memory is refused, that is the fault.
+/// The fault of the files, unless a bad name stands on a line of geo before it. If memory is refused, that is the
+/// fault.
 fn fault_before(alloc: Global, fault: Pl94Fault, geo: &[u8], state: u8) -> NamedFault
     requires { state ≤ 99 }
     ensures { (IsNoMemory result → ⊥) → result ≡ first_fault fault (bad_name state (cut geo.now).lines) }
@@ -250,13 +251,14 @@ fn named(
     }
 }
 
-/// The counties of a state as `read_counties` gives them, each with its NAME: field 88 of its line of geo, or nothing if
-/// the line has fewer fields.
+/// The counties of a state as `read_counties` gives them, each with its NAME: field 88 of its line of geo, or nothing
+/// if the line has fewer fields.
 ///
 /// # Errors
 ///
-/// `Files` has the fault that `read_counties` answers. If the NAME of a county isn't UTF-8, `BadName` has its line. The first
-/// line of geo at fault answers. `BadName` comes after every other fault of its line, and after each fault of segment 1.
+/// `Files` has the fault that `read_counties` answers. If the NAME of a county isn't UTF-8, `BadName` has its line. The
+/// first line of geo at fault answers. `BadName` comes after every other fault of its line, and after each fault of
+/// segment 1.
 pub fn read_named_counties(
     alloc: Global,
     geo: &[u8],

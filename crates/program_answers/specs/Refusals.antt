@@ -76,17 +76,17 @@ abbrev pub cut_line : LineFault → ℕ → ℕ
 cut_line lines.TooManyLines line = 0
 cut_line fault line = line
 
--- the line that is shown of a fault
+-- the line that is shown of a fault of the geographic header or of segment 1
 abbrev pub shown_line : Pl94Kind → ℕ → ℕ
 shown_line (kinds.Lower fault) line = cut_line fault line
 shown_line kind line = line
 
--- the same of a file whose lines have county codes
+-- the line that is shown of a fault of a file whose lines have county codes
 abbrev pub shown_code_line : CodeLineKind → ℕ → ℕ
 shown_code_line (lines_of_codes.Lower fault) line = cut_line fault line
 shown_code_line kind line = line
 
--- the same of an assignment file
+-- the line that is shown of a fault of an assignment file
 abbrev pub shown_assignment_line : AssignmentKind → ℕ → ℕ
 shown_assignment_line (lines_of_assignments.Lower fault) line = cut_line fault line
 shown_assignment_line kind line = line

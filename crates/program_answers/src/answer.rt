@@ -1,3 +1,5 @@
+//! The answer of the program, a text with its exit status, and why a command is refused.
+
 ghost use Rattle.std.specs.Prelude.{◌≡◌, IfOk, MatchResult};
 ghost use Rattle.program_answers.specs.declared.answer.Refusal.TheVariants.{Memory};
 ghost use Rattle.program_answers.specs.Answers.{answer_of, Refuses};

@@ -13,8 +13,8 @@ use certificate_lines::{TextFault, TextKind};
 use share_board::BoardFault;
 use std::alloc::{AllocError, Global};
 
-/// The refusal of a fault of a text of events: `refused events KIND line L` with exit status 4, or `Memory` where the fault is that or
-/// the line found no memory. The line counts from 1.
+/// The refusal of a fault of a text of events: `refused events KIND line L` with exit status 4, or `Memory` where the
+/// fault is that or the line found no memory. The line counts from 1.
 pub fn refuse_events(alloc: Global, fault: TextFault) -> Refusal
     ensures answer { Refuses (events_answer fault) result }
     ensures shown { IsShown result → fault.kind ≢ text.Memory }
@@ -52,7 +52,8 @@ fn board_text(alloc: Global, kind: &[u8]) -> Result<Vec<u8>, AllocError>
     Ok(out)
 }
 
-/// The refusal where the budget is too small to open a board: `budget` with exit status 3, or `Memory` where the line found no memory.
+/// The refusal where the budget is too small to open a board: `budget` with exit status 3, or `Memory` where the line
+/// found no memory.
 fn refuse_budget(alloc: Global) -> Refusal
     ensures { Refuses (board_answer board.Budget) result }
 {
@@ -62,9 +63,9 @@ fn refuse_budget(alloc: Global) -> Refusal
     }
 }
 
-/// The refusal of a fault of a board: `refused board KIND` with exit status 4, `budget` with exit status 3 where the budget is too small
-/// to open it, or `Memory` where the fault is that or the line found no memory. A target that isn't lawful is `Target`, whatever its
-/// fault.
+/// The refusal of a fault of a board: `refused board KIND` with exit status 4, `budget` with exit status 3 where the
+/// budget is too small to open it, or `Memory` where the fault is that or the line found no memory. A target that isn't
+/// lawful is `Target`, whatever its fault.
 pub fn refuse_board(alloc: Global, fault: BoardFault) -> Refusal
     ensures answer { Refuses (board_answer fault) result }
     ensures shown { IsShown result → fault ≢ board.Memory }

@@ -91,8 +91,8 @@ fn no_text(alloc: Global, fault: CheckFault, line: u64) -> Result<Vec<u8>, Alloc
     Ok(out)
 }
 
-/// The answer to a text that is no certificate: `no KIND line L`, with exit status 1. The kind of a fault of the text or of the
-/// target has that fault's own behind it; the line counts from 1.
+/// The answer to a text that is no certificate: `no KIND line L`, with exit status 1. The kind of a fault of the text
+/// or of the target has that fault's own behind it; the line counts from 1.
 ///
 /// # Errors
 ///

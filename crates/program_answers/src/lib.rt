@@ -1,8 +1,9 @@
-//! What the program answers where a command ends before its own text: the line that stands in the place of any other, and its exit
+//! What the program answers where a command ends before its own text: the line in the place of any other, with its exit
 //! status.
 //!
-//! The definitions stand in `specs/`: `Answer` (a text and a status), `Answers` (those of the code as those of the definitions),
-//! `Refusals` (the lines of faults, those of events and of a board among them) and `CheckLines` (the line of a text that is no certificate).
+//! The definitions stand in `specs/`: `Answer` (a text and a status), `Answers` (those of the code as those of the
+//! definitions), `Refusals` (the lines of faults, those of events and of a board among them) and `CheckLines` (the line
+//! of a text that is no certificate).
 #![tactic(auto)]
 
 mod answer;

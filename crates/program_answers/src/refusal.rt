@@ -157,8 +157,8 @@ pub(crate) fn refuse_input(alloc: Global, file: InputFile, kind: &[u8], line: u6
     Refusal::of_text(refused_text(alloc, word_of_file(file), kind, line), 4)
 }
 
-/// The refusal of a fault of a PL 94-171 file: `refused FILE KIND line L` with exit status 4, or `Memory` where the fault is that or
-/// the line found no memory. The line counts from 1; it is 0 where the file has too many lines.
+/// The refusal of a fault of a PL 94-171 file: `refused FILE KIND line L` with exit status 4, or `Memory` where the
+/// fault is that or the line found no memory. The line counts from 1; it is 0 where the file has too many lines.
 pub fn refuse_file(alloc: Global, fault: Pl94Fault) -> Refusal
     ensures answer { Refuses (pl94_answer fault) result }
     ensures shown { IsShown result → fault.kind ≢ kinds.Memory }
@@ -176,8 +176,9 @@ pub fn refuse_file(alloc: Global, fault: Pl94Fault) -> Refusal
     )
 }
 
-/// The refusal of a fault of a file whose lines have county codes: `refused FILE KIND line L` with exit status 4, or `Memory` where the
-/// fault is that or the line found no memory. The line counts from 1; it is 0 where the file has too many lines.
+/// The refusal of a fault of a file whose lines have county codes: `refused FILE KIND line L` with exit status 4, or
+/// `Memory` where the fault is that or the line found no memory. The line counts from 1; it is 0 where the file has too
+/// many lines.
 pub fn refuse_codes(alloc: Global, file: InputFile, fault: CodeLineFault) -> Refusal
     ensures answer { Refuses (code_file_answer file fault) result }
     ensures shown { IsShown result → fault.kind ≢ lines_of_codes.Memory }
@@ -190,8 +191,9 @@ pub fn refuse_codes(alloc: Global, file: InputFile, fault: CodeLineFault) -> Ref
     refuse_input(alloc, file, word_of_code_line(fault.kind), u64::from(line))
 }
 
-/// The refusal of a fault of an assignment file: `refused assignments KIND line L` with exit status 4, or `Memory` where the fault is
-/// that or the line found no memory. The line counts from 1; it is 0 where the file has too many lines.
+/// The refusal of a fault of an assignment file: `refused assignments KIND line L` with exit status 4, or `Memory`
+/// where the fault is that or the line found no memory. The line counts from 1; it is 0 where the file has too many
+/// lines.
 pub fn refuse_assignments(alloc: Global, fault: AssignmentFault) -> Refusal
     ensures answer { Refuses (assignment_answer fault) result }
     ensures shown { IsShown result → fault.kind ≢ lines_of_assignments.Memory }
@@ -216,8 +218,8 @@ fn fault_text(alloc: Global, fault: GroupingFault) -> Result<Vec<u8>, AllocError
     Ok(out)
 }
 
-/// The answer to a fault of a grouping: `fault KIND` with its group, its county or its seats, and exit status 1, or `Memory` where the
-/// fault is that or the line found no memory.
+/// The answer to a fault of a grouping: `fault KIND` with its group, its county or its seats, and exit status 1, or
+/// `Memory` where the fault is that or the line found no memory.
 pub fn refuse_verdict(alloc: Global, fault: GroupingFault) -> Refusal
     ensures { Refuses (verdict_answer fault) result }
 {
@@ -292,8 +294,8 @@ fn problem_text(alloc: Global, fault: ProblemFault) -> Result<Vec<u8>, AllocErro
     Ok(out)
 }
 
-/// The refusal of a fault of a problem: `refused problem KIND` with its codes or its set, and exit status 4, or `Memory` where the fault
-/// is that or the line found no memory.
+/// The refusal of a fault of a problem: `refused problem KIND` with its codes or its set, and exit status 4, or
+/// `Memory` where the fault is that or the line found no memory.
 pub fn refuse_problem(alloc: Global, fault: ProblemFault) -> Refusal
     ensures answer { Refuses (problem_answer fault) result }
     ensures shown { IsShown result → fault ≢ problem.Memory }
@@ -328,8 +330,8 @@ fn device_text(alloc: Global, name: &[u8], kind: &[u8]) -> Result<Vec<u8>, Alloc
     Ok(out)
 }
 
-/// The refusal of a fault of the shelf under a name: `device NAME KIND` with exit status 5, or `Memory` where the fault is that or the
-/// line found no memory.
+/// The refusal of a fault of the shelf under a name: `device NAME KIND` with exit status 5, or `Memory` where the fault
+/// is that or the line found no memory.
 pub fn refuse_load(alloc: Global, name: &str, fault: ShelfFault) -> Refusal
     ensures { Refuses (shelf_answer name.now fault) result }
 {

@@ -1,5 +1,5 @@
--- Bound lines: how many groups of each size a grouping that agrees with a state can have. Disjoint groups share the counties that are
--- open to them, and share what weights give to these. The form of the lines is the project's own.
+-- Bound lines: how many groups of each size a grouping that agrees with a state can have. Disjoint groups share the
+-- counties that are open to them, and share what weights give to these. The form of the lines is the project's own.
 use Rattle.std.specs.Prelude.{ℕ, ◌+◌, ◌-◌, ◌*◌, ◌/◌, ◌≡◌, ◌≤◌, ◌<◌, min, cond, true, List, [], ◌∷◌, length, ◌==◌, All, Some, ◌⊎◌, ⊤}
 use Rattle.grouping_laws.specs.Sets.{total, member}
 use Rattle.grouping_laws.specs.Problem.{Problem}
@@ -31,8 +31,8 @@ IsFair language p s i (weigh quota ws) =
     × All (λ w. member p.counties w.county ≡ true) ws
     × ((g : List ℕ) → Fits language p s g → length g ≡ i → quota ≤ total (weight_of ws) g)
 
--- From size i on, where smaller groups use up so many counties, closed groups and allowances give the target's counts, up to a size
--- at which they give fewer, or to the limit.
+-- From size i on, where smaller groups use up so many counties, closed groups and allowances give the target's counts,
+-- up to a size at which they give fewer, or to the limit.
 abbrev pub Bounds : Language → Problem → ℕ → State → (ℕ → ℕ) → ℕ → ℕ → List Allowance → Type 0
 Bounds language p limit s wanted i used [] = i ≡ limit + 1
 Bounds language p limit s wanted i used (line ∷ lines) =

@@ -24,8 +24,8 @@ turns_left p limit s = length (listed p (open_to s limit))
 abbrev pub Narrows : Language → Problem → State → State → Type 0
 Narrows language p s t = (g : List ℕ) → Fits language p t g → Fits language p s g
 
--- Closing a group and raising a county give states again, with less left and no other groups that fit; the groupings that agree
--- with the old state are those that agree with one of the new ones.
+-- Closing a group and raising a county give states again, with less left and no other groups that fit; the groupings
+-- that agree with the old state are those that agree with one of the new ones.
 pub record BranchKeepsState : Type 0 where
   -- a search begins at a state with which every lawful grouping agrees
   pub first_state : (p : Problem) (round : Round) → IsState p round (empty_state p)

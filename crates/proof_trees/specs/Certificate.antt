@@ -1,5 +1,5 @@
--- Certificates, and what they show: that the target is best, or that no grouping is lawful, as `Grouping` says (Stephenson, and the order
--- of counts after Carter et al.). The certificates are the project's own.
+-- Certificates, and what they show: that the target is best, or that no grouping is lawful. `Grouping` says what is
+-- lawful (*Stephenson v. Bartlett*) and best. The certificates are the project's own.
 use Rattle.std.specs.Prelude.{ℕ, ◌≤◌, length, All, Option, Some, None, ⊤}
 use Rattle.grouping_laws.specs.Problem.{Problem}
 use Rattle.grouping_laws.specs.Grouping.{Grouping, Lawful, counts, sets_of, IsGreater, IsBest, IsImpossible}

@@ -22,7 +22,8 @@ pub record LeavesAreDecided : Type 0 where
   -- the part around a county is one set, and the stuck leaf goes by it
   pub part : (p : Problem) (region : ℕ → Bool) (xs ys : List ℕ) (c : ℕ) → IsPart p region xs → IsPart p region ys → member xs c ≡ true → member ys c ≡ true → SameSet xs ys
   pub stuck : (p : Problem) (s : State) (xs : List ℕ) (c : ℕ) → IsPart p s.rest xs → member xs c ≡ true → IsStuck p s c → CannotFill p s xs
-  -- a group is dead exactly where one of the parts of what it leaves is stuck, which is where a stuck leaf is valid once it is closed
+  -- a group is dead exactly where one of the parts of what it leaves is stuck, which is where a stuck leaf is valid
+  -- once it is closed
   pub dead : (p : Problem) (s : State) (g : List ℕ) (parts : List (List ℕ)) → AreParts p (without g s.rest) parts → IsDead p s g ↔ ((part : List ℕ) × Contains parts part × CannotFill p s part)
   pub dead_closed : (p : Problem) (s : State) (g : List ℕ) → IsDead p s g ↔ ((c : ℕ) × IsStuck p (close g s) c)
   -- a line's weights are fair where they are so for the groups of one list

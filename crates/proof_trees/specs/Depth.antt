@@ -39,7 +39,8 @@ abbrev mutual
   EachHasLimits round no_take = ⊤
   EachHasLimits round (take codes tree others) = HasLimits round tree × EachHasLimits round others
 
--- Each proof tree keeps the depth of its language, and no path of it has more branches than there are steps left, in a plain round than there are counties.
+-- Each proof tree keeps the depth of its language, and no path of it has more branches than there are steps left, in a
+-- plain round than there are counties.
 pub record TreesAreShallow : Type 0 where
   pub within : (p : Problem) (round : Round) (s : State) (tree : Tree) → IsOrder p round.order → IsState p round s → Proves tree p round s → IsWithin round.language (length round.order) tree
   pub few_branches : (p : Problem) (round : Round) (s : State) (tree : Tree) → IsState p round s → Proves tree p round s → branches_on tree ≤ steps_left p round.limit s

@@ -33,7 +33,8 @@ plain_round = record { order = path; limit = 3; target = Some together; language
 abbrev pub plain_tree : Tree
 plain_tree = branch 37001 None (take path (leaf (bound (room ∷ room ∷ room ∷ []))) no_take) (leaf (stuck 37001))
 
--- The wide certificate: the middle county alone leaves a stuck part, so it is not alone, no group of one or two fits, and there is room for one of three.
+-- The wide certificate: the middle county alone leaves a stuck part, so it is not alone, no group of one or two fits,
+-- and there is room for one of three.
 abbrev pub wide_round : Round
 wide_round = record { order = path; limit = 3; target = Some together; language = Wide; window = None }
 

@@ -1,5 +1,5 @@
--- Where a leaf is valid. Both the stuck and the seats leaf rest on the seat window: the people of disjoint groups that suit their seats suit
--- the sum of these together.
+-- Where a leaf is valid. Both the stuck and the seats leaf rest on the seat window: the people of disjoint groups that
+-- suit their seats suit the sum of these together.
 use Rattle.std.specs.Prelude.{ℕ, ◌≡◌, ◌<◌, true, List, ◌++◌, ◌⊎◌}
 use Rattle.std.specs.List.{AllZip}
 use Rattle.grouping_laws.specs.Sets.{total, member}

@@ -26,7 +26,8 @@ pub record ListsServe : Type 0 where
       → AllPairs (IsBefore round.order) groups → ((g : List ℕ) → IsSetAt p round.order s c j g → (keep g ≡ true) ↔ Fits round.language p s g) → AreGroupsAt p round s c j groups
   pub kept_of : (p : Problem) (round : Round) (s : State) (i : ℕ) (keep : List ℕ → Bool) (groups : List (List ℕ)) → ((g : List ℕ) → Contains groups g ↔ (IsSetWithin p round.order s i g × (keep g ≡ true)))
       → AllPairs (IsBefore round.order) groups → ((g : List ℕ) → IsSetWithin p round.order s i g → (keep g ≡ true) ↔ (Fits round.language p s g × (length g ≡ i))) → AreGroupsOf p round s i groups
-  -- at a state into which no other groups fit, a list is what is left of the old one when the groups that don't fit any more are dropped
+  -- at a state into which no other groups fit, a list is what is left of the old one when the groups that don't fit any
+  -- more are dropped
   pub narrower_at : (p : Problem) (round : Round) (s t : State) (c j k : ℕ) (groups : List (List ℕ)) (keep : List ℕ → Bool) → Narrows round.language p s t → k ≤ j
       → ((g : List ℕ) → Contains groups g → (keep g ≡ true) ↔ (Fits round.language p t g × (length g ≤ k))) → AreGroupsAt p round s c j groups → AreGroupsAt p round t c k (filter keep groups)
   pub narrower_of : (p : Problem) (round : Round) (s t : State) (i : ℕ) (groups : List (List ℕ)) (keep : List ℕ → Bool) → Narrows round.language p s t

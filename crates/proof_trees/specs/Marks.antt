@@ -1,5 +1,5 @@
--- The plain language said by itself: a county is marked where it lies in a group above the one limit. That this is the plain language of
--- the other definitions.
+-- The plain language said by itself: a county is marked where it lies in a group above the one limit. The laws say
+-- that this is the plain language of the other definitions.
 use Rattle.std.specs.Prelude.{ℕ, ◌+◌, ◌-◌, ◌*◌, ◌/◌, ◌≡◌, ◌≤◌, ◌<◌, min, cond, Bool, true, false, not, nat_le, ◌&&◌, ◌||◌, List, [], ◌∷◌, ◌++◌, length, ◌==◌, All, Contains, filter, Some, None, ◌⊎◌, ◌↔◌, ⊤}
 use Rattle.county_codes.specs.declared.group.Group.{Group}
 use Rattle.grouping_laws.specs.Sets.{digit, total, stands, member, Inside, SameSet}
@@ -52,15 +52,16 @@ pub record AgreesAbove (limit : ℕ) (s : MarkedState) (g : Grouping) : Type 0 w
   pub closed : All (λ k. (m : Group) × Contains g m × SameSet m.codes k) s.closed
   pub marked : (c : ℕ) → s.marked c ≡ true → (m : Group) × Contains g m × (member m.codes c ≡ true) × (limit < length m.codes)
 
--- The connected part around the county suits no number of seats, or holds a marked county and has at most as many counties as the limit.
+-- The connected part around the county suits no number of seats, or holds a marked county and has at most as many
+-- counties as the limit.
 pub record IsMarkedStuck (p : Problem) (limit : ℕ) (s : MarkedState) (county : ℕ) : Type 0 where
   pub part : List ℕ
   pub is_part : IsPart p (unsettled s) part
   pub around : member part county ≡ true
   pub wrong : ((k : ℕ) → ¬ Suits p (people_of p part) k) ⊎ ((c : ℕ) × (member part c ≡ true) × (s.marked c ≡ true) × (length part ≤ limit))
 
--- Each connected part suits some number of seats, and the least numbers over closed groups and parts add up to more than the seats left,
--- or the greatest to less.
+-- Each connected part suits some number of seats, and the least numbers over closed groups and parts add up to more
+-- than the seats left, or the greatest to less.
 pub record IsMarkedOff (p : Problem) (s : MarkedState) : Type 0 where
   pub parts : List (List ℕ)
   pub are_parts : AreParts p (unsettled s) parts
@@ -113,11 +114,11 @@ abbrev mutual
 abbrev pub as_state : ℕ → MarkedState → State
 as_state limit s = record { closed = s.closed; rest = unsettled s; least = λ c. cond (s.marked c) (limit + 1) 0 }
 
--- and back: the counties of the rest that ask for more than the limit are marked
+-- a state as a marked state: the counties of the rest that ask for more than the limit are marked
 abbrev pub as_marked : ℕ → State → MarkedState
 as_marked limit s = record { closed = s.closed; marked = λ c. s.rest c && not (nat_le (s.least c) limit); rest = open_to s limit }
 
--- In a plain round the two say the same, word for word.
+-- In a plain round the plain language by marks and the general one say the same, word for word.
 pub record PlainIsMarked : Type 0 where
   -- the states are the same
   pub states : (p : Problem) (round : Round) (s : MarkedState) → round.language ≡ Plain → IsMarkedState p round.limit s → IsState p round (as_state round.limit s)
@@ -130,7 +131,7 @@ pub record PlainIsMarked : Type 0 where
   -- the groups of a branch are those from the first place of the rest, inside the rest
   pub takes : (p : Problem) (round : Round) (s : State) (c : ℕ) (groups : List (List ℕ)) → round.language ≡ Plain → IsState p round s → BeginsWith c (filter (open_to s round.limit) round.order)
       → AreGroupsAt p round s c round.limit groups ↔ AreGroupsFrom p round.order round.limit c (open_to s round.limit) groups
-  -- and they are looked for among sets that begin with that place
+  -- the groups of a branch are looked for among sets that begin with the first place of the rest
   pub sets : (p : Problem) (order : List ℕ) (s : State) (c limit : ℕ) (g : List ℕ) → BeginsWith c (filter (open_to s limit) order) → IsSetAt p order s c limit g → IsSetFrom p order limit c g
   -- the valid leaves and the proof trees are the same
   pub leaves : (p : Problem) (round : Round) (s : MarkedState) (l : Leaf) → round.language ≡ Plain → IsMarkedState p round.limit s → IsMarkedLeaf p round s l ↔ IsValidLeaf p round (as_state round.limit s) l

@@ -55,7 +55,8 @@ pub record PlacesServe : Type 0 where
   pub groups_of_size : (p : Problem) (round : Round) (s t : State) (i : ℕ) (groups : List (List ℕ)) → IsOrder p round.order → IsStateAt round.order s t
       → AreGroupsOf (at_places p round.order) (round_at round) t i groups → AreGroupsOf p round s i (map (codes_at round.order) groups)
 
--- A state by places says a state by codes, and keeps saying it: at the beginning, where a group is closed and where a county is raised.
+-- A state by places says a state by codes, and keeps saying it: at the beginning, where a group is closed and where a
+-- county is raised.
 pub record StatesHaveCodes : Type 0 where
   pub there : (order : List ℕ) (t : State) → ((c : ℕ) → often c order ≤ 1) → ((i : ℕ) → t.rest i ≡ true → i < length order) → IsStateAt order (in_codes order t) t
   pub empty : (p : Problem) (order : List ℕ) → IsOrder p order → in_codes order (empty_state (at_places p order)) ≡ empty_state p

@@ -1,5 +1,5 @@
--- What makes a tree a proof: valid leaves and whole branches. A branch is whole where its takes are all groups in which its county may lie
--- up to the limit: the county's group is one of them or larger.
+-- What makes a tree a proof: valid leaves and whole branches. A branch is whole where its takes are all groups in which
+-- its county may lie up to the limit: the county's group is one of them or larger.
 use Rattle.std.specs.Prelude.{ℕ, ◌≡◌, ◌≤◌, true, filter, Option, Some, None, ⊤}
 use Rattle.grouping_laws.specs.Problem.{Problem}
 use Rattle.grouping_laws.specs.GroupsFrom.{BeginsWith}
@@ -21,7 +21,8 @@ NamesLimit Plain (Some limit) = ⊥
 NamesLimit Wide None = ⊥
 NamesLimit Wide (Some limit) = ⊤
 
--- in a plain round a branch has the round's limit, and stands at the first county of the order that may lie in a group of so many
+-- in a plain round a branch has the round's limit, and stands at the first county of the order that may lie in a group
+-- of so many
 abbrev pub GoesInOrder : Language → Round → State → ℕ → ℕ → Type 0
 GoesInOrder Plain round s county limit = (limit ≡ round.limit) × BeginsWith county (filter (open_to s limit) round.order)
 GoesInOrder Wide round s county limit = ⊤

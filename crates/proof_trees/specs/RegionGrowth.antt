@@ -33,7 +33,7 @@ pub record RegionsAreGrown : Type 0 where
   -- inside what is open at a line's size, from a place on, those of the line that begin with the place
   pub of_size : (p : Problem) (n i at : ℕ) (s : State) (set free : ℕ → Bool) → IsStartIn n at (from_place at (open_to s i)) set free
       → (g : List ℕ) → IsExtension p n i set free g ↔ (IsSetWithin p (places_below n) s i g × BeginsWith at g)
-  -- and each set of the line begins with some open place
+  -- each set that is looked through for a line begins with some place that is open at the line's size
   pub begins : (p : Problem) (n i : ℕ) (s : State) (g : List ℕ) → IsSetWithin p (places_below n) s i g → (at : ℕ) × BeginsWith at g × (open_to s i at ≡ true)
   -- what is kept by a test of fitting and sorted by size and then by places is the list of the branch
   pub groups_at : (p : Problem) (round : Round) (n limit at : ℕ) (s : State) (set free : ℕ → Bool) (keep : List ℕ → Bool) (sets groups : List (List ℕ)) → round.order ≡ places_below n

@@ -5,10 +5,10 @@ use Rattle.grouping_laws.specs.Grouping.{Grouping}
 pub use Rattle.certificate_languages.specs.declared.language.Language.{Language}
 pub use Rattle.certificate_languages.specs.declared.language.Language.TheVariants.{Plain, Wide}
 
--- The order of the counties, the limit of sizes, the target, if there is one, the language, and the allowance that is named, if it
--- isn't a twentieth: in a plain round the limit serves the
--- whole tree and branches stand at the first open county; in a wide one each branch has a county and a limit of its own, and groups
--- that leave a stuck part behind are left out.
+-- The order of the counties, the limit of sizes, the target, if there is one, the language, and the allowance that is
+-- named, if it isn't a twentieth: in a plain round the limit serves the whole tree and branches stand at the first open
+-- county; in a wide one each branch has a county and a limit of its own, and groups that leave a stuck part behind are
+-- left out.
 pub record Round : Type 0 where
   pub order : List ℕ
   pub limit : ℕ

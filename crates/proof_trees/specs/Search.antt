@@ -19,14 +19,14 @@ use Rattle.proof_trees.specs.Certificate.{Beats}
 abbrev pub IsCounted : Language → Problem → State → ℕ → ℕ → Type 0
 IsCounted language p s i c = (g : List ℕ) × Fits language p s g × (length g ≡ i) × (member g c ≡ true)
 
--- the line for size i whose quota is i and whose weights are 1 for each such county
+-- a count line, for size i: the quota is i, and each county of some group of i counties that fits has weight 1
 pub record IsCountLine (language : Language) (p : Problem) (s : State) (i : ℕ) (line : Allowance) : Type 0 where
   pub weights : List Weight
   pub is : line ≡ weigh i weights
   pub ascending : AllPairs (λ v w. v.county < w.county) weights
   pub each : (w : Weight) → Contains weights w ↔ ((w.weight ≡ 1) × IsCounted language p s i w.county)
 
--- such lines for sizes i, i + 1 and so on
+-- count lines for the sizes i, i + 1 and so on
 abbrev pub AreCountLines : Language → Problem → State → ℕ → List Allowance → Type 0
 AreCountLines language p s i [] = ⊤
 AreCountLines language p s i (line ∷ lines) = IsCountLine language p s i line × AreCountLines language p s (i + 1) lines
@@ -37,8 +37,8 @@ pub record HasNoLeaf (p : Problem) (round : Round) (most : ℕ) (s : State) : Ty
   pub no_seats : ¬ IsValidLeaf p round s seats
   pub no_count : (lines : List Allowance) → length lines ≤ most → AreCountLines round.language p s 1 lines → ¬ IsValidLeaf p round s (bound lines)
 
--- Some seats suit the closed groups and the connected parts of the rest and add up to the seats left, and whichever do so make
--- a lawful grouping that agrees with the state and is greater than the target.
+-- Some seats suit the closed groups and the connected parts of the rest and add up to the seats left, and whichever do
+-- so make a lawful grouping that agrees with the state and is greater than the target.
 pub record FinishedBeats (p : Problem) (round : Round) (s : State) (parts : List (List ℕ)) : Type 0 where
   pub some : (ks : List ℕ) × SuitAll p (s.closed ++ parts) ks × (total (λ k. k) ks ≡ p.seats_left)
   pub all : (ks : List ℕ) → SuitAll p (s.closed ++ parts) ks → total (λ k. k) ks ≡ p.seats_left
@@ -46,7 +46,7 @@ pub record FinishedBeats (p : Problem) (round : Round) (s : State) (parts : List
   -- each part is above the limit, so where there is none all groups are within it
   pub large : All (λ codes. round.limit < length codes) parts
 
--- So it is where no group of at most the limit fits and no leaf is valid.
+-- If no group within the limit fits and no leaf is valid, the closed groups and the parts of the rest beat the target.
 abbrev pub FinishedStateBeats : Type 0
 FinishedStateBeats =
     (p : Problem) (round : Round) (s : State) (parts : List (List ℕ))
@@ -57,7 +57,7 @@ FinishedStateBeats =
 abbrev pub IsFound : Problem → Round → State → Grouping → Type 0
 IsFound p round s g = Lawful p g × Agrees s g × Beats round.target (counts (sets_of g))
 
--- a proof tree, or such a grouping
+-- a proof tree, or a lawful grouping that agrees with the state and is greater than the target
 abbrev pub Outcome : Problem → Round → State → Type 0
 Outcome p round s = ((tree : Tree) × Proves tree p round s) ⊎ ((g : Grouping) × IsFound p round s g)
 

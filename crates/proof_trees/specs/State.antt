@@ -1,12 +1,13 @@
--- Where a search stands: closed groups, the other counties, and how large a group each of these asks for. States are the project's own;
--- that closed groups are lawful and small is what a search for the most small groups keeps (Carter et al.).
+-- Where a search stands: closed groups, the other counties, and how large a group each of these asks for. States are
+-- the project's own. A search for the most small groups keeps that closed groups are lawful and small.
 use Rattle.std.specs.Prelude.{ℕ, ◌+◌, ◌≡◌, ◌≤◌, Bool, false, cond, nat_le, ◌&&◌, List, [], ◌∷◌, ◌++◌, length, ◌==◌, All, ◌⊎◌, ⊤}
 use Rattle.grouping_laws.specs.Sets.{digit, stands, member}
 use Rattle.grouping_laws.specs.Problem.{Problem, LawfulGroup}
 use Rattle.proof_trees.specs.Round.{Language, Plain, Wide, Round}
 use Rattle.proof_trees.specs.Regions.{without}
 
--- groups that are closed, the rest of the counties, and for each of the rest the least size of a group that it may lie in
+-- groups that are closed, the rest of the counties, and for each of the rest the least size of a group that it may lie
+-- in
 pub record State : Type 0 where
   pub closed : List (List ℕ)
   pub rest : ℕ → Bool
@@ -33,7 +34,8 @@ abbrev pub IsLeastSize : Language → ℕ → ℕ → Type 0
 IsLeastSize Plain limit n = (n ≡ 0) ⊎ (n ≡ limit + 1)
 IsLeastSize Wide limit n = ⊤
 
--- lawful groups of at most the limit and the rest make up the counties, each county once, and only the rest asks for sizes
+-- lawful groups of at most the limit and the rest make up the counties, each county once, and only the rest asks for
+-- sizes
 pub record IsState (p : Problem) (round : Round) (s : State) : Type 0 where
   pub once : (c : ℕ) → stands c s.closed + digit (s.rest c) ≡ digit (member p.counties c)
   pub lawful : All (LawfulGroup p) s.closed

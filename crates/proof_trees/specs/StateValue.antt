@@ -4,8 +4,8 @@ use Rattle.place_lists.specs.PlaceSets.{places_of}
 use Rattle.proof_trees.specs.declared.state.State.{State as StateHeld}
 use Rattle.proof_trees.specs.State.{State}
 
--- The state by places: the lists of places of the closed groups, the rest, and the least size at each place. There are as many places
--- as numbers.
+-- The state by places: the lists of places of the closed groups, the rest, and the least size at each place. There are
+-- as many places as numbers.
 abbrev pub state_of : {C : Type 0} → (C → ℕ → Bool) → StateHeld C → State
 state_of test s = record {
   closed = map (λ g. places_of (length s.least.items) (test g)) s.closed.items;

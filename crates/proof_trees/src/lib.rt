@@ -1,5 +1,5 @@
-//! Certificates that a grouping is best, or that none is lawful: their language as definitions, and what they
-//! show as laws.
+//! Certificates that a grouping is best, or that none is lawful: their language as definitions, and what they show as
+//! laws.
 //!
 //! A *round* names an order of the counties, a limit of sizes, a target (or none) and one of two languages. A
 //! *state* has closed groups, the rest of the counties, and for each of these the least size of a group that it
@@ -16,6 +16,10 @@
 //! `Tree` (the data), `BoundLines`, `Leaves`, `Proving` and `Certificate`; the other files state the laws.
 //! `docs/definitions.md` tells them with examples. Code is only what the crates above share: the types of
 //! round and state; that of the language is given on.
+//!
+//! A further kind of leaf begins with `Tree`, `Leaves` and the laws here, and with those of `complete_lists`. Its lines
+//! stand in `certificate_lines` and `certificate_text`. Its verdict stands in `verdicts`, `line_verdicts` and
+//! `certificate_checker`, and in the second checker, `tools/check.py`.
 #![tactic(auto)]
 
 mod laws;

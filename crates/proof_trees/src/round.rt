@@ -1,3 +1,5 @@
+//! Rounds: an order, a limit, a target, a language and an allowance.
+
 ghost use Rattle.std.specs.Prelude.{◌≡◌, IfOk};
 ghost use Rattle.proof_trees.specs.RoundValue.{round_of, target_of};
 

@@ -1,3 +1,5 @@
+//! States by the places of an order: closed groups, the rest, and the least size that each county asks for.
+
 ghost use Rattle.std.specs.Prelude.{◌≡◌, ℕ, ◌<◌, ◌≤◌, true, cond, nat_lt, List, length, map, get_or, IfOk};
 ghost use Rattle.grouping_problem.specs.ProblemValue.{problem_of};
 ghost use Rattle.ordered_counties.specs.OrderedValue.{at_places};

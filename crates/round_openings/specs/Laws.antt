@@ -1,4 +1,4 @@
--- That rounds open, and with how many pieces.
+-- Laws of opening rounds: that a round opens, and with how many pieces.
 use Rattle.std.specs.Prelude.{ℕ, ◌+◌, ◌≡◌, ◌≤◌, ◌<◌, ◌⊎◌}
 use Rattle.grouping_laws.specs.Problem.{Problem, IsProblem}
 use Rattle.grouping_laws.specs.Grouping.{Grouping}
@@ -22,17 +22,17 @@ pub record AnOpening (p : Problem) (round : Round) (depth : ℕ) (s : State) (fi
 
 -- Openings at the states of a round.
 pub record RoundsOpen : Type 0 where
-  -- there is one at each state
+  -- there is an opening at each state
   pub some : (p : Problem) (round : Round) (depth : ℕ) (s : State) (first : ℕ) → IsProblem p → IsOrder p round.order → GoesTo round depth
       → IsState p round s → AnOpening p round depth s first
-  -- and one alone: two at a state have the same branches, with the same numbers
+  -- there is one opening alone: two at a state have the same branches, with the same numbers
   pub one : (p : Problem) (round : Round) (depth : ℕ) (s : State) (first : ℕ) → GoesTo round depth → (a b : AnOpening p round depth s first)
       → (a.skeleton ≡ b.skeleton) × (a.next ≡ b.next)
   -- an opening has no more pieces than a round may begin with, or each has more
   pub either : (p : Problem) (round : Round) (depth : ℕ) (s : State) (first : ℕ) → IsProblem p → IsOrder p round.order → GoesTo round depth
       → IsState p round s
       → ((a : AnOpening p round depth s (first + 1)) × (a.next ≤ most_opening + 1)) ⊎ OpensWithMore p round depth s first
-  -- it is never said of nothing that each has more
+  -- if each opening at a state has too many pieces, there is an opening with too many pieces
   pub more : (p : Problem) (round : Round) (depth : ℕ) (s : State) (first : ℕ) → IsProblem p → IsOrder p round.order → GoesTo round depth
       → IsState p round s
       → OpensWithMore p round depth s first → (a : AnOpening p round depth s (first + 1)) × (most_opening + 1 < a.next)

@@ -2,8 +2,9 @@
 
 ghost use Rattle.round_openings.specs.Laws.{RoundsOpen};
 
-/// A plain round opens at each of its states to each depth, and any round to depth 0, in one way. So either the opening has no more pieces
-/// than a round may begin with, or each opening has more, and there is one. If a board may begin with a round, there is a content to begin with.
+/// A plain round opens at each of its states to each depth, and any round to depth 0, in one way. So either the opening
+/// has no more pieces than a round may begin with, or each opening has more, and there is one. If a board may begin
+/// with a round, there is a content to begin with.
 pub fn rounds_open()
     ensures { RoundsOpen }
 {}

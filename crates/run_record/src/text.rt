@@ -169,11 +169,11 @@ fn push_end(out: &mut Vec<u8>, run: &Run) -> Result<(), AllocError>
     push_line(out, b"answer ", &run.answer)
 }
 
-/// The record of a run: what the text is, the version, a line for each word, a line for each file that was read and for each
-/// that was stored, the status and the answer.
+/// The record of a run: what the text is, the version, a line for each word, a line for each file that was read and for
+/// each that was stored, the status and the answer.
 ///
-/// In the version, a word, a name and the answer, a backslash and each byte below 0x20 or above 0x7E stand as `\xHH`, with
-/// letters in upper case. The letters of a digest are in lower case.
+/// In the version, a word, a name and the answer, a backslash and each byte below 0x20 or above 0x7E stand as `\xHH`,
+/// with letters in upper case. The letters of a digest are in lower case.
 ///
 /// # Errors
 ///

@@ -15,8 +15,8 @@ codes_on (field ∷ fields) = do
   codes ← codes_on fields
   Ok (code ∷ codes)
 
--- the seats and the codes of a line: field 1 is a number of seats from the least to the greatest, and each field from the
--- second on a code
+-- the seats and the codes of a line: field 1 is a number of seats from the least to the greatest, and each field from
+-- the second on a code
 unfoldable pub seat_line : ℕ → ℕ → List ℕ → Result (ℕ × List ℕ) CodeLineKind
 seat_line least greatest line = do
   seats_field ← ok_or (field_of 124 1 line) TooFewFields

@@ -1,3 +1,5 @@
+//! What may be wrong with a file whose lines have county codes, and on which line.
+
 use field_lines::LineFault;
 use std::alloc::AllocFailed;
 use thiserror::Error;

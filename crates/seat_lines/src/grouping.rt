@@ -1,3 +1,5 @@
+//! Groupings, read from their lines.
+
 ghost use Rattle.std.specs.Prelude.{◌≡◌};
 ghost use Rattle.field_lines.specs.Values.{GivesUnless, AddsUnless};
 ghost use Rattle.seat_lines.specs.Faults.{IsMemory};

@@ -1,5 +1,5 @@
-//! Lines of county codes: what may be wrong with a file of them, the seats and codes of a line of a withdrawn set or of
-//! a group, and groupings read from their lines.
+//! The seats and the county codes of a line, groupings read from such lines, and what may be wrong with a file of
+//! codes. A line of seats and codes stands for a withdrawn set or for a group.
 //!
 //! ```
 //! let (seats, codes) = seats_and_codes(alloc, b"2|37183|37063", 1, 1_000)?;    // 2, and two codes

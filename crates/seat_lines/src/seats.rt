@@ -1,3 +1,5 @@
+//! The seats and the county codes of a line.
+
 ghost use Rattle.std.specs.Prelude.{◌≡◌, length, drop, true, is_some, IfErr};
 ghost use Rattle.std.specs.Option.{option_and_then};
 ghost use Rattle.field_lines.specs.Fields.{fields_of, field_of};

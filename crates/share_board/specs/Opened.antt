@@ -33,14 +33,16 @@ use Rattle.share_board.specs.BoardValue.{IsStateAt}
 abbrev pub AllWait : List Fate → ℕ → ℕ → Type 0
 AllWait fates first next = (k : ℕ) → first ≤ k → k < next → IsAt fates k Waits
 
--- at a state the round may open with these branches, and with pieces that stand at the places from one on up to the next
+-- at a state the round may open with these branches, and with pieces that stand at the places from one on up to the
+-- next
 pub record IsOpened {C : Type 0} (test : C → ℕ → Bool) (p : Problem) (round : Round) (depth : ℕ) (s : State) (tree : Tree) (first next : ℕ) (states : List (StateHeld C)) : Type 0 where
   pub skeleton : Skeleton
   pub opens : Opens depth skeleton p round s (first + 1) (next + 1)
   pub shows : (fates : List Fate) → AllWait fates first next → ShowsAbove fates tree first next skeleton
   pub stand : (k : ℕ) (t : State) → StandsAt skeleton round s (k + 1) t → IsStateAt round.order test states k t
 
--- so it may where each of these groups is closed
+-- at the states where each of these groups is closed the round may open with these takes, and with pieces that stand at
+-- the places from one on up to the next
 pub record AreOpened {C : Type 0} (test : C → ℕ → Bool) (p : Problem) (round : Round) (depth : ℕ) (s : State) (groups : List (List ℕ)) (takes : Takes) (first next : ℕ) (states : List (StateHeld C)) : Type 0 where
   pub parts : Parts
   pub groups_are : groups_in parts ≡ groups
@@ -88,7 +90,8 @@ pub record IsBranching {C : Type 0} (test : C → ℕ → Bool) (g : Ground C) (
 abbrev pub IsBelowLine : Problem → Round → ℕ → Type 0
 IsBelowLine p round share = (m : ℕ) → AreSoMany round.order (IsSmallSet p round) m → share < 3 * (m + 1)
 
--- why the round isn't opened at a state, where so many pieces stand before it; and why not where each of these groups is closed
+-- why the round isn't opened at a state, where so many pieces stand before it; and why not where each of these groups
+-- is closed
 abbrev pub IsHalted : Problem → Round → ℕ → ℕ → State → ℕ → OpeningStop → Type 0
 IsHalted p round share depth s first stop.TooManyPieces = OpensWithMore p round depth s first
 IsHalted p round share depth s first stop.Budget = (1 ≤ depth) × IsBelowLine p round share
@@ -105,7 +108,7 @@ IsOpeningStop p depth budget round stop.TooManyPieces = OpensWithMore p round de
 IsOpeningStop p depth budget round stop.Budget = IsBelowOpening p depth budget round
 IsOpeningStop p depth budget round stop.Memory = ⊤
 
--- what is replied then
+-- what is replied where a round isn't opened
 abbrev pub reply_to : {C : Type 0} → OpeningStop → ReplyHeld C
 reply_to stop.TooManyPieces = held.TooManyPieces
 reply_to stop.Budget = held.Budget

@@ -1,9 +1,11 @@
+//! What the opening of a round goes by: the problem, the round, and the budget of a branch.
+
 use ordered_counties::Ordered;
 use proof_trees::Round;
 use std::alloc::Global;
 
-/// What the opening of a round goes by: the problem by places of the round's order, for each place the places adjacent to it, the
-/// round, and what each of its branches may cost.
+/// What the opening of a round goes by: the problem by places of the round's order, for each place the places adjacent
+/// to it, the round, and what each of its branches may cost.
 #[derive(Drop)]
 pub(crate) struct Ground<'a, 'b, C> {
     pub(crate) alloc: Global,

@@ -44,8 +44,8 @@ impl<C: CountySet> Board<C> {
         open_numbers(alloc, &self.fates)
     }
 
-    /// The round in which the pieces are proved: its order names each county of the problem once, and each piece stands at one
-    /// of its states.
+    /// The round in which the pieces are proved: its order names each county of the problem once, and each piece stands
+    /// at one of its states.
     pub fn proof_round(&self) -> &Round
         ensures round { (b : Content) → IsOf C.test self.now b → round_of result.now ≡ b.round }
         ensures same_order { result.now.order ≡ self.now.round.order }

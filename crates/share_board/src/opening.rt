@@ -24,7 +24,7 @@ use place_sets::CountySet;
 use proof_trees::{Round, State};
 use std::alloc::Global;
 
-/// With what a round begins: the branches above its pieces, which all wait, and the states at which these stand.
+/// What a round begins with: the branches above its pieces, which all wait, and the states at which the pieces stand.
 #[derive(Drop)]
 pub(crate) struct Opening<C> {
     pub(crate) above: Tree,
@@ -109,8 +109,8 @@ fn open_branch<C: CountySet>(
     Ok(branched(ground, branching.place, takes, raised)?)
 }
 
-/// The tree of so many branchings at the state, or of fewer where no county is open any more; its pieces stand behind the
-/// others.
+/// The tree of so many branchings at the state, or of fewer where no county is open any more; its pieces stand behind
+/// the others.
 ///
 /// It goes as deep as twice the branchings.
 #[cycle(opening)]
@@ -143,12 +143,13 @@ fn open_tree<C: CountySet>(
     }
 }
 
-/// How the round begins: with the states after so many branchings from the empty one, or earlier where no county is open.
+/// How the round begins: with the states after so many branchings from the empty one, or earlier where no county is
+/// open.
 ///
 /// # Errors
 ///
-/// `TooManyPieces` where there would be more than 4,096, `Budget` where a branch costs more than its share of the budget,
-/// `Memory` where memory was refused.
+/// `TooManyPieces` where there would be more than 4,096, `Budget` where a branch costs more than its share of the
+/// budget, `Memory` where memory was refused.
 pub(crate) fn opened<C: CountySet>(
     alloc: Global,
     ordered: &Ordered,

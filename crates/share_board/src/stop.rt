@@ -1,3 +1,5 @@
+//! Why a round isn't opened.
+
 ghost use Rattle.std.specs.Prelude.{◌≡◌};
 ghost use Rattle.share_board.specs.OpeningStops.{opening_stop};
 ghost use Rattle.share_board.specs.declared.stop.OpeningStop.TheVariants.{Memory};

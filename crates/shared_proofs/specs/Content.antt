@@ -47,8 +47,8 @@ pub record Content : Type 0 where
   pub skeleton : Skeleton
   pub last : ℕ
 
--- The skeleton with which a round begins: the states after so many branchings, or earlier where no county is open, wait, with the numbers
--- from one on up to the next.
+-- The skeleton with which a round begins: the states after so many branchings, or earlier where no county is open,
+-- wait, with the numbers from one on up to the next.
 abbrev mutual
   pub Opens : ℕ → Skeleton → Problem → Round → State → ℕ → ℕ → Type 0
   Opens depth (waits piece) p round s first next = (piece ≡ first) × (next ≡ first + 1) × ((depth ≡ 0) ⊎ ((c : ℕ) → open_to s round.limit c ≢ true))
@@ -81,8 +81,8 @@ pub record Fills (p : Problem) (b : Content) (n : ℕ) (tree : Tree) (c : Conten
   pub proves : Proves tree p b.round state
   pub is : c ≡ record b { skeleton = put n (proved n tree) b.skeleton }
 
--- The piece is split at a county of a wide round: its pieces have the next numbers, one for each group that fits, has the county and has at
--- most so many counties, and one for where the county is raised.
+-- The piece is split at a county of a wide round: its pieces have the next numbers, one for each group that fits, has
+-- the county and has at most so many counties, and one for where the county is raised.
 pub record Splits (p : Problem) (b : Content) (n county limit first many : ℕ) (c : Content) : Type 0 where
   pub state : State
   pub waits : Waits p b n state
@@ -141,7 +141,8 @@ abbrev pub LeadsOver : Problem → ℕ → Content → List Answered → Content
 LeadsOver p depth b [] c = c ≡ b
 LeadsOver p depth b (first ∷ more) c = (between : Content) × Leads p depth b first.event first.reply between × LeadsOver p depth between more c
 
--- What stands at every moment. A round names the allowance that a certificate for the problem names.
+-- What holds of the content of a board at every moment. A round names the allowance that a certificate for the problem
+-- names.
 pub record IsContent (p : Problem) (b : Content) : Type 0 where
   pub window : b.round.window ≡ named_window p
   pub order : IsOrder p b.round.order

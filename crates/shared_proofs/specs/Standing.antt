@@ -7,7 +7,8 @@ use Rattle.proof_trees.specs.Tree.{Tree}
 use Rattle.proof_trees.specs.Proving.{limit_of}
 use Rattle.shared_proofs.specs.Skeleton.{Skeleton, waits, proved, split, Parts, no_part, part, pieces}
 
--- in a skeleton that begins at a state the piece stands at this one: where the groups on its way are closed and the counties raised
+-- in a skeleton that begins at a state the piece stands at this one: where the groups on its way are closed and the
+-- counties raised
 abbrev mutual
   pub StandsAt : Skeleton → Round → State → ℕ → State → Type 0
   StandsAt (waits piece) round s n t = (piece ≡ n) × (t ≡ s)

@@ -4,8 +4,9 @@ use Rattle.shelves.specs.declared.shelf.ReadEnd.{ReadEnd}
 use Rattle.shelves.specs.declared.shelf.ShelfFault.{ShelfFault}
 use Rattle.shelves.specs.Shelf.{IsCounted}
 
--- a file was loaded: its name, and the bytes or the fault; a reader was given back: the file's name, the bytes that it gave, and where it
--- stood, or its fault; a file was handed over to be stored: its name, its bytes, and whether they were taken
+-- a file was loaded: its name, and the bytes or the fault; a reader was given back: the file's name, the bytes that it
+-- gave, and where it stood, or its fault; a file was handed over to be stored: its name, its bytes, and whether they
+-- were taken
 pub data Event : Type 0 where
   Loaded : List ℕ → Result (List ℕ) ShelfFault → Event
   Read : List ℕ → List ℕ → Result ReadEnd ShelfFault → Event

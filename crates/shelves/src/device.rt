@@ -1,3 +1,5 @@
+//! The machine's files as a shelf.
+
 ghost use Rattle.std.specs.Prelude.{◌≡◌, ◌≢◌, ◌-◌, ◌^◌, ◌<◌, ◌≤◌, None, IfOk, vec_len};
 ghost use Rattle.shelves.specs.Shelf.{CountsFault, IsCounted};
 ghost use Rattle.shelves.specs.History.{no_history};
@@ -37,8 +39,8 @@ impl<R: Files + AllocGlobal> FileShelf<R> {
         }
     }
 
-    /// What sort of error the system gave at the last load, opening, reading or store that failed. `None` where none has
-    /// failed, or where the system gave no error: the file was too large, or memory was refused.
+    /// What sort of error the system gave at the last load, opening, reading or store that failed. `None` where none
+    /// has failed, or where the system gave no error: the file was too large, or memory was refused.
     pub fn reason(&self) -> Option<ErrorKind> {
         self.reason
     }
@@ -112,7 +114,7 @@ fn load_fault(error: &Error, failures: &mut u64) -> ShelfFault
     }
 }
 
-/// The fault that one of a file's read is.
+/// The fault of the shelf that a fault of reading a file is.
 fn read_fault(fault: WholeFault, failures: &mut u64) -> ShelfFault
     ensures { CountsFault failures.old failures.new result }
 {

@@ -1,3 +1,5 @@
+//! A file of the machine, read as it comes.
+
 ghost use Rattle.std.specs.Prelude.{◌≡◌, ◌==◌, [], false, if◌then◌else◌};
 ghost use Rattle.std.specs.Option.{is_some};
 ghost use Rattle.shelves.specs.declared.shelf.ReadEnd.TheVariants.{Whole, Part};
@@ -10,8 +12,8 @@ use std::io::{ErrorKind, Read};
 /// How often a read is made before one that was interrupted each time counts as failed.
 const MAX_TRIES: u32 = 1_000;
 
-/// A file of the machine that is read from its beginning on. A read that was interrupted is made again, up to 1,000 times in
-/// all; past that it is a failed read, as one with any other error is at once.
+/// A file of the machine that is read from its beginning on. A read that was interrupted is made again, up to 1,000
+/// times in all; past that it is a failed read, as one with any other error is at once.
 #[derive(Drop)]
 pub struct FileReader<F> {
     file: F,

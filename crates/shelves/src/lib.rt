@@ -1,5 +1,5 @@
-//! Named files, and where bytes come from and go: the machine's files or some in memory, a source
-//! that is read whole, and an output that tells whether it failed.
+//! Named files, and where bytes come from and go. A shelf has the machine's files or some in memory, a source is read
+//! whole, and a sink tells whether it failed.
 #![tactic(auto)]
 
 mod device;

@@ -1,4 +1,5 @@
 //! What a shelf did, for proofs alone.
+
 ghost use Rattle.std.specs.Prelude.{◌≡◌, List, []};
 ghost use Rattle.std.specs.Borrow.{ftrue};
 ghost use Rattle.shelves.specs.History.{Event, with_load, with_read, with_store};
@@ -31,7 +32,8 @@ impl EventLog {
         ensures { self.new.events ≡ with_load (λ v. v.items) self.old.events _name.now _answer.now }
     {}
 
-    /// Puts a reader at the end that is given back: the bytes of the file's name, what it gave, and what the call answers.
+    /// Puts a reader at the end that is given back: the bytes of the file's name, what it gave, and what the call
+    /// answers.
     pub fn note_read(
         &mut self,
         _name: &[u8],

@@ -1,3 +1,5 @@
+//! Files in memory as a shelf.
+
 ghost use Rattle.std.specs.Prelude.{◌≡◌, ℕ, List, [], Option, Some, None, IfOk, IfErr, IfSome, ◌++◌, OnOk, OnErr, option_map, string_bytes, map, ◌≤◌, vec_len};
 ghost use Rattle.std.specs.Option.{option_or};
 ghost use Rattle.shelves.specs.Files.{held, with_file};

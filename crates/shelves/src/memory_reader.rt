@@ -1,3 +1,5 @@
+//! A file in memory, read as it comes.
+
 ghost use Rattle.std.specs.Prelude.{◌≡◌, ◌<◌, ◌≤◌, [], Some, false, length, take, drop};
 
 use crate::given::GivenBytes;

@@ -1,3 +1,5 @@
+//! A file put under a name whole or not at all.
+
 use std::alloc::Global;
 use std::fs::{File, OpenFile};
 use std::io::{Error, ErrorKind, Write};
@@ -42,9 +44,9 @@ fn fill<F: Write + OpenFile + Drop>(mut file: F, bytes: &[u8]) -> io::Result<()>
 ///
 /// # Errors
 ///
-/// `OutOfMemory` where a growth was refused, `IsADirectory` where the name is that of a folder, `PermissionDenied` where it is
-/// that of a device or a read-only file, `AlreadyExists` where all names of new files are taken, else what the system says. What stood
-/// under the name is then as it was, and the new file is removed if that can be done.
+/// `OutOfMemory` where a growth was refused, `IsADirectory` where the name is that of a folder, `PermissionDenied`
+/// where it is that of a device or a read-only file, `AlreadyExists` where all names of new files are taken, else what
+/// the system says. What stood under the name is then as it was, and the new file is removed if that can be done.
 pub(crate) fn replace_file<R: Files>(
     rt: &R,
     alloc: Global,

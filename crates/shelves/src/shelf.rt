@@ -1,3 +1,5 @@
+//! Shelves: named files that are loaded, opened and stored.
+
 ghost use Rattle.std.specs.Prelude.{◌≡◌, ℕ, ◌<◌, ◌≤◌, false, List, [], Option, IfOk, OnOk, OnErr, option_map, vec_len};
 ghost use Rattle.shelves.specs.Files.{File, Files, with_file, with_bytes};
 ghost use Rattle.shelves.specs.Shelf.{IsLoad, Opens, IsRead, IsStore};
@@ -88,14 +90,15 @@ pub trait Shelf {
         ensures kept { stored self.new ≡ stored self.old }
         ensures logged { HasOpened (history self.old) (history self.new) name.now result };
 
-    /// Takes back the reader of the file of a name, and says where it stood. The last event of the history is then the name, all
-    /// bytes that the reader gave, and this answer. Where the shelf tells its files, the bytes are those of the name's file if
-    /// the reader stood at its end, and a beginning of them if it didn't.
+    /// Takes back the reader of the file of a name, and says where it stood. The last event of the history is then the
+    /// name, all bytes that the reader gave, and this answer. Where the shelf tells its files, the bytes are those of
+    /// the name's file if the reader stood at its end, and a beginning of them if it didn't.
     ///
     /// # Errors
     ///
-    /// `Device` where the reader's last pull failed, and the count of failures rose. `Missing` only where it failed with the
-    /// count at its last value, or where the shelf tells its files and that of the name doesn't begin with what the reader gave.
+    /// `Device` where the reader's last pull failed, and the count of failures rose. `Missing` only where it failed
+    /// with the count at its last value, or where the shelf tells its files and that of the name doesn't begin with
+    /// what the reader gave.
     fn give_back(&mut self, name: &str, reader: Self::Reader) -> Result<ReadEnd, ShelfFault>
         ensures read { IsRead (contents self.old) name.now (Self.Reader.given reader) result }
         ensures sound { OnOk result (Self.Reader.is_failed reader ≡ false) }
@@ -103,8 +106,8 @@ pub trait Shelf {
         ensures kept { stored self.new ≡ stored self.old }
         ensures logged { HasRead (history self.old) (history self.new) name.now (Self.Reader.given reader) result };
 
-    /// Puts a file under a name, in the place of the one that was there. The last event of the history is then the name, the
-    /// bytes, and whether they were taken.
+    /// Puts a file under a name, in the place of the one that was there. The last event of the history is then the
+    /// name, the bytes, and whether they were taken.
     ///
     /// # Errors
     ///

@@ -1,3 +1,5 @@
+//! A source read whole, up to a limit.
+
 ghost use Rattle.std.specs.Prelude.{◌≡◌, ◌<◌, ◌≤◌, ◌↔◌, true, false, length, IfOk, OnOk, IfSome, IsErrOf, vec_len};
 ghost use Rattle.std.specs.Io.KnownBytes.{IsAtEnd};
 

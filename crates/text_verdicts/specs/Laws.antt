@@ -1,4 +1,4 @@
--- What the definitions keep to.
+-- Laws of the faults, the verdict and the cost of a text.
 use Rattle.std.specs.Prelude.{ℕ, ◌+◌, ◌*◌, ◌≡◌, ◌≢◌, ◌≤◌, List, length, Some, None, ◌⊎◌}
 use Rattle.grouping_laws.specs.Problem.{Problem}
 use Rattle.grouping_laws.specs.Grouping.{Grouping, IsBest, IsImpossible}
@@ -20,12 +20,12 @@ pub record TextsSpell : Type 0 where
   pub spelled : (text : List ℕ) → (certificate_course text).fault ≡ None → (c : Certificate) × IsSpelling text c × ((certificate_course text).items ≡ items_of_certificate c)
   -- a text that spells a certificate has its items, and no fault
   pub spelling : (text : List ℕ) (c : Certificate) → IsSpelling text c → ((certificate_course text).items ≡ items_of_certificate c) × ((certificate_course text).fault ≡ None)
-  -- it is one of both
+  -- a text spells a certificate or has a fault, and never both
   pub either : (text : List ℕ) → ((c : Certificate) × IsSpelling text c) ⊎ ((fault : TextFault) × HasTextFault text fault)
   pub apart : (text : List ℕ) (fault : TextFault) (c : Certificate) → HasTextFault text fault → IsSpelling text c → ⊥
-  -- its lines alone decide its fault, and no memory that was refused or source that could not be read
+  -- the lines of a text alone decide its fault, and no memory that was refused or source that could not be read
   pub faults : (text : List ℕ) (fault : TextFault) → HasTextFault text fault → (fault.kind ≢ Memory) × (fault.kind ≢ ReadFault)
-  -- it stands on the line behind those of the items
+  -- the fault stands on the line behind the lines of the items
   pub fault_line : (text : List ℕ) (fault : TextFault) → HasTextFault text fault → fault.line ≡ 1 + length (certificate_course text).items
   -- an item is read from a line that an LF ends
   pub lines : (text : List ℕ) → length (certificate_course text).items ≤ line_feeds text
@@ -39,7 +39,8 @@ pub record TextVerdictsShow : Type 0 where
   pub no : (p : Problem) (text : List ℕ) (fault : Fault) (line : ℕ) → IsTextVerdict p text (No fault line) → (c : Certificate) → IsSpelling text c → ¬ IsCertificate p c.round c.tree
   -- the text of a certificate has the verdict of its target
   pub certified : (p : Problem) (text : List ℕ) (c : Certificate) → IsSpelling text c → IsCertificate p c.round c.tree → IsTextVerdict p text (shown c.round.target)
-  -- there is one verdict: two are the same, it can't be that a text that spells a certificate has none, and a text with a fault has none
+  -- there is one verdict: two are the same, it can't be that a text that spells a certificate has none, and a text with
+  -- a fault has none
   pub one : (p : Problem) (text : List ℕ) (x y : Verdict) → IsTextVerdict p text x → IsTextVerdict p text y → x ≡ y
   pub some : (p : Problem) (text : List ℕ) (c : Certificate) → IsSpelling text c → ((x : Verdict) → ¬ IsTextVerdict p text x) → ⊥
   pub apart : (p : Problem) (text : List ℕ) (fault : TextFault) (x : Verdict) → HasTextFault text fault → IsTextVerdict p text x → ⊥

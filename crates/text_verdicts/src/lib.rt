@@ -1,5 +1,5 @@
-//! What is said of any text over a problem: its first fault, or the verdict of the certificate that it spells; and
-//! what saying so costs. Definitions, and their laws as theorems.
+//! What is said of any text over a problem, and what saying so costs: the text's first fault, or the verdict of the
+//! certificate that it spells. The crate has definitions, and their laws as theorems.
 //!
 //! A text without a fault spells one certificate, and the verdict is that certificate's. A fault of the text comes
 //! before all that is said of a certificate.

@@ -20,8 +20,8 @@ pub record TreesSpell : Type 0 where
       → ((tree_course language counties text).items ≡ items_of_tree tree) × ((tree_course language counties text).fault ≡ None)
   -- no text spells a tree whose lines have a fault
   pub unspelled : (language : Language) (counties : ℕ) (tree : Tree) (fault : TextFault) → HasTreeFault language counties tree fault → (text : List ℕ) → ¬ IsTreeSpelling language counties text tree
-  -- it is one of both
+  -- the lines of a tree spell it or have a fault
   pub either : (language : Language) (counties : ℕ) (tree : Tree) → AreTreeNumbers tree
       → IsTreeSpelling language counties (lines_of_tree tree) tree ⊎ ((fault : TextFault) × HasTreeFault language counties tree fault)
-  -- its lines alone decide its fault, and no memory that was refused or source that could not be read
+  -- the lines of a tree alone decide their fault, and no memory that was refused or source that could not be read
   pub faults : (language : Language) (counties : ℕ) (tree : Tree) (fault : TextFault) → HasTreeFault language counties tree fault → (fault.kind ≢ Memory) × (fault.kind ≢ ReadFault)

@@ -1,4 +1,4 @@
--- Which texts there are.
+-- Which proof trees and certificates have a text.
 use Rattle.std.specs.Prelude.{◌≡◌, ℕ, ◌≤◌, true, List, [], ◌∷◌, length}
 use Rattle.std.specs.List.{AllByRecursion}
 use Rattle.county_codes.specs.Windows.{FitsRange}

@@ -1,4 +1,5 @@
--- Trees and targets whose numbers are in the ranges of their lines, so that a text spells them if no branch is too deep.
+-- Trees and targets whose numbers are in the ranges of their lines, so that a text spells them if no branch is too
+-- deep.
 use Rattle.std.specs.Prelude.{◌≤◌, List, length, Option, Some, None, ⊤}
 use Rattle.std.specs.List.{AllByRecursion}
 use Rattle.county_codes.specs.declared.group.Group.{Group}

@@ -2,8 +2,8 @@
 
 ghost use Rattle.tree_spelling.specs.Laws.{ProofTreesHaveTexts};
 
-/// A proof tree whose numbers are in range is spelled, and so is a certificate whose numbers are: no branch of it is too
-/// deep, and no line of weights too long.
+/// A proof tree whose numbers are in range is spelled, and so is a certificate whose numbers are: no branch of it is
+/// too deep, and no line of weights too long.
 pub fn proof_trees_have_texts()
     ensures { ProofTreesHaveTexts }
 {}

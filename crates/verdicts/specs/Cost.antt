@@ -53,8 +53,8 @@ LeafLooks (stuck county) p round s n = n ≡ 0
 LeafLooks seats p round s n = n ≡ 0
 LeafLooks (bound lines) p round s n = BoundLooks lines p round s round.target n
 
--- For a tree: at each branch that can stand the sets that have its county, then what its takes look through, and where these are fine
--- what the tree behind the mark does.
+-- For a tree: at each branch that can stand the sets that have its county, then what its takes look through, and where
+-- these are fine what the tree behind the mark does.
 abbrev mutual
   pub TreeLooks : Tree → Problem → Round → State → ℕ → Type 0
   TreeLooks (leaf l) p round s n = LeafLooks l p round s n

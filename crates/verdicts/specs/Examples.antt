@@ -1,4 +1,5 @@
--- The plain certificate of three counties in a row, whose branch is at line 6, with its take left out, and with another one.
+-- The plain certificate of three counties in a row, whose branch is at line 6, with its take left out, and with another
+-- one.
 use Rattle.std.specs.Prelude.{[], ◌∷◌, None}
 use Rattle.proof_trees.specs.Tree.{stuck, seats, Tree, leaf, branch, take, no_take}
 

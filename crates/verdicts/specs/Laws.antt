@@ -1,4 +1,4 @@
--- What the definitions keep to.
+-- Laws of the end of a tree, and of the verdict and the cost of a certificate.
 use Rattle.std.specs.Prelude.{ℕ, ◌+◌, ◌≡◌, ◌≤◌, ◌<◌, Some, None}
 use Rattle.grouping_laws.specs.Problem.{Problem}
 use Rattle.grouping_laws.specs.Grouping.{Grouping, IsBest, IsImpossible}
@@ -22,7 +22,7 @@ pub record TreesEnd : Type 0 where
   pub ends : (tree : Tree) (p : Problem) (round : Round) (s : State) (line : ℕ) → Proves tree p round s → TreeEnds tree p round s line (fine (line + tree_lines tree))
   -- a tree has one end
   pub one : (tree : Tree) (p : Problem) (round : Round) (s : State) (line : ℕ) (x y : End) → TreeEnds tree p round s line x → TreeEnds tree p round s line y → x ≡ y
-  -- so one with a fault is no proof
+  -- a tree with a fault is no proof
   pub refuses : (tree : Tree) (p : Problem) (round : Round) (s : State) (line at : ℕ) (fault : Fault) → TreeEnds tree p round s line (faulty fault at) → ¬ Proves tree p round s
   -- the line of a fault is one of the tree's
   pub inside : (tree : Tree) (p : Problem) (round : Round) (s : State) (line at : ℕ) (fault : Fault) → TreeEnds tree p round s line (faulty fault at) → (line ≤ at) × (at < line + tree_lines tree)
@@ -34,7 +34,7 @@ pub record VerdictsShow : Type 0 where
   pub no : (p : Problem) (round : Round) (tree : Tree) (fault : Fault) (line : ℕ) → IsVerdict p round tree (No fault line) → ¬ IsCertificate p round tree
   -- a certificate has the verdict of its target
   pub yes : (p : Problem) (round : Round) (tree : Tree) → IsCertificate p round tree → IsVerdict p round tree (shown round.target)
-  -- there is one verdict
+  -- two verdicts of a certificate are the same
   pub one : (p : Problem) (round : Round) (tree : Tree) (x y : Verdict) → IsVerdict p round tree x → IsVerdict p round tree y → x ≡ y
 
 -- There is one cost.

@@ -39,15 +39,16 @@ HasLightGroup language p s i (weigh quota weights) =
 abbrev pub allowed : Problem → State → ℕ → ℕ → Allowance → ℕ
 allowed p s i used line = counts s.closed i + allowance p s i used line
 
--- The line for size i, where smaller groups use up so many counties: it is fair, and allows no more groups than the target has.
+-- The line for size i, where smaller groups use up so many counties: it is fair, and allows no more groups than the
+-- target has.
 abbrev pub IsWithinTarget : Language → Problem → State → (ℕ → ℕ) → ℕ → ℕ → Allowance → Type 0
 IsWithinTarget language p s wanted i used line = IsFair language p s i line × (allowed p s i used line ≤ wanted i)
 
--- and it allows fewer
+-- The line for size i allows fewer groups than the target has.
 abbrev pub IsLoss : Problem → State → (ℕ → ℕ) → ℕ → ℕ → Allowance → Type 0
 IsLoss p s wanted i used line = allowed p s i used line < wanted i
 
--- and it allows as many, so the lines behind it count
+-- The line for size i allows as many groups as the target has, so the lines behind it count.
 abbrev pub IsEven : Problem → State → (ℕ → ℕ) → ℕ → ℕ → Allowance → Type 0
 IsEven p s wanted i used line = allowed p s i used line ≡ wanted i
 
@@ -57,7 +58,8 @@ IsAllowanceFault language p s wanted i used line fault =
     ⊎ ((fault ≡ LightGroup) × HasLightGroup language p s i line)
     ⊎ ((fault ≡ BoundOver) × IsFair language p s i line × (wanted i < allowed p s i used line))
 
--- The lines of a bound leaf from the one for size i on, one after the other, up to the first loss: those behind it are not judged.
+-- The lines of a bound leaf from the one for size i on, one after the other, up to the first loss: those behind it are
+-- not judged.
 abbrev pub AllowancesEnd : List Allowance → Language → Problem → State → (ℕ → ℕ) → ℕ → ℕ → ℕ → End → Type 0
 AllowancesEnd [] language p s wanted i used n end = LinesEnd 0 ⊤ (λ fault. ⊥) n end
 AllowancesEnd (line ∷ lines) language p s wanted i used n end =
@@ -67,8 +69,9 @@ AllowancesEnd (line ∷ lines) language p s wanted i used n end =
     ⊎ (IsEven p s wanted i used line × AllowancesEnd lines language p s wanted (i + 1) (used + i * allowance p s i used line) next later))
     end
 
--- The lines of a bound leaf from the one for size i on, which has number n, where the line that opens the leaf has number `opened`.
--- When no line that is judged is at fault, too few lines, or lines behind a loss, are a fault of the line that opens the leaf.
+-- The lines of a bound leaf from the one for size i on, which has number n, where the line that opens the leaf has
+-- number `opened`. When no line that is judged is at fault, too few lines, or lines behind a loss, are a fault of the
+-- line that opens the leaf.
 abbrev pub BoundedEnds : List Allowance → Problem → Round → State → (ℕ → ℕ) → ℕ → ℕ → ℕ → ℕ → End → Type 0
 BoundedEnds lines p round s wanted i used opened n (fine next) = Bounds round.language p round.limit s wanted i used lines × (next ≡ n + length lines)
 BoundedEnds lines p round s wanted i used opened n (faulty fault line) =

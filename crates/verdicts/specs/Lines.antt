@@ -16,7 +16,7 @@ abbrev mutual
   tree_lines (leaf l) = leaf_lines l
   tree_lines (branch county limit takes raised) = 1 + (takes_lines takes + tree_lines raised)
 
-  -- with the line of the mark
+  -- the lines of a branch's takes, with the line of the mark
   pub takes_lines : Takes → ℕ
   takes_lines no_take = 1
   takes_lines (take codes tree others) = 1 + (tree_lines tree + takes_lines others)

@@ -42,7 +42,8 @@ abbrev pub IsTargetFault : Problem → Option Grouping → Fault → Type 0
 IsTargetFault p None fault = ⊥
 IsTargetFault p (Some target) fault = (kind : GroupingFault) × (fault ≡ TargetFault kind) × IsFault p target kind × (kind ≢ Memory)
 
--- The order stands on the line after that of the allowance, then come the limit, the target with its groups behind it, and the tree.
+-- The order stands on the line after that of the allowance, then come the limit, the target with its groups behind it,
+-- and the tree.
 abbrev pub RestEnds : Problem → Round → Tree → ℕ → End → Type 0
 RestEnds p round tree second end =
     Then (LineEnds (IsOrder p round.order) (IsOrderFault p round) second)

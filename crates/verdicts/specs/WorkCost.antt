@@ -25,8 +25,8 @@ abbrev pub WorkLooks : List Open → Problem → Round → ℕ → Type 0
 WorkLooks [] p round n = n ≡ 0
 WorkLooks (first ∷ more) p round n = Both (OpenLooks first p round) (Where (OpenFine first p round) (WorkLooks more p round)) n
 
--- What is to be looked through before a line is what the line looks through, and what is left after it. So what a loop has looked
--- through never exceeds what the whole tree does.
+-- What is to be looked through before a line is what the line looks through, and what is left after it. So what a loop
+-- has looked through never exceeds what the whole tree does.
 pub record LinesCost : Type 0 where
   pub leaf_looks : (l : Leaf) (p : Problem) (round : Round) (s : State) (more : List Open) (n : ℕ) → IsValidLeaf p round s l → WorkLooks (a_tree (leaf l) s ∷ more) p round n
       → Both (LeafLooks l p round s) (WorkLooks more p round) n

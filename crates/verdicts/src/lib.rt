@@ -1,5 +1,5 @@
-//! What is said of a certificate: that its target is best, that no grouping is lawful, or its first fault with
-//! its line; and what saying so costs. Definitions, and their laws as theorems.
+//! What is said of a certificate, and what saying so costs. The target is best, no grouping is lawful, or the
+//! certificate has a first fault at a line. The crate has definitions, and their laws as theorems.
 //!
 //! The certificate is a value of `proof_trees` whose lines are counted as its text would have them: the head
 //! is line 1, the order stands on line 2. Of a branch, a take, a mark or a leaf the first line at fault counts,

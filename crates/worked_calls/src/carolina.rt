@@ -1,5 +1,6 @@
-//! The counties of North Carolina 2020: the pairs that are adjacent, and how many lawful groups of at most four counties Senate and
-//! House have, out of how many connected sets, by each form of sets.
+//! The counties of North Carolina 2020: the adjacent pairs, and how many lawful groups of at most four counties Senate
+//! and House have. Each form of sets counts the groups, and the connected sets among which they are found.
+
 ghost use Rattle.std.specs.Prelude.{◌≤◌};
 
 use crate::room::room_for;

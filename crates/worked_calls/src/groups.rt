@@ -1,4 +1,5 @@
 //! The lawful groups from a place.
+
 ghost use Rattle.std.specs.Prelude.{◌≤◌};
 
 use crate::room::room_for;

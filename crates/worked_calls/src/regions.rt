@@ -1,4 +1,5 @@
 //! The connected parts of regions.
+
 ghost use Rattle.std.specs.Prelude.{◌≤◌};
 
 use crate::groups::show_places;

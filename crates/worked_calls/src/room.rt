@@ -1,4 +1,5 @@
 //! Whether a form of sets has room for an order.
+
 ghost use Rattle.std.specs.Prelude.{◌≤◌, length, IfOk};
 
 use anyhow::{Error, Result};

@@ -1,4 +1,5 @@
 //! Sets of places.
+
 ghost use Rattle.std.specs.Prelude.{◌≤◌};
 
 use crate::groups::show_places;

@@ -1,3 +1,5 @@
+//! Small problems of a few counties, with their codes, pairs, withdrawn sets and groupings.
+
 use county_codes::{Codes, County, CountyCode, Group, Grouping, Withdrawn};
 use grouping_problem::{Problem, ProblemFault};
 use std::alloc::{AllocError, Global};

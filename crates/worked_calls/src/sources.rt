@@ -1,4 +1,5 @@
 //! Readers as sources, and sources that are read whole.
+
 ghost use Rattle.std.specs.Prelude.{◌≡◌, false};
 
 use anyhow::{Error, Result};

@@ -1,4 +1,5 @@
 //! States of proof trees, and rounds.
+
 ghost use Rattle.std.specs.Prelude.{◌≤◌, length};
 ghost use Rattle.county_codes.specs.Limits.{most_counties};
 

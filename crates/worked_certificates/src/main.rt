@@ -1,10 +1,10 @@
-//! Worked trees and leaves, which no file of the command reaches: trees alone and in front of other text, and lines of
-//! words, from a file of cases; values without a spelling; ten thousand trees that are made, written and read; and which leaf
-//! is found at the state where nothing is closed, with the checker's verdict on it as a tree.
+//! Worked trees and leaves, which no file of the command reaches. From a file of cases come trees alone and in front of
+//! other text, and lines of words. Then come values without a spelling, and ten thousand trees that are made, written
+//! and read. The last is which leaf is found at the state where nothing is closed, with the checker's verdict on it.
 //!
-//! A case begins with a line `== KIND: NAME`, and its bytes are the lines up to the next such line. In the file `problems` a
-//! case of the kind `problem` tells the problem of those behind it, and `leaf LIMIT` asks for the leaf that is found, with
-//! the grouping of the case as the target.
+//! A case begins with a line `== KIND: NAME`, and its bytes are the lines up to the next such line. In the file
+//! `problems` a case of the kind `problem` tells the problem of those behind it, and `leaf LIMIT` asks for the leaf
+//! that is found, with the grouping of the case as the target.
 #![tactic(auto)]
 
 mod cases;

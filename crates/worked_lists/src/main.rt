@@ -1,6 +1,6 @@
-//! Worked lists: all best groupings of small problems and of North Carolina 2020, by the certificates that the desk writes.
-//! The gate runs it and compares what it prints with `stdout`: of the small problems it was written by hand from the rules, and of
-//! North Carolina by `bench/best_list.py`.
+//! Worked lists: all best groupings of small problems and of North Carolina 2020, by the certificates that the desk
+//! writes. The gate runs it and compares what it prints with `stdout`: of the small problems it was written by hand
+//! from the rules, and of North Carolina by `bench/best_list.py`.
 #![tactic(auto)]
 
 mod carolina;

@@ -59,7 +59,8 @@ const NO_SEAT_COUNT: Sketch = Sketch {
     chamber: 2,
 };
 
-/// The wide leaf alone is a certificate of the stranding path: it comes to the target's counts with three counties left.
+/// The wide leaf alone is a certificate of the stranding path: it comes to the target's counts with three counties
+/// left.
 const LONE_LEAF: &[u8] =
     b"county-groups wide certificate 1\norder 37001 37003 37005\nlimit 3\ntarget 1\ngroup 2 37001 37003 37005\nbound 3\nweigh 1\nweigh 1\nroom\nend\n";
 
