@@ -83,27 +83,31 @@ module _ (files : Files) where
       (problem : problem_in (Some files) words.problem before between (Ok v)) (held : files words.certificate.now ≡ Some text) where
     verdict_told : (verdict : Verdict) → IsAnswer (problem_of v) text words.budget verdict → NamesBest (problem_of v) verdict → ShowsImpossible (problem_of v) verdict
         → a ≡ verdict_said v verdict → Tells files (Check words) a
-    verdict_told (Best g) is best none said =
-        ((λ zero. record { v = v; problem = problem_told files words.problem before between v problem; grouping = g; best = best; report = text_is a _ said }),
-        (λ one. absurd (apart a _ 1 0 said one refl (omega arith))))
-    verdict_told Impossible is best none said =
-        ((λ zero. absurd (apart a _ 0 1 said zero refl (omega arith))),
-        (λ one. inl (record { v = v; problem = problem_told files words.problem before between v problem; impossible = none; report = text_is a _ said })))
-    verdict_told (No fault line) is best none said =
-        ((λ zero. absurd (apart a _ 0 1 said zero refl (omega arith))),
-        (λ one. inr (record {
-          v = v;
-          problem = problem_told files words.problem before between v problem;
-          certificate = text;
-          certificate_is = held;
-          fault = fault;
-          line = line;
-          verdict = is;
-          report = text_is a _ said;
-        })))
-    verdict_told Budget is best none said =
-        ((λ zero. absurd (apart a _ 0 3 said zero refl (omega arith))),
-        (λ one. absurd (apart a _ 1 3 said one refl (omega arith))))
+    verdict_told (Best g) is best none said = (
+      (λ zero. record { v = v; problem = problem_told files words.problem before between v problem; grouping = g; best = best; report = text_is a _ said }),
+      (λ one. absurd (apart a _ 1 0 said one refl (omega arith))),
+    )
+    verdict_told Impossible is best none said = (
+      (λ zero. absurd (apart a _ 0 1 said zero refl (omega arith))),
+      (λ one. inl (record { v = v; problem = problem_told files words.problem before between v problem; impossible = none; report = text_is a _ said })),
+    )
+    verdict_told (No fault line) is best none said = (
+      (λ zero. absurd (apart a _ 0 1 said zero refl (omega arith))),
+      (λ one. inr (record {
+        v = v;
+        problem = problem_told files words.problem before between v problem;
+        certificate = text;
+        certificate_is = held;
+        fault = fault;
+        line = line;
+        verdict = is;
+        report = text_is a _ said;
+      })),
+    )
+    verdict_told Budget is best none said = (
+      (λ zero. absurd (apart a _ 0 3 said zero refl (omega arith))),
+      (λ one. absurd (apart a _ 1 3 said one refl (omega arith))),
+    )
 
   check_refuses : (words : CheckWords) → Refuses (check_course (Some files) words)
   check_refuses words = bind_refuses _ _ (problem_refuses (Some files) words.problem) (λ v.
@@ -157,9 +161,10 @@ module _ (files : Files) where
   -- ---- a command
   command_tells : (command : CommandWords) (before after : History) (stored : List File) (a : Answered) → CommandRun (Some files) command before after stored a → a.status ≤ 1
       → Tells files command a
-  command_tells (Solve words) before after stored a run low =
-      ((λ zero. best_told words before stored a (agrees.best files words before after stored a run zero)),
-      (λ one. none_told words before stored a (agrees.impossible files words before after stored a run one)))
+  command_tells (Solve words) before after stored a run low = (
+    (λ zero. best_told words before stored a (agrees.best files words before after stored a run zero)),
+    (λ one. none_told words before stored a (agrees.impossible files words before after stored a run one)),
+  )
   command_tells (Check words) before after stored a (inl none) low = absurd (no_refusal a low (inr (inl (same_status a memory_answer none.0))))
   command_tells (Check words) before after stored a (inr (inl given, kept)) low = check_told words before after a low given
   command_tells (Check words) before after stored a (inr (inr stop, kept)) low = absurd (no_refusal a low (check_refuses words before after a stop))
