@@ -3,6 +3,7 @@
 use baf_auditor::{AssignmentFault, Findings};
 use certificate_checker::CheckFault;
 use certificate_lines::TextFault;
+use command_runs::Unshown;
 use command_words::WordsEnd;
 use county_codes::{County, Grouping};
 use grouping_judge::GroupingFault;
@@ -113,6 +114,8 @@ pub enum Ending {
     Problem(ProblemFault),
     /// The grouping of this problem isn't lawful.
     Unlawful(GroupingFault, Problem, Grouping),
+    /// The grouping is lawful, but this text doesn't show that it is best for the problem, and why.
+    NotShownBest(Unshown, Vec<u8>, Problem),
     /// The audit of this grouping of the problem found something.
     Found(Findings, Problem, Grouping),
     /// This text is no certificate of the problem: its first fault, and the line, which counts from 1.
@@ -142,7 +145,7 @@ pub enum Ending {
     PieceOpen(bool),
     /// No piece of the number waits on the board.
     NoSuchPiece,
-    /// The answer is the table, a lawful grouping, the best grouping, all best groupings, that a board joined its certificate, an event
+    /// The answer is the table, a lawful grouping without a certificate, the best grouping, all best groupings, that a board joined its certificate, an event
     /// that a piece gave, or that an audit found nothing.
     Done,
 }

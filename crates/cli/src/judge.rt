@@ -1,36 +1,70 @@
 //! The subcommand `judge`.
 
-ghost use Rattle.std.specs.Prelude.{◌≡◌, ◌≤◌};
+ghost use Rattle.std.specs.Prelude.{◌≡◌, ◌≤◌, option_map};
 ghost use Rattle.shelves.specs.History.{History};
 ghost use Rattle.program_answers.specs.Answers.{answer_of, Comes};
+ghost use Rattle.command_runs.specs.JudgeWithCertificate.{certificate_of};
 ghost use Rattle.command_runs.specs.JudgeCourse.{judge_step, judge_course};
 
-use crate::end::{End, Ending};
-use crate::files::load_grouping;
+use crate::end::{End, Ending, FileOption};
+use crate::files::{load, load_grouping};
 use crate::problem::load_problem;
+use command_runs::{Judged, Unshown, judge_and_say};
 use command_words::JudgeWords;
 use county_codes::Grouping;
 use grouping_judge::judge as judge_grouping;
 use grouping_problem::Problem;
-use grouping_report::{Outcome, report};
 use program_answers::{Answer, Refusal, refuse_verdict};
 use shelves::Shelf;
 use std::alloc::Global;
 
-/// The report of a lawful grouping, or the fault of one that isn't.
+/// The text of a certificate whose file is named, else none.
+fn load_certificate<H: Shelf>(
+    alloc: Global,
+    name: Option<&str>,
+    shelf: &mut H,
+    end: &mut End,
+) -> Result<Option<Vec<u8>>, Refusal>
+    ensures course { Comes (option_map (λ t. t.items)) result (certificate_of (H.contents shelf.old) name.entry (H.history shelf.old) (H.history shelf.new)) }
+    ensures same { H.contents shelf.new ≡ H.contents shelf.old }
+    ensures kept { H.stored shelf.new ≡ H.stored shelf.old }
+{
+    match name {
+        Some(name) => {
+            let text = load(alloc, FileOption::Certificate, name, shelf, end)?;
+            Ok(Some(text))
+        }
+        None => Ok(None),
+    }
+}
+
+/// The end of a run whose grouping is lawful.
+fn lawful_end(unshown: Option<Unshown>, certificate: Option<Vec<u8>>, problem: Problem) -> Ending {
+    match (unshown, certificate) {
+        (Some(unshown), Some(text)) => Ending::NotShownBest(unshown, text, problem),
+        _ => Ending::Done,
+    }
+}
+
+/// What is said of a lawful grouping, with the text of a certificate or without one, or the fault of a grouping that isn't lawful.
 fn verdict(
     alloc: Global,
     problem: Problem,
     grouping: Grouping,
+    certificate: Option<Vec<u8>>,
+    budget: u64,
     end: &mut End,
 ) -> Result<Answer, Refusal>
-    ensures { (history : History) → Comes answer_of result (judge_step problem grouping.groups.items history history) }
+    ensures { (history : History) → Comes answer_of result (judge_step problem grouping.groups.items budget (option_map (λ t. t.items) certificate) history history) }
 {
     match judge_grouping(alloc, &problem, &grouping) {
-        Ok(_) => {
-            let text = report(alloc, &problem, &Outcome::Lawful(grouping))?;
-            end.note(Ending::Done);
-            Ok(Answer { text, status: 0 })
+        Ok(own) => {
+            let text = certificate.as_ref();
+            let Judged { answer, unshown } = judge_and_say(
+                alloc, &problem, grouping, own, text, budget,
+            )?;
+            end.note(lawful_end(unshown, certificate, problem));
+            Ok(answer)
         }
         Err(fault) => {
             end.note_unlawful(&fault, problem, grouping);
@@ -39,8 +73,8 @@ fn verdict(
     }
 }
 
-/// Whether a grouping is lawful. The problem is built before the grouping is loaded and read; the first
-/// fault met is the answer.
+/// Whether a grouping is lawful, and by a certificate whether it is best. The problem is built before the grouping is loaded and read,
+/// and then the certificate is loaded; the first fault met is the answer.
 pub(crate) fn judge<H: Shelf>(
     alloc: Global,
     words: JudgeWords<'_>,
@@ -54,5 +88,6 @@ pub(crate) fn judge<H: Shelf>(
 {
     let problem = load_problem(alloc, words.problem, shelf, end)?;
     let grouping = load_grouping(alloc, words.grouping, shelf, end)?;
-    verdict(alloc, problem, grouping, end)
+    let certificate = load_certificate(alloc, words.certificate, shelf, end)?;
+    verdict(alloc, problem, grouping, certificate, words.budget, end)
 }
