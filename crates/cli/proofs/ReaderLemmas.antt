@@ -19,7 +19,7 @@ use Rattle.command_runs.specs.declared.checker_report.Checked.{Checked}
 use Rattle.command_runs.specs.CheckCourse.{IsChecked, ChecksGiven}
 use Rattle.program_answers.specs.Refusals.{pl94_answer, shelf_answer}
 use Rattle.command_runs.specs.Course.{Course, ◌>>=◌, load_step, call_step, value_step}
-use Rattle.command_runs.specs.Reading.{Given, open_step, read_step, either_step, whole_step, read_one, text_of, back_step, read_both, whole_pair, load_pair, texts_of}
+use Rattle.command_runs.specs.Reading.{Given, open_step, read_step, whole_step, read_one, text_of, back_step, read_both, whole_pair, load_pair, texts_of}
 use Rattle.cli.specs.Streams.{IsWhole, AreWhole, Streams}
 
 -- an answer that is shown

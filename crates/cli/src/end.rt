@@ -145,8 +145,8 @@ pub enum Ending {
     PieceOpen(bool),
     /// No piece of the number waits on the board.
     NoSuchPiece,
-    /// The answer is the table, a lawful grouping without a certificate, the best grouping, all best groupings, that a board joined its certificate, an event
-    /// that a piece gave, or that an audit found nothing.
+    /// The answer is the table, a lawful grouping without a certificate, a grouping that is best, all best groupings, that a board joined
+    /// its certificate, an event that a piece gave, or that an audit found nothing.
     Done,
 }
 

@@ -1,4 +1,4 @@
-use Rattle.std.proofs.Common.{◌≡◌, ℕ, List, [], Option, subst}
+use Rattle.std.proofs.Common.{ℕ, List, Option, subst}
 use Rattle.std.specs.Prelude.{Ok, IfOk}
 use Rattle.shelves.specs.Files.{Files}
 use Rattle.program_answers.specs.Answers.{answer_of}

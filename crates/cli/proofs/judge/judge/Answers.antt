@@ -1,4 +1,4 @@
-use Rattle.std.proofs.Common.{◌≡◌, ℕ, List, Option, subst}
+use Rattle.std.proofs.Common.{◌≡◌, Option, subst}
 use Rattle.std.specs.Prelude.{Ok, Err, option_map}
 use Rattle.grouping_problem.specs.ProblemValue.{ProblemValue}
 use Rattle.grouping_laws.specs.Grouping.{Grouping}

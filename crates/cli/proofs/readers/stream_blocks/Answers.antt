@@ -1,5 +1,5 @@
 use Rattle.std.specs.List.Sorted.{IsStrictlyIncreasing}
-use Rattle.std.proofs.Common.{◌≡◌, ◌<◌, ℕ, List, [], map, All, Option, Vec, Global, subst}
+use Rattle.std.proofs.Common.{◌<◌, ℕ, List, [], map, All, Option, Vec, Global, subst}
 use Rattle.pl94_counties.specs.declared.blocks.Block.{Block}
 use Rattle.std.specs.Prelude.{Ok}
 use Rattle.pl94_counties.specs.Counties.{block_list}

@@ -1,4 +1,4 @@
-use Rattle.std.proofs.Common.{◌≡◌, ℕ, List, [], Option, Vec, Global, subst}
+use Rattle.std.proofs.Common.{ℕ, List, [], Option, Vec, Global, subst}
 use Rattle.county_codes.specs.declared.county.County.{County}
 use Rattle.std.specs.Prelude.{Ok}
 use Rattle.pl94_counties.specs.Counties.{county_list}
