@@ -9,6 +9,7 @@ use crate::options::Options;
 use crate::outputs::{warn_of_older_files, warn_of_outputs};
 use crate::refused::{explain_problem, explain_refused};
 use crate::state_line::warn_of_state;
+use crate::unshown::explain_unshown;
 use crate::usage::explain_usage;
 use cli::{End, Ending, FileOption};
 use command_words::{WordsEnd, parse};
@@ -118,6 +119,9 @@ fn explain_ending(
         Ending::Problem(fault) => explain_problem(out, options, fault),
         Ending::Unlawful(fault, problem, grouping) => {
             explain_fault(out, options, fault, (problem, grouping))
+        }
+        Ending::NotShownBest(unshown, text, problem) => {
+            explain_unshown(out, options, unshown, (text.as_slice(), problem))
         }
         Ending::Found(findings, problem, grouping) => {
             explain_findings(out, options, findings, (problem, grouping))

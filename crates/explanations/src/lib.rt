@@ -15,6 +15,7 @@ mod outputs;
 mod refused;
 mod shown;
 mod state_line;
+mod unshown;
 mod usage;
 
 pub use ended::{Ended, explain, explain_before};

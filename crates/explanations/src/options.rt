@@ -61,6 +61,7 @@ pub(crate) fn path_in<'a>(command: CommandWords<'a>, option: FileOption) -> Opti
         (_, FileOption::Links) => problem_of(command)?.links,
         (_, FileOption::Withdrawn) => problem_of(command)?.withdrawn,
         (CommandWords::Judge(words), FileOption::Grouping) => Some(words.grouping),
+        (CommandWords::Judge(words), FileOption::Certificate) => words.certificate,
         (CommandWords::Solve(words), FileOption::CertificateOut) => words.certificate,
         (CommandWords::Solve(words), FileOption::Out) => words.out,
         (CommandWords::Check(words), FileOption::Certificate) => Some(words.certificate),
