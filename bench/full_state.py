@@ -1,7 +1,7 @@
 #!/usr/bin/env python3
 """Writes a geographic header and a segment 1 of full size, as the Census lays them out: 300,000 lines
-each, of which 100 are counties, about 400 MB together. The people of the records are the line's number
-times seven, modulo 100,000. Usage: full_state.py FOLDER"""
+each, of which the first is the state's own and 100 are counties, about 400 MB together. The people of the
+records are the line's number times seven, modulo 100,000. Usage: full_state.py FOLDER"""
 import os
 import sys
 
@@ -15,14 +15,19 @@ def geo_fields(number, level, county, code):
     return "|".join(fields)
 
 
+def level_and_code(number, is_county, county):
+    if number == 1:
+        return "040", "37"
+    return ("050", "37" + county) if is_county else ("750", f"37{county}{number:010}")
+
+
 def main(folder):
     os.makedirs(folder, exist_ok=True)
     step = LINES // COUNTIES
     with open(os.path.join(folder, "geo.pl"), "w") as geo, open(os.path.join(folder, "segment1.pl"), "w") as segment:
         for number in range(1, LINES + 1):
-            is_county = number % step == 1
             county = f"{2 * (number // step) + 1:03}"
-            level, code = ("050", "37" + county) if is_county else ("750", f"37{county}{number:010}")
+            level, code = level_and_code(number, number % step == 2, county)
             geo.write(geo_fields(number, level, county, code) + "\n")
             counts = [str(number * 7 % 100_000)] + [str(number * k % 97) for k in range(2, 71)] + ["0"] * 78
             tables = "|".join(counts + ["000000"] * 35)
