@@ -1,6 +1,6 @@
 #!/usr/bin/env bash
 # Finds the best county groups of North Carolina's House (120 seats) and Senate (50 seats) by the 2020 census, with their
-# certificates, checks both, and lists every best grouping of the Senate. See `./quickstart.sh --help`.
+# certificates, checks both, lists every best grouping of each, and makes a page of each. See `./quickstart.sh --help`.
 set -euo pipefail
 
 usage() {
@@ -8,10 +8,10 @@ usage() {
 usage: ./quickstart.sh [--proved]
 
 Without a word: builds the program without proof (some two minutes), solves House and Senate by the files in data/nc2020, checks both
-certificates, and lists every best grouping of the Senate.
+certificates, lists every best grouping of each, and makes a page of each to look at.
 --proved: proves the program and all that it stands on first, as many crates side by side as there are processors (half an hour to an
-hour on four), and solves and checks both by the proved program. The second time that takes seconds.
-Programs, certificates, groupings and the log are stored in results/.
+hour on four), and does the same by the proved program. The second time that takes seconds. Without python3 it makes no page.
+Programs, certificates, groupings, tables, lists, records, pages and the log are stored in results/.
 TEXT
 }
 
@@ -32,14 +32,19 @@ for word in "$@"; do
         *) usage >&2; refuse "it takes no word \`$word\`" ;;
     esac
 done
-for tool in rt python3; do
-    command -v "$tool" >/dev/null || refuse "there is no \`$tool\` on the path; \`rt\` comes with the Rattle kit that the README names under \"What is trusted\""
-done
+has_python=yes
+command -v python3 >/dev/null || has_python=no
+command -v rt >/dev/null || refuse "there is no \`rt\` on the path; it comes with the Rattle kit that the README names under \"What is trusted\""
+if [ "$is_proved" = no ] && [ "$has_python" = no ]; then
+    refuse "there is no \`python3\` on the path, and only --proved builds without it"
+fi
 
+# The names of files are relative, so that no record and no page has a path of this machine.
 top=$(cd "$(dirname "$0")" && pwd)
-data=$top/data/nc2020
-stored=$top/results
-for file in nc2020geo.pl nc000012020.pl county_adjacency2023.txt; do
+cd "$top"
+data=data/nc2020
+stored=results
+for file in nc2020geo.pl nc000012020.pl county_adjacency2023.txt county_outlines.geojson; do
     [ -r "$data/$file" ] || refuse "$data/$file can't be read"
 done
 mkdir -p "$stored"
@@ -120,20 +125,36 @@ problem() { # SEATS
     words=(--geo "$data/nc2020geo.pl" --segment "$data/nc000012020.pl" --chamber "$1" --adjacency "$data/county_adjacency2023.txt")
 }
 
+# Lists every best grouping, and makes a page of table, list and record.
+list_and_page() { # NAME
+    heading "every best grouping of the $1, by its certificate ($what)"
+    "$program" list "${words[@]}" --certificate "$stored/$1.certificate" >"$stored/$1.list"
+    cat "$stored/$1.list"
+    if [ "$has_python" = yes ]; then
+        python3 tools/page.py "$stored/$1.csv" "$stored/$1.list" "$data/county_outlines.geojson" "$stored/$1.record" "$stored/$1.html"
+        pages+=("$top/$stored/$1.html")
+    fi
+}
+
+pages=()
 for chamber in house:120 senate:50; do
     name=${chamber%:*}
     problem "${chamber#*:}"
     heading "the best county groups of the $name, ${chamber#*:} seats ($what)"
-    "$program" solve "${words[@]}" --certificate "$stored/$name.certificate" --out "$stored/$name.grouping"
+    "$program" solve "${words[@]}" --certificate "$stored/$name.certificate" --out "$stored/$name.grouping" \
+        --table "$stored/$name.csv" --record "$stored/$name.record"
     heading "the certificate of the $name, checked ($what)"
     "$program" check "${words[@]}" --certificate "$stored/$name.certificate"
+    list_and_page "$name"
 done
 
-problem 50
-heading "every best grouping of the senate, by its certificate ($what)"
-"$program" list "${words[@]}" --certificate "$stored/senate.certificate"
-
-heading "certificates and groupings are in $stored, and the program is $program"
+heading "certificates, groupings, tables, lists and records are in $top/$stored, and the program is $top/$program"
 if [ "$is_proved" = no ]; then
     heading "this build isn't proved: \`./quickstart.sh --proved\` proves and builds the program"
+fi
+if [ "$has_python" = yes ]; then
+    heading "pages to look at, which a browser opens:"
+    printf '%s\n' "${pages[@]}" >&2
+else
+    heading "there is no python3, so no page was made: with it, run this script again"
 fi

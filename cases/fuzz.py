@@ -11,11 +11,14 @@ folder. A find is
     hang        it took more than --limit seconds of processor time (20)
     memory      it used more than --memory megabytes (1024)
     report      standard error has a line that doesn't begin with `countygroups: `, as a report of a bad access
-    format      the text isn't one that the command writes with this status (TEXTS below), or the status is none that docs/formats.md names
-    stored      a file afterwards is neither as it was nor whole in its format, or another file lies there
+    format      the text isn't one that the command writes with this status (TEXTS of formats.py), or the status is none that docs/formats.md names
+    stored      a file afterwards is neither as it was nor whole in its format, another file lies there, or one that was to be stored doesn't
+    record      a record isn't that of the words, the files, the text and the status of its run
     checker     tools/check.py contradicts `check`, `list`, `judge` where it says best, or a certificate that `solve` or `share` stored (if it answers
                 within seconds)
     programs    two programs answer otherwise
+
+If each program stores tables and records (`--table`, `--record`), some runs are asked for them. Each table is made anew from the files and the report.
 
 A program that `rt try` built tells bad accesses, sums that wrap and a false `prove!`. A search gets few steps and a check a small budget, so that a
 turn is short. The same seed and turn make the same case: --turn N runs one turn. Without --program it runs the proved one.
@@ -31,6 +34,7 @@ import os
 import random
 import re
 import signal
+import subprocess
 import sys
 import tempfile
 import time
@@ -40,110 +44,19 @@ sys.path[:0] = [HERE, f"{HERE}/../tools"]
 import cases  # noqa: E402
 import check  # noqa: E402
 import compare_checkers  # noqa: E402
+import program_runs  # noqa: E402
+from formats import TEXTS, TOLD, is_certificate, is_grouping, is_of_format, is_record, table_of, wrong_record  # noqa: E402
+from sweeps import named_by  # noqa: E402
 
 MOST_BYTES, QUICK_SECONDS = 40_000, 3
+# What the options --certificate, --out, --table and --record have which commands store, in order of storing.
+STORING = {"certificate": ("solve", "share"), "out": ("solve", "list"), "table": ("judge", "solve", "check"), "record": tuple(TEXTS)}
 LIMITS = {name: ("--steps", "300") for name in ("solve", "piece")} | {name: ("--budget", "3000") for name in ("check", "judge", "list", "share")}
 NUMBERS = (
     "0 1 2 3 127 128 129 255 256 257 999 1000 1001 65535 65536 65537 1000000 1000001 16777216 256000000 256000001 4294967295 4294967296"
     " 18446744073709551615 18446744073709551616 4294967296000000000000 007 -1 +1 1.0 1e3"
 ).split()
 BYTES = [b"\n", b"\r", b"\r\n", b" ", b"  ", b"|", b":", b",", b"-", b"+", b"\0", b"\t", b"\x7f", b"\xff", b"\xc3", b"\xe2\x80\x8b", b"\xef\xbb\xbf", b"0", b"9", b"x"]
-
-# ---- what the command writes, by docs/formats.md: whole texts, with their status ----
-
-NUMBER, CODE, SET = r"(?:0|[1-9][0-9]*)", r"[0-9]{5}", r"(?:group|withdrawn) [1-9][0-9]*"
-CODES = rf"{CODE}(?: {CODE})*"
-FIRST = rf"people {NUMBER}\nchamber {NUMBER}\n(?:window {NUMBER} {NUMBER}\n)?"
-HEAD = rf"{FIRST}seats left {NUMBER}\ncounties {NUMBER}\n"
-COUNTS = rf"counts (?:none|{NUMBER}(?: {NUMBER})*)\n"
-GROUPS = rf"{COUNTS}(?:group {NUMBER} seats {NUMBER} people {NUMBER} counties {CODES}\n)*"
-LIST_GROUP = rf"group seats {NUMBER}(?: to {NUMBER})? people {NUMBER} counties {CODES}\n"
-REGION = rf"region {NUMBER} counties {NUMBER} alternatives {NUMBER}\n(?:alternative {NUMBER}\n(?:{LIST_GROUP})+)+"
-LISTED = rf"answer all\n{COUNTS}best groupings {NUMBER}\nshared groups {NUMBER}\n(?:{LIST_GROUP})*(?:{REGION})*"
-CHOICES = rf"(?:every choice\n|(?:grouping {NUMBER} alternatives {NUMBER}(?: {NUMBER})*\n)+)"
-FAULT = (
-    rf"(?:EmptyGroup group {NUMBER}|UnknownCounty group {NUMBER} county {CODE}|Twice county {CODE}|Missing county {CODE}"
-    rf"|NotConnected group {NUMBER}|OutOfWindow group {NUMBER}|SeatsTotal seats {NUMBER} left {NUMBER})"
-)
-LABEL = r"[ -~]{1,32}"
-FINDING = (
-    rf"(?:Grouping {FAULT}|(?:UnknownBlock|BlockTwice|Unassigned) [0-9]{{15}}|Crosses {LABEL} {SET} {SET}"
-    rf"|WrongNumber {SET} seats {NUMBER} districts {NUMBER}|DistrictSize {LABEL} people {NUMBER})\n"
-)
-WORD_KIND = r"(?:BadHead|BadWord|BadNumber|NotCanonical|CutShort|AfterEnd|TooDeep)"
-TREE_KIND = (
-    r"(?:WrongWindow|WrongOrder|LimitTooSmall|WrongCounty|MissingGroup|StrayGroup|LightGroup|BoundOver|BoundLength|NotStuck|SeatsOpen"
-    r"|BoundWithoutTarget|NoLeaf)"
-)
-TARGET_KIND = r"TargetFault (?:UnknownCounty|Twice|Missing|NotConnected|OutOfWindow|SeatsTotal)"
-FILE_KIND = (
-    r"(?:TooFewFields|BadCode|BadNumber|DoubleRecord|NoRecord|DoubleCounty|DoubleBlock|NoCounties|NoBlocks|TooMany|BadSign|BadSeats|BadLabel"
-    r"|LineTooLong|TooManyLines)"
-)
-PROBLEM_KIND = (
-    rf"(?:BadWindow|TooManyCounties|NoPeople|UnknownWithdrawn {CODE}|WithdrawnTwice {CODE}|WithdrawnSeats|EmptyWithdrawn {NUMBER}"
-    rf"|UnknownPair {CODE} {CODE})"
-)
-BOARD_KIND = r"(?:DepthOutOfRange|Target|LimitTooSmall|LimitTooLarge|TooManyPieces)"
-REFUSED = [
-    (4, rf"refused (?:geo|segment1|adjacency|links|withdrawn|grouping|assignments) {FILE_KIND} line {NUMBER}\n"),
-    (4, rf"refused events {WORD_KIND} line {NUMBER}\n"),
-    (4, rf"refused problem {PROBLEM_KIND}\n"),
-    (4, r"refused case TooLarge line 0\n"),
-    (5, r"device [^\n]* (?:Missing|TooLarge|Device)\n"),
-    (5, r"memory\n"),
-    (2, r""),
-    (2, r"(?:error: |.*Usage: countygroups).*"),
-    (0, r".*Usage: countygroups.*|countygroups [^\n]*\n"),
-]
-NO = (1, rf"no (?:Text {WORD_KIND}|{TREE_KIND}|{TARGET_KIND}) line {NUMBER}\n")
-BUDGET, BOARD = (3, r"budget\n"), (4, rf"refused board {BOARD_KIND}\n")
-REPLY = (
-    rf"(?:piece {NUMBER} {NUMBER}|nothing left|accepted|split into {NUMBER} to {NUMBER}|new round {NUMBER}|old round|no such piece|already done"
-    r"|already split|cant split|not a proof|not better|cant widen|too many pieces|budget|memory)\n"
-)
-WEIGHED = rf"weigh {NUMBER}(?: {CODE}:{NUMBER})*"
-TREE = rf"(?:(?:branch {CODE}(?: {NUMBER})?|take {CODES}|mark|stuck {CODE}|seats|bound {NUMBER}|room|{WEIGHED})\n)+"
-CERTIFICATE = (
-    rf"county-groups (?:wide )?certificate (?:1\n|2\nwindow {NUMBER} {NUMBER}\n)order(?: {CODE})*\nlimit {NUMBER}\ntarget (?:none|{NUMBER})\n"
-    rf"(?:group {NUMBER} {CODES}\n)*{TREE}end\n"
-)
-GROUPING = rf"(?:{NUMBER}\|{CODE}(?:\|{CODE})*\n)*"
-TEXTS = {
-    "size": [(0, rf"{FIRST}district (?:none|{NUMBER} to {NUMBER})\n(?:{CODE}\|{NUMBER}\|(?:none|{NUMBER}\|{NUMBER})\n)+")],
-    "judge": [(0, rf"{HEAD}answer (?:lawful|best)\n{GROUPS}"), (1, rf"fault {FAULT}\n")],
-    "solve": [
-        (0, rf"{HEAD}answer best\n{GROUPS}"),
-        (1, rf"{HEAD}answer impossible\n"),
-        (3, rf"{HEAD}answer open after {NUMBER} steps\n(?:grouping none\n|{GROUPS})"),
-    ],
-    "check": [(0, rf"{HEAD}answer best\n{GROUPS}"), (1, rf"{HEAD}answer impossible\n"), NO, BUDGET],
-    "list": [
-        (0, rf"{HEAD}{LISTED}{CHOICES}"),
-        (1, rf"{HEAD}answer impossible\n"),
-        NO,
-        BUDGET,
-        (3, rf"open (?:CountiesLeft|SeatsOff) line {NUMBER}\n"),
-        (4, r"no such grouping\n"),
-    ],
-    "share": [(0, rf"(?:{REPLY})*joined\n"), (3, rf"(?:{REPLY})*left {NUMBER}\n(?:open {NUMBER} {NUMBER}\n)*"), BUDGET, BOARD],
-    "piece": [
-        (0, rf"result {NUMBER} {NUMBER}\n{TREE}|better {NUMBER} {NUMBER}\n(?:group {NUMBER} {CODES}\n)*|wider {NUMBER}\n"),
-        (3, rf"split {NUMBER} {NUMBER} {CODE} {NUMBER}\n|open\n"),
-        (4, r"no such piece\n"),
-        BUDGET,
-        BOARD,
-    ],
-    "audit": [(0, r"findings 0\n"), (1, rf"findings [1-9][0-9]*\n(?:{FINDING})+")],
-}
-# (what stands on standard error behind a failed store: the report of a search)
-TOLD = rf"(?:countygroups: [^\n]*\n|(?:{HEAD}answer [a-z0-9 ]+\n(?:grouping none\n|{GROUPS})?))*"
-
-
-def is_of_format(command, text, status):
-    ways = REFUSED + TEXTS.get(command, [])
-    return any(status == with_status and re.fullmatch(way, text, re.DOTALL) for with_status, way in ways)
-
 
 # ---- what is changed ----
 
@@ -168,6 +81,10 @@ class Given:
             text += b"" if text.endswith(b"\n") else b"\n"
             text += b"file " + name.encode() + b"\n" + held
         return text
+
+    def all_files(self):
+        """The files by their names, and standard input by the system's name for it."""
+        return {**self.files, "/dev/stdin": self.text() if self.is_told else self.stdin}
 
     def named(self):
         """The options that name a file which is there, each with its place among the words."""
@@ -235,6 +152,14 @@ class Sources:
             else:
                 changes = CHANGES if name in inner or chance.random() < 0.4 else MILD_CHANGES
                 run.files[name] = chance.choice(changes)(run.files[name], chance)
+
+
+def add_outputs(run, options, chance):
+    """Has a run store what these options name, most often under a name of its own."""
+    for option in options:
+        is_free = run.whole is None and named_by(run.words, f"--{option}") is None
+        if is_free and run.words[0] in STORING[option] and chance.random() < 0.3:
+            run.words = [*run.words, f"--{option}", chance.choice((option, option, f"\\\u00e9{option}", chance.choice(run.words[1:] or [option])))]
 
 
 def change_whole(run, limit, chance):
@@ -415,23 +340,23 @@ class Made:
 
 
 def made_by(program, run, room, asked):
-    folder, text = cases.fresh_folder(room, {} if run.is_told else run.files), run.text() if run.is_told else run.stdin
-    made = cases.run(program, [] if run.is_told else run.words, folder, text, most=asked.memory, seconds=asked.limit)
-    wrote, files = made.wrote, cases.files_below(folder)
+    folder, text = program_runs.fresh_folder(room, {} if run.is_told else run.files), run.text() if run.is_told else run.stdin
+    made = program_runs.run(program, [] if run.is_told else run.words, folder, text, most=asked.memory, seconds=asked.limit)
+    wrote, files = made.wrote, program_runs.files_below(folder)
     if run.is_told and not files:
-        wrote, files = parted(wrote, outputs_of(run.words))
+        wrote, files = parted(wrote, outputs_of(run.words).values())
     return Made(wrote, made.status, made.told, files)
 
 
 def outputs_of(words):
-    """The names under which a run may store a certificate and a grouping."""
-    certificate = cases.named_by(words, "--certificate") if words[0] in ("solve", "share") else None
-    return certificate, cases.named_by(words, "--out") if words[0] in ("solve", "list") else None
+    """The names under which a run may store files, by what it stores there, in order of storing."""
+    names = {option: named_by(words, f"--{option}") for option, commands in STORING.items() if words[0] in commands}
+    return {option: name for option, name in names.items() if name is not None}
 
 
-def parted(wrote, outputs):
-    """The text of a told run, and the stored files behind it."""
-    names = [re.escape(it.encode("utf-8", "surrogateescape")) for it in outputs if it is not None]
+def parted(wrote, names):
+    """The text of a told run, and the stored files behind it, each under one of these names."""
+    names = [re.escape(it.encode("utf-8", "surrogateescape")) for it in names]
     heads = list(re.finditer(rb"^file (" + b"|".join(names) + rb")\n", wrote, re.MULTILINE)) if names else []
     ends = [it.start() for it in heads[1:]] + [len(wrote)]
     files = {it[1].decode("utf-8", "surrogateescape"): wrote[it.end() : end] for it, end in zip(heads, ends)}
@@ -458,27 +383,47 @@ def wrong_ending(run, made, asked):
     return None
 
 
-def is_certificate(text):
-    """Whether a text spells a certificate."""
-    try:
-        check.read_certificate(text)
-    except check.Fault:
-        return False
-    return re.fullmatch(CERTIFICATE, text.decode("latin-1")) is not None
-
-
 def wrong_files(run, made):
-    """What is wrong with the files after a run, if something is: each is as it was, or a whole certificate or grouping under its name."""
-    before = {} if run.is_told else run.files
-    certificate, grouping = outputs_of(run.words)
+    """What is wrong with the files after a run, if something is: each is as it was, or whole under a name that the words give."""
+    before, outputs = {} if run.is_told else run.files, outputs_of(run.words)
     for name, held in made.files.items():
-        if before.get(name) == held:
-            continue
-        whole = name == certificate and is_certificate(held) or name == grouping and re.fullmatch(GROUPING, held.decode("latin-1"))
-        if not whole:
+        if before.get(name) != held and not any(is_whole(option, held, run, made) for option, it in outputs.items() if it == name):
             return f"stored: {name} is neither as it was nor whole: `{shown(held)}`"
     gone = [name for name in before if name not in made.files]
-    return f"stored: {gone[0]} is gone" if gone else None
+    return f"stored: {gone[0]} is gone" if gone else wrong_outputs(run, made)
+
+
+def is_whole(option, held, run, made):
+    """Whether these bytes are what an option has a run store. Whether a record is right is asked later, of the record that is left."""
+    if option == "table":
+        return b"\ncounts " in made.text and held == table_of(run.words, run.all_files(), made.text)
+    return {"certificate": is_certificate, "out": is_grouping, "record": is_record}[option](held)
+
+
+def is_stored(option, run, made):
+    """Whether a run that came to an answer stores what an option names."""
+    has_grouping = b"\ncounts " in made.text
+    if option == "certificate":
+        return made.status in (0, 1) if run.words[0] == "solve" else made.status == 0
+    return has_grouping if option in ("out", "table") else True
+
+
+def wrong_outputs(run, made):
+    """What is wrong with the files that a run was to store, if something is. A later file replaces an earlier one of its name."""
+    outputs = outputs_of(run.words)
+    if made.status not in (0, 1, 3) or b"Usage:" in made.text or made.text.startswith(b"countygroups "):
+        return None
+    stored = {option: name for option, name in outputs.items() if is_stored(option, run, made)}
+    if any(name not in made.files for name in stored.values()):
+        return f"stored: {' or '.join(stored.values())} isn't there"
+    if len({*stored.values()}) < len(stored):
+        return None
+    for option, name in stored.items():
+        if not is_whole(option, made.files[name], run, made):
+            return f"stored: {name} isn't what --{option} stores: `{shown(made.files[name])}`"
+    record = stored.pop("record", None)
+    held = [(option, name, made.files[name]) for option, name in stored.items()]
+    return record and wrong_record(run.words, run.all_files(), held, made.text, made.status, made.files[record])
 
 
 class TooSlow(Exception):
@@ -505,15 +450,16 @@ def second_answer(words, files):
 def asked_of_second(run, made):
     """The words and files of a check, and what the second checker is to answer, or None if it isn't asked. A list says what a check says up to its
     answer, and a grouping that `judge` calls best has the counts of the check; of a certificate that was stored, only the answer is known."""
-    command, certificate = run.words[0], cases.named_by(run.words, "--certificate")
+    command, certificate, outputs = run.words[0], named_by(run.words, "--certificate"), outputs_of(run.words)
     if made.status in (2, 5) or b"Usage:" in made.text or made.text == b"budget\n" or certificate is None:
         return None
     kept = ["check"]
-    for option in ("--geo", "--segment", "--chamber", "--state", "--part", "--of", "--adjacency", "--links", "--withdrawn", "--certificate"):
-        kept += [option, cases.named_by(run.words, option)] if cases.named_by(run.words, option) is not None else []
+    for option in ("--geo", "--segment", "--chamber", "--state", "--part", "--of", "--adjacency", "--links", "--withdrawn", "--certificate", "--table"):
+        kept += [option, named_by(run.words, option)] if named_by(run.words, option) is not None else []
     if command in ("check", "list") or command == "judge" and b"answer best\n" in made.text:
         return kept, run.files, made.text
-    if command in ("solve", "share") and outputs_of(run.words)[1] != certificate and made.files.get(certificate, run.files.get(certificate)) != run.files.get(certificate):
+    is_alone = [*outputs.values()].count(certificate) == 1
+    if command in ("solve", "share") and is_alone and made.files.get(certificate, run.files.get(certificate)) != run.files.get(certificate):
         return kept, {**run.files, certificate: made.files[certificate]}, made.text
     return None
 
@@ -597,8 +543,8 @@ def tests():
     yield "options that name a file", run.named(), [(1, "--geo")]
     certificate = b"county-groups certificate 1\norder\nlimit 0\ntarget none\nseats\nend\n"
     wrote = b"answer best\nfile c\n" + certificate + b"file o\n1|37001\n"
-    yield "stored files", parted(wrote, outputs_of(run.words)), (b"answer best\n", {"c": certificate, "o": b"1|37001\n"})
-    yield "a file that isn't stored", parted(b"file g\nx\n", ("c", None)), (b"file g\nx\n", {})
+    yield "stored files", parted(wrote, outputs_of(run.words).values()), (b"answer best\n", {"c": certificate, "o": b"1|37001\n"})
+    yield "a file that isn't stored", parted(b"file g\nx\n", ["c"]), (b"file g\nx\n", {})
     made = Made(b"", 0, b"", {"c": certificate, "o": b"1|37001\n"})
     yield "whole files", wrong_files(run, made), None
     made.files["c"] = certificate[:-1]
@@ -624,7 +570,41 @@ def tests():
     yield "a list behind a best one", agrees("list", b"people 1\nanswer all\n", 0, (b"people 1\nanswer best\n", 0)), True
     yield "an open list of no certificate", agrees("list", b"open SeatsOff line 6\n", 3, (b"no NotStuck line 6\n", 1)), False
     yield "words without an option", words_without(run.words, "--geo"), ["solve", "--certificate", "c", "--out", "o"]
+    yield from tests_of_outputs()
     yield from tests_of_changes()
+
+
+def tests_of_outputs():
+    """The table and the record that docs/formats.md shows, and changes to them."""
+    line = b"||050||00|||%d|||||37||%s" + b"|" * 73
+    geo = line % (1, b"001") + b"Alamance County\n" + line % (2, b"003") + b'Alexander, the "first"\n' + (line % (3, b"005"))[:-1] + b"\n"
+    files = {"g": geo, "s": b"||||1|100\n||||2|200\n||||3|300\n", "w": b"3|37005\n"}
+    words = "judge --geo g --segment s --chamber 6 --adjacency a --withdrawn w --grouping o --table t".split()
+    report = b"people 600\nchamber 6\nseats left 3\ncounties 2\nanswer lawful\ncounts 2\ngroup 1 seats 2 people 200 counties 37003\ngroup 2 seats 1 people 100 counties 37001\n"
+    table = b'''GEOID,NAME,POPULATION,GROUP,SEATS,GROUP_POPULATION
+37001,Alamance County,100,2,1,100
+37003,"Alexander, the ""first""",200,1,2,200
+37005,,300,W1,3,300
+'''
+    yield "a table", table_of(words, files, report), table
+    run, made = Given(words, files), Made(report, 0, b"", {"t": table})
+    yield "a table that is stored", wrong_files(run, made), None
+    made.files["t"] = table.replace(b"W1", b"3")
+    yield "a table with another label", wrong_files(run, made)[:23], "stored: t is neither as"
+    made.files = {}
+    yield "a table that isn't there", wrong_files(run, made), "stored: t isn't there"
+    yield "no grouping and no table", wrong_files(run, Made(b"fault EmptyGroup group 1\n", 1, b"", {})), None
+    words, files = ["check", "--geo", "my geo.pl"], {"my geo.pl": b"abc"}
+    record = b"countygroups record 1\nversion 1.2.3\nword check\nword --geo\nword my geo.pl\n"
+    record += b"read geo 3 ba7816bf8f01cfea414140de5dae2223b00361a396177a9cb410ff61f20015ad my geo.pl\nstatus 0\nanswer best\n"
+    of = lambda changed, stored=(): wrong_record(words, files, stored, b"people 1\nanswer best\n", 0, changed)
+    yield "a record", (is_record(record), of(record)), (True, None)
+    yield "a record with a left file", of(record.replace(b"my geo.pl\nstatus", b"my geo.pl left\nstatus")), None
+    yield "a record of other bytes", of(record.replace(b"ba78", b"ba79")) is not None, True
+    yield "a record without a word", of(record.replace(b"word check\n", b"")) is not None, True
+    yield "a record without a stored file", of(record, [("table", "t", b"")]) is not None, True
+    yield "a record that is cut", is_record(record[:-1]), False
+    yield "a record with a byte that isn't escaped", is_record(record.replace(b"best", b"b\xffst")), False
 
 
 def tests_of_changes():
@@ -660,8 +640,14 @@ def programs_of(asked):
     programs = [os.path.realpath(it) for it in asked.program or [cases.built_program("countygroups")]]
     for program in programs:
         if not os.access(program, os.X_OK):
-            cases.stop(f"{program} isn't there: `rt run` or `rt ci` builds it")
+            program_runs.stop(f"{program} isn't there: `rt run` or `rt ci` builds it")
     return programs
+
+
+def stores(program, option):
+    """Whether a program stores what an option names: one without the option doesn't."""
+    case = f"solve --geo g --segment s --chamber 1 --adjacency a --{option} stored\nfile g\n||050||00|||1|||||37||001\nfile s\n||||1|1\nfile a\n"
+    return b"\nfile stored\n" in subprocess.run([program], input=case.encode(), stdout=subprocess.PIPE, stderr=subprocess.DEVNULL).stdout
 
 
 class Tally:
@@ -670,8 +656,9 @@ class Tally:
     def __init__(self):
         self.statuses, self.finds = collections.Counter(), 0
 
-    def turn(self, asked, sources, programs, room, turn):
+    def turn(self, asked, sources, programs, options, room, turn):
         run = sources.changed(random.Random(f"{asked.seed} {turn}"))
+        add_outputs(run, options, random.Random(f"{asked.seed} {turn} outputs"))
         runs = [made_by(program, run, room, asked) for program in programs]
         faults, wanted = faults_of(run, runs, asked)
         self.statuses.update(it.status for it in runs)
@@ -694,14 +681,15 @@ def interrupt(*_):
 def fuzz(asked, room):
     """Runs turns until the time or their number is over, or until this program is asked to end."""
     programs, sources, tally = programs_of(asked), Sources(), Tally()
+    options = [it for it in ("table", "record") if all(stores(program, it) for program in programs)]
     # (a machine that is busy gives a run little of its time)
-    cases.SECONDS = 100 * asked.limit
+    program_runs.SECONDS = 100 * asked.limit
     began, turn = time.time(), asked.turn or 0
     last = asked.turn + 1 if asked.turn is not None else asked.runs
     signal.signal(signal.SIGTERM, interrupt)
     try:
         while turn < last if last is not None else time.time() - began < asked.seconds:
-            tally.turn(asked, sources, programs, room, turn)
+            tally.turn(asked, sources, programs, options, room, turn)
             turn += 1
     except KeyboardInterrupt:
         print(f"ended before turn {turn} was over")

@@ -11,7 +11,7 @@ import subprocess
 import tempfile
 import time
 
-SECONDS = 60
+SECONDS = 180
 
 
 class Browser:
@@ -121,6 +121,29 @@ class Browser:
         """Presses the Tab key once."""
         for kind in ("keyDown", "keyUp"):
             self.ask("Input.dispatchKeyEvent", type=kind, key="Tab", code="Tab", windowsVirtualKeyCode=9)
+
+    def point(self, x, y):
+        """Moves the pointer to a place of the window."""
+        self.ask("Input.dispatchMouseEvent", type="mouseMoved", x=x, y=y)
+
+    def tap(self, x, y):
+        """Taps a place of the window with a finger."""
+        self.ask("Emulation.setTouchEmulationEnabled", enabled=True)
+        self.ask("Input.dispatchTouchEvent", type="touchStart", touchPoints=[{"x": x, "y": y}])
+        self.ask("Input.dispatchTouchEvent", type="touchEnd", touchPoints=[])
+
+    def download(self, script, folder):
+        """The path of the one file that a script downloads to a folder."""
+        os.makedirs(folder, exist_ok=True)
+        self.ask("Browser.setDownloadBehavior", behavior="allow", downloadPath=folder)
+        self.value(script)
+        end = time.monotonic() + SECONDS
+        while time.monotonic() < end:
+            names = [name for name in os.listdir(folder) if not name.endswith(".crdownload") and not name.startswith(".")]
+            if names:
+                return os.path.join(folder, names[0])
+            time.sleep(0.02)
+        raise RuntimeError("nothing was downloaded")
 
     def save_picture(self, path, is_whole=True):
         """Stores a picture of the page."""

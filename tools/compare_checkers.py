@@ -6,7 +6,8 @@ usage: compare_checkers.py [--all] [--program FILE [--chamber SEATS ..] [--mutat
 Without --program: each run of `check` among the cases whose wanted answer isn't `budget`. The second checker has to write what the case wants,
 and to end with its status. If the words are no command or ask for help, the text is that of `clap`: then the status alone is compared,
 and help isn't run. A run over a file that an earlier run of the case makes takes it from what the case has stored. If the case
-hasn't it, the run is left out, since that needs a program.
+hasn't it, the run is left out, since that needs a program. If the words have `--table` or `--record`, the run is left out too: the second
+checker stores no file.
 --all takes the cases of millions of lines too, which take minutes, but for those that bound the memory: the second checker holds a whole text.
 --program FILE makes certificates of North Carolina's two chambers (data/nc2020; --chamber: of these) too. Both checkers check them, and each
 of them with one line changed at random, N times (--mutations, 20 unless said otherwise; --seed, 1).
@@ -26,6 +27,7 @@ TOP = os.path.dirname(os.path.dirname(os.path.realpath(__file__)))
 sys.path[:0] = [f"{TOP}/cases", f"{TOP}/tools"]
 import cases  # noqa: E402
 import check  # noqa: E402
+import program_runs  # noqa: E402
 
 # Cases that take long in Python, by their folder or the beginnings of their names.
 LONG = re.compile(r"/huge/|/long/(a_plain_text_of_a_million_marks|a_wide_text_of_a_million_raises)")
@@ -73,7 +75,7 @@ def checks_of(case):
         for words in runs:
             end = next(i for i, it in enumerate(wanted_runs) if it.startswith(b"exit ")) + 1
             is_lost = has_stored and certificate_of(words) not in files
-            is_run = words[:1] == ["check"] and not ({"-h", "--help"} & {*words} or is_lost)
+            is_run = words[:1] == ["check"] and not ({"-h", "--help", "--table", "--record"} & {*words} or is_lost)
             if is_run and wanted_runs[:end] != [b"budget\n", b"exit 3\n"]:
                 yield words, files, b"".join(wanted_runs[:end])
             if may_store(words, wanted_runs[end - 1]):
@@ -170,7 +172,7 @@ def compare_chamber(program, chamber, asked, tally):
     with tempfile.TemporaryDirectory(prefix="compare-") as room:
         _, status = ran(program, ["solve", *common], room)
         if status != 0:
-            cases.stop(f"{program} didn't solve chamber {chamber}: status {status}")
+            program_runs.stop(f"{program} didn't solve chamber {chamber}: status {status}")
         began = time.time()
         tally.add(f"chamber {chamber}", both_checkers(program, ["check", *common], room))
         print(f"chamber {chamber}: both checkers took {time.time() - began:.0f} seconds", flush=True)

@@ -2,6 +2,7 @@
 // The page without this script shows the first grouping. With it a choice of alternatives shows another best grouping.
 const data = JSON.parse(document.getElementById("data").textContent);
 const find = (id) => document.getElementById(id);
+const all = (wanted) => document.querySelectorAll(wanted);
 let chosen = data.start.slice();
 let sorted = { column: 0, sign: 1 };
 
@@ -57,17 +58,18 @@ function showMap(numbers, seats) {
     path.setAttribute("aria-label", words);
     path.querySelector("title").textContent = words;
   }));
-  for (const path of document.querySelectorAll("[data-pair]")) {
+  for (const path of all("[data-pair]")) {
     const [one, other] = path.dataset.pair.split(" ");
     path.setAttribute("class", groupOf[one] === groupOf[other] ? "border thin" : "border thick");
   }
-  for (const mark of document.querySelectorAll("[data-mark]")) mark.classList.toggle("off", !numbers.includes(Number(mark.dataset.mark)));
+  for (const mark of all("[data-mark]")) mark.classList.toggle("off", !numbers.includes(Number(mark.dataset.mark)));
   numbers.forEach((number, at) => { document.querySelector(`.mark[data-mark="${number}"] text`).textContent = seats[at]; });
 }
 
 function cell(words, head, isNumber, value) {
   const made = document.createElement("td");
   made.textContent = words;
+  made.setAttribute("role", "cell");
   made.dataset.head = head;
   made.dataset.value = value;
   made.className = isNumber ? "number" : "wide";
@@ -75,21 +77,21 @@ function cell(words, head, isNumber, value) {
 }
 
 function showTable(numbers, seats) {
-  const body = find("groups");
-  body.replaceChildren(...numbers.map((number, at) => {
+  find("groups").replaceChildren(...numbers.map((number, at) => {
     const group = data.groups[number], each = group.people / seats[at], off = each / data.ideal - 1;
     const region = data.regions.findIndex((alternatives) => alternatives.some((one) => one.includes(number)));
     const names = group.codes.map((code) => data.counties[code].short).join(", ");
     const row = document.createElement("tr");
+    row.setAttribute("role", "row");
     row.dataset.codes = group.codes.join(" ");
     row.append(
       cell(at + 1, "Group", true, at + 1),
       cell(seats[at], "Seats", true, seats[at]),
       cell(thousands(group.people), "People", true, group.people),
-      cell(thousands(Math.round(each)), "People per seat", true, each),
+      cell(thousands(Math.round(each)), "Per seat", true, each),
       cell((off < 0 ? "\u2212" : "+") + Math.abs(100 * off).toFixed(2) + " %", "Against the ideal", true, off),
       cell(names, "Counties", false, names),
-      cell(region < 0 ? "in every best grouping" : `choice in region ${region + 1}`, "Shared", false, region),
+      cell(region < 0 ? "in every best grouping" : `choice in region ${region + 1}`, "Choice", false, region),
     );
     return row;
   }));
@@ -101,7 +103,7 @@ function sortRows() {
   const byColumn = (one, other) => (sorted.column === 5 ? value(one).localeCompare(value(other)) : value(one) - value(other));
   const by = (one, other) => byColumn(one, other) || one.cells[0].dataset.value - other.cells[0].dataset.value;
   find("groups").replaceChildren(...[...find("groups").rows].sort((one, other) => sorted.sign * by(one, other)));
-  document.querySelectorAll("#heads th").forEach((head, column) => {
+  all("#heads th").forEach((head, column) => {
     if (column === sorted.column) head.setAttribute("aria-sort", sorted.sign > 0 ? "ascending" : "descending");
     else head.removeAttribute("aria-sort");
   });
@@ -110,11 +112,12 @@ function sortRows() {
 function showGrouping(numbers, seats) {
   const text = numbers.map((number, at) => [seats[at], ...data.groups[number].codes].join("|") + "\n").join("");
   const number = numberOf(chosen);
-  const link = find("download");
+  const name = `chamber-${data.chamber}-grouping${number ? `-${number}` : ""}.txt`;
   find("text").textContent = text;
-  link.href = "data:text/plain;charset=utf-8," + encodeURIComponent(text);
-  link.download = number ? `chamber-${data.chamber}-grouping-${number}.txt` : `chamber-${data.chamber}-grouping.txt`;
-  for (const place of document.querySelectorAll(".number-of-grouping")) place.textContent = number;
+  find("download").href = "data:text/plain;charset=utf-8," + encodeURIComponent(text);
+  find("download").download = name;
+  for (const place of all(".name-of-grouping")) place.textContent = name;
+  for (const place of all(".number-of-grouping")) place.textContent = number;
   const one = data.number === 1 ? "This is the only best grouping." : `This is one of ${thousands(data.number)} best groupings.`;
   find("which").textContent = one + (data.number > 1 && number ? ` Its number in the list is ${number}.` : "");
 }
@@ -124,26 +127,52 @@ function show() {
   showMap(numbers, seats);
   showTable(numbers, seats);
   showGrouping(numbers, seats);
-  for (const button of document.querySelectorAll("input[type=radio]")) {
-    button.checked = chosen[Number(button.dataset.region)] === Number(button.value);
-  }
+  for (const button of all("input[type=radio]")) button.checked = chosen[Number(button.dataset.region)] === Number(button.value);
+  if (told) tell(told);
 }
+
+// The county that was pointed at last.
+let told = null;
 
 function tell(path) {
+  told = path;
   find("told").textContent = path.getAttribute("aria-label");
   find("pointer").setAttribute("d", path.getAttribute("d"));
+  find("county").value = path.id.slice(1);
 }
 
-document.querySelectorAll("input[type=radio]").forEach((button) => button.addEventListener("change", () => {
-  chosen = listedWith(Number(button.dataset.region), Number(button.value));
-  show();
-}));
-document.querySelectorAll("#heads button").forEach((button, column) => button.addEventListener("click", () => {
+function offerCounties() {
+  const named = Object.entries(data.counties).map(([code, county]) => [county.short, code]);
+  named.sort((one, other) => one[0].localeCompare(other[0]) || (one[1] < other[1] ? -1 : 1));
+  find("county").append(new Option("", ""), ...named.map(([name, code]) => new Option(name, code)));
+  find("county").addEventListener("change", () => { if (find("county").value) tell(find("c" + find("county").value)); });
+  find("county").addEventListener("focus", () => find("told").setAttribute("aria-live", "polite"));
+  find("county").addEventListener("blur", () => find("told").removeAttribute("aria-live"));
+  find("finder").hidden = false;
+}
+
+function offerChoices() {
+  all("input[type=radio]").forEach((button) => {
+    button.disabled = false;
+    button.addEventListener("change", () => {
+      chosen = listedWith(Number(button.dataset.region), Number(button.value));
+      show();
+    });
+  });
+  all("fieldset").forEach((region) => {
+    const bounds = document.querySelector(`[data-bounds="${region.dataset.region}"]`);
+    const mark = () => bounds.classList.toggle("off", !region.matches(":hover, :focus-within"));
+    for (const kind of ["mouseenter", "mouseleave", "focusin", "focusout"]) region.addEventListener(kind, () => requestAnimationFrame(mark));
+  });
+}
+
+all("#heads button").forEach((button, column) => button.addEventListener("click", () => {
   sorted = { column, sign: sorted.column === column ? -sorted.sign : 1 };
   sortRows();
 }));
-for (const path of document.querySelectorAll(".county")) {
+for (const path of all(".county")) {
   for (const kind of ["mouseover", "focus", "click"]) path.addEventListener(kind, () => tell(path));
 }
-document.querySelectorAll("input[type=radio]").forEach((button) => { button.disabled = false; });
+offerCounties();
+offerChoices();
 show();

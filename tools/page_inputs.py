@@ -8,7 +8,8 @@ from dataclasses import dataclass, field
 
 from county_table import Refused
 
-GROUP = re.compile(r"group seats ([0-9]+)(?: to ([0-9]+))? people ([0-9]+) counties((?: [0-9]{5})+)")
+GROUP = r"group seats ([0-9]+)(?: to ([0-9]+))? people ([0-9]+) counties((?: [0-9]{5})+)"
+SHOWN = 60
 
 
 @dataclass(frozen=True)
@@ -36,9 +37,20 @@ class Listing:
     combinations: list = None
 
 
+@dataclass(frozen=True)
+class FileLine:
+    """A file of a run: its word or option, its bytes and sum, its name, and whether it was left before its end."""
+
+    option: str
+    size: int
+    total: str
+    name: str
+    is_left: bool = False
+
+
 @dataclass
 class Record:
-    """The record of a run: files that were read or stored are pairs of an option's word and its bytes, sum and name."""
+    """The record of a run."""
 
     version: str
     words: list
@@ -62,55 +74,71 @@ class Lines:
         if self.lines.pop() != "":
             raise Refused(f"The {what} {path} has no end of its last line.")
 
-    def take(self, form, may_lack=False):
+    def may_take(self, form):
         """The parts of the next line, if it has this form."""
-        line = self.lines[self.place] if self.place < len(self.lines) else ""
-        found = re.fullmatch(form, line)
-        if found:
-            self.place += 1
-        elif not may_lack:
-            raise Refused(f"Line {self.place + 1} of the {self.what} {self.path} isn't one that stands there.")
+        found = re.fullmatch(form, self.lines[self.place]) if self.place < len(self.lines) else None
+        self.place += 1 if found else 0
+        return found
+
+    def take(self, form, wanted):
+        """The parts of the next line, which has this form: `wanted` tells it in words."""
+        found = self.may_take(form)
+        if not found:
+            raise Refused(f"{self._said()}, where {wanted} has to stand.")
         return found
 
     def end(self):
         """Nothing may stand behind the last line."""
         if self.place != len(self.lines):
-            raise Refused(f"Line {self.place + 1} of the {self.what} {self.path} isn't one that stands there.")
+            raise Refused(f"{self._said()}, where the text has to end.")
+
+    def _said(self):
+        """What the next line says."""
+        if self.place == len(self.lines):
+            return f"The {self.what} {self.path} ends with line {self.place}"
+        line = "".join(sign if sign.isprintable() else " " for sign in self.lines[self.place])
+        shown = line if len(line) <= SHOWN else line[:SHOWN] + ".."
+        return f"Line {self.place + 1} of the {self.what} {self.path} says `{shown}`"
 
 
 def read_list(path):
     """The list of all best groupings."""
     lines = Lines("list", path)
     found = Listing()
-    found.people = int(lines.take(r"people ([0-9]+)")[1])
-    found.chamber = int(lines.take(r"chamber ([0-9]+)")[1])
-    window = lines.take(r"window ([0-9]+) ([0-9]+)", may_lack=True)
+    found.people = _number(lines, "people")
+    found.chamber = _number(lines, "chamber")
+    window = lines.may_take(r"window ([0-9]+) ([0-9]+)")
     found.window = (int(window[1]), int(window[2])) if window else (1, 20)
-    found.seats_left = int(lines.take(r"seats left ([0-9]+)")[1])
-    found.counties = int(lines.take(r"counties ([0-9]+)")[1])
-    lines.take(r"answer all")
-    lines.take(r"counts (?:none|[0-9]+(?: [0-9]+)*)")
-    found.number = int(lines.take(r"best groupings ([0-9]+)")[1])
-    found.shared = [_group(lines) for _ in range(int(lines.take(r"shared groups ([0-9]+)")[1]))]
-    while region := lines.take(r"region [0-9]+ counties [0-9]+ alternatives ([0-9]+)", may_lack=True):
+    found.seats_left = _number(lines, "seats left")
+    found.counties = _number(lines, "counties")
+    lines.take(r"answer all", "`answer all`")
+    lines.take(r"counts (?:none|[0-9]+(?: [0-9]+)*)", "`counts`")
+    found.number = _number(lines, "best groupings")
+    found.shared = [_group(lines) for _ in range(_number(lines, "shared groups"))]
+    while region := lines.may_take(r"region [0-9]+ counties [0-9]+ alternatives ([0-9]+)"):
         found.regions.append([_alternative(lines) for _ in range(int(region[1]))])
     found.combinations = _combinations(lines, found)
     lines.end()
     return found
 
 
+def _number(lines, word):
+    """The number of a line of a word and a number."""
+    return int(lines.take(rf"{word} ([0-9]+)", f"`{word}` with a number")[1])
+
+
 def _group(lines):
     """A group's line."""
-    found = lines.take(GROUP.pattern)
+    found = lines.take(GROUP, "a group")
     least = int(found[1])
     return ListedGroup(tuple(found[4].split()), least, int(found[2] or least), int(found[3]))
 
 
 def _alternative(lines):
     """The groups of an alternative."""
-    lines.take(r"alternative [0-9]+")
+    lines.take(r"alternative [0-9]+", "an alternative")
     groups = [_group(lines)]
-    while re.fullmatch(GROUP, lines.lines[lines.place] if lines.place < len(lines.lines) else ""):
+    while lines.place < len(lines.lines) and re.fullmatch(GROUP, lines.lines[lines.place]):
         groups.append(_group(lines))
     return groups
 
@@ -118,12 +146,13 @@ def _alternative(lines):
 def _combinations(lines, found):
     """None if each combination of alternatives is listed. Else the alternatives of each listed grouping, counted from 0."""
     product = math.prod(len(region) for region in found.regions)
-    if lines.take(r"every choice", may_lack=True):
+    if lines.may_take(r"every choice"):
         if product != found.number:
             raise Refused(f"The list {lines.path} says every choice, and has {product} choices and {found.number} groupings.")
         return None
-    form = r"grouping [0-9]+ alternatives((?: [0-9]+)+)"
-    rows = [tuple(int(word) - 1 for word in lines.take(form)[1].split()) for _ in range(found.number)]
+    wanted = "`every choice` or the alternatives of a grouping"
+    rows = [lines.take(r"grouping [0-9]+ alternatives((?: [0-9]+)+)", wanted) for _ in range(found.number)]
+    rows = [tuple(int(word) - 1 for word in row[1].split()) for row in rows]
     if any(len(row) != len(found.regions) or not all(0 <= one < len(region) for one, region in zip(row, found.regions)) for row in rows):
         raise Refused(f"A grouping of the list {lines.path} names an alternative that isn't there.")
     return rows
@@ -132,25 +161,33 @@ def _combinations(lines, found):
 def read_record(path):
     """The record of a run that ended with status 0."""
     lines = Lines("record", path)
-    lines.take(r"countygroups record 1")
-    version = lines.take(r"version (.*)")[1]
+    lines.take(r"countygroups record 1", "`countygroups record 1`")
+    version = lines.take(r"version (.*)", "`version`")[1]
     words, read, stored = [], [], []
-    while word := lines.take(r"word (.*)", may_lack=True):
-        words.append(_plain(word[1]))
-    while one := lines.take(r"read (\S+) ([0-9]+) ([0-9a-f]{64}) (.*)", may_lack=True):
-        read.append((one[1], int(one[2]), one[3], _plain(one[4])))
-    while one := lines.take(r"stored (\S+) ([0-9]+) ([0-9a-f]{64}) (.*)", may_lack=True):
-        stored.append((one[1], int(one[2]), one[3], _plain(one[4])))
-    status = lines.take(r"status ([0-9]+)")[1]
-    answer = lines.take(r"answer (.*)")[1]
+    while word := lines.may_take(r"word (.*)"):
+        words.append(plain(word[1]))
+    while one := lines.may_take(r"read (\S+) ([0-9]+) ([0-9a-f]{64}) (.*)"):
+        read.append(_file_line(one, words))
+    while one := lines.may_take(r"stored (\S+) ([0-9]+) ([0-9a-f]{64}) (.*)"):
+        stored.append(FileLine(one[1], int(one[2]), one[3], plain(one[4])))
+    status = lines.take(r"status ([0-9]+)", "`status`, a file or a word")[1]
+    answer = lines.take(r"answer (.*)", "`answer`")[1]
     lines.end()
     if status != "0":
         raise Refused(f"The record {path} is of a run that ended with status {status}, and not with 0.")
-    return Record(_plain(version), words, read, stored, _plain(answer))
+    return Record(plain(version), words, read, stored, plain(answer))
 
 
-def _plain(text):
+def _file_line(found, words):
+    """A file that was read. ` left` behind its name isn't of the name, if the words don't name such a file."""
+    name = plain(found[4])
+    is_named = any(word == name or word.endswith(f"={name}") for word in words)
+    is_left = name.endswith(" left") and not is_named
+    return FileLine(found[1], int(found[2]), found[3], name[: -len(" left")] if is_left else name, is_left)
+
+
+def plain(text):
     """The text with each escaped byte as it was."""
-    parts = re.split(r"\\x([0-9A-Fa-f]{2})", text)
+    parts = re.split(r"\\x([0-9A-F]{2})", text)
     raw = b"".join(bytes.fromhex(part) if place % 2 else part.encode() for place, part in enumerate(parts))
     return raw.decode("utf-8", "replace")

@@ -13,7 +13,8 @@ use Rattle.program_answers.specs.declared.answer.Refusal.TheVariants.{Shown, Mem
 use Rattle.program_answers.specs.Answer.{Answered}
 use Rattle.program_answers.specs.Answers.{answer_of, said_by, Comes}
 use Rattle.command_runs.specs.Course.{Course, EndsIn}
-use Rattle.command_runs.specs.Run.{CommandEnds, CommandRun, IsEndAnswer, IsRunAnswer}
+use Rattle.record_report.specs.RecordFiles.{record_name_of}
+use Rattle.command_runs.specs.Run.{CommandEnds, CommandRun, IsEndAnswer, IsRunAnswer, RunsAsAsked}
 use Rattle.cli.specs.Ends.{said_of}
 
 -- a command that stores no file
@@ -33,6 +34,5 @@ ended_words files list n end (Err e) by taken h = inl (refl, refl)
 
 -- words that mean a command, and the run of it
 pub meant_run : (files : Option Files) (list : List (List ℕ)) (before after : History) (stored : List File) (a : Answered) (command : CommandWords)
-    → Means list command → faults_of list ≡ [] → CommandRun files command before after stored a → IsRunAnswer files list before after stored a
-meant_run files list before after stored a command meant taken (inl refused) = inl refused
-meant_run files list before after stored a command meant taken (inr run) = inr (inr (record { command = command; meant = meant; taken = taken; run = inr run }))
+    → Means list command → faults_of list ≡ [] → RunsAsAsked files list command (record_name_of command) before after stored a → IsRunAnswer files list before after stored a
+meant_run files list before after stored a command meant taken run = inr (inr (record { command = command; meant = meant; taken = taken; run = run }))

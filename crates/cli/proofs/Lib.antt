@@ -2,3 +2,5 @@ pub mod CaseLemmas
 pub mod StoringLemmas
 pub mod CommandLemmas
 pub mod ReaderLemmas
+pub mod RecordLemmas
+pub mod TableLemmas

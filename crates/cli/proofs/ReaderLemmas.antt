@@ -13,10 +13,11 @@ use Rattle.program_answers.specs.declared.answer.Refusal.{Refusal}
 use Rattle.program_answers.specs.declared.answer.Refusal.TheVariants.{Shown, Memory}
 use Rattle.program_answers.specs.Answer.{Answered}
 use Rattle.program_answers.specs.Answers.{answer_of, Comes, Meets, Refuses}
-use Rattle.grouping_problem.specs.ProblemValue.{ProblemValue}
 use Rattle.certificate_checker.specs.declared.fault.CheckStop.{CheckStop}
 use Rattle.command_runs.specs.declared.checker_report.Checked.{Checked}
 use Rattle.command_runs.specs.CheckCourse.{IsChecked, ChecksGiven}
+use Rattle.command_runs.specs.TableCourse.{Tabled}
+use Rattle.command_runs.specs.Texts.{reported_of}
 use Rattle.program_answers.specs.Refusals.{pl94_answer, shelf_answer}
 use Rattle.command_runs.specs.Course.{Course, ◌>>=◌, load_step, call_step, value_step}
 use Rattle.command_runs.specs.Reading.{Given, open_step, read_step, whole_step, read_one, text_of, back_step, read_both, whole_pair, load_pair, texts_of}
@@ -241,15 +242,15 @@ module _ (files : Option Files) (name : List ℕ) where
     text_reloaded before between after given (Err Memory) read h = tt
 
 -- what was said of a certificate that was read to its end
-pub certificate_checked : (v : ProblemValue) (budget : ℕ) (name bytes : List ℕ) (given : Given) (now : History) (checked : Result Checked CheckStop) (is_whole : Bool) (found : Option Checked)
-    → IfOk checked (λ c. ChecksGiven v budget [] bytes (answer_of c.answer)) → given.bytes ≡ bytes → IsWhole name given now (Ok is_whole)
+pub certificate_checked : (t : Tabled) (budget : ℕ) (name bytes : List ℕ) (given : Given) (now : History) (checked : Result Checked CheckStop) (is_whole : Bool) (found : Option Checked)
+    → IfOk checked (λ c. ChecksGiven t budget [] bytes (reported_of c.reported)) → given.bytes ≡ bytes → IsWhole name given now (Ok is_whole)
     → IfSome found (λ value. (checked ≡ Ok value) × (is_whole ≡ true))
-    → IfSome found (λ value. (given.answer ≡ Ok Whole) × value_step (IsChecked v budget given.bytes) now now (Ok (answer_of value.answer)))
-certificate_checked v budget name bytes given now checked is_whole None holds same whole h = tt
-certificate_checked v budget name bytes given now checked true (Some kept) holds same whole h =
-    let k = kept_holds (λ (c : Checked). ChecksGiven v budget [] bytes (answer_of c.answer)) checked true (Some kept) holds h in
-    (whole, (refl, subst (λ (text : List ℕ). IsChecked v budget text (answer_of kept.answer)) (sym (same ∙ k.is_given)) k.checked))
-certificate_checked v budget name bytes given now checked false (Some kept) holds same whole h = absurd (false_true h.1)
+    → IfSome found (λ value. (given.answer ≡ Ok Whole) × value_step (IsChecked t budget given.bytes) now now (Ok (reported_of value.reported)))
+certificate_checked t budget name bytes given now checked is_whole None holds same whole h = tt
+certificate_checked t budget name bytes given now checked true (Some kept) holds same whole h =
+    let k = kept_holds (λ (c : Checked). ChecksGiven t budget [] bytes (reported_of c.reported)) checked true (Some kept) holds h in
+    (whole, (refl, subst (λ (text : List ℕ). IsChecked t budget text (reported_of kept.reported)) (sym (same ∙ k.is_given)) k.checked))
+certificate_checked t budget name bytes given now checked false (Some kept) holds same whole h = absurd (false_true h.1)
   where
     false_true : false ≡ true → ⊥
     false_true e = cc

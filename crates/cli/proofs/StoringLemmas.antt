@@ -12,7 +12,7 @@ use Rattle.program_answers.specs.declared.answer.Refusal.TheVariants.{Shown, Mem
 use Rattle.program_answers.specs.Answer.{Answered, memory_answer}
 use Rattle.program_answers.specs.Answers.{answer_of, said_by, Meets}
 use Rattle.command_runs.specs.Course.{Course}
-use Rattle.command_runs.specs.Storing.{EndsStoring, HasStored, store_steps}
+use Rattle.command_runs.specs.Storing.{EndsStoring, HasStored, said_after, store_steps}
 use Rattle.command_runs.specs.Run.{IsOutOfMemory}
 use Rattle.command_runs.proofs.StoreLemmas.{stops_in}
 use Rattle.cli.specs.Ends.{refusal_by}
@@ -54,6 +54,16 @@ module _ {S : Type 0} (steps : Course S) (files_of : S → List File) (answer : 
   pub ended_run : (s : S) (before between after : History) (stored : List File) → steps before between (Ok s) → store_steps (files_of s) between after stored None
       → Runs before after stored (answer s)
   ended_run s before between after stored h k = inr (inr (s, between, None, h, k, refl))
+
+  -- or with its answer, unless a file was refused
+  pub said_run : (s : S) (before between after : History) (stored : List File) (refusal : Option Answered) (a : Answered) → steps before between (Ok s)
+      → store_steps (files_of s) between after stored refusal → a ≡ said_after refusal (answer s) → Runs before after stored a
+  said_run s before between after stored refusal a h k said = inr (inr (s, between, refusal, h, k, said))
+
+-- what is refused is said
+pub refused_said : (refusal : Refusal) (a : Answered) → said_by (Err refusal) ≡ said_after (refusal_by (Err refusal)) a
+refused_said (Shown s) a = refl
+refused_said Memory a = refl
 
 -- files of which one is refused, with others behind them
 pub stops_with : (xs ys : List File) (before after : History) (stored : List File) (refusal : Refusal) (end : Result (Unit {0}) Refusal)

@@ -7,14 +7,13 @@ use Rattle.program_answers.specs.Answers.{Meets}
 use Rattle.county_codes.specs.declared.county.County.{County}
 use Rattle.pl94_counties.specs.declared.blocks.Block.{Block}
 use Rattle.command_words.specs.declared.words.CommonWords.{CommonWords}
-use Rattle.command_words.specs.declared.words.CheckWords.{CheckWords}
-use Rattle.grouping_problem.specs.ProblemValue.{ProblemValue}
+use Rattle.command_words.specs.declared.words.CertificateWords.{CertificateWords}
 use Rattle.shelves.specs.Files.{Files}
-use Rattle.program_answers.specs.Answer.{Answered}
 use Rattle.command_runs.specs.Course.{Course, ◌>>=◌, load_step, value_step}
 use Rattle.command_runs.specs.Reading.{Given, whole_step, text_of, whole_pair, load_pair}
 use Rattle.command_runs.specs.ProblemCourse.{counties_in}
 use Rattle.command_runs.specs.PlanCourse.{blocks_in}
+use Rattle.command_runs.specs.TableCourse.{Tabled, Reported}
 use Rattle.command_runs.specs.CheckCourse.{IsChecked}
 
 -- whether a reader stood at the end of its file, or the answer to its failure
@@ -44,8 +43,8 @@ abbrev pub loaded_blocks : Option Files → CommonWords → Course (List Block)
 loaded_blocks files words = load_pair files words.geo.now words.segment.now >>= λ texts. blocks_in words.state texts.0 texts.1
 
 -- the verdict on the certificate of a file, and the same where the file is loaded
-abbrev pub checked_text : Option Files → CheckWords → ProblemValue → Course Answered
-checked_text files words v = text_of files words.certificate.now >>= λ text. value_step (IsChecked v words.budget text)
+abbrev pub checked_text : Option Files → CertificateWords → Tabled → Course Reported
+checked_text files words t = text_of files words.certificate.now >>= λ text. value_step (IsChecked t words.budget text)
 
-abbrev pub loaded_check : Option Files → CheckWords → ProblemValue → Course Answered
-loaded_check files words v = load_step files words.certificate.now >>= λ text. value_step (IsChecked v words.budget text)
+abbrev pub loaded_check : Option Files → CertificateWords → Tabled → Course Reported
+loaded_check files words t = load_step files words.certificate.now >>= λ text. value_step (IsChecked t words.budget text)

@@ -1,3 +1,5 @@
+//! A run of a case: the words of a command and its files, read from one text.
+
 ghost use Rattle.std.specs.Prelude.{◌≡◌, ℕ, ◌++◌, ◌==◌, ◌&&◌, true, false, List, [], ◌∷◌, Option, Some, None, Result, Ok, Err, IfOk, OnOk, MatchOption, codes, drop, length, reverse, option_map, string_bytes, map};
 ghost use Rattle.std.specs.List.{slice_split, list_all};
 ghost use Rattle.std.specs.Str.{is_utf8};

@@ -1,18 +1,23 @@
 //! The subcommand `check`.
 
-ghost use Rattle.std.specs.Prelude.{◌≡◌, ◌≤◌, true, Ok, IfSome};
-ghost use Rattle.program_answers.specs.Answers.{answer_of, Comes};
+ghost use Rattle.std.specs.Prelude.{◌≡◌, ◌≤◌, true, List, Ok, IfSome};
+ghost use Rattle.shelves.specs.Files.{File};
+ghost use Rattle.program_answers.specs.Answers.{Comes, said_by};
 ghost use Rattle.command_runs.specs.Reading.{read_one};
 ghost use Rattle.command_runs.specs.CheckCourse.{check_course};
+ghost use Rattle.command_runs.specs.Storing.{HasStored};
+ghost use Rattle.command_runs.specs.Run.{CommandRun};
+ghost use Rattle.command_runs.specs.Texts.{reported_of, tabled_of};
 ghost use Rattle.cli.specs.Streams.{Streams, checked_text, loaded_check};
 
 use crate::end::{End, Ending, FileOption};
 use crate::files::load;
-use crate::problem::load_problem;
+use crate::problem::load_tabled_problem;
 use crate::readers::{give_one_back, open};
+use crate::storing::store_reported;
 use certificate_checker::{CheckFault, CheckStop};
-use command_runs::{Checked, check_and_say, check_from_and_say};
-use command_words::CheckWords;
+use command_runs::{Checked, Reported, Tabled, check_and_say, check_from_and_say};
+use command_words::{CertificateWords, CheckWords, CommandWords};
 use grouping_problem::Problem;
 use program_answers::{Answer, Refusal};
 use shelves::Shelf;
@@ -43,12 +48,12 @@ fn verdict(
 /// The verdict on a certificate that is loaded before it is checked.
 fn check_loaded<H: Shelf>(
     alloc: Global,
-    words: CheckWords<'_>,
-    problem: Problem,
+    words: CertificateWords<'_>,
+    tabled: Tabled,
     shelf: &mut H,
     end: &mut End,
-) -> Result<Answer, Refusal>
-    ensures course { Comes answer_of result (loaded_check (H.contents shelf.old) words.entry problem (H.history shelf.old) (H.history shelf.new)) }
+) -> Result<Reported, Refusal>
+    ensures course { Comes reported_of result (loaded_check (H.contents shelf.old) words.entry (tabled_of tabled) (H.history shelf.old) (H.history shelf.new)) }
     ensures same { H.contents shelf.new ≡ H.contents shelf.old }
     ensures kept { H.stored shelf.new ≡ H.stored shelf.old }
 {
@@ -59,9 +64,10 @@ fn check_loaded<H: Shelf>(
         shelf,
         end,
     )?;
-    let checked = check_and_say(alloc, &problem, &text, words.budget)?;
-    end.note(verdict(checked.fault, checked.answer.status, text, problem));
-    Ok(checked.answer)
+    let checked = check_and_say(alloc, &tabled, &text, words.budget)?;
+    let status = checked.reported.answer.status;
+    end.note(verdict(checked.fault, status, text, tabled.problem));
+    Ok(checked.reported)
 }
 
 /// What a check said, if it found no fault, and its text was read to the end.
@@ -78,14 +84,14 @@ fn if_unrefuted(checked: Result<Checked, CheckStop>, is_whole: bool) -> Option<C
 /// back, and it is left open which fault is the first.
 fn stream_check<H: Shelf>(
     alloc: Global,
-    words: CheckWords<'_>,
-    problem: &Problem,
+    words: CertificateWords<'_>,
+    tabled: &Tabled,
     shelf: &mut H,
     end: &mut End,
 ) -> Result<Option<Checked>, Refusal>
     ensures course { Streams
-        (λ c. answer_of c.answer)
-        (checked_text (H.contents shelf.old) words.entry problem.now)
+        (λ c. reported_of c.reported)
+        (checked_text (H.contents shelf.old) words.entry (tabled_of tabled.now))
         (read_one (H.contents shelf.old) words.entry.certificate.now)
         result
         (H.history shelf.old)
@@ -95,7 +101,7 @@ fn stream_check<H: Shelf>(
 {
     let (option, name) = (FileOption::Certificate, words.certificate);
     let mut reader = open(alloc, option, name, shelf, end)?;
-    let checked = check_from_and_say(alloc, problem, &mut reader, words.budget);
+    let checked = check_from_and_say(alloc, tabled, &mut reader, words.budget);
     let is_whole = give_one_back(alloc, option, name, reader, shelf, end)?;
     Ok(if_unrefuted(checked, is_whole))
 }
@@ -104,37 +110,53 @@ fn stream_check<H: Shelf>(
 /// text is the answer.
 fn check_file<H: Shelf>(
     alloc: Global,
-    words: CheckWords<'_>,
-    problem: Problem,
+    words: CertificateWords<'_>,
+    tabled: Tabled,
     shelf: &mut H,
     end: &mut End,
-) -> Result<Answer, Refusal>
-    ensures course { Comes answer_of result (checked_text (H.contents shelf.old) words.entry problem (H.history shelf.old) (H.history shelf.new)) }
+) -> Result<Reported, Refusal>
+    ensures course { Comes reported_of result (checked_text (H.contents shelf.old) words.entry (tabled_of tabled) (H.history shelf.old) (H.history shelf.new)) }
     ensures same { H.contents shelf.new ≡ H.contents shelf.old }
     ensures kept { H.stored shelf.new ≡ H.stored shelf.old }
 {
-    match stream_check(alloc, words, &problem, shelf, end)? {
+    match stream_check(alloc, words, &tabled, shelf, end)? {
         Some(checked) => {
-            end.note(unrefuted(checked.answer.status));
-            Ok(checked.answer)
+            end.note(unrefuted(checked.reported.answer.status));
+            Ok(checked.reported)
         }
-        None => check_loaded(alloc, words, problem, shelf, end),
+        None => check_loaded(alloc, words, tabled, shelf, end),
     }
 }
 
-/// The verdict on a certificate. The problem is built before the certificate is opened; the first fault met is the
-/// answer.
+/// The verdict on the certificate of a file, before anything is stored.
+fn check_files<H: Shelf>(
+    alloc: Global,
+    words: CheckWords<'_>,
+    shelf: &mut H,
+    end: &mut End,
+) -> Result<Reported, Refusal>
+    requires { words.check.problem.common.state ≤ 99 }
+    ensures course { Comes reported_of result (check_course (H.contents shelf.old) words.entry (H.history shelf.old) (H.history shelf.new)) }
+    ensures same { H.contents shelf.new ≡ H.contents shelf.old }
+    ensures kept { H.stored shelf.new ≡ H.stored shelf.old }
+{
+    let tabled = load_tabled_problem(alloc, words.check.problem, words.table, shelf, end)?;
+    check_file(alloc, words.check, tabled, shelf, end)
+}
+
+/// The verdict on a certificate. The problem is built before the certificate is opened. If a grouping is best, its table is then stored;
+/// the first fault met is the answer.
 pub(crate) fn check<H: Shelf>(
     alloc: Global,
     words: CheckWords<'_>,
     shelf: &mut H,
     end: &mut End,
 ) -> Result<Answer, Refusal>
-    requires { words.problem.common.state ≤ 99 }
-    ensures course { Comes answer_of result (check_course (H.contents shelf.old) words.entry (H.history shelf.old) (H.history shelf.new)) }
-    ensures same { H.contents shelf.new ≡ H.contents shelf.old }
-    ensures kept { H.stored shelf.new ≡ H.stored shelf.old }
+    requires { words.check.problem.common.state ≤ 99 }
+    ensures { (stored : List File)
+        × HasStored (H.contents shelf.old) (H.contents shelf.new) (H.stored shelf.old) (H.stored shelf.new) stored
+        × CommandRun (H.contents shelf.old) (CommandWords.Check words.entry) (H.history shelf.old) (H.history shelf.new) stored (said_by result) }
 {
-    let problem = load_problem(alloc, words.problem, shelf, end)?;
-    check_file(alloc, words, problem, shelf, end)
+    let reported = check_files(alloc, words, shelf, end)?;
+    store_reported(alloc, words.table, reported, shelf, end)
 }

@@ -1,3 +1,5 @@
+//! A run of one command: its words are parsed, the command is run, its record is stored if the words ask for it, and the answer is written.
+
 ghost use Rattle.std.specs.Prelude.{◌≡◌, List, IfOk};
 ghost use Rattle.shelves.specs.Files.{File};
 ghost use Rattle.program_answers.specs.Answer.{Answered};
@@ -14,6 +16,7 @@ use crate::end::{End, Ending};
 use crate::judge::judge;
 use crate::list::list;
 use crate::piece::piece;
+use crate::recording::answer_as_asked;
 use crate::share::share;
 use crate::size::size;
 use crate::solve::solve;
@@ -49,7 +52,7 @@ fn command_end<H: Shelf, V: Watcher>(
 }
 
 /// The answer of a command, or that a growth was refused.
-fn command_answer<H: Shelf, V: Watcher>(
+pub(crate) fn command_answer<H: Shelf, V: Watcher>(
     alloc: Global,
     command: CommandWords<'_>,
     shelf: &mut H,
@@ -104,7 +107,7 @@ pub(crate) fn words_answer<H: Shelf, V: Watcher>(
         × IsRunAnswer (H.contents shelf.old) (texts words.now) (H.history shelf.old) (H.history shelf.new) stored (said_of result) }
 {
     match parse(alloc, words) {
-        Ok(command) => command_answer(alloc, command, shelf, end, watcher),
+        Ok(command) => answer_as_asked(alloc, words, command, shelf, end, watcher),
         Err(words_end) => words_end_answer(alloc, words_end, end),
     }
 }
@@ -119,6 +122,16 @@ pub(crate) fn deliver<W: Sink>(out: &mut W, text: &[u8], status: u8) -> u8
     }
 }
 
+/// Writes an answer, or that a growth was refused, and answers the status, or 5 where the writing failed.
+fn deliver_said<W: Sink>(out: &mut W, said: Result<Answer, AllocError>) -> u8
+    ensures { Delivers (W.is_failed out.new) (W.contents out.old) (W.contents out.new) (said_of said) result }
+{
+    match said {
+        Ok(answer) => deliver(out, &answer.text, answer.status),
+        Err(AllocError) => deliver(out, MEMORY, 5),
+    }
+}
+
 /// Runs one command, and answers the exit status and how the run ended. The watcher is told how far a search is. All that `run`
 /// promises holds of it and of its status, for each watcher.
 pub fn run_with_end<H: Shelf, W: Sink, V: Watcher>(
@@ -129,22 +142,17 @@ pub fn run_with_end<H: Shelf, W: Sink, V: Watcher>(
     watcher: &mut V,
 ) -> (u8, End)
 
-    // The answer is that of the steps of the words' command, its files are stored, and its text is written.
+    // The answer is that of the steps of the words' command, its files are stored, and its text is written. If the status is 0 or 1, this
+    // answer tells of the machine's files what the command promises.
     ensures run { (a : Answered) × (stored : List File)
         × HasStored (H.contents shelf.old) (H.contents shelf.new) (H.stored shelf.old) (H.stored shelf.new) stored
         × IsRunAnswer (H.contents shelf.old) (texts words.now) (H.history shelf.old) (H.history shelf.new) stored a
-        × Delivers (W.is_failed out.new) (W.contents out.old) (W.contents out.new) a result.0 }
-
-    // If the status is 0 or 1, what is written tells of the machine's files what the command promises.
-    ensures told { (a : Answered)
         × RunTells (texts words.now) (H.history shelf.old) (H.history shelf.new) a
         × Delivers (W.is_failed out.new) (W.contents out.old) (W.contents out.new) a result.0 }
 {
     let mut end = End::new();
-    match words_answer(alloc, words, shelf, &mut end, watcher) {
-        Ok(answer) => (deliver(out, &answer.text, answer.status), end),
-        Err(AllocError) => (deliver(out, MEMORY, 5), end),
-    }
+    let said = words_answer(alloc, words, shelf, &mut end, watcher);
+    (deliver_said(out, said), end)
 }
 
 /// Runs one command and answers the exit status. The words are those after the program's name. The answer
@@ -159,18 +167,16 @@ pub fn run_with_end<H: Shelf, W: Sink, V: Watcher>(
 /// the steps of `solve` or `piece` or the budget of `check`, `list` or `share` ran out, the certificate of `list` doesn't show which
 /// other groupings are best, or pieces are left to `share`, 4 where the input was refused, no grouping has the number that `list`
 /// should store or no piece that of `piece`, 5 where a file could not be had or stored or memory was refused (the line is then
-/// `memory`), and 5 where the writing failed: how much went out is then not said. Only `solve`, `list` and `share` store files: `solve`
-/// the certificate, and then the grouping, `list` a grouping, `share` a certificate. What was stored before a fault stays stored.
+/// `memory`), and 5 where the writing failed: how much went out is then not said. `solve` stores the certificate, the grouping and the
+/// table, `judge` and `check` the table, `list` a grouping, `share` a certificate, each if the words name its file. If the words name a
+/// file for the record of the run and the status is 0, 1 or 3, the record is stored last. What was stored before a fault stays stored.
 pub fn run<H: Shelf, W: Sink>(alloc: Global, words: &[&str], shelf: &mut H, out: &mut W) -> u8
 
-    // The answer is that of the steps of the words' command, its files are stored, and its text is written.
+    // The answer is that of the steps of the words' command, its files are stored, and its text is written. If the status is 0 or 1, this
+    // answer tells of the machine's files what the command promises.
     ensures run { (a : Answered) × (stored : List File)
         × HasStored (H.contents shelf.old) (H.contents shelf.new) (H.stored shelf.old) (H.stored shelf.new) stored
         × IsRunAnswer (H.contents shelf.old) (texts words.now) (H.history shelf.old) (H.history shelf.new) stored a
-        × Delivers (W.is_failed out.new) (W.contents out.old) (W.contents out.new) a result }
-
-    // If the status is 0 or 1, what is written tells of the machine's files what the command promises.
-    ensures told { (a : Answered)
         × RunTells (texts words.now) (H.history shelf.old) (H.history shelf.new) a
         × Delivers (W.is_failed out.new) (W.contents out.old) (W.contents out.new) a result }
 {

@@ -40,6 +40,10 @@ pub enum FileOption {
     CertificateOut,
     /// The grouping that is stored.
     Out,
+    /// The table that is stored.
+    Table,
+    /// The record of the run.
+    Record,
 }
 
 /// The option as it is written among the words.
@@ -56,6 +60,8 @@ impl fmt::Display for FileOption {
             FileOption::Assignments => "--assignments",
             FileOption::Events => "--events",
             FileOption::Out => "--out",
+            FileOption::Table => "--table",
+            FileOption::Record => "--record",
         })
     }
 }
@@ -65,6 +71,8 @@ impl fmt::Display for FileOption {
 pub enum FileFault {
     /// A fault of the geographic header or of segment 1.
     Census(Pl94Fault),
+    /// The NAME of a county on this line of the geographic header isn't UTF-8.
+    BadName(u32),
     /// A fault of a file whose lines have county codes.
     Codes(CodeLineFault),
     /// A fault of a block assignment file.
@@ -78,6 +86,7 @@ impl FileFault {
     pub fn line(&self) -> u64 {
         match self {
             FileFault::Census(fault) => u64::from(fault.line),
+            FileFault::BadName(line) => u64::from(*line),
             FileFault::Codes(fault) => u64::from(fault.line),
             FileFault::Assignments(fault) => u64::from(fault.line),
             FileFault::Events(fault) => fault.line,
@@ -90,6 +99,7 @@ impl fmt::Display for FileFault {
     fn fmt<W: fmt::Write>(&self, f: &mut fmt::Formatter<W>) -> fmt::Result {
         match self {
             FileFault::Census(fault) => write!(f, "{}", fault.kind),
+            FileFault::BadName(_) => f.write_str("the name of the county isn't UTF-8"),
             FileFault::Codes(fault) => write!(f, "{}", fault.kind),
             FileFault::Assignments(fault) => write!(f, "{}", fault.kind),
             FileFault::Events(fault) => write!(f, "{}", fault.kind),
@@ -163,7 +173,11 @@ pub struct End {
     pub has_stored_certificate: bool,
     /// Whether the file of `--out` was stored.
     pub has_stored_out: bool,
-    /// The report of a search, or the text of a list or of a board, whose files could not all be stored.
+    /// Whether the file of `--table` was stored.
+    pub has_stored_table: bool,
+    /// Whether the file of `--record` was stored.
+    pub has_stored_record: bool,
+    /// The report of a command, or the text of a list or of a board, whose files could not all be stored.
     pub report: Option<Vec<u8>>,
 }
 
@@ -190,6 +204,8 @@ impl End {
             has_pairs: None,
             has_stored_certificate: false,
             has_stored_out: false,
+            has_stored_table: false,
+            has_stored_record: false,
             report: None,
         }
     }
@@ -256,11 +272,13 @@ impl End {
         match option {
             FileOption::CertificateOut => self.has_stored_certificate = true,
             FileOption::Out => self.has_stored_out = true,
+            FileOption::Table => self.has_stored_table = true,
+            FileOption::Record => self.has_stored_record = true,
             _ => {}
         }
     }
 
-    /// Notes the report of a search, or the text of a list or of a board, whose files could not all be stored.
+    /// Notes the report of a command, or the text of a list or of a board, whose files could not all be stored.
     pub(crate) fn note_report(&mut self, report: Vec<u8>) {
         self.report = Some(report);
     }

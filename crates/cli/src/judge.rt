@@ -1,16 +1,21 @@
 //! The subcommand `judge`.
 
-ghost use Rattle.std.specs.Prelude.{◌≡◌, ◌≤◌, option_map};
+ghost use Rattle.std.specs.Prelude.{◌≡◌, ◌≤◌, List, option_map};
+ghost use Rattle.shelves.specs.Files.{File};
 ghost use Rattle.shelves.specs.History.{History};
-ghost use Rattle.program_answers.specs.Answers.{answer_of, Comes};
+ghost use Rattle.program_answers.specs.Answers.{Comes, said_by};
 ghost use Rattle.command_runs.specs.JudgeWithCertificate.{certificate_of};
 ghost use Rattle.command_runs.specs.JudgeCourse.{judge_step, judge_course};
+ghost use Rattle.command_runs.specs.Storing.{HasStored};
+ghost use Rattle.command_runs.specs.Run.{CommandRun};
+ghost use Rattle.command_runs.specs.Texts.{reported_of, tabled_of};
 
 use crate::end::{End, Ending, FileOption};
 use crate::files::{load, load_grouping};
-use crate::problem::load_problem;
-use command_runs::{Judged, Unshown, judge_and_say};
-use command_words::JudgeWords;
+use crate::problem::load_tabled_problem;
+use crate::storing::store_reported;
+use command_runs::{Judged, Reported, Tabled, Unshown, judge_and_say};
+use command_words::{CommandWords, JudgeWords};
 use county_codes::Grouping;
 use grouping_judge::judge as judge_grouping;
 use grouping_problem::Problem;
@@ -49,32 +54,50 @@ fn lawful_end(unshown: Option<Unshown>, certificate: Option<Vec<u8>>, problem: P
 /// What is said of a lawful grouping, with the text of a certificate or without one, or the fault of a grouping that isn't lawful.
 fn verdict(
     alloc: Global,
-    problem: Problem,
+    tabled: Tabled,
     grouping: Grouping,
     certificate: Option<Vec<u8>>,
     budget: u64,
     end: &mut End,
-) -> Result<Answer, Refusal>
-    ensures { (history : History) → Comes answer_of result (judge_step problem grouping.groups.items budget (option_map (λ t. t.items) certificate) history history) }
+) -> Result<Reported, Refusal>
+    ensures { (history : History) → Comes reported_of result (judge_step (tabled_of tabled) grouping.groups.items budget (option_map (λ t. t.items) certificate) history history) }
 {
-    match judge_grouping(alloc, &problem, &grouping) {
+    match judge_grouping(alloc, &tabled.problem, &grouping) {
         Ok(own) => {
             let text = certificate.as_ref();
-            let Judged { answer, unshown } = judge_and_say(
-                alloc, &problem, grouping, own, text, budget,
+            let Judged { reported, unshown } = judge_and_say(
+                alloc, &tabled, grouping, own, text, budget,
             )?;
-            end.note(lawful_end(unshown, certificate, problem));
-            Ok(answer)
+            end.note(lawful_end(unshown, certificate, tabled.problem));
+            Ok(reported)
         }
         Err(fault) => {
-            end.note_unlawful(&fault, problem, grouping);
+            end.note_unlawful(&fault, tabled.problem, grouping);
             Err(refuse_verdict(alloc, fault))
         }
     }
 }
 
+/// What is said of the grouping of a file, before anything is stored.
+fn judge_files<H: Shelf>(
+    alloc: Global,
+    words: JudgeWords<'_>,
+    shelf: &mut H,
+    end: &mut End,
+) -> Result<Reported, Refusal>
+    requires { words.problem.common.state ≤ 99 }
+    ensures course { Comes reported_of result (judge_course (H.contents shelf.old) words.entry (H.history shelf.old) (H.history shelf.new)) }
+    ensures same { H.contents shelf.new ≡ H.contents shelf.old }
+    ensures kept { H.stored shelf.new ≡ H.stored shelf.old }
+{
+    let tabled = load_tabled_problem(alloc, words.problem, words.table, shelf, end)?;
+    let grouping = load_grouping(alloc, words.grouping, shelf, end)?;
+    let certificate = load_certificate(alloc, words.certificate, shelf, end)?;
+    verdict(alloc, tabled, grouping, certificate, words.budget, end)
+}
+
 /// Whether a grouping is lawful, and by a certificate whether it is best. The problem is built before the grouping is loaded and read,
-/// and then the certificate is loaded; the first fault met is the answer.
+/// and then the certificate is loaded. If the grouping is lawful, its table is then stored; the first fault met is the answer.
 pub(crate) fn judge<H: Shelf>(
     alloc: Global,
     words: JudgeWords<'_>,
@@ -82,12 +105,10 @@ pub(crate) fn judge<H: Shelf>(
     end: &mut End,
 ) -> Result<Answer, Refusal>
     requires { words.problem.common.state ≤ 99 }
-    ensures course { Comes answer_of result (judge_course (H.contents shelf.old) words.entry (H.history shelf.old) (H.history shelf.new)) }
-    ensures same { H.contents shelf.new ≡ H.contents shelf.old }
-    ensures kept { H.stored shelf.new ≡ H.stored shelf.old }
+    ensures { (stored : List File)
+        × HasStored (H.contents shelf.old) (H.contents shelf.new) (H.stored shelf.old) (H.stored shelf.new) stored
+        × CommandRun (H.contents shelf.old) (CommandWords.Judge words.entry) (H.history shelf.old) (H.history shelf.new) stored (said_by result) }
 {
-    let problem = load_problem(alloc, words.problem, shelf, end)?;
-    let grouping = load_grouping(alloc, words.grouping, shelf, end)?;
-    let certificate = load_certificate(alloc, words.certificate, shelf, end)?;
-    verdict(alloc, problem, grouping, certificate, words.budget, end)
+    let reported = judge_files(alloc, words, shelf, end)?;
+    store_reported(alloc, words.table, reported, shelf, end)
 }

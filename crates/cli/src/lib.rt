@@ -15,10 +15,12 @@ mod plan_files;
 mod problem;
 mod program;
 mod readers;
+mod recording;
 mod share;
 mod size;
 mod solve;
 mod storing;
+mod table_files;
 
 pub use branch_bound::{NoWatcher, Watcher};
 pub use case::{MAX_CASE, run_case, run_case_with_end};

@@ -3,10 +3,14 @@
 ghost use Rattle.std.specs.Prelude.{◌≡◌, ◌≤◌};
 ghost use Rattle.shelves.specs.History.{History};
 ghost use Rattle.program_answers.specs.Answers.{Comes};
-ghost use Rattle.command_runs.specs.ProblemCourse.{build_step, problem_in};
+ghost use Rattle.command_runs.specs.ProblemCourse.{build_step, problem_over, problem_in};
+ghost use Rattle.command_runs.specs.TableCourse.{named_problem_in, tabled_problem_in};
+ghost use Rattle.command_runs.specs.Texts.{tabled_of};
 
 use crate::end::End;
 use crate::files::{load_adjacency, load_counties, load_withdrawn};
+use crate::table_files::{load_named_counties, without_names};
+use command_runs::Tabled;
 use command_words::ProblemWords;
 use county_codes::{County, CountyCode, Window, Withdrawn};
 use grouping_problem::Problem;
@@ -35,6 +39,31 @@ pub(crate) fn build(
     }
 }
 
+/// The problem of these counties: the other files are loaded and read in turn, before it is built.
+fn load_problem_over<H: Shelf>(
+    alloc: Global,
+    words: ProblemWords<'_>,
+    counties: &[County],
+    shelf: &mut H,
+    end: &mut End,
+) -> Result<Problem, Refusal>
+    ensures course { Comes (λ p. p) result (problem_over (H.contents shelf.old) words.entry counties.now (H.history shelf.old) (H.history shelf.new)) }
+    ensures same { H.contents shelf.new ≡ H.contents shelf.old }
+    ensures kept { H.stored shelf.new ≡ H.stored shelf.old }
+{
+    let pairs = load_adjacency(alloc, counties, words, shelf, end)?;
+    let withdrawn = load_withdrawn(alloc, words.withdrawn, shelf, end)?;
+    build(
+        alloc,
+        counties,
+        &pairs,
+        &withdrawn,
+        words.common.chamber,
+        words.common.window,
+        end,
+    )
+}
+
 /// The problem of the files: they are loaded and read in turn, before it is built.
 pub(crate) fn load_problem<H: Shelf>(
     alloc: Global,
@@ -48,15 +77,52 @@ pub(crate) fn load_problem<H: Shelf>(
     ensures kept { H.stored shelf.new ≡ H.stored shelf.old }
 {
     let counties = load_counties(alloc, words.common, shelf, end)?;
-    let pairs = load_adjacency(alloc, &counties, words, shelf, end)?;
-    let withdrawn = load_withdrawn(alloc, words.withdrawn, shelf, end)?;
-    build(
-        alloc,
-        &counties,
-        &pairs,
-        &withdrawn,
-        words.common.chamber,
-        words.common.window,
-        end,
-    )
+    load_problem_over(alloc, words, &counties, shelf, end)
+}
+
+/// The problem of the files with the names of its counties: the census files are loaded and read first, and then the other files.
+fn load_named_problem<H: Shelf>(
+    alloc: Global,
+    words: ProblemWords<'_>,
+    shelf: &mut H,
+    end: &mut End,
+) -> Result<Tabled, Refusal>
+    requires { words.common.state ≤ 99 }
+    ensures course { Comes tabled_of result (named_problem_in (H.contents shelf.old) words.entry (H.history shelf.old) (H.history shelf.new)) }
+    ensures same { H.contents shelf.new ≡ H.contents shelf.old }
+    ensures kept { H.stored shelf.new ≡ H.stored shelf.old }
+{
+    let named = load_named_counties(alloc, words.common, shelf, end)?;
+    let counties = without_names(alloc, &named)?;
+    end.note_counties(&counties);
+    let problem = load_problem_over(alloc, words, &counties, shelf, end)?;
+    Ok(Tabled {
+        problem,
+        named: Some(named),
+    })
+}
+
+/// The problem of the files, with the names of its counties if a table is asked for: its file is then named.
+pub(crate) fn load_tabled_problem<H: Shelf>(
+    alloc: Global,
+    words: ProblemWords<'_>,
+    table: Option<&str>,
+    shelf: &mut H,
+    end: &mut End,
+) -> Result<Tabled, Refusal>
+    requires { words.common.state ≤ 99 }
+    ensures course { Comes tabled_of result (tabled_problem_in (H.contents shelf.old) words.entry table.entry (H.history shelf.old) (H.history shelf.new)) }
+    ensures same { H.contents shelf.new ≡ H.contents shelf.old }
+    ensures kept { H.stored shelf.new ≡ H.stored shelf.old }
+{
+    match table {
+        Some(_) => load_named_problem(alloc, words, shelf, end),
+        None => {
+            let problem = load_problem(alloc, words, shelf, end)?;
+            Ok(Tabled {
+                problem,
+                named: None,
+            })
+        }
+    }
 }

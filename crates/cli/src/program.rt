@@ -1,3 +1,5 @@
+//! What the program does: a command by its words, or a case by its input.
+
 ghost use Rattle.std.specs.Prelude.{◌≡◌, ◌≢◌, ◌⊎◌, ℕ, false, List, [], Option, Result};
 ghost use Rattle.shelves.specs.Files.{File};
 ghost use Rattle.shelves.specs.declared.whole.WholeFault.{WholeFault};
@@ -29,14 +31,11 @@ pub fn run_program<H: Shelf, R: Source, W: Sink, V: Watcher>(
 ) -> (u8, End)
     requires { R.is_failed input.old ≡ false }
 
-    // With words, their command was run over the shelf's files.
+    // With words, their command was run over the shelf's files. If the status is 0 or 1, the answer tells of the machine's files what the
+    // command promises.
     ensures words { words.now ≢ [] → (a : Answered) × (stored : List File)
         × HasStored (H.contents shelf.old) (H.contents shelf.new) (H.stored shelf.old) (H.stored shelf.new) stored
         × IsRunAnswer (H.contents shelf.old) (texts words.now) (H.history shelf.old) (H.history shelf.new) stored a
-        × Delivers (W.is_failed out.new) (W.contents out.old) (W.contents out.new) a result.0 }
-
-    // With words, an answer with status 0 or 1 tells of the machine's files what their command promises.
-    ensures told { words.now ≢ [] → (a : Answered)
         × RunTells (texts words.now) (H.history shelf.old) (H.history shelf.new) a
         × Delivers (W.is_failed out.new) (W.contents out.old) (W.contents out.new) a result.0 }
 

@@ -10,7 +10,7 @@ ghost use Rattle.command_runs.specs.Texts.{solved_of};
 ghost use Rattle.cli.specs.Ends.{refusal_by};
 
 use crate::end::{End, Ending, FileOption};
-use crate::problem::load_problem;
+use crate::problem::load_tabled_problem;
 use crate::storing::store_named;
 use branch_bound::Watcher;
 use command_runs::{Solved, solve_and_say};
@@ -32,8 +32,8 @@ fn solve_files<H: Shelf, V: Watcher>(
     ensures same { H.contents shelf.new ≡ H.contents shelf.old }
     ensures kept { H.stored shelf.new ≡ H.stored shelf.old }
 {
-    let problem = load_problem(alloc, words.problem, shelf, end)?;
-    let solved = solve_and_say(alloc, &problem, words.steps, watcher)?;
+    let tabled = load_tabled_problem(alloc, words.problem, words.table, shelf, end)?;
+    let solved = solve_and_say(alloc, &tabled, words.steps, watcher)?;
     Ok(solved)
 }
 
@@ -46,7 +46,7 @@ fn searched(solved: &Solved) -> Ending {
     }
 }
 
-/// Stores the certificate and then the grouping, each where there is one and its file is named.
+/// Stores the certificate, then the grouping and then the table, each where there is one and its file is named.
 fn store_solved<H: Shelf>(
     alloc: Global,
     words: SolveWords<'_>,
@@ -73,11 +73,19 @@ fn store_solved<H: Shelf>(
         solved.grouping.as_ref(),
         shelf,
         end,
+    )?;
+    store_named(
+        alloc,
+        FileOption::Table,
+        words.table,
+        solved.table.as_ref(),
+        shelf,
+        end,
     )
 }
 
 /// The best grouping of the problem with its certificate. The problem is built first; then the desk answers; then the
-/// files are stored, the certificate first; the first fault met is the answer.
+/// files are stored, the certificate first, then the grouping, then the table; the first fault met is the answer.
 pub(crate) fn solve<H: Shelf, V: Watcher>(
     alloc: Global,
     words: SolveWords<'_>,

@@ -1,12 +1,16 @@
 //! Files that a command stores.
 
 ghost use Rattle.std.specs.Prelude.{◌≡◌, List, [], ◌∷◌, Option, option_map};
+ghost use Rattle.program_answers.specs.Answer.{Answered};
+ghost use Rattle.program_answers.specs.Answers.{answer_of, said_by};
 ghost use Rattle.shelves.specs.Files.{File};
-ghost use Rattle.command_runs.specs.Storing.{HasStored, named_file, store_steps};
+ghost use Rattle.command_runs.specs.Storing.{HasStored, named_file, said_after, store_steps};
+ghost use Rattle.command_runs.specs.Texts.{reported_of};
 ghost use Rattle.cli.specs.Ends.{refusal_by};
 
 use crate::end::{End, FileOption};
-use program_answers::{Refusal, refuse_load};
+use command_runs::Reported;
+use program_answers::{Answer, Refusal, refuse_load};
 use shelves::Shelf;
 use std::alloc::Global;
 
@@ -51,5 +55,34 @@ pub(crate) fn store_named<H: Shelf>(
     match (name, text) {
         (Some(name), Some(text)) => store(alloc, option, name, text, shelf, end),
         _ => Ok(()),
+    }
+}
+
+/// Stores the table that is reported, where there is one and its file is named. Then the answer is said, unless the table was refused.
+pub(crate) fn store_reported<H: Shelf>(
+    alloc: Global,
+    name: Option<&str>,
+    reported: Reported,
+    shelf: &mut H,
+    end: &mut End,
+) -> Result<Answer, Refusal>
+    ensures { (stored : List File) × (refusal : Option Answered)
+        × HasStored (H.contents shelf.old) (H.contents shelf.new) (H.stored shelf.old) (H.stored shelf.new) stored
+        × store_steps (named_file name.entry (reported_of reported).table) (H.history shelf.old) (H.history shelf.new) stored refusal
+        × (said_by result ≡ said_after refusal (answer_of reported.answer)) }
+{
+    match store_named(
+        alloc,
+        FileOption::Table,
+        name,
+        reported.table.as_ref(),
+        shelf,
+        end,
+    ) {
+        Ok(()) => Ok(reported.answer),
+        Err(refusal) => {
+            end.note_report(reported.answer.text);
+            Err(refusal)
+        }
     }
 }

@@ -1,6 +1,7 @@
 -- A check of a certificate answers what the certificate shows, unless it is cut off.
-use Rattle.std.proofs.Common.{◌≡◌, ◌⊎◌, ℕ, List, Some, inl, inr, refl, sym, ap, subst}
-use Rattle.std.specs.Prelude.{Result, codes}
+use Rattle.std.proofs.Common.{◌≡◌, ◌⊎◌, ℕ, List, Option, Some, None, inl, inr, refl, sym, ap, subst, ◌∙◌}
+use Rattle.std.specs.Prelude.{Result, Ok, Err, codes}
+use Rattle.std.specs.Borrow.{Bor}
 use Rattle.grouping_problem.specs.ProblemValue.{ProblemValue, problem_of}
 use Rattle.grouping_laws.specs.Grouping.{Grouping}
 use Rattle.grouping_report.specs.Outcomes.{outcome_text}
@@ -10,19 +11,25 @@ use Rattle.certificate_checker.specs.Answered.{IsAnswer}
 use Rattle.certificate_checker.specs.declared.verdict.Verdict.{Verdict}
 use Rattle.certificate_checker.specs.declared.verdict.Verdict.TheVariants.{Best, Impossible, No, Budget}
 use Rattle.desk_texts.specs.Says.{SaysBest, SaysImpossible}
+use Rattle.pl94_counties.specs.declared.named.NamedFault.TheVariants.{BadName}
 use Rattle.command_words.specs.declared.words.CheckWords.{CheckWords}
-use Rattle.shelves.specs.Files.{Files}
+use Rattle.shelves.specs.Files.{File, Files}
 use Rattle.shelves.specs.History.{History}
 use Rattle.program_answers.specs.Answer.{Answered, success}
-use Rattle.command_runs.specs.Course.{EndsIn}
-use Rattle.command_runs.specs.ProblemCourse.{problem_in}
+use Rattle.program_answers.specs.Refusals.{named_answer}
+use Rattle.command_runs.specs.Course.{◌>>=◌, value_step}
+use Rattle.command_runs.specs.TableCourse.{Tabled, Reported, tabled_problem_in}
 use Rattle.command_runs.specs.JudgeWithCertificate.{best_answer}
-use Rattle.command_runs.specs.CheckCourse.{IsChecked, check_course, verdict_said}
-use Rattle.command_runs.specs.Headline.{IsCutOff}
-use Rattle.command_runs.proofs.Repeating.{IsSame}
+use Rattle.command_runs.specs.CheckCourse.{IsChecked, check_course, CheckEnds, verdict_said}
+use Rattle.command_runs.specs.Storing.{named_file, store_steps, said_after}
+use Rattle.command_runs.specs.Headline.{IsCutOff, IsUnnamed}
 use Rattle.command_runs.specs.Reading.{text_of}
+use Rattle.command_runs.proofs.Ending.{same_status}
+use Rattle.command_runs.proofs.StoreLemmas.{refusal_status}
+use Rattle.command_runs.proofs.FilesRead.{ReadsProblem}
+use Rattle.command_runs.proofs.Repeating.{EndsBy, bind_ends, bind_gives, value_ends, text_gives}
+use Rattle.command_runs.proofs.SameProblem.{tabled_again}
 use Rattle.command_runs.proofs.Texts.{text_told, text_cuts}
-use Rattle.command_runs.proofs.TextAgain.{given_again, cut_again}
 
 -- the answer of a run and that of a check are one, unless the check is cut off
 abbrev pub IsAgreed : Answered → Answered → Type 0
@@ -45,21 +52,59 @@ said_impossible v Impossible says = inl refl
 said_impossible v (No fault line) says = absurd says
 said_impossible v Budget says = inr (inl refl)
 
--- what is said of a text whose every verdict says so
-module _ (v : ProblemValue) (text : List ℕ) (budget : ℕ) (b : Answered) (h : IsChecked v budget text b) where
-  pub checked_best : (g : Grouping) → ((verdict : Verdict) → IsAnswer (problem_of v) text budget verdict → SaysBest g verdict) → IsAgreed (best_answer v g) b
-  checked_best g says = subst (λ (x : Answered). IsAgreed (best_answer v g) x) (sym h.said) (said_best v g h.verdict (says h.verdict h.is))
+-- what is said of a text whose every verdict says so, by a check of the same problem
+module _ (v : ProblemValue) (text : List ℕ) (budget : ℕ) (t : Tabled) (same : t.problem ≡ v) (r : Reported) (h : IsChecked t budget text r) where
+  verdict_is : IsAnswer (problem_of v) text budget h.verdict
+  verdict_is = subst (λ (w : ProblemValue). IsAnswer (problem_of w) text budget h.verdict) same h.is
 
-  pub checked_impossible : ((verdict : Verdict) → IsAnswer (problem_of v) text budget verdict → SaysImpossible verdict) → IsAgreed (impossible_answer v) b
-  checked_impossible says = subst (λ (x : Answered). IsAgreed (impossible_answer v) x) (sym h.said) (said_impossible v h.verdict (says h.verdict h.is))
+  answer_is : r.answer ≡ verdict_said v h.verdict
+  answer_is = ap (λ (x : Reported). x.answer) h.said ∙ ap (λ (w : ProblemValue). verdict_said w h.verdict) same
 
--- a check of this text, where the problem is had again
+  pub checked_best : (g : Grouping) → ((verdict : Verdict) → IsAnswer (problem_of v) text budget verdict → SaysBest g verdict) → IsAgreed (best_answer v g) r.answer
+  checked_best g says = subst (λ (x : Answered). IsAgreed (best_answer v g) x) (sym answer_is) (said_best v g h.verdict (says h.verdict verdict_is))
+
+  pub checked_impossible : ((verdict : Verdict) → IsAnswer (problem_of v) text budget verdict → SaysImpossible verdict) → IsAgreed (impossible_answer v) r.answer
+  checked_impossible says = subst (λ (x : Answered). IsAgreed (impossible_answer v) x) (sym answer_is) (said_impossible v h.verdict (says h.verdict verdict_is))
+
+-- a check of this text over files that tell the problem
 module _ (others : Files) (check : CheckWords) (v : ProblemValue) (text : List ℕ) (a : Answered)
-    (again : (start end : History) (r : Result ProblemValue Answered) → problem_in (Some others) check.problem start end r → IsSame v r)
-    (certificate : others check.certificate.now ≡ Some text)
-    (checked : (b : Answered) → IsChecked v check.budget text b → IsAgreed a b) where
-  pub check_agrees : (before after : History) (b : Answered) → EndsIn (check_course (Some others) check) before after b → IsAgreed a b
-  check_agrees before after b (inl given) =
-      checked b (given_again others check.problem check.certificate.now (λ w bytes. IsChecked w check.budget bytes) v text again (text_of (Some others) check.certificate.now) (text_told others check.certificate.now) (text_cuts (Some others) check.certificate.now) certificate before after b given)
-  check_agrees before after b (inr stop) =
-      inr (inr (cut_again others check.problem check.certificate.now (λ w bytes. IsChecked w check.budget bytes) v text again (text_of (Some others) check.certificate.now) (text_told others check.certificate.now) (text_cuts (Some others) check.certificate.now) certificate before after b stop))
+    (reads : ReadsProblem others check.check.problem v)
+    (certificate : others check.check.certificate.now ≡ Some text)
+    (checked : (t : Tabled) (r : Reported) → t.problem ≡ v → IsChecked t check.check.budget text r → IsAgreed a r.answer) where
+  -- it ends early at a fault of the shelf, for want of memory, or at a name
+  abbrev IsStopped : Answered → Type 0
+  IsStopped b = (b.status ≡ 5) ⊎ IsUnnamed check.table b
+
+  at_name : (name : Bor (List ℕ)) → check.table ≡ Some name → (line : ℕ) → IsStopped (named_answer (BadName line))
+  at_name name asked line = inr (subst (λ (table : Option (Bor (List ℕ))). IsUnnamed table (named_answer (BadName line))) (sym asked) (line, refl))
+
+  course_ends : EndsBy (λ (r : Reported). IsAgreed a r.answer) IsStopped (check_course (Some others) check)
+  course_ends =
+      bind_ends IsStopped (λ (t : Tabled). t.problem ≡ v) (λ (r : Reported). IsAgreed a r.answer) (tabled_problem_in (Some others) check.check.problem check.table)
+      (λ t. text_of (Some others) check.check.certificate.now >>= λ bytes. value_step (IsChecked t check.check.budget bytes))
+      (tabled_again IsStopped (λ b five. inl five) others check.check.problem v reads check.table at_name) (λ t same.
+      bind_gives IsStopped text (λ (r : Reported). IsAgreed a r.answer) (text_of (Some others) check.check.certificate.now) (λ bytes. value_step (IsChecked t check.check.budget bytes))
+      (text_gives IsStopped (λ b five. inl five) others check.check.certificate.now text (text_of (Some others) check.check.certificate.now)
+      (text_cuts (Some others) check.check.certificate.now) (text_told others check.check.certificate.now) certificate)
+      (value_ends IsStopped (λ (r : Reported). IsAgreed a r.answer) (IsChecked t check.check.budget text) (λ r h. checked t r same h)))
+
+  -- the answers of a check that is asked for a table
+  abbrev IsAgreedOrStopped : Answered → Type 0
+  IsAgreedOrStopped b = (b ≡ a) ⊎ (IsCutOff b ⊎ IsUnnamed check.table b)
+
+  stopped : (b : Answered) → IsStopped b → IsAgreedOrStopped b
+  stopped b (inl five) = inr (inl (inr five))
+  stopped b (inr unnamed) = inr (inr unnamed)
+
+  agreed : (b : Answered) → IsAgreed a b → IsAgreedOrStopped b
+  agreed b (inl same) = inl same
+  agreed b (inr cut) = inr (inl cut)
+
+  said : (list : List File) (before after : History) (stored : List File) (refusal : Option Answered) (b c : Answered) → IsAgreed a c → store_steps list before after stored refusal
+      → b ≡ said_after refusal c → IsAgreedOrStopped b
+  said list before after stored None b c is stores same = agreed b (subst (λ (x : Answered). IsAgreed a x) (sym same) is)
+  said list before after stored (Some refusal) b c is stores same = inr (inl (inr (same_status b refusal same ∙ refusal_status list before after stored refusal stores)))
+
+  pub check_agrees : (before after : History) (stored : List File) (b : Answered) → CheckEnds (Some others) check before after stored b → IsAgreedOrStopped b
+  check_agrees before after stored b (inl stop) = stopped b (course_ends before after (Err b) stop.0)
+  check_agrees before after stored b (inr h) = said (named_file check.table h.0.table) h.1 after stored h.2 b h.0.answer (course_ends before h.1 (Ok h.0) h.3) h.4 h.5

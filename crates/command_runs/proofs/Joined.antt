@@ -17,7 +17,7 @@ use Rattle.shelves.specs.History.{History}
 use Rattle.program_answers.specs.Answer.{Answered, memory_answer}
 use Rattle.program_answers.specs.Refusals.{board_answer}
 use Rattle.command_runs.specs.Course.{◌>>=◌, load_step}
-use Rattle.command_runs.specs.ProblemCourse.{problem_in, grouping_of}
+use Rattle.command_runs.specs.ProblemCourse.{grouping_of}
 use Rattle.command_runs.specs.BoardCourse.{language_of, depth_of, AreEvents, events_in, events_of, AnswersOnBoard}
 use Rattle.command_runs.specs.ShareCourse.{left_status, share_answer, share_step, share_course, joined_file}
 use Rattle.command_runs.specs.Storing.{named_file, store_steps, said_after}
@@ -27,14 +27,13 @@ use Rattle.command_runs.specs.ShareHeadline.{best_said, ShowsJoined, RunsShare}
 use Rattle.command_runs.proofs.Refusing.{Refuses, bind_refuses, load_refuses, call_refuses, problem_refuses, grouping_refuses, events_status, board_status}
 use Rattle.command_runs.proofs.Ending.{same_status, not_refused, has_ended}
 use Rattle.command_runs.proofs.StoreLemmas.{all_stored}
-use Rattle.command_runs.proofs.SameProblem.{problem_repeats}
+use Rattle.command_runs.proofs.FilesRead.{ReadsProblem, problem_reads, problem_of_files, reads_again}
 use Rattle.command_runs.proofs.Checking.{checked_best, check_agrees}
 
 -- what a board came to that took the events of a run
-pub record HasShared (files : Files) (words : ShareWords) (before : History) (s : Shared) : Type 0 where
+pub record HasShared (files : Files) (words : ShareWords) (s : Shared) : Type 0 where
   pub v : ProblemValue
-  pub between : History
-  pub problem : problem_in (Some files) words.board.problem before between (Ok v)
+  pub reads : ReadsProblem files words.board.problem v
   pub round : Round
   pub events : List Event
   pub shared : IsShared (problem_of v) (depth_of words.board.round) words.budget round events s
@@ -49,22 +48,22 @@ share_refuses files words =
     (λ events. call_refuses board_answer (AnswersOnBoard v g words.board.round words.budget (λ round. IsShared (problem_of v) (depth_of words.board.round) words.budget round events)) board_status)))
 
 -- the steps of `share` that come to a value
-shared_of : (files : Files) (words : ShareWords) (before after : History) (s : Shared) → share_course (Some files) words before after (Ok s) → HasShared files words before s
+shared_of : (files : Files) (words : ShareWords) (before after : History) (s : Shared) → share_course (Some files) words before after (Ok s) → HasShared files words s
 shared_of files words before after s (inl stop) = absurd stop
 shared_of files words before after s (inr g) = behind_problem g.goes_on
   where
-    behind_events : (target : Grouping) (events : List Event) (start end : History) → share_step g.value target words events start end (Ok s) → HasShared files words before s
-    behind_events target events start end h = record { v = g.value; between = g.between; problem = g.given; round = h.1.0; events = events; shared = h.1.2 }
+    behind_events : (target : Grouping) (events : List Event) (start end : History) → share_step g.value target words events start end (Ok s) → HasShared files words s
+    behind_events target events start end h = record { v = g.value; reads = problem_reads files words.board.problem before g.between g.value g.given; round = h.1.0; events = events; shared = h.1.2 }
 
     behind_grouping : (target : Grouping) (start end : History)
         → (events_of (Some files) (language_of words.board.round) (length g.value.counties) words.events.now >>= share_step g.value target words) start end (Ok s)
-        → HasShared files words before s
+        → HasShared files words s
     behind_grouping target start end (inl stop) = absurd stop
     behind_grouping target start end (inr k) = behind_events target k.value k.between end k.goes_on
 
     behind_problem : (grouping_of (Some files) words.board.grouping.now >>= λ target.
         events_of (Some files) (language_of words.board.round) (length g.value.counties) words.events.now >>= share_step g.value target words) g.between after (Ok s)
-        → HasShared files words before s
+        → HasShared files words s
     behind_problem (inl stop) = absurd stop
     behind_problem (inr k) = behind_grouping k.value k.between after k.goes_on
 
@@ -87,18 +86,17 @@ named_none : (name : Option (Bor (List ℕ))) → named_file name None ≡ []
 named_none None = refl
 named_none (Some name) = refl
 
-module _ (files : Files) (words : ShareWords) (before : History) (s : Shared) (h : HasShared files words before s) (text : List ℕ)
+module _ (files : Files) (words : ShareWords) (s : Shared) (h : HasShared files words s) (text : List ℕ)
     (j : IsJoined (problem_of h.v) h.shared.last text) where
   -- every check of the text says that the target is best
   joined_checks : ChecksAs files words.board.problem text (best_said h.v j.target)
-  joined_checks others check start end none b same certificate (inl memory) = inr (inr (same_status b memory_answer memory.0))
+  joined_checks others check start end none b same certificate (inl memory) = inr (inl (inr (same_status b memory_answer memory.0)))
   joined_checks others check start end none b same certificate (inr run) =
-      check_agrees others check h.v text (best_said h.v j.target)
-      (λ first last r steps. problem_repeats files others words.board.problem check.problem same h.v before h.between first last r h.problem steps)
+      check_agrees others check h.v text (best_said h.v j.target) (reads_again files others words.board.problem check.check.problem h.v same h.reads)
       certificate
-      (λ c checked. checked_best h.v text check.budget c checked j.target
-      (λ verdict. texts.agrees.best (problem_of h.v) text (record { round = h.shared.last.round; tree = j.tree }) j.target check.budget verdict j.spells j.certifies j.target_is))
-      start end b run.0
+      (λ t r alike checked. checked_best h.v text check.check.budget t alike r checked j.target
+      (λ verdict. texts.agrees.best (problem_of h.v) text (record { round = h.shared.last.round; tree = j.tree }) j.target check.check.budget verdict j.spells j.certifies j.target_is))
+      start end none b run
 
 -- one file that is refused
 refused_none : (name : Option (Bor (List ℕ))) (text : Option (List ℕ)) (before after : History) (stored : List File) (refusal : Answered)
@@ -112,7 +110,7 @@ refused_none (Some name) (Some text) before after stored refusal (inr h) = absur
     some_none e = cc
 
 module _ (files : Files) (words : ShareWords) (before after : History) (stored : List File) (a : Answered) where
-  shows_joined : CommandRun (Some files) (Share words) before after stored a → a.status ≡ 0 → ShowsJoined files words before stored
+  shows_joined : CommandRun (Some files) (Share words) before after stored a → a.status ≡ 0 → ShowsJoined files words stored
   shows_joined (inl none) well = absurd (not_refused a (omega (arith, well)) (inr (inl (same_status a memory_answer none.0))))
   shows_joined (inr run) well =
       let end = has_ended (share_course (Some files) words) (joined_file words) share_answer before after stored a (share_refuses files words) (omega (arith, well)) run in
@@ -121,19 +119,18 @@ module _ (files : Files) (words : ShareWords) (before after : History) (stored :
       let found = joined_text (problem_of h.v) h.shared.last h.shared.ended.found (option_map (λ t. t.items) end.s.certificate) h.shared.ended.certificate (sym h.shared.ended.left ∙ none) in
       record {
         v = h.v;
-        between = h.between;
-        problem = h.problem;
+        problem = problem_of_files files words.board.problem h.v h.reads;
         target = found.2.target;
         best = found.2.best;
         proof = λ name named. (
           found.0,
           end.all ∙ ap₂ (λ (n : Option (Bor (List ℕ))) (t : Option (List ℕ)). named_file n t) named found.1,
-          joined_checks files words before end.s h found.0 found.2,
+          joined_checks files words end.s h found.0 found.2,
         );
       }
 
   -- a file that was refused, or nothing to store
-  stored_none : (s : Shared) (h : HasShared files words before s) (between : History) (refusal : Option Answered)
+  stored_none : (s : Shared) (h : HasShared files words s) (between : History) (refusal : Option Answered)
       → store_steps (joined_file words s) between after stored refusal → a ≡ said_after refusal (share_answer s) → a.status ≢ 0 → stored ≡ []
   stored_none s h between None stores said other =
       let some : s.left ≢ 0 = λ none. other (same_status a (share_answer s) said ∙ ap left_status none) in

@@ -2,6 +2,8 @@ pub mod RunLemmas
 pub mod StoreLemmas
 pub mod OneList
 pub mod Texts
+pub mod NamedLists
+pub mod FilesRead
 pub mod Refusing
 pub mod Repeating
 pub mod SameProblem
@@ -12,7 +14,6 @@ pub mod OfTheirLoads
 pub mod FilesProblemLemmas
 pub mod Telling
 mod Ending
-mod TextAgain
 mod Listings
 mod Lists
 mod Boards

@@ -187,7 +187,7 @@ module _ (given : Option Files) (files : Files) where
   lifts_whole_pair : (first second : List ℕ) (given : Given × Given) → Lifts (whole_pair first second given) (whole_pair first second given)
   lifts_whole_pair first second given = lifts_bind (lifts_whole second given.1) (λ y. lifts_bind (lifts_whole first given.0) (λ x. lifts_value (λ pair. pair ≡ (x, y))))
 
-  lifts_load_pair : (first second : List ℕ) → Lifts (load_pair given first second) (load_pair (Some files) first second)
+  pub lifts_load_pair : (first second : List ℕ) → Lifts (load_pair given first second) (load_pair (Some files) first second)
   lifts_load_pair first second = lifts_bind (lifts_load first) (λ x. lifts_bind (lifts_load second) (λ y. lifts_value (λ pair. pair ≡ (x, y))))
 
   pub lifts_texts : (first second : List ℕ) → Lifts (texts_of given first second) (texts_of (Some files) first second)

@@ -1,6 +1,6 @@
 -- What runs of `list` show, and runs of `list` by a certificate that `solve` stored.
-use Rattle.std.proofs.Common.{◌≡◌, ◌≢◌, ℕ, List, map, Option, Some, None, inl, inr, refl, sym, ap, subst, ◌∙◌, arith}
-use Rattle.std.specs.Prelude.{Ok, option_map}
+use Rattle.std.proofs.Common.{◌≡◌, ◌≢◌, ℕ, List, ◌++◌, map, Option, Some, None, inl, inr, refl, sym, ap, subst, ◌∙◌, arith}
+use Rattle.std.specs.Prelude.{Ok, Err, option_map}
 use Rattle.std.specs.Borrow.{Bor}
 use Rattle.grouping_problem.specs.ProblemValue.{ProblemValue, problem_of}
 use Rattle.grouping_laws.specs.Grouping.{Grouping}
@@ -28,6 +28,8 @@ use Rattle.shelves.specs.History.{History}
 use Rattle.program_answers.specs.Answer.{Answered, success, memory_answer}
 use Rattle.command_runs.specs.Course.{◌>>=◌, load_step, value_step}
 use Rattle.command_runs.specs.ProblemCourse.{problem_in}
+use Rattle.command_runs.specs.FilesProblem.{IsProblemOfFiles}
+use Rattle.command_runs.specs.Headline.{HasSameProblem}
 use Rattle.command_runs.specs.SolveCourse.{Says}
 use Rattle.command_runs.specs.ListCourse.{Listed, IsListed, list_course, listed_file, listed_all, listed_with, listing_said, numbered}
 use Rattle.command_runs.specs.Storing.{named_file, store_steps, said_after}
@@ -36,9 +38,10 @@ use Rattle.command_runs.specs.ListHeadline.{IsStoredGrouping, ShowsAllBest, IsLi
 use Rattle.command_runs.proofs.Refusing.{Refuses, bind_refuses, load_refuses, problem_refuses, value_refuses}
 use Rattle.command_runs.proofs.StoreLemmas.{refusal_status}
 use Rattle.command_runs.proofs.Ending.{same_status, not_refused, has_ended}
-use Rattle.command_runs.proofs.SameProblem.{problem_repeats}
-use Rattle.command_runs.proofs.Texts.{load_cuts}
-use Rattle.command_runs.proofs.TextAgain.{given_again, cut_again}
+use Rattle.command_runs.proofs.FilesProblemLemmas.{problem_told}
+use Rattle.command_runs.proofs.FilesRead.{reads_again}
+use Rattle.command_runs.proofs.Repeating.{EndsBy, bind_gives, value_ends, load_gives}
+use Rattle.command_runs.proofs.SameProblem.{problem_again}
 use Rattle.command_runs.proofs.Listings.{never_open}
 use Rattle.command_runs.proofs.Agrees.{HasSaid, has_said, stored_first, other_status}
 
@@ -70,12 +73,12 @@ module _ (files : Files) (words : ListWords) (before after : History) (stored : 
   list_refuses = bind_refuses _ _ (problem_refuses (Some files) words.check.problem) (λ v.
       bind_refuses _ _ (load_refuses (Some files) words.check.certificate.now) (λ text. value_refuses (IsListed v words.check.budget (number_of words.stored) text)))
 
-  module _ (v : ProblemValue) (between : History) (problem : problem_in (Some files) words.check.problem before between (Ok v)) (s : Listed)
+  module _ (v : ProblemValue) (problem : IsProblemOfFiles files words.check.problem v) (s : Listed)
       (all : stored ≡ listed_file words s) (said : a ≡ s.answer) (zero : a.status ≡ 0) where
-    shows : (listing : Listing) → ListsAllBest (problem_of v) listing → s ≡ listing_said v (number_of words.stored) listing → ShowsAllBest files words before stored a
+    shows : (listing : Listing) → ListsAllBest (problem_of v) listing → s ≡ listing_said v (number_of words.stored) listing → ShowsAllBest files words stored a
     shows (All list) best is =
         let seen = shown v (map groups_in list.items) stored a s said zero words.stored is all in
-        record { v = v; between = between; problem = problem; groupings = map groups_in list.items; all = best.0; in_order = best.1; listing = seen.0; file = seen.1 }
+        record { v = v; problem = problem; groupings = map groups_in list.items; all = best.0; in_order = best.1; listing = seen.0; file = seen.1 }
     shows (Open gap line) best is = absurd (apart a s _ said is zero (λ e. omega (arith, e)))
     shows Impossible best is = absurd (apart a s _ said is zero (λ e. omega (arith, e)))
     shows (No fault line) best is = absurd (apart a s _ said is zero (λ e. omega (arith, e)))
@@ -83,16 +86,16 @@ module _ (files : Files) (words : ListWords) (before after : History) (stored : 
 
   shows_behind : (v : ProblemValue) (between last : History) → problem_in (Some files) words.check.problem before between (Ok v) → (s : Listed)
       → (load_step (Some files) words.check.certificate.now >>= λ text. value_step (IsListed v words.check.budget (number_of words.stored) text)) between last (Ok s)
-      → stored ≡ listed_file words s → a ≡ s.answer → a.status ≡ 0 → ShowsAllBest files words before stored a
+      → stored ≡ listed_file words s → a ≡ s.answer → a.status ≡ 0 → ShowsAllBest files words stored a
   shows_behind v between last problem s (inl stop) all said zero = absurd stop
-  shows_behind v between last problem s (inr k) all said zero = shows v between problem s all said zero k.goes_on.1.listing k.goes_on.1.all k.goes_on.1.said
+  shows_behind v between last problem s (inr k) all said zero = shows v (problem_told files words.check.problem before between v problem) s all said zero k.goes_on.1.listing k.goes_on.1.all k.goes_on.1.said
 
   shows_of : (s : Listed) (last : History) → list_course (Some files) words before last (Ok s) → stored ≡ listed_file words s → a ≡ s.answer → a.status ≡ 0
-      → ShowsAllBest files words before stored a
+      → ShowsAllBest files words stored a
   shows_of s last (inl stop) all said zero = absurd stop
   shows_of s last (inr g) all said zero = shows_behind g.value g.between last g.given s g.goes_on all said zero
 
-  shows_all : CommandRun (Some files) (ListAll words) before after stored a → a.status ≡ 0 → ShowsAllBest files words before stored a
+  shows_all : CommandRun (Some files) (ListAll words) before after stored a → a.status ≡ 0 → ShowsAllBest files words stored a
   shows_all (inl none) zero = absurd (not_refused a (omega (arith, zero)) (inr (inl (same_status a memory_answer none.0))))
   shows_all (inr run) zero =
       let end = has_ended (list_course (Some files) words) (listed_file words) (λ s. s.answer) before after stored a list_refuses (omega (arith, zero)) run in
@@ -119,44 +122,58 @@ module _ (v : ProblemValue) (text : List ℕ) (c : Certificate) (g : Grouping) (
   pub listed_says : (number : Option ℕ) (s : Listed) → IsListed v budget number text s → IsListedOrCut s.answer
   listed_says number s h = subst (λ (x : Listed). IsListedOrCut x.answer) (sym h.said) (says number h.listing h.is)
 
+-- what is said of a text by the words of a list
+abbrev listed_by : ListWords → ProblemValue → List ℕ → Listed → Type 0
+listed_by list v text = IsListed v list.check.budget (number_of list.stored) text
+
+-- a file could not be had, or memory was refused
+abbrev IsCut : Answered → Type 0
+IsCut b = b.status ≡ 5
+
 -- a list by this text, where the problem is had again
-module _ (files : Files) (words : SolveWords) (before : History) (stored : List File) (a : Answered) (h : HasSaid files words before stored a) (text : List ℕ)
-    (listed : (budget : ℕ) (number : Option ℕ) (s : Listed) → IsListed h.v budget number text s → IsListedOrCut s.answer) where
+module _ (files : Files) (words : SolveWords) (stored : List File) (a : Answered) (h : HasSaid files words stored a) (text : List ℕ)
+    (listed : (budget : ℕ) (number : Option ℕ) (s : Listed) → IsListed h.t.problem budget number text s → IsListedOrCut s.answer) where
   module _ (others : Files) (list : ListWords) (start end : History) (none : List File) (b : Answered) where
     after_stores : (s : Listed) (between : History) (refusal : Option Answered) → IsListedOrCut s.answer → store_steps (listed_file list s) between end none refusal
         → b ≡ said_after refusal s.answer → IsListedOrCut b
     after_stores s between None says stores said = subst IsListedOrCut (sym said) says
     after_stores s between (Some refusal) says stores said = inr (inr (inr (same_status b refusal said ∙ refusal_status (listed_file list s) between end none refusal stores)))
 
+  -- the steps of a list by this text, where the problem is had again
+  course_ends : (others : Files) (list : ListWords) → HasSameProblem files others words.problem list.check.problem → others list.check.certificate.now ≡ Some text
+      → EndsBy (listed_by list h.t.problem text) IsCut (list_course (Some others) list)
+  course_ends others list same certificate =
+      bind_gives IsCut h.t.problem (listed_by list h.t.problem text) (problem_in (Some others) list.check.problem)
+      (λ v. load_step (Some others) list.check.certificate.now >>= λ bytes. value_step (listed_by list v bytes))
+      (problem_again IsCut (λ b five. five) others list.check.problem h.t.problem (reads_again files others words.problem list.check.problem h.t.problem same h.reads.reads))
+      (bind_gives IsCut text (listed_by list h.t.problem text) (load_step (Some others) list.check.certificate.now) (λ bytes. value_step (listed_by list h.t.problem bytes))
+      (load_gives IsCut (λ b five. five) others list.check.certificate.now text certificate)
+      (value_ends IsCut (listed_by list h.t.problem text) (listed_by list h.t.problem text) (λ s is. is)))
+
   lists_all : ListsAll files words text
   lists_all others list start end none b same certificate (inl memory) = inr (inr (inr (same_status b memory_answer memory.0)))
-  lists_all others list start end none b same certificate (inr (inl stop)) =
-      inr (inr (inr (cut_again others list.check.problem list.check.certificate.now (λ w bytes. IsListed w list.check.budget (number_of list.stored) bytes) h.v text
-      (λ first last r steps. problem_repeats files others words.problem list.check.problem same h.v before h.between first last r h.problem steps)
-      (load_step (Some others) list.check.certificate.now) (λ before after bytes loaded. loaded.0) (load_cuts (Some others) list.check.certificate.now) certificate start end b stop.0)))
+  lists_all others list start end none b same certificate (inr (inl stop)) = inr (inr (inr (course_ends others list same certificate start end (Err b) stop.0)))
   lists_all others list start end none b same certificate (inr (inr k)) =
-      let given = given_again others list.check.problem list.check.certificate.now (λ w bytes. IsListed w list.check.budget (number_of list.stored) bytes) h.v text
-      (λ first last r steps. problem_repeats files others words.problem list.check.problem same h.v before h.between first last r h.problem steps)
-      (load_step (Some others) list.check.certificate.now) (λ before after bytes loaded. loaded.0) (load_cuts (Some others) list.check.certificate.now) certificate start k.1 k.0 k.3 in
+      let given = course_ends others list same certificate start k.1 (Ok k.0) k.3 in
       after_stores others list start end none b k.0 k.1 k.2 (listed list.check.budget (number_of list.stored) k.0 given) k.4 k.5
 
   stored_list : h.s.certificate ≡ Some text → IsStoredList files words stored
-  stored_list spelled name named = (text, named_file words.out h.s.grouping, h.all ∙ stored_first words h.s name text named spelled, lists_all)
+  stored_list spelled name named = (text, named_file words.out h.s.grouping ++ named_file words.table h.s.table, h.all ∙ stored_first words h.s name text named spelled, lists_all)
 
-module _ (files : Files) (words : SolveWords) (before : History) (stored : List File) (a : Answered) (h : HasSaid files words before stored a) where
-  solved_lists : (answer : desk.Answer) → IsAnswer (problem_of h.v) words.steps answer → HasCompleteTree (problem_of h.v) answer → Says h.v answer h.s → a.status ≡ 0
+module _ (files : Files) (words : SolveWords) (stored : List File) (a : Answered) (h : HasSaid files words stored a) where
+  solved_lists : (answer : desk.Answer) → IsAnswer (problem_of h.t.problem) words.steps answer → HasCompleteTree (problem_of h.t.problem) answer → Says h.t answer h.s → a.status ≡ 0
       → IsStoredList files words stored
   solved_lists (found.Best g c) is complete said zero =
-      stored_list files words before stored a h said.0
-      (λ budget. listed_says h.v said.0 (certificate_of c) g.groups.items said.1 is.1.proves is.1.target_is complete budget) (ap (λ x. x.certificate) said.2)
-  solved_lists (found.Impossible c) is complete said zero = absurd (other_status files words before stored a h _ 0 1 said.2 zero refl (omega arith))
-  solved_lists (found.Open None steps) is complete said zero = absurd (other_status files words before stored a h _ 0 3 said zero refl (omega arith))
-  solved_lists (found.Open (Some g) steps) is complete said zero = absurd (other_status files words before stored a h _ 0 3 said zero refl (omega arith))
+      stored_list files words stored a h said.0
+      (λ budget. listed_says h.t.problem said.0 (certificate_of c) g.groups.items said.1 is.1.proves is.1.target_is complete budget) (ap (λ x. x.certificate) said.2)
+  solved_lists (found.Impossible c) is complete said zero = absurd (other_status files words stored a h _ 0 1 said.2 zero refl (omega arith))
+  solved_lists (found.Open None steps) is complete said zero = absurd (other_status files words stored a h _ 0 3 said zero refl (omega arith))
+  solved_lists (found.Open (Some g) steps) is complete said zero = absurd (other_status files words stored a h _ 0 3 said zero refl (omega arith))
 
 pub runs : RunsList
 runs = record {
   all = λ files words before after stored a run zero. shows_all files words before after stored a run zero;
   solved = λ files words before after stored a run zero.
       let h = has_said files words before after stored a run (omega (arith, zero)) in
-      solved_lists files words before stored a h h.solved.found h.solved.is h.solved.complete h.solved.said zero;
+      solved_lists files words stored a h h.solved.found h.solved.is h.solved.complete h.solved.said zero;
 }

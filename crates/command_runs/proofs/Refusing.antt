@@ -6,6 +6,11 @@ use Rattle.shelves.specs.Files.{Files}
 use Rattle.shelves.specs.History.{History}
 use Rattle.pl94_counties.specs.declared.fault.Pl94Kind.{Pl94Kind}
 use Rattle.pl94_counties.specs.declared.fault.Pl94Kind.TheVariants as kinds
+use Rattle.pl94_counties.specs.declared.named.NamedFault.{NamedFault}
+use Rattle.pl94_counties.specs.declared.named.NamedFault.TheVariants as names
+use Rattle.pl94_counties.specs.Named.{named_list}
+use Rattle.county_codes.specs.declared.county.County.{County}
+use Rattle.county_table.specs.Table.{counties_of as without_names}
 use Rattle.seat_lines.specs.declared.fault.CodeLineKind.{CodeLineKind}
 use Rattle.seat_lines.specs.declared.fault.CodeLineKind.TheVariants as lines
 use Rattle.seat_lines.specs.declared.fault.CodeLineFault.{CodeLineFault}
@@ -30,14 +35,15 @@ use Rattle.assignment_file.specs.Assignments.{assignment_list}
 use Rattle.program_answers.specs.declared.refusal.InputFile.{InputFile}
 use Rattle.program_answers.specs.declared.refusal.InputFile.TheVariants.{Adjacency, Links, Withdrawn, Grouping}
 use Rattle.program_answers.specs.Answer.{Answered}
-use Rattle.program_answers.specs.Refusals.{shelf_answer, file_answer, pl94_answer, code_line_answer, code_file_answer, problem_answer, assignment_line_answer, assignment_answer, events_line_answer, events_answer, board_answer}
+use Rattle.program_answers.specs.Refusals.{shelf_answer, file_answer, pl94_answer, code_line_answer, code_file_answer, problem_answer, named_answer, assignment_line_answer, assignment_answer, events_line_answer, events_answer, board_answer}
 use Rattle.command_words.specs.declared.words.CommonWords.{CommonWords}
 use Rattle.command_words.specs.declared.words.ProblemWords.{ProblemWords}
 use Rattle.command_runs.specs.Course.{Course, ◌>>=◌, load_step, call_step, value_step, optional_step}
-use Rattle.command_runs.specs.Reading.{text_of, texts_of}
+use Rattle.command_runs.specs.Reading.{load_pair, text_of, texts_of}
 use Rattle.command_runs.specs.PlanCourse.{blocks_of, assignments_of}
-use Rattle.command_runs.proofs.Texts.{shelf_status, text_cuts, texts_cut}
-use Rattle.command_runs.specs.ProblemCourse.{counties_of, pairs_of, pairs_in, links_of, links_in, withdrawn_of, withdrawn_in, adjacency_of, IsBuilt, problem_in, grouping_in, grouping_of}
+use Rattle.command_runs.specs.TableCourse.{untabled, tabled_by, named_counties_of, tabled_problem_in}
+use Rattle.command_runs.proofs.Texts.{shelf_status, load_pair_cuts, text_cuts, texts_cut}
+use Rattle.command_runs.specs.ProblemCourse.{counties_of, pairs_of, pairs_in, links_of, links_in, withdrawn_of, withdrawn_in, adjacency_of, IsBuilt, problem_over, problem_in, grouping_in, grouping_of}
 
 -- the status of a refusal: 4 for a file, a problem or a board, 5 for a shelf or for memory, and 3 for a budget that is too small
 abbrev pub IsRefusal : Answered → Type 0
@@ -169,12 +175,29 @@ pub grouping_refuses : (files : Option Files) (name : List ℕ) → Refuses (gro
 grouping_refuses files name = bind_refuses (load_step files name) grouping_in (load_refuses files name) (λ text. code_file_refuses Grouping (λ grouping. grouping_list text ≡ grouping))
 
 -- a problem that isn't had
-pub problem_refuses : (files : Option Files) (words : ProblemWords) → Refuses (problem_in files words)
-problem_refuses files words =
-    bind_refuses _ _ (counties_refuse files words.common) (λ counties.
+over_refuses : (files : Option Files) (words : ProblemWords) (counties : List County) → Refuses (problem_over files words counties)
+over_refuses files words counties =
     bind_refuses _ _ (adjacency_refuses files (codes_of counties) words) (λ pairs.
     bind_refuses _ _ (withdrawn_refuses files words.withdrawn) (λ withdrawn.
-    call_refuses problem_answer (IsBuilt counties pairs withdrawn words.common.chamber words.common.window) problem_status)))
+    call_refuses problem_answer (IsBuilt counties pairs withdrawn words.common.chamber words.common.window) problem_status))
+
+pub problem_refuses : (files : Option Files) (words : ProblemWords) → Refuses (problem_in files words)
+problem_refuses files words = bind_refuses _ _ (counties_refuse files words.common) (over_refuses files words)
+
+named_status : (fault : NamedFault) → IsRefusal (named_answer fault)
+named_status (names.Files fault) = file_status _ fault.kind fault.line
+named_status (names.BadName line) = inl refl
+
+named_refuse : (files : Option Files) (words : CommonWords) → Refuses (named_counties_of files words)
+named_refuse files words =
+    bind_refuses (load_pair files words.geo.now words.segment.now) _ (λ before after a h. inr (inl (load_pair_cuts files words.geo.now words.segment.now before after a h))) (λ texts.
+    call_refuses named_answer (λ counties. named_list texts.0 texts.1 words.state ≡ counties) named_status)
+
+pub tabled_refuses : (files : Option Files) (words : ProblemWords) (table : Option (Bor (List ℕ))) → Refuses (tabled_problem_in files words table)
+tabled_refuses files words None = bind_refuses _ _ (problem_refuses files words) (λ v. value_refuses (λ t. t ≡ untabled v))
+tabled_refuses files words (Some table) =
+    bind_refuses _ _ (named_refuse files words.common) (λ named.
+    bind_refuses _ _ (over_refuses files words (without_names named)) (λ v. value_refuses (λ t. t ≡ tabled_by named v)))
 
 -- census blocks that aren't had
 pub blocks_refuse : (files : Option Files) (words : CommonWords) → Refuses (blocks_of files words)

@@ -1,78 +1,96 @@
--- Steps that give a value again, where the files hold the same bytes.
-use Rattle.std.proofs.Common.{◌≡◌, ℕ, List, Option, Some, None, inl, inr, sym, ap, subst, ◌∙◌}
+-- Steps over told files that end in a value of a kind, or else in an answer of a kind.
+use Rattle.std.proofs.Common.{◌≡◌, ℕ, List, [], Option, Some, None, inl, inr, sym, ap, subst, ◌∙◌}
 use Rattle.std.specs.Prelude.{Result, Ok, Err}
 use Rattle.std.specs.Borrow.{Bor}
 use Rattle.shelves.specs.Files.{Files}
 use Rattle.shelves.specs.History.{History}
 use Rattle.program_answers.specs.Answer.{Answered}
 use Rattle.command_runs.specs.Course.{Course, ◌>>=◌, load_step, call_step, value_step, optional_step}
-use Rattle.command_runs.specs.Headline.{HoldsSameIfNamed}
-use Rattle.command_runs.specs.Reading.{texts_of}
-use Rattle.command_runs.proofs.Texts.{shelf_status, texts_told, texts_cut}
+use Rattle.command_runs.specs.FilesProblem.{IsReadAsIfNamed}
+use Rattle.command_runs.specs.Reading.{load_pair, texts_of}
+use Rattle.command_runs.proofs.Texts.{CutsOff, load_cuts, load_pair_cuts, load_told, texts_told, texts_cut}
 
--- the value, or a refusal of the shelf or of memory
-abbrev pub IsSame : {X : Type 0} → X → Result X Answered → Type 0
-IsSame value (Ok other) = other ≡ value
-IsSame value (Err a) = a.status ≡ 5
+-- a value for which P holds, or an answer for which E holds
+abbrev pub IsEnd : {X : Type 0} → (X → Type 0) → (Answered → Type 0) → Result X Answered → Type 0
+IsEnd P E (Ok value) = P value
+IsEnd P E (Err a) = E a
 
--- where the first steps gave a value, the others give it too, unless they are refused
-abbrev pub Repeats : {X : Type 0} → Course X → Course X → Type 0
-Repeats {X} first other =
-    (value : X) (before after start end : History) (r : Result X Answered) → first before after (Ok value) → other start end r → IsSame value r
+-- the steps end so
+abbrev pub EndsBy : {X : Type 0} → (X → Type 0) → (Answered → Type 0) → Course X → Type 0
+EndsBy {X} P E steps = (start end : History) (r : Result X Answered) → steps start end r → IsEnd P E r
 
-pub bind_repeats : {X Y : Type 0} (first other : Course X) (next more : X → Course Y)
-    → Repeats first other → ((x : X) → Repeats (next x) (more x)) → Repeats (first >>= next) (other >>= more)
-bind_repeats first other next more f n value before after start end r (inl stop) h = absurd stop
-bind_repeats first other next more f n value before after start end (Ok w) (inr g) (inl stop) = absurd stop
-bind_repeats first other next more f n value before after start end (Err a) (inr g) (inl stop) = f g.value before g.between start end (Err a) g.given stop
-bind_repeats {X} first other next more f n value before after start end r (inr g) (inr h) =
-    let same : h.value ≡ g.value = f g.value before g.between start h.between (Ok h.value) g.given h.given in
-    n g.value value g.between after h.between end r g.goes_on (subst (λ (x : X). more x h.between end r) same h.goes_on)
+-- the steps give this value, or end in an answer for which E holds
+abbrev pub Gives : {X : Type 0} → X → (Answered → Type 0) → Course X → Type 0
+Gives value E steps = EndsBy (λ x. x ≡ value) E steps
 
-one_some : (one other : Option (List ℕ)) (bytes more : List ℕ) → one ≡ other → one ≡ Some bytes → other ≡ Some more → more ≡ bytes
-one_some one other bytes more same e f = cc
+module _ (E : Answered → Type 0) where
+  pub bind_ends : {X Y : Type 0} (P : X → Type 0) (Q : Y → Type 0) (first : Course X) (next : X → Course Y)
+      → EndsBy P E first → ((x : X) → P x → EndsBy Q E (next x)) → EndsBy Q E (first >>= next)
+  bind_ends P Q first next f n start end (Ok y) (inl stop) = absurd stop
+  bind_ends P Q first next f n start end (Err a) (inl stop) = f start end (Err a) stop
+  bind_ends P Q first next f n start end r (inr g) = n g.value (f start g.between (Ok g.value) g.given) g.between end r g.goes_on
 
-one_pair : (p q : List ℕ × List ℕ) → q.0 ≡ p.0 → q.1 ≡ p.1 → q ≡ p
-one_pair p q e f = λ i. (e i, f i)
+  pub bind_gives : {X Y : Type 0} (x : X) (Q : Y → Type 0) (first : Course X) (next : X → Course Y)
+      → Gives x E first → EndsBy Q E (next x) → EndsBy Q E (first >>= next)
+  bind_gives {X} x Q first next f n = bind_ends (λ (y : X). y ≡ x) Q first next f (λ y same. subst (λ (z : X). EndsBy Q E (next z)) (sym same) n)
 
-pub load_repeats : (files others : Files) (name other : List ℕ) → files name ≡ others other → Repeats (load_step (Some files) name) (load_step (Some others) other)
-load_repeats files others name other same value before after start end (Ok w) g h = one_some (files name) (others other) value w same g.0 h.0
-load_repeats files others name other same value before after start end (Err a) g h = ap (λ (x : Answered). x.status) h.3 ∙ shelf_status other h.0
+  pub call_ends : {X F : Type 0} (P : X → Type 0) (refuse : F → Answered) (R : Result X F → Type 0)
+      → ((x : X) → R (Ok x) → P x) → ((fault : F) → R (Err fault) → E (refuse fault)) → EndsBy P E (call_step refuse R)
+  call_ends P refuse R some fault start end (Ok x) h = some x h.1
+  call_ends P refuse R some fault start end (Err a) h = subst E (sym h.1.2) (fault h.1.0 h.1.1)
 
-pub texts_repeat : (files others : Files) (first second name other : List ℕ) → files first ≡ others name → files second ≡ others other
-    → Repeats (texts_of (Some files) first second) (texts_of (Some others) name other)
-texts_repeat files others first second name other same same_too value before after start end (Ok w) g h =
-    let held = texts_told files first second before after value g in
-    let again = texts_told others name other start end w h in
-    one_pair value w (one_some (files first) (others name) value.0 w.0 same held.0 again.0) (one_some (files second) (others other) value.1 w.1 same_too held.1 again.1)
-texts_repeat files others first second name other same same_too value before after start end (Err a) g h = texts_cut (Some others) name other start end a h
+  pub value_ends : {X : Type 0} (P Q : X → Type 0) → ((x : X) → Q x → P x) → EndsBy P E (value_step Q)
+  value_ends P Q some start end (Ok x) h = some x h.1
+  value_ends P Q some start end (Err a) h = absurd h
 
-pub call_repeats : {X F : Type 0} (refuse : F → Answered) (R S : Result X F → Type 0)
-    → ((x y : X) → R (Ok x) → S (Ok y) → y ≡ x) → ((x : X) (fault : F) → R (Ok x) → S (Err fault) → ⊥) → Repeats (call_step refuse R) (call_step refuse S)
-call_repeats refuse R S one none value before after start end (Ok w) g h = one value w g.1 h.1
-call_repeats refuse R S one none value before after start end (Err a) g h = absurd (none value h.1.0 g.1 h.1.1)
+  -- a step that is a function of what it is given
+  pub function_gives : {X F : Type 0} (refuse : F → Answered) (given : Result X F) (x : X) → given ≡ Ok x → Gives x E (call_step refuse (λ r. given ≡ r))
+  function_gives {X} {F} refuse given x is = call_ends (λ (y : X). y ≡ x) refuse (λ (r : Result X F). given ≡ r) (λ y e. one_ok y e) (λ fault e. absurd (ok_or_err fault e))
+    where
+      one_ok : (y : X) → given ≡ Ok y → y ≡ x
+      one_ok y e = cc
 
--- a step that is a function of what it is given
-pub one_ok : {X F : Type 0} (given again : Result X F) (x y : X) → given ≡ again → given ≡ Ok x → again ≡ Ok y → y ≡ x
-one_ok given again x y same e f = cc
+      ok_or_err : (fault : F) → given ≡ Err fault → ⊥
+      ok_or_err fault e = let no : Ok x ≡ Err fault = sym is ∙ e in cc
 
-pub ok_or_err : {X F : Type 0} (given again : Result X F) (x : X) (fault : F) → given ≡ again → given ≡ Ok x → again ≡ Err fault → ⊥
-ok_or_err given again x fault same e f = let no : Ok x ≡ Err fault = sym e ∙ same ∙ f in cc
+-- steps over told files, where each refusal with status 5 is an answer for which E holds
+module _ (E : Answered → Type 0) (five : (a : Answered) → a.status ≡ 5 → E a) (files : Files) where
+  cut_ends : {X : Type 0} (P : X → Type 0) (steps : Course X) → CutsOff steps → ((start end : History) (x : X) → steps start end (Ok x) → P x) → EndsBy P E steps
+  cut_ends P steps cuts told start end (Ok x) h = told start end x h
+  cut_ends P steps cuts told start end (Err a) h = five a (cuts start end a h)
 
-pub function_repeats : {X F : Type 0} (refuse : F → Answered) (given again : Result X F) → given ≡ again
-    → Repeats (call_step refuse (λ r. given ≡ r)) (call_step refuse (λ r. again ≡ r))
-function_repeats refuse given again same = call_repeats refuse (λ r. given ≡ r) (λ r. again ≡ r)
-    (λ x y e f. one_ok given again x y same e f)
-    (λ x fault e f. ok_or_err given again x fault same e f)
+  one_some : (one : Option (List ℕ)) (bytes more : List ℕ) → one ≡ Some bytes → one ≡ Some more → more ≡ bytes
+  one_some one bytes more e f = cc
 
-pub value_repeats : {X : Type 0} (P Q : X → Type 0) → ((x y : X) → P x → Q y → y ≡ x) → Repeats (value_step P) (value_step Q)
-value_repeats P Q one value before after start end (Ok w) g h = one value w g.1 h.1
-value_repeats P Q one value before after start end (Err a) g h = absurd h
+  one_pair : (p q : List ℕ × List ℕ) → q.0 ≡ p.0 → q.1 ≡ p.1 → q ≡ p
+  one_pair p q e f = λ i. (e i, f i)
 
-pub optional_repeats : {X : Type 0} (value : X) (steps more : List ℕ → Course X) (files others : Files) (name other : Option (Bor (List ℕ)))
-    → HoldsSameIfNamed files others name other → ((file again : List ℕ) → files file ≡ others again → Repeats (steps file) (more again))
-    → Repeats (optional_step value steps name) (optional_step value more other)
-optional_repeats value steps more files others None None same all = value_repeats (λ x. x ≡ value) (λ x. x ≡ value) (λ x y e f. f ∙ sym e)
-optional_repeats value steps more files others None (Some other) same all = absurd same
-optional_repeats value steps more files others (Some name) None same all = absurd same
-optional_repeats value steps more files others (Some name) (Some other) same all = all name.now other.now same
+  -- steps that have the text of a file
+  pub text_gives : (name text : List ℕ) (steps : Course (List ℕ)) → CutsOff steps → ((start end : History) (bytes : List ℕ) → steps start end (Ok bytes) → files name ≡ Some bytes)
+      → files name ≡ Some text → Gives text E steps
+  text_gives name text steps cuts told held = cut_ends (λ bytes. bytes ≡ text) steps cuts (λ start end bytes h. one_some (files name) text bytes held (told start end bytes h))
+
+  pub load_gives : (name text : List ℕ) → files name ≡ Some text → Gives text E (load_step (Some files) name)
+  load_gives name text held = text_gives name text (load_step (Some files) name) (load_cuts (Some files) name) (λ start end bytes h. h.0) held
+
+  -- those of two files
+  module _ (first second x y : List ℕ) (held : files first ≡ Some x) (held_too : files second ≡ Some y) where
+    pair_gives : (steps : Course (List ℕ × List ℕ)) → CutsOff steps
+        → ((start end : History) (pair : List ℕ × List ℕ) → steps start end (Ok pair) → (files first ≡ Some pair.0) × (files second ≡ Some pair.1)) → Gives (x, y) E steps
+    pair_gives steps cuts told = cut_ends (λ pair. pair ≡ (x, y)) steps cuts (λ start end pair h.
+        let both = told start end pair h in
+        one_pair (x, y) pair (one_some (files first) x pair.0 held both.0) (one_some (files second) y pair.1 held_too both.1))
+
+    pub texts_give : Gives (x, y) E (texts_of (Some files) first second)
+    texts_give = pair_gives (texts_of (Some files) first second) (texts_cut (Some files) first second) (texts_told files first second)
+
+    pub loads_give : Gives (x, y) E (load_pair (Some files) first second)
+    loads_give = pair_gives (load_pair (Some files) first second) (load_pair_cuts (Some files) first second) (load_told files first second)
+
+  -- steps that read a file that need not be named
+  pub optional_gives : {X F : Type 0} (read : List ℕ → Result (List X) F) (steps : List ℕ → Course (List X)) (name : Option (Bor (List ℕ))) (list : List X)
+      → IsReadAsIfNamed read files name list
+      → ((file text : List ℕ) → files file ≡ Some text → read text ≡ Ok list → Gives list E (steps file))
+      → Gives list E (optional_step [] steps name)
+  optional_gives {X} read steps None list is all = value_ends E (λ (x : List X). x ≡ list) (λ x. x ≡ []) (λ x e. e ∙ sym is)
+  optional_gives read steps (Some name) list is all = all name.now is.0 is.1 is.2

@@ -60,7 +60,7 @@ read_both_cuts files first second = bind_cuts _ _ (open_cuts files first) (λ op
 whole_pair_cuts : (first second : List ℕ) (given : Given × Given) → CutsOff (whole_pair first second given)
 whole_pair_cuts first second given = bind_cuts _ _ (whole_cuts second given.1) (λ y. bind_cuts _ _ (whole_cuts first given.0) (λ x. value_cuts {X = List ℕ × List ℕ} (λ pair. pair ≡ (x, y))))
 
-load_pair_cuts : (files : Option Files) (first second : List ℕ) → CutsOff (load_pair files first second)
+pub load_pair_cuts : (files : Option Files) (first second : List ℕ) → CutsOff (load_pair files first second)
 load_pair_cuts files first second = bind_cuts _ _ (load_cuts files first) (λ x. bind_cuts _ _ (load_cuts files second) (λ y. value_cuts {X = List ℕ × List ℕ} (λ pair. pair ≡ (x, y))))
 
 pub texts_cut : (files : Option Files) (first second : List ℕ) → CutsOff (texts_of files first second)
@@ -133,14 +133,14 @@ module _ (files : Files) where
     second_loaded x before after pair held (inl stop) = absurd stop
     second_loaded x before after pair held (inr on) = both_held x on.value pair held on.given.0 on.goes_on.1
 
-    load_held : (before after : History) (pair : List ℕ × List ℕ) → load_pair (Some files) first second before after (Ok pair) → AreHeld pair
-    load_held before after pair (inl stop) = absurd stop
-    load_held before after pair (inr on) = second_loaded on.value on.between after pair on.given.0 on.goes_on
+    pub load_told : (before after : History) (pair : List ℕ × List ℕ) → load_pair (Some files) first second before after (Ok pair) → AreHeld pair
+    load_told before after pair (inl stop) = absurd stop
+    load_told before after pair (inr on) = second_loaded on.value on.between after pair on.given.0 on.goes_on
 
     pair_held : (given : Given × Given) (before after : History) (pair : List ℕ × List ℕ) → AreOf given
         → either_step (whole_pair first second given) (load_pair (Some files) first second) before after (Ok pair) → AreHeld pair
     pair_held given before after pair of (inl k) = whole_held given before after pair of k
-    pair_held given before after pair of (inr k) = load_held before after pair k
+    pair_held given before after pair of (inr k) = load_told before after pair k
 
     pub texts_told : (before after : History) (pair : List ℕ × List ℕ) → texts_of (Some files) first second before after (Ok pair) → AreHeld pair
     texts_told before after pair (inl stop) = absurd stop

@@ -6,6 +6,8 @@ use Rattle.county_codes.specs.declared.withdrawn.Withdrawn as county
 use Rattle.grouping_laws.specs.Grouping as groups
 use Rattle.grouping_problem.specs.ProblemValue.{ProblemValue, codes_of}
 use Rattle.grouping_problem.specs.Building.{IsProblemOf}
+use Rattle.pl94_counties.specs.Named.{CountyName, named_list}
+use Rattle.county_table.specs.Table.{table_text}
 use Rattle.pl94_counties.specs.declared.blocks.Block.{Block}
 use Rattle.pl94_counties.specs.Listed.{AreCounties, AreBlocks}
 use Rattle.adjacency_reader.specs.declared.links.Link.{Link}
@@ -37,6 +39,14 @@ pub record AreCountiesOfFiles (files : Files) (words : CommonWords) (counties : 
   pub geo_is : files words.geo.now ≡ Some geo
   pub segment_is : files words.segment.now ≡ Some segment
   pub are : AreCounties geo segment words.state counties
+
+-- the counties of the state with their names by the bytes of the geographic header and of segment 1
+pub record AreNamedByFiles (files : Files) (words : CommonWords) (named : List CountyName) : Type 0 where
+  pub geo : List ℕ
+  pub segment : List ℕ
+  pub geo_is : files words.geo.now ≡ Some geo
+  pub segment_is : files words.segment.now ≡ Some segment
+  pub are : named_list geo segment words.state ≡ Ok named
 
 -- the census blocks of the state by the bytes of the geographic header and of segment 1
 pub record AreBlocksOfFiles (files : Files) (words : CommonWords) (blocks : List Block) : Type 0 where
@@ -74,3 +84,9 @@ IsGroupingOfFile files name grouping = IsReadAs grouping_list files name groupin
 -- the assignments of a file
 abbrev pub AreAssignmentsOfFile : Files → List ℕ → List Assignment → Type 0
 AreAssignmentsOfFile files name lines = IsReadAs assignment_list files name lines
+
+-- The text is the table of these groups: its counties and their names are those of the files' bytes.
+pub record IsTableOfFiles (files : Files) (words : ProblemWords) (v : ProblemValue) (grouping : groups.Grouping) (text : List ℕ) : Type 0 where
+  pub named : List CountyName
+  pub named_are : AreNamedByFiles files words.common named
+  pub table : text ≡ table_text named v.withdrawn grouping

@@ -1,7 +1,8 @@
 -- What runs of `solve` and of `check` promise together.
-use Rattle.std.specs.Prelude.{◌≡◌, ◌⊎◌, ℕ, List, ◌∷◌, Option, Some, None, Ok}
+use Rattle.std.specs.Prelude.{◌≡◌, ◌⊎◌, ℕ, List, ◌∷◌, Option, Some, None}
 use Rattle.std.specs.Borrow.{Bor}
 use Rattle.grouping_problem.specs.ProblemValue.{ProblemValue, problem_of}
+use Rattle.pl94_counties.specs.declared.named.NamedFault.TheVariants.{BadName}
 use Rattle.grouping_laws.specs.Grouping.{IsBest, IsImpossible}
 use Rattle.grouping_report.specs.Outcomes.{outcome_text}
 use Rattle.grouping_report.specs.declared.outcome.Outcome.TheVariants as outcome
@@ -13,7 +14,9 @@ use Rattle.command_words.specs.declared.words.CommandWords.TheVariants.{Solve, C
 use Rattle.shelves.specs.Files.{File, Files}
 use Rattle.shelves.specs.History.{History}
 use Rattle.program_answers.specs.Answer.{Answered, success, budget_answer}
-use Rattle.command_runs.specs.ProblemCourse.{problem_in}
+use Rattle.program_answers.specs.Refusals.{named_answer}
+use Rattle.command_runs.specs.FilesProblem.{IsProblemOfFiles, IsTableOfFiles}
+use Rattle.command_runs.specs.Storing.{IsStoredAs}
 use Rattle.command_runs.specs.Run.{CommandRun}
 
 -- two named files hold the same bytes
@@ -43,12 +46,18 @@ pub record HasSameProblem (files others : Files) (words other : ProblemWords) : 
 abbrev pub IsCutOff : Answered → Type 0
 IsCutOff a = (a ≡ budget_answer) ⊎ (a.status ≡ 5)
 
--- Every check of this text with the same problem gives this answer, unless it was cut off.
+-- A table is asked for, and the answer is that the NAME of a county isn't UTF-8.
+abbrev pub IsUnnamed : Option (Bor (List ℕ)) → Answered → Type 0
+IsUnnamed None a = ⊥
+IsUnnamed (Some table) a = (line : ℕ) × (a ≡ named_answer (BadName line))
+
+-- Every check of this text with the same problem gives this answer, unless it was cut off. If a check is asked for a table, it may also end
+-- at a NAME that isn't UTF-8.
 abbrev pub ChecksAs : Files → ProblemWords → List ℕ → Answered → Type 0
 ChecksAs files words text a =
     (others : Files) (check : CheckWords) (before after : History) (stored : List File) (b : Answered)
-    → HasSameProblem files others words check.problem → others check.certificate.now ≡ Some text
-    → CommandRun (Some others) (Check check) before after stored b → (b ≡ a) ⊎ IsCutOff b
+    → HasSameProblem files others words check.check.problem → others check.check.certificate.now ≡ Some text
+    → CommandRun (Some others) (Check check) before after stored b → (b ≡ a) ⊎ (IsCutOff b ⊎ IsUnnamed check.table b)
 
 -- where a certificate is named, it was stored first, and every check of it gives the same answer
 abbrev pub IsStoredProof : Files → SolveWords → List File → Answered → Type 0
@@ -57,21 +66,20 @@ IsStoredProof files words stored a =
     → (text : List ℕ) × (more : List File) × (stored ≡ record { name = name.now; bytes = text } ∷ more) × ChecksAs files words.problem text a
 
 -- What a run of `solve` that ends with status 0 shows: its report is that of a grouping which is best for the problem of the files, and
--- its certificate says so to whoever checks it.
-pub record ShowsBest (files : Files) (words : SolveWords) (before : History) (stored : List File) (a : Answered) : Type 0 where
+-- its certificate says so to whoever checks it. If a table is named, that of the grouping was stored.
+pub record ShowsBest (files : Files) (words : SolveWords) (stored : List File) (a : Answered) : Type 0 where
   pub v : ProblemValue
-  pub between : History
-  pub problem : problem_in (Some files) words.problem before between (Ok v)
+  pub problem : IsProblemOfFiles files words.problem v
   pub grouping : Grouping
   pub best : IsBest (problem_of v) grouping.groups.items
   pub report : a ≡ success (outcome_text v (outcome.Best grouping))
   pub proof : IsStoredProof files words stored a
+  pub table : IsStoredAs words.table (IsTableOfFiles files words.problem v grouping.groups.items) stored
 
 -- and one that ends with status 1: no grouping is lawful
-pub record ShowsImpossible (files : Files) (words : SolveWords) (before : History) (stored : List File) (a : Answered) : Type 0 where
+pub record ShowsImpossible (files : Files) (words : SolveWords) (stored : List File) (a : Answered) : Type 0 where
   pub v : ProblemValue
-  pub between : History
-  pub problem : problem_in (Some files) words.problem before between (Ok v)
+  pub problem : IsProblemOfFiles files words.problem v
   pub impossible : IsImpossible (problem_of v)
   pub report : a ≡ record { text = outcome_text v outcome.Impossible; status = 1 }
   pub proof : IsStoredProof files words stored a
@@ -79,6 +87,6 @@ pub record ShowsImpossible (files : Files) (words : SolveWords) (before : Histor
 -- What runs of `solve` and of `check` over told files promise together.
 pub record RunsAgree : Type 0 where
   pub best : (files : Files) (words : SolveWords) (before after : History) (stored : List File) (a : Answered)
-      → CommandRun (Some files) (Solve words) before after stored a → a.status ≡ 0 → ShowsBest files words before stored a
+      → CommandRun (Some files) (Solve words) before after stored a → a.status ≡ 0 → ShowsBest files words stored a
   pub impossible : (files : Files) (words : SolveWords) (before after : History) (stored : List File) (a : Answered)
-      → CommandRun (Some files) (Solve words) before after stored a → a.status ≡ 1 → ShowsImpossible files words before stored a
+      → CommandRun (Some files) (Solve words) before after stored a → a.status ≡ 1 → ShowsImpossible files words stored a

@@ -1,4 +1,4 @@
--- The steps of the commands that store no file: the size table, the judge of a grouping and the audit of a plan.
+-- The steps of the size table, of the judge of a grouping and of the audit of a plan.
 use Rattle.std.specs.Prelude.{◌≡◌, ℕ, List, [], ◌∷◌, Option, Result, Ok, Err}
 use Rattle.grouping_judge.specs.declared.grouping_fault.GroupingFault.{GroupingFault}
 use Rattle.grouping_problem.specs.ProblemValue.{ProblemValue, problem_of}
@@ -13,31 +13,46 @@ use Rattle.baf_auditor.specs.declared.finding.Finding.{Finding}
 use Rattle.command_words.specs.declared.words.CommonWords.{CommonWords}
 use Rattle.command_words.specs.declared.words.JudgeWords.{JudgeWords}
 use Rattle.command_words.specs.declared.words.AuditWords.{AuditWords}
-use Rattle.shelves.specs.Files.{Files}
+use Rattle.shelves.specs.Files.{File, Files}
+use Rattle.shelves.specs.History.{History}
 use Rattle.program_answers.specs.Answer.{Answered, success}
 use Rattle.program_answers.specs.Refusals.{verdict_answer}
 use Rattle.command_runs.specs.Course.{Course, ◌>>=◌, call_step, value_step}
 use Rattle.command_runs.specs.ProblemCourse.{counties_of, build_step, problem_in, grouping_of}
 use Rattle.command_runs.specs.JudgeWithCertificate.{IsSaidOf, certificate_of}
 use Rattle.command_runs.specs.PlanCourse.{blocks_of, assignments_of}
+use Rattle.command_runs.specs.Storing.{EndsStoring, named_file}
+use Rattle.command_runs.specs.TableCourse.{Tabled, Reported, tabled_problem_in, table_of}
 
 -- `size`: the size table of the counties, without pairs and withdrawn sets
 abbrev pub size_course : Option Files → CommonWords → Course Answered
 size_course files words = counties_of files words >>= λ counties. build_step words.chamber words.window counties [] [] >>= λ v. value_step (λ a. a ≡ success (size_text v))
 
--- what is said of a lawful grouping, with the text of a certificate or without one, or the fault of a grouping that isn't lawful
-abbrev pub IsJudged : ProblemValue → Grouping → ℕ → Option (List ℕ) → Result Answered GroupingFault → Type 0
-IsJudged v g budget text (Ok a) = Lawful (problem_of v) g × IsSaidOf v g budget text a
-IsJudged v g budget text (Err fault) = IsFault (problem_of v) g fault
+-- the table is that of the grouping
+abbrev pub HasTable : Tabled → Grouping → Reported → Type 0
+HasTable t g r = r.table ≡ table_of t g
+
+-- what is said of a lawful grouping, with the text of a certificate or without one, and the grouping's table
+abbrev pub IsReported : Tabled → Grouping → ℕ → Option (List ℕ) → Reported → Type 0
+IsReported t g budget text r = IsSaidOf t.problem g budget text r.answer × HasTable t g r
+
+-- what is reported of a lawful grouping, or the fault of a grouping that isn't lawful
+abbrev pub IsJudged : Tabled → Grouping → ℕ → Option (List ℕ) → Result Reported GroupingFault → Type 0
+IsJudged t g budget text (Ok r) = Lawful (problem_of t.problem) g × IsReported t g budget text r
+IsJudged t g budget text (Err fault) = IsFault (problem_of t.problem) g fault
 
 -- the step that judges a grouping
-abbrev pub judge_step : ProblemValue → Grouping → ℕ → Option (List ℕ) → Course Answered
-judge_step v g budget text = call_step verdict_answer (IsJudged v g budget text)
+abbrev pub judge_step : Tabled → Grouping → ℕ → Option (List ℕ) → Course Reported
+judge_step t g budget text = call_step verdict_answer (IsJudged t g budget text)
 
 -- `judge`: the problem is built before the grouping is loaded and read, and then the certificate is loaded, where one is named
-abbrev pub judge_course : Option Files → JudgeWords → Course Answered
+abbrev pub judge_course : Option Files → JudgeWords → Course Reported
 judge_course files words =
-    problem_in files words.problem >>= λ v. grouping_of files words.grouping.now >>= λ g. certificate_of files words.certificate >>= judge_step v g words.budget
+    tabled_problem_in files words.problem words.table >>= λ t. grouping_of files words.grouping.now >>= λ g. certificate_of files words.certificate >>= judge_step t g words.budget
+
+-- `judge` ends: at a fault that it met before anything was stored, or with its table stored and its answer, unless the table was refused
+abbrev pub JudgeEnds : Option Files → JudgeWords → History → History → List File → Answered → Type 0
+JudgeEnds files words = EndsStoring (judge_course files words) (λ r. named_file words.table r.table) (λ r. r.answer)
 
 -- the exit status of an audit: 0 where nothing is found, else 1
 abbrev pub findings_status : List Finding → ℕ

@@ -8,25 +8,26 @@ use Rattle.command_words.specs.declared.words.CommandWords.TheVariants.{Judge}
 use Rattle.shelves.specs.Files.{File, Files}
 use Rattle.shelves.specs.History.{History}
 use Rattle.program_answers.specs.Answer.{Answered}
-use Rattle.command_runs.specs.ProblemCourse.{problem_in}
+use Rattle.command_runs.specs.FilesProblem.{IsProblemOfFiles, IsTableOfFiles}
+use Rattle.command_runs.specs.Storing.{IsStoredAs}
 use Rattle.command_runs.specs.JudgeWithCertificate.{lawful_answer, best_answer}
 use Rattle.command_runs.specs.Run.{CommandRun}
 
 -- What a run of `judge` that ends with status 0 shows: the grouping of its file is lawful for the problem of the files. The report calls it
--- lawful, or it calls it best, and then no lawful grouping is better.
-pub record ShowsJudged (files : Files) (words : JudgeWords) (before : History) (a : Answered) : Type 0 where
+-- lawful, or it calls it best, and then no lawful grouping is better. If a table is named, that of the grouping was stored.
+pub record ShowsJudged (files : Files) (words : JudgeWords) (stored : List File) (a : Answered) : Type 0 where
   pub v : ProblemValue
-  pub between : History
-  pub problem : problem_in (Some files) words.problem before between (Ok v)
+  pub problem : IsProblemOfFiles files words.problem v
   pub text : List ℕ
   pub held : files words.grouping.now ≡ Some text
   pub grouping : Grouping
   pub read : grouping_list text ≡ Ok grouping
   pub lawful : Lawful (problem_of v) grouping
   pub said : (a ≡ lawful_answer v grouping) ⊎ ((a ≡ best_answer v grouping) × IsBest (problem_of v) grouping)
+  pub table : IsStoredAs words.table (IsTableOfFiles files words.problem v grouping) stored
 
 -- what runs of `judge` over told files promise
 abbrev pub RunsJudge : Type 0
 RunsJudge =
     (files : Files) (words : JudgeWords) (before after : History) (stored : List File) (a : Answered)
-    → CommandRun (Some files) (Judge words) before after stored a → a.status ≡ 0 → ShowsJudged files words before a
+    → CommandRun (Some files) (Judge words) before after stored a → a.status ≡ 0 → ShowsJudged files words stored a

@@ -1,6 +1,7 @@
 pub mod Course
 pub mod Reading
 pub mod ProblemCourse
+pub mod TableCourse
 pub mod PlanCourse
 pub mod JudgeWithCertificate
 pub mod JudgeCourse
@@ -11,6 +12,7 @@ pub mod BoardCourse
 pub mod ShareCourse
 pub mod PieceCourse
 pub mod Storing
+pub mod Recording
 pub mod Run
 pub mod Loads
 pub mod FilesProblem

@@ -1,5 +1,5 @@
 -- What runs of `list` promise.
-use Rattle.std.specs.Prelude.{◌≡◌, ◌⊎◌, ℕ, List, [], ◌∷◌, Option, Some, None, Ok}
+use Rattle.std.specs.Prelude.{◌≡◌, ◌⊎◌, ℕ, List, [], ◌∷◌, Option, Some, None}
 use Rattle.std.specs.Borrow.{Bor}
 use Rattle.grouping_problem.specs.ProblemValue.{ProblemValue, problem_of}
 use Rattle.grouping_laws.specs.Grouping.{Grouping}
@@ -14,7 +14,7 @@ use Rattle.command_words.specs.declared.words.CommandWords.TheVariants.{Solve, L
 use Rattle.shelves.specs.Files.{File, Files}
 use Rattle.shelves.specs.History.{History}
 use Rattle.program_answers.specs.Answer.{Answered, success}
-use Rattle.command_runs.specs.ProblemCourse.{problem_in}
+use Rattle.command_runs.specs.FilesProblem.{IsProblemOfFiles}
 use Rattle.command_runs.specs.ListCourse.{numbered, no_such_grouping}
 use Rattle.command_runs.specs.Run.{CommandRun}
 use Rattle.command_runs.specs.Headline.{HasSameProblem, IsCutOff}
@@ -26,10 +26,9 @@ IsStoredGrouping groupings (Some words) stored =
     (g : Grouping) × (numbered groupings words.number ≡ Some g) × (stored ≡ record { name = words.out.now; bytes = grouping_text g } ∷ [])
 
 -- What a run of `list` that ends with status 0 shows: its text is the listing of all best groupings of the problem of the files, in order.
-pub record ShowsAllBest (files : Files) (words : ListWords) (before : History) (stored : List File) (a : Answered) : Type 0 where
+pub record ShowsAllBest (files : Files) (words : ListWords) (stored : List File) (a : Answered) : Type 0 where
   pub v : ProblemValue
-  pub between : History
-  pub problem : problem_in (Some files) words.check.problem before between (Ok v)
+  pub problem : IsProblemOfFiles files words.check.problem v
   pub groupings : List Grouping
   pub all : AreAllBest (problem_of v) groupings
   pub in_order : AreInOrder groupings
@@ -56,6 +55,6 @@ IsStoredList files words stored =
 -- What runs of `list` over told files promise, and runs of `list` and of `solve` together.
 pub record RunsList : Type 0 where
   pub all : (files : Files) (words : ListWords) (before after : History) (stored : List File) (a : Answered)
-      → CommandRun (Some files) (ListAll words) before after stored a → a.status ≡ 0 → ShowsAllBest files words before stored a
+      → CommandRun (Some files) (ListAll words) before after stored a → a.status ≡ 0 → ShowsAllBest files words stored a
   pub solved : (files : Files) (words : SolveWords) (before after : History) (stored : List File) (a : Answered)
       → CommandRun (Some files) (Solve words) before after stored a → a.status ≡ 0 → IsStoredList files words stored

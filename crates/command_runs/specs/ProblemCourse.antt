@@ -73,11 +73,15 @@ IsBuilt counties pairs withdrawn chamber window (Err fault) = problem_fault coun
 abbrev pub build_step : ℕ → Window → List County → List (ℕ × ℕ) → List county.Withdrawn → Course ProblemValue
 build_step chamber window counties pairs withdrawn = call_step problem_answer (IsBuilt counties pairs withdrawn chamber window)
 
--- The problem: its files are had and read one after the other, the counties first, then adjacency, links and withdrawn sets, and
+-- The problem of these counties: its other files are had and read one after the other, adjacency first, then links and withdrawn sets, and
 -- then it is built.
+abbrev pub problem_over : Option Files → ProblemWords → List County → Course ProblemValue
+problem_over files words counties =
+    adjacency_of files (codes_of counties) words >>= λ pairs. withdrawn_of files words.withdrawn >>= build_step words.common.chamber words.common.window counties pairs
+
+-- The problem: the files of its counties are had and read first, and then the other files.
 abbrev pub problem_in : Option Files → ProblemWords → Course ProblemValue
-problem_in files words =
-    counties_of files words.common >>= λ counties. adjacency_of files (codes_of counties) words >>= λ pairs. withdrawn_of files words.withdrawn >>= build_step words.common.chamber words.common.window counties pairs
+problem_in files words = counties_of files words.common >>= λ counties. problem_over files words counties
 
 -- the grouping of a file
 abbrev pub grouping_of : Option Files → List ℕ → Course groups.Grouping

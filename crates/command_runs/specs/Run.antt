@@ -1,5 +1,5 @@
 -- What a run answers, and which files it stores.
-use Rattle.std.specs.Prelude.{◌≡◌, ◌⊎◌, ◌≤◌, ℕ, true, List, [], Option, string_bytes}
+use Rattle.std.specs.Prelude.{◌≡◌, ◌⊎◌, ◌≤◌, ◌++◌, ℕ, true, List, [], Option, Some, None, string_bytes}
 use Rattle.command_words.specs.Words.{Means, EndsFor, EndsTaken, faults_of, takes_words}
 use Rattle.command_words.specs.declared.words.CommandWords.{CommandWords}
 use Rattle.command_words.specs.declared.words.CommandWords.TheVariants.{Size, Judge, Solve, Check, Audit, List as ListAll, Share, Piece}
@@ -9,20 +9,22 @@ use Rattle.shelves.specs.Files.{File, Files}
 use Rattle.shelves.specs.History.{History}
 use Rattle.program_answers.specs.Answer.{Answered, memory_answer}
 use Rattle.command_runs.specs.Course.{EndsIn}
-use Rattle.command_runs.specs.JudgeCourse.{size_course, judge_course, audit_course}
+use Rattle.command_runs.specs.JudgeCourse.{size_course, JudgeEnds, audit_course}
 use Rattle.command_runs.specs.SolveCourse.{SolveEnds}
-use Rattle.command_runs.specs.CheckCourse.{check_course}
+use Rattle.command_runs.specs.CheckCourse.{CheckEnds}
 use Rattle.command_runs.specs.ListCourse.{ListEnds}
 use Rattle.command_runs.specs.ShareCourse.{ShareEnds}
 use Rattle.command_runs.specs.PieceCourse.{piece_course}
+use Rattle.record_report.specs.RecordFiles.{record_name_of}
+use Rattle.command_runs.specs.Recording.{RecordEnds}
 
--- A command ends with its answer, over a shelf of these histories before and after it, with these files stored: only `solve`, `list` and `share`
--- store any.
+-- A command ends with its answer, over a shelf of these histories before and after it, with these files stored: only `judge`, `solve`, `check`,
+-- `list` and `share` store any.
 abbrev pub CommandEnds : Option Files → CommandWords → History → History → List File → Answered → Type 0
 CommandEnds files (Size words) before after stored a = EndsIn (size_course files words) before after a × (stored ≡ [])
-CommandEnds files (Judge words) before after stored a = EndsIn (judge_course files words) before after a × (stored ≡ [])
+CommandEnds files (Judge words) before after stored a = JudgeEnds files words before after stored a
 CommandEnds files (Solve words) before after stored a = SolveEnds files words before after stored a
-CommandEnds files (Check words) before after stored a = EndsIn (check_course files words) before after a × (stored ≡ [])
+CommandEnds files (Check words) before after stored a = CheckEnds files words before after stored a
 CommandEnds files (Audit words) before after stored a = EndsIn (audit_course files words) before after a × (stored ≡ [])
 CommandEnds files (ListAll words) before after stored a = ListEnds files words before after stored a
 CommandEnds files (Share words) before after stored a = ShareEnds files words before after stored a
@@ -35,6 +37,21 @@ IsOutOfMemory stored a = (a ≡ memory_answer) × (stored ≡ [])
 -- a run of a command; a growth may be refused in any
 abbrev pub CommandRun : Option Files → CommandWords → History → History → List File → Answered → Type 0
 CommandRun files command before after stored a = IsOutOfMemory stored a ⊎ CommandEnds files command before after stored a
+
+-- a run of a command whose words name a file for its record: the command's own files are stored first, and the record is the last
+pub record RunsWithRecord (files : Option Files) (words : List (List ℕ)) (command : CommandWords) (name : List ℕ) (before after : History) (stored : List File) (a : Answered) : Type 0 where
+  pub said : Answered
+  pub between : History
+  pub own : List File
+  pub last : List File
+  pub run : CommandRun files command before between own said
+  pub end : RecordEnds words command name before between after last said a
+  pub all : stored ≡ own ++ last
+
+-- a run of a command, with its record if the words name a file for it
+abbrev pub RunsAsAsked : Option Files → List (List ℕ) → CommandWords → Option (List ℕ) → History → History → List File → Answered → Type 0
+RunsAsAsked files words command None before after stored a = CommandRun files command before after stored a
+RunsAsAsked files words command (Some name) before after stored a = RunsWithRecord files words command name before after stored a
 
 -- the words give no command: help and the version end with 0 and usage with 2, with clap's text
 abbrev pub IsEndAnswer : WordsEnd → Answered → Type 0
@@ -57,7 +74,7 @@ pub record RunsCommand (files : Option Files) (words : List (List ℕ)) (before 
   pub command : CommandWords
   pub meant : Means words command
   pub taken : faults_of words ≡ []
-  pub run : CommandRun files command before after stored a
+  pub run : RunsAsAsked files words command (record_name_of command) before after stored a
 
 -- The answer to words, and the files that were stored: that of the command that they mean, or the end that they come to. Words that clap
 -- takes mean a command, so they end neither in help, nor in the version, nor in usage; but words that give an option without its
@@ -71,7 +88,7 @@ abbrev pub HasState : CommandWords → Type 0
 HasState (Size words) = words.state ≤ 99
 HasState (Judge words) = words.problem.common.state ≤ 99
 HasState (Solve words) = words.problem.common.state ≤ 99
-HasState (Check words) = words.problem.common.state ≤ 99
+HasState (Check words) = words.check.problem.common.state ≤ 99
 HasState (Audit words) = words.problem.common.state ≤ 99
 HasState (ListAll words) = words.check.problem.common.state ≤ 99
 HasState (Share words) = words.board.problem.common.state ≤ 99

@@ -1,5 +1,5 @@
 -- What runs of `share` promise.
-use Rattle.std.specs.Prelude.{◌≡◌, ◌≢◌, ℕ, List, [], ◌∷◌, Some, Ok, codes}
+use Rattle.std.specs.Prelude.{◌≡◌, ◌≢◌, ℕ, List, [], ◌∷◌, Some, codes}
 use Rattle.std.specs.Borrow.{Bor}
 use Rattle.grouping_problem.specs.ProblemValue.{ProblemValue, problem_of}
 use Rattle.grouping_laws.specs.Grouping.{Grouping, IsBest}
@@ -9,7 +9,7 @@ use Rattle.command_words.specs.declared.words.CommandWords.TheVariants.{Share}
 use Rattle.shelves.specs.Files.{File, Files}
 use Rattle.shelves.specs.History.{History}
 use Rattle.program_answers.specs.Answer.{Answered, success}
-use Rattle.command_runs.specs.ProblemCourse.{problem_in}
+use Rattle.command_runs.specs.FilesProblem.{IsProblemOfFiles}
 use Rattle.command_runs.specs.Run.{CommandRun}
 use Rattle.command_runs.specs.Headline.{ChecksAs}
 
@@ -25,10 +25,9 @@ IsStoredTogether files words stored v g =
 
 -- What a run of `share` that ends with status 0 shows: the target of its board is best for the problem of the files, and the certificate
 -- that was joined says so to whoever checks it.
-pub record ShowsJoined (files : Files) (words : ShareWords) (before : History) (stored : List File) : Type 0 where
+pub record ShowsJoined (files : Files) (words : ShareWords) (stored : List File) : Type 0 where
   pub v : ProblemValue
-  pub between : History
-  pub problem : problem_in (Some files) words.board.problem before between (Ok v)
+  pub problem : IsProblemOfFiles files words.board.problem v
   pub target : Grouping
   pub best : IsBest (problem_of v) target
   pub proof : IsStoredTogether files words stored v target
@@ -37,6 +36,6 @@ pub record ShowsJoined (files : Files) (words : ShareWords) (before : History) (
 -- stores anything.
 pub record RunsShare : Type 0 where
   pub joined : (files : Files) (words : ShareWords) (before after : History) (stored : List File) (a : Answered)
-      → CommandRun (Some files) (Share words) before after stored a → a.status ≡ 0 → ShowsJoined files words before stored
+      → CommandRun (Some files) (Share words) before after stored a → a.status ≡ 0 → ShowsJoined files words stored
   pub unstored : (files : Files) (words : ShareWords) (before after : History) (stored : List File) (a : Answered)
       → CommandRun (Some files) (Share words) before after stored a → a.status ≢ 0 → stored ≡ []

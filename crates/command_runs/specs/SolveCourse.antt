@@ -1,6 +1,6 @@
 -- The steps of `solve`: the problem is built, a desk looks for its best grouping, and what it found is stored and reported.
 use Rattle.std.specs.Prelude.{◌≡◌, ℕ, List, ◌++◌, Option, Some, None}
-use Rattle.grouping_problem.specs.ProblemValue.{ProblemValue, problem_of}
+use Rattle.grouping_problem.specs.ProblemValue.{problem_of}
 use Rattle.grouping_report.specs.Outcomes.{outcome_text}
 use Rattle.grouping_report.specs.GroupingText.{grouping_text}
 use Rattle.grouping_report.specs.declared.outcome.Outcome.TheVariants as outcome
@@ -14,42 +14,43 @@ use Rattle.shelves.specs.Files.{File, Files}
 use Rattle.shelves.specs.History.{History}
 use Rattle.program_answers.specs.Answer.{Answered, success}
 use Rattle.command_runs.specs.Course.{Course, ◌>>=◌, value_step}
-use Rattle.command_runs.specs.ProblemCourse.{problem_in}
+use Rattle.command_runs.specs.TableCourse.{Tabled, tabled_problem_in, table_of}
 use Rattle.command_runs.specs.Storing.{EndsStoring, named_file}
 
--- what `solve` says, and the texts for its files: that of the certificate, and that of the grouping
+-- what `solve` says, and the texts for its files: those of the certificate, of the grouping and of the table
 pub record Solved : Type 0 where
   pub answer : Answered
   pub certificate : Option (List ℕ)
   pub grouping : Option (List ℕ)
+  pub table : Option (List ℕ)
 
 -- What a desk answers, as it is said: the report, with status 0 where it is best, 1 where none is lawful and 3 where it is open; the text
--- of the certificate; and the lines of the grouping, where there is one.
-abbrev pub Says : ProblemValue → desk.Answer → Solved → Type 0
-Says v (Best g c) s = (text : List ℕ) × IsSpelling text (certificate_of c)
-    × (s ≡ record { answer = success (outcome_text v (outcome.Best g)); certificate = Some text; grouping = Some (grouping_text g.groups.items) })
-Says v (Impossible c) s = (text : List ℕ) × IsSpelling text (certificate_of c)
-    × (s ≡ record { answer = record { text = outcome_text v outcome.Impossible; status = 1 }; certificate = Some text; grouping = None })
-Says v (Open None steps) s = s ≡ record { answer = record { text = outcome_text v (outcome.Open None steps); status = 3 }; certificate = None; grouping = None }
-Says v (Open (Some g) steps) s =
-    s ≡ record { answer = record { text = outcome_text v (outcome.Open (Some g) steps); status = 3 }; certificate = None; grouping = Some (grouping_text g.groups.items) }
+-- of the certificate; and the lines of the grouping and its table, where there is one.
+abbrev pub Says : Tabled → desk.Answer → Solved → Type 0
+Says t (Best g c) s = (text : List ℕ) × IsSpelling text (certificate_of c)
+    × (s ≡ record { answer = success (outcome_text t.problem (outcome.Best g)); certificate = Some text; grouping = Some (grouping_text g.groups.items); table = table_of t g.groups.items })
+Says t (Impossible c) s = (text : List ℕ) × IsSpelling text (certificate_of c)
+    × (s ≡ record { answer = record { text = outcome_text t.problem outcome.Impossible; status = 1 }; certificate = Some text; grouping = None; table = None })
+Says t (Open None steps) s = s ≡ record { answer = record { text = outcome_text t.problem (outcome.Open None steps); status = 3 }; certificate = None; grouping = None; table = None }
+Says t (Open (Some g) steps) s =
+    s ≡ record { answer = record { text = outcome_text t.problem (outcome.Open (Some g) steps); status = 3 }; certificate = None; grouping = Some (grouping_text g.groups.items); table = table_of t g.groups.items }
 
 -- what `solve` says of a problem is what a desk answers with so many steps
-pub record IsSolved (v : ProblemValue) (limit : ℕ) (s : Solved) : Type 0 where
+pub record IsSolved (t : Tabled) (limit : ℕ) (s : Solved) : Type 0 where
   pub found : desk.Answer
-  pub is : IsAnswer (problem_of v) limit found
-  pub best : NamesBest (problem_of v) found
-  pub complete : HasCompleteTree (problem_of v) found
-  pub whether : SaysWhether (problem_of v) limit found
-  pub said : Says v found s
+  pub is : IsAnswer (problem_of t.problem) limit found
+  pub best : NamesBest (problem_of t.problem) found
+  pub complete : HasCompleteTree (problem_of t.problem) found
+  pub whether : SaysWhether (problem_of t.problem) limit found
+  pub said : Says t found s
 
 -- `solve`: the problem is built, and the desk answers
 abbrev pub solve_course : Option Files → SolveWords → Course Solved
-solve_course files words = problem_in files words.problem >>= λ v. value_step (IsSolved v words.steps)
+solve_course files words = tabled_problem_in files words.problem words.table >>= λ t. value_step (IsSolved t words.steps)
 
--- the files that are stored: the certificate first
+-- the files that are stored: the certificate first, then the grouping, then the table
 abbrev pub files_to_store : SolveWords → Solved → List File
-files_to_store words s = named_file words.certificate s.certificate ++ named_file words.out s.grouping
+files_to_store words s = named_file words.certificate s.certificate ++ (named_file words.out s.grouping ++ named_file words.table s.table)
 
 -- `solve` ends: at a fault that it met before anything was stored, or with its files stored and its answer, unless a file was refused
 abbrev pub SolveEnds : Option Files → SolveWords → History → History → List File → Answered → Type 0

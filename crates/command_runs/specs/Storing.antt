@@ -1,5 +1,5 @@
 -- Files that a command stores, in turn, before it says its answer.
-use Rattle.std.specs.Prelude.{◌≡◌, ◌⊎◌, ℕ, List, [], ◌∷◌, Option, Some, None, Ok, Err, option_map}
+use Rattle.std.specs.Prelude.{◌≡◌, ◌⊎◌, ⊤, ℕ, List, [], ◌∷◌, Option, Some, None, Ok, Err, Contains, option_map}
 use Rattle.std.specs.Borrow.{Bor}
 use Rattle.shelves.specs.declared.shelf.ShelfFault.{ShelfFault}
 use Rattle.shelves.specs.Files.{File, Files, with_files, with_all}
@@ -47,6 +47,11 @@ abbrev pub named_file : Option (Bor (List ℕ)) → Option (List ℕ) → List F
 named_file None text = []
 named_file (Some name) None = []
 named_file (Some name) (Some text) = record { name = name.now; bytes = text } ∷ []
+
+-- where a file is named, it was stored with a text for which P holds
+abbrev pub IsStoredAs : Option (Bor (List ℕ)) → (List ℕ → Type 0) → List File → Type 0
+IsStoredAs None P stored = ⊤
+IsStoredAs (Some name) P stored = (text : List ℕ) × P text × Contains stored (record { name = name.now; bytes = text })
 
 -- a shelf holds the files of before and those that were stored in turn, where it tells them
 pub record HasStored (files files_after : Option Files) (listed listed_after : Option (List File)) (stored : List File) : Type 0 where

@@ -1,5 +1,6 @@
 -- What a run tells of the files by which its loads and readers answered, whatever files these are.
-use Rattle.std.specs.Prelude.{◌≡◌, ◌≤◌, ◌⊎◌, ℕ, true, List, Some}
+use Rattle.std.specs.Prelude.{◌≡◌, ◌≤◌, ◌⊎◌, ⊤, ℕ, true, List, ◌∷◌, ◌++◌, Option, Some, None}
+use Rattle.std.specs.Borrow.{Bor}
 use Rattle.grouping_problem.specs.ProblemValue.{ProblemValue, problem_of}
 use Rattle.grouping_laws.specs.Grouping as groups
 use Rattle.grouping_laws.specs.Grouping.{IsBest, IsImpossible, Lawful}
@@ -20,27 +21,38 @@ use Rattle.certificate_checker.specs.declared.verdict.Verdict.TheVariants.{No}
 use Rattle.command_words.specs.Words.{Means, takes_words}
 use Rattle.command_words.specs.declared.words.ProblemWords.{ProblemWords}
 use Rattle.command_words.specs.declared.words.JudgeWords.{JudgeWords}
-use Rattle.command_words.specs.declared.words.CheckWords.{CheckWords}
+use Rattle.command_words.specs.declared.words.CertificateWords.{CertificateWords}
 use Rattle.command_words.specs.declared.words.AuditWords.{AuditWords}
 use Rattle.command_words.specs.declared.words.ListWords.{ListWords}
 use Rattle.command_words.specs.declared.words.CommandWords.{CommandWords}
 use Rattle.command_words.specs.declared.words.CommandWords.TheVariants.{Judge, Solve, Check, Audit, List as ListAll}
 use Rattle.shelves.specs.Files.{Files}
-use Rattle.shelves.specs.History.{History}
+use Rattle.shelves.specs.History.{Event, History}
+use Rattle.shelves.specs.History.Event.{Stored}
 use Rattle.program_answers.specs.Answer.{Answered}
 use Rattle.program_answers.specs.CheckLines.{no_answer}
-use Rattle.command_runs.specs.FilesProblem.{IsProblemOfFiles, AreBlocksOfFiles, IsGroupingOfFile, AreAssignmentsOfFile}
+use Rattle.command_runs.specs.FilesProblem.{IsProblemOfFiles, IsTableOfFiles, AreBlocksOfFiles, IsGroupingOfFile, AreAssignmentsOfFile}
 use Rattle.command_runs.specs.JudgeWithCertificate.{lawful_answer, best_answer}
 use Rattle.command_runs.specs.JudgeCourse.{findings_status}
 use Rattle.command_runs.specs.Loads.{AnsweredBy}
 
--- the text is the report of a grouping that is best for the problem of the files
-pub record TellsBest (files : Files) (words : ProblemWords) (text : List ℕ) : Type 0 where
+-- between two histories a file was handed over to be stored, and it was taken
+abbrev pub IsTaken : History → History → List ℕ → List ℕ → Type 0
+IsTaken before after name bytes = (earlier : List Event) × (later : List Event) × (after.events ≡ before.events ++ (earlier ++ (Stored name bytes true ∷ later)))
+
+-- where a file is named, it was taken with a text for which P holds
+abbrev pub IsTakenAs : Option (Bor (List ℕ)) → (List ℕ → Type 0) → History → History → Type 0
+IsTakenAs None P before after = ⊤
+IsTakenAs (Some name) P before after = (text : List ℕ) × P text × IsTaken before after name.now text
+
+-- The text is the report of a grouping that is best for the problem of the files. If a table is named, that of the grouping was stored.
+pub record TellsBest (files : Files) (words : ProblemWords) (table : Option (Bor (List ℕ))) (before after : History) (text : List ℕ) : Type 0 where
   pub v : ProblemValue
   pub problem : IsProblemOfFiles files words v
   pub grouping : Grouping
   pub best : IsBest (problem_of v) grouping.groups.items
   pub report : text ≡ outcome_text v (outcome.Best grouping)
+  pub stored : IsTakenAs table (IsTableOfFiles files words v grouping.groups.items) before after
 
 -- the text is the report that no grouping is lawful, and none is for the problem of the files
 pub record TellsImpossible (files : Files) (words : ProblemWords) (text : List ℕ) : Type 0 where
@@ -50,7 +62,7 @@ pub record TellsImpossible (files : Files) (words : ProblemWords) (text : List �
   pub report : text ≡ outcome_text v outcome.Impossible
 
 -- the text names the first fault of the certificate's file, and its line
-pub record TellsFault (files : Files) (words : CheckWords) (text : List ℕ) : Type 0 where
+pub record TellsFault (files : Files) (words : CertificateWords) (text : List ℕ) : Type 0 where
   pub v : ProblemValue
   pub problem : IsProblemOfFiles files words.problem v
   pub certificate : List ℕ
@@ -61,14 +73,15 @@ pub record TellsFault (files : Files) (words : CheckWords) (text : List ℕ) : T
   pub report : text ≡ (no_answer fault line).text
 
 -- The answer is the report of the grouping of a file, which is lawful for the problem of the files. If the report calls the grouping best, no
--- lawful grouping is better.
-pub record TellsJudged (files : Files) (words : JudgeWords) (a : Answered) : Type 0 where
+-- lawful grouping is better. If a table is named, that of the grouping was stored.
+pub record TellsJudged (files : Files) (words : JudgeWords) (before after : History) (a : Answered) : Type 0 where
   pub v : ProblemValue
   pub problem : IsProblemOfFiles files words.problem v
   pub grouping : groups.Grouping
   pub grouping_is : IsGroupingOfFile files words.grouping.now grouping
   pub lawful : Lawful (problem_of v) grouping
   pub report : (a ≡ lawful_answer v grouping) ⊎ ((a ≡ best_answer v grouping) × IsBest (problem_of v) grouping)
+  pub stored : IsTakenAs words.table (IsTableOfFiles files words.problem v grouping) before after
 
 -- the text is the listing of all groupings that are best for the problem of the files, in order
 pub record TellsAllBest (files : Files) (words : ListWords) (text : List ℕ) : Type 0 where
@@ -95,21 +108,21 @@ pub record TellsFindings (files : Files) (words : AuditWords) (a : Answered) : T
 
 -- What an answer with status 0 or 1 tells of the files. `solve` and `check` tell that a grouping is best or that none is lawful, and `check`
 -- tells besides that a certificate is at fault. `judge` tells that a grouping is lawful, or best, `list` which groupings are best, `audit` the findings.
-abbrev pub Tells : Files → CommandWords → Answered → Type 0
-Tells files (Solve words) a = ((a.status ≡ 0) → TellsBest files words.problem a.text) × ((a.status ≡ 1) → TellsImpossible files words.problem a.text)
-Tells files (Check words) a =
-    ((a.status ≡ 0) → TellsBest files words.problem a.text)
-    × ((a.status ≡ 1) → TellsImpossible files words.problem a.text ⊎ TellsFault files words a.text)
-Tells files (Judge words) a = (a.status ≡ 0) → TellsJudged files words a
-Tells files (ListAll words) a = (a.status ≡ 0) → TellsAllBest files words a.text
-Tells files (Audit words) a = (a.status ≤ 1) → TellsFindings files words a
-Tells files command a = Unit {0}
+abbrev pub Tells : Files → CommandWords → History → History → Answered → Type 0
+Tells files (Solve words) before after a = ((a.status ≡ 0) → TellsBest files words.problem words.table before after a.text) × ((a.status ≡ 1) → TellsImpossible files words.problem a.text)
+Tells files (Check words) before after a =
+    ((a.status ≡ 0) → TellsBest files words.check.problem words.table before after a.text)
+    × ((a.status ≡ 1) → TellsImpossible files words.check.problem a.text ⊎ TellsFault files words.check a.text)
+Tells files (Judge words) before after a = (a.status ≡ 0) → TellsJudged files words before after a
+Tells files (ListAll words) before after a = (a.status ≡ 0) → TellsAllBest files words a.text
+Tells files (Audit words) before after a = (a.status ≤ 1) → TellsFindings files words a
+Tells files command before after a = Unit {0}
 
 -- the words mean a command, and its answer tells this of any files by which its loads and readers answered
 pub record TellsOfFiles (words : List (List ℕ)) (before after : History) (a : Answered) : Type 0 where
   pub command : CommandWords
   pub meant : Means words command
-  pub told : (files : Files) → AnsweredBy files before after → Tells files command a
+  pub told : (files : Files) → AnsweredBy files before after → Tells files command before after a
 
 -- If clap takes the words, an answer with status 0 or 1 tells of the machine's files what its command promises.
 abbrev pub RunTells : List (List ℕ) → History → History → Answered → Type 0

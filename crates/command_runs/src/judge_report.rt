@@ -4,12 +4,13 @@ ghost use Rattle.std.specs.Prelude.{◌≡◌, ℕ, IfOk, option_map};
 ghost use Rattle.grouping_problem.specs.ProblemValue.{problem_of};
 ghost use Rattle.grouping_laws.specs.Grouping.{Lawful, counts, sets_of};
 ghost use Rattle.grouping_judge.specs.CountList.{count_at};
-ghost use Rattle.grouping_report.specs.Outcomes.{NamesLawful, outcome_text};
 ghost use Rattle.certificate_checker.specs.Answered.{NamesBest};
-ghost use Rattle.program_answers.specs.Answer.{success};
 ghost use Rattle.program_answers.specs.Answers.{answer_of};
-ghost use Rattle.command_runs.specs.JudgeWithCertificate.{IsSaidBy, IsSaidOf, NamesSameCounts, SaysBeside, lawful_answer};
+ghost use Rattle.command_runs.specs.JudgeWithCertificate.{IsSaidBy, IsSaidOf, NamesSameCounts, SaysBeside, best_answer, lawful_answer};
+ghost use Rattle.command_runs.specs.JudgeCourse.{HasTable};
+ghost use Rattle.command_runs.specs.Texts.{reported_of, tabled_of};
 
+use crate::tabled::{Reported, Tabled, table_of};
 use certificate_checker::{CheckFault, Verdict, check};
 use county_codes::Grouping;
 use grouping_judge::{Counts, compare, judge};
@@ -35,33 +36,49 @@ pub enum Unshown {
 /// What `judge` says of a lawful grouping, and why a certificate doesn't show that it is best.
 #[derive(Drop)]
 pub struct Judged {
-    /// The report, with status 0.
-    pub answer: Answer,
+    /// The report, with status 0, and the grouping's table.
+    pub reported: Reported,
     /// Why it doesn't say `best`; none where it does, and where no certificate was given.
     pub unshown: Option<Unshown>,
 }
 
-/// The report of an outcome, with status 0.
-fn reported(alloc: Global, problem: &Problem, outcome: &Outcome) -> Result<Answer, AllocError>
-    requires { NamesLawful problem.now outcome.now }
-    ensures { IfOk result (λ a. answer_of a ≡ success (outcome_text problem.now outcome.now)) }
+/// The report of a lawful grouping, with status 0, and its table.
+fn lawful_report(alloc: Global, tabled: &Tabled, grouping: Grouping) -> Result<Reported, AllocError>
+    requires { Lawful (problem_of tabled.now.problem) grouping.groups.items }
+    ensures said { IfOk result (λ r. answer_of r.answer ≡ lawful_answer tabled.now.problem grouping.groups.items) }
+    ensures table { IfOk result (λ r. HasTable (tabled_of tabled.now) grouping.groups.items (reported_of r)) }
 {
-    let text = report(alloc, problem, outcome)?;
-    Ok(Answer { text, status: 0 })
+    let table = table_of(alloc, tabled, &grouping)?;
+    let text = report(alloc, &tabled.problem, &Outcome::Lawful(grouping))?;
+    let answer = Answer { text, status: 0 };
+    Ok(Reported { answer, table })
+}
+
+/// The report of a grouping that is best, with status 0, and its table.
+fn best_report(alloc: Global, tabled: &Tabled, grouping: Grouping) -> Result<Reported, AllocError>
+    requires { Lawful (problem_of tabled.now.problem) grouping.groups.items }
+    ensures said { IfOk result (λ r. answer_of r.answer ≡ best_answer tabled.now.problem grouping.groups.items) }
+    ensures table { IfOk result (λ r. HasTable (tabled_of tabled.now) grouping.groups.items (reported_of r)) }
+{
+    let table = table_of(alloc, tabled, &grouping)?;
+    let text = report(alloc, &tabled.problem, &Outcome::Best(grouping))?;
+    let answer = Answer { text, status: 0 };
+    Ok(Reported { answer, table })
 }
 
 /// What is said of a lawful grouping that isn't shown to be best.
 fn left_lawful(
     alloc: Global,
-    problem: &Problem,
+    tabled: &Tabled,
     grouping: Grouping,
     unshown: Option<Unshown>,
 ) -> Result<Judged, AllocError>
-    requires { Lawful (problem_of problem.now) grouping.groups.items }
-    ensures { IfOk result (λ j. answer_of j.answer ≡ lawful_answer problem.now grouping.groups.items) }
+    requires { Lawful (problem_of tabled.now.problem) grouping.groups.items }
+    ensures said { IfOk result (λ j. answer_of j.reported.answer ≡ lawful_answer tabled.now.problem grouping.groups.items) }
+    ensures table { IfOk result (λ j. HasTable (tabled_of tabled.now) grouping.groups.items (reported_of j.reported)) }
 {
-    let answer = reported(alloc, problem, &Outcome::Lawful(grouping))?;
-    Ok(Judged { answer, unshown })
+    let reported = lawful_report(alloc, tabled, grouping)?;
+    Ok(Judged { reported, unshown })
 }
 
 /// The counts of a lawful grouping: its judge can meet nothing but want of memory.
@@ -78,65 +95,68 @@ fn counts_of(alloc: Global, problem: &Problem, grouping: &Grouping) -> Result<Co
 /// What is said of a lawful grouping, where the target of a certificate is best: if both have the same counts, that it is best.
 fn say_beside_best(
     alloc: Global,
-    problem: &Problem,
+    tabled: &Tabled,
     grouping: Grouping,
     own: Counts,
     target: Grouping,
 ) -> Result<Judged, AllocError>
-    requires lawful { Lawful (problem_of problem.now) grouping.groups.items }
+    requires lawful { Lawful (problem_of tabled.now.problem) grouping.groups.items }
     requires own { (size : ℕ) → count_at own size ≡ counts (sets_of grouping.groups.items) size }
-    requires best { NamesBest (problem_of problem.now) (Verdict.Best target) }
-    ensures { IfOk result (λ j. SaysBeside problem.now grouping.groups.items (Verdict.Best target) (answer_of j.answer)) }
+    requires best { NamesBest (problem_of tabled.now.problem) (Verdict.Best target) }
+    ensures said { IfOk result (λ j. SaysBeside tabled.now.problem grouping.groups.items (Verdict.Best target) (answer_of j.reported.answer)) }
+    ensures table { IfOk result (λ j. HasTable (tabled_of tabled.now) grouping.groups.items (reported_of j.reported)) }
 {
-    let best = counts_of(alloc, problem, &target)?;
+    let best = counts_of(alloc, &tabled.problem, &target)?;
     match compare(&own, &best) {
         Ordering::Equal => Ok(Judged {
-            answer: reported(alloc, problem, &Outcome::Best(grouping))?,
+            reported: best_report(alloc, tabled, grouping)?,
             unshown: None,
         }),
-        _ => left_lawful(alloc, problem, grouping, Some(Unshown::Lesser(own, best))),
+        _ => left_lawful(alloc, tabled, grouping, Some(Unshown::Lesser(own, best))),
     }
 }
 
 /// What is said of a lawful grouping beside a verdict.
 fn say_beside(
     alloc: Global,
-    problem: &Problem,
+    tabled: &Tabled,
     grouping: Grouping,
     own: Counts,
     verdict: Verdict,
 ) -> Result<Judged, AllocError>
-    requires lawful { Lawful (problem_of problem.now) grouping.groups.items }
+    requires lawful { Lawful (problem_of tabled.now.problem) grouping.groups.items }
     requires own { (size : ℕ) → count_at own size ≡ counts (sets_of grouping.groups.items) size }
-    requires best { NamesBest (problem_of problem.now) verdict }
-    ensures { IfOk result (λ j. SaysBeside problem.now grouping.groups.items verdict (answer_of j.answer)) }
+    requires best { NamesBest (problem_of tabled.now.problem) verdict }
+    ensures said { IfOk result (λ j. SaysBeside tabled.now.problem grouping.groups.items verdict (answer_of j.reported.answer)) }
+    ensures table { IfOk result (λ j. HasTable (tabled_of tabled.now) grouping.groups.items (reported_of j.reported)) }
 {
     match verdict {
-        Verdict::Best(target) => say_beside_best(alloc, problem, grouping, own, target),
-        Verdict::Impossible => left_lawful(alloc, problem, grouping, Some(Unshown::Impossible)),
+        Verdict::Best(target) => say_beside_best(alloc, tabled, grouping, own, target),
+        Verdict::Impossible => left_lawful(alloc, tabled, grouping, Some(Unshown::Impossible)),
         Verdict::No(fault, line) => {
             let unshown = Unshown::NoCertificate(fault, line);
-            left_lawful(alloc, problem, grouping, Some(unshown))
+            left_lawful(alloc, tabled, grouping, Some(unshown))
         }
-        Verdict::Budget => left_lawful(alloc, problem, grouping, Some(Unshown::Budget)),
+        Verdict::Budget => left_lawful(alloc, tabled, grouping, Some(Unshown::Budget)),
     }
 }
 
 /// What is said of a lawful grouping by the text of a certificate.
 fn say_by(
     alloc: Global,
-    problem: &Problem,
+    tabled: &Tabled,
     grouping: Grouping,
     own: Counts,
     text: &[u8],
     budget: u64,
 ) -> Result<Judged, AllocError>
-    requires lawful { Lawful (problem_of problem.now) grouping.groups.items }
+    requires lawful { Lawful (problem_of tabled.now.problem) grouping.groups.items }
     requires own { (size : ℕ) → count_at own size ≡ counts (sets_of grouping.groups.items) size }
-    ensures { IfOk result (λ j. IsSaidBy problem.now grouping.groups.items budget text.now (answer_of j.answer)) }
+    ensures said { IfOk result (λ j. IsSaidBy tabled.now.problem grouping.groups.items budget text.now (answer_of j.reported.answer)) }
+    ensures table { IfOk result (λ j. HasTable (tabled_of tabled.now) grouping.groups.items (reported_of j.reported)) }
 {
-    let verdict = check(alloc, problem, text, budget)?;
-    say_beside(alloc, problem, grouping, own, verdict)
+    let verdict = check(alloc, &tabled.problem, text, budget)?;
+    say_beside(alloc, tabled, grouping, own, verdict)
 }
 
 /// What `judge` says of a lawful grouping with these counts: that it is lawful; or that it is best, where a certificate shows it. The
@@ -147,18 +167,19 @@ fn say_by(
 /// `AllocError` where memory was refused.
 pub fn judge_and_say(
     alloc: Global,
-    problem: &Problem,
+    tabled: &Tabled,
     grouping: Grouping,
     own: Counts,
     certificate: Option<&Vec<u8>>,
     budget: u64,
 ) -> Result<Judged, AllocError>
-    requires lawful { Lawful (problem_of problem.now) grouping.groups.items }
+    requires lawful { Lawful (problem_of tabled.now.problem) grouping.groups.items }
     requires own { (size : ℕ) → count_at own size ≡ counts (sets_of grouping.groups.items) size }
-    ensures { IfOk result (λ j. IsSaidOf problem.now grouping.groups.items budget (option_map (λ t. t.now.items) certificate.entry) (answer_of j.answer)) }
+    ensures said { IfOk result (λ j. IsSaidOf tabled.now.problem grouping.groups.items budget (option_map (λ t. t.now.items) certificate.entry) (answer_of j.reported.answer)) }
+    ensures table { IfOk result (λ j. HasTable (tabled_of tabled.now) grouping.groups.items (reported_of j.reported)) }
 {
     match certificate {
-        Some(text) => say_by(alloc, problem, grouping, own, text, budget),
-        None => left_lawful(alloc, problem, grouping, None),
+        Some(text) => say_by(alloc, tabled, grouping, own, text, budget),
+        None => left_lawful(alloc, tabled, grouping, None),
     }
 }

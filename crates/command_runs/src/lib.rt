@@ -1,7 +1,7 @@
 //! What a run of the program comes to: the steps of each command from its files to its answer and to the files that it stores.
 //!
-//! The definitions stand in `specs/`: `Course` (steps up to the first fault), `ProblemCourse` and `PlanCourse` (from files to values),
-//! `JudgeCourse`, `JudgeWithCertificate`, `SolveCourse`, `CheckCourse`, `ListCourse`, `BoardCourse`, `ShareCourse` and `PieceCourse` (the
+//! The definitions stand in `specs/`: `Course` (steps up to the first fault), `ProblemCourse`, `TableCourse` and `PlanCourse` (from files to
+//! values), `JudgeCourse`, `JudgeWithCertificate`, `SolveCourse`, `CheckCourse`, `ListCourse`, `BoardCourse`, `ShareCourse` and `PieceCourse` (the
 //! commands), `Storing` (files that are stored), `Run`, `Loads` (runs over files that aren't told), `Headline` (what runs of `solve` and
 //! `check` promise together), `ListHeadline`, `ShareHeadline` and `JudgeHeadline` (what runs of `list`, of `share` and of `judge` do).
 #![tactic(auto)]
@@ -12,6 +12,7 @@ mod desk_report;
 mod judge_report;
 mod laws;
 mod listing_report;
+mod tabled;
 
 pub use board_reports::{PieceEnd, PieceSaid, language_for, piece_and_say, share_events};
 pub use checker_report::{Checked, check_and_say, check_from_and_say};
@@ -19,3 +20,4 @@ pub use desk_report::{Solved, solve_and_say};
 pub use judge_report::{Judged, Unshown, judge_and_say};
 pub use laws::{runs_agree, runs_are_of_their_loads, runs_judge, runs_list, runs_share};
 pub use listing_report::{ListEnd, Listed, list_and_say};
+pub use tabled::{Reported, Tabled};

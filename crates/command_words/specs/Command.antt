@@ -28,13 +28,14 @@ with_default text option = record option { defaults = text ∷ [] }
 abbrev pub of_steps : Rule → Rule
 of_steps option = with_default (codes "10000000") (record option { parser = Some (Unsigned 0 18446744073709551615) })
 
--- the options of each subcommand: the two files, the number of seats, the state, and the two numbers of the allowance
+-- the options of each subcommand: the two files, the number of seats, the state, the two numbers of the allowance, and the file of the
+-- record, which need not be given
 abbrev pub common_options : List Rule
 common_options = required (text_option (codes "geo")) ∷ required (text_option (codes "segment"))
     ∷ of_number 1 1000 (required (text_option (codes "chamber")))
     ∷ with_default (codes "37") (of_number 0 99 (text_option (codes "state")))
     ∷ with_default (codes "1") (of_number 0 500 (text_option (codes "part")))
-    ∷ with_default (codes "20") (of_number 1 1000 (text_option (codes "of"))) ∷ []
+    ∷ with_default (codes "20") (of_number 1 1000 (text_option (codes "of"))) ∷ text_option (codes "record") ∷ []
 
 -- the options that give a problem: those of each subcommand, the file of adjacency, and those of links and
 -- of withdrawn sets, which need not be given
@@ -46,27 +47,32 @@ problem_options = common_options ++ required (text_option (codes "adjacency")) �
 abbrev pub grouping_options : List Rule
 grouping_options = problem_options ++ required (text_option (codes "grouping")) ∷ []
 
--- the options of `judge`: those that give a problem and a grouping, the file of a certificate, which need not be given, and the most
--- steps of its checker
+-- the options of `judge`: those that give a problem and a grouping, the file of a certificate, the most steps of its checker, and the file
+-- of the table; the two files need not be given
 abbrev pub judge_options : List Rule
-judge_options = grouping_options ++ text_option (codes "certificate") ∷ of_steps (text_option (codes "budget")) ∷ []
+judge_options = grouping_options ++ text_option (codes "certificate") ∷ of_steps (text_option (codes "budget")) ∷ text_option (codes "table") ∷ []
 
--- the options of `solve`: those that give a problem, the most steps of the search, and the files of the
--- certificate and of the grouping, which need not be given
+-- the options of `solve`: those that give a problem, the most steps of the search, and the files of the certificate, of the grouping and
+-- of the table, which need not be given
 abbrev pub solve_options : List Rule
-solve_options = problem_options ++ of_steps (text_option (codes "steps")) ∷ text_option (codes "certificate") ∷ text_option (codes "out") ∷ []
+solve_options = problem_options ++ of_steps (text_option (codes "steps")) ∷ text_option (codes "certificate") ∷ text_option (codes "out")
+    ∷ text_option (codes "table") ∷ []
 
--- the options of `check`: those that give a problem, the file of the certificate, and the most steps of the checker
+-- the options that give a certificate: those that give a problem, the file of the certificate, and the most steps of the checker
+abbrev pub certificate_options : List Rule
+certificate_options = problem_options ++ required (text_option (codes "certificate")) ∷ of_steps (text_option (codes "budget")) ∷ []
+
+-- the options of `check`: those that give a certificate, and the file of the table, which need not be given
 abbrev pub check_options : List Rule
-check_options = problem_options ++ required (text_option (codes "certificate")) ∷ of_steps (text_option (codes "budget")) ∷ []
+check_options = certificate_options ++ text_option (codes "table") ∷ []
 
 -- the options of `audit`: those that give a problem and a grouping, and the file of the assignments
 abbrev pub audit_options : List Rule
 audit_options = grouping_options ++ required (text_option (codes "assignments")) ∷ []
 
--- the options of `list`: those of `check`, the number of a listed grouping, and the file that it is written to; these two need not be given
+-- the options of `list`: those that give a certificate, the number of a listed grouping, and the file that it is written to; these two need not be given
 abbrev pub list_options : List Rule
-list_options = check_options ++ of_number 0 4294967295 (text_option (codes "number")) ∷ text_option (codes "out") ∷ []
+list_options = certificate_options ++ of_number 0 4294967295 (text_option (codes "number")) ∷ text_option (codes "out") ∷ []
 
 -- the options that give a board: those that give a problem and a grouping, the limit of its first round in counties, and how many
 -- branchings stand above its pieces at most; these two need not be given

@@ -13,6 +13,7 @@ use Rattle.command_words.specs.declared.words.CommandWords.{CommandWords}
 use Rattle.command_words.specs.declared.words.CommandWords.TheVariants.{Audit, Check, Judge, List as ListCommand, Piece, Share, Size, Solve}
 use Rattle.command_words.specs.declared.words.AuditWords.{AuditWords}
 use Rattle.command_words.specs.declared.words.BoardWords.{BoardWords}
+use Rattle.command_words.specs.declared.words.CertificateWords.{CertificateWords}
 use Rattle.command_words.specs.declared.words.CheckWords.{CheckWords}
 use Rattle.command_words.specs.declared.words.CommonWords.{CommonWords}
 use Rattle.command_words.specs.declared.words.JudgeWords.{JudgeWords}
@@ -56,6 +57,11 @@ pub record SaysWindow (rows : List Row) (window : Window) : Type 0 where
   pub range : (1 ≤ window.whole) × (window.whole ≤ 1000)
   pub default_whole : is_given (codes "of") rows ≡ false → window.whole ≡ 20
 
+-- what the words give of an option that need not be given: its text, or none exactly where they don't give it
+abbrev pub GivesText : Text → List Row → Option (Bor Text) → Type 0
+GivesText name rows None = is_given name rows ≡ false
+GivesText name rows (Some text) = (is_given name rows ≡ true) × (first_of name rows ≡ Some text.now)
+
 -- the values of a subcommand's options say what those give that each subcommand has
 pub record SaysCommon (rows : List Row) (words : CommonWords) : Type 0 where
   pub geo : first_of (codes "geo") rows ≡ Some words.geo.now
@@ -66,11 +72,7 @@ pub record SaysCommon (rows : List Row) (words : CommonWords) : Type 0 where
   pub code : words.state ≤ 99
   pub default : is_given (codes "state") rows ≡ false → words.state ≡ 37
   pub window : SaysWindow rows words.window
-
--- what the words give of an option that need not be given: its text, or none exactly where they don't give it
-abbrev pub GivesText : Text → List Row → Option (Bor Text) → Type 0
-GivesText name rows None = is_given name rows ≡ false
-GivesText name rows (Some text) = (is_given name rows ≡ true) × (first_of name rows ≡ Some text.now)
+  pub record_file : GivesText (codes "record") rows words.record_file
 
 -- the values of a subcommand's options say which problem is meant
 pub record SaysProblem (rows : List Row) (words : ProblemWords) : Type 0 where
@@ -79,31 +81,38 @@ pub record SaysProblem (rows : List Row) (words : ProblemWords) : Type 0 where
   pub links : GivesText (codes "links") rows words.links
   pub withdrawn : GivesText (codes "withdrawn") rows words.withdrawn
 
--- the values of the options of `judge` say which problem and which grouping are meant, which certificate if one is given, and how many
--- steps its checker may take
+-- the values of the options of `judge` say which problem and which grouping are meant, which certificate if one is given, how many steps
+-- its checker may take, and the file that the table is written to
 pub record SaysJudge (rows : List Row) (words : JudgeWords) : Type 0 where
   pub problem : SaysProblem rows words.problem
   pub grouping : first_of (codes "grouping") rows ≡ Some words.grouping.now
   pub certificate : GivesText (codes "certificate") rows words.certificate
   pub budget : GivesNumber (codes "budget") rows words.budget
   pub default : is_given (codes "budget") rows ≡ false → words.budget ≡ 10000000
+  pub table : GivesText (codes "table") rows words.table
 
 -- the values of the options of `solve` say which problem is meant, how many steps the search may take, and
--- the files that its certificate and its grouping are written to
+-- the files that its certificate, its grouping and its table are written to
 pub record SaysSolve (rows : List Row) (words : SolveWords) : Type 0 where
   pub problem : SaysProblem rows words.problem
   pub steps : GivesNumber (codes "steps") rows words.steps
   pub default : is_given (codes "steps") rows ≡ false → words.steps ≡ 10000000
   pub certificate : GivesText (codes "certificate") rows words.certificate
   pub out : GivesText (codes "out") rows words.out
+  pub table : GivesText (codes "table") rows words.table
 
--- the values of the options of `check` say which problem and which certificate are meant, and how many steps
--- the checker may take
-pub record SaysCheck (rows : List Row) (words : CheckWords) : Type 0 where
+-- the values of the options that give a certificate say which problem and which certificate are meant, and how many steps the checker
+-- may take
+pub record SaysCertificate (rows : List Row) (words : CertificateWords) : Type 0 where
   pub problem : SaysProblem rows words.problem
   pub certificate : first_of (codes "certificate") rows ≡ Some words.certificate.now
   pub budget : GivesNumber (codes "budget") rows words.budget
   pub default : is_given (codes "budget") rows ≡ false → words.budget ≡ 10000000
+
+-- the values of the options of `check` say what is checked, and the file that the table is written to
+pub record SaysCheck (rows : List Row) (words : CheckWords) : Type 0 where
+  pub check : SaysCertificate rows words.check
+  pub table : GivesText (codes "table") rows words.table
 
 -- the values of the options of `audit` say which problem, which grouping and which assignments are meant
 pub record SaysAudit (rows : List Row) (words : AuditWords) : Type 0 where
@@ -118,10 +127,9 @@ GivesStored rows (Some words) =
     (is_given (codes "number") rows ≡ true) × GivesNumber (codes "number") rows words.number
     × (is_given (codes "out") rows ≡ true) × (first_of (codes "out") rows ≡ Some words.out.now)
 
--- the values of the options of `list` say which problem and which certificate are meant, how many steps the checker may
--- take, and which listed grouping is stored
+-- the values of the options of `list` say by which certificate all best groupings are listed, and which listed grouping is stored
 pub record SaysList (rows : List Row) (words : ListWords) : Type 0 where
-  pub check : SaysCheck rows words.check
+  pub check : SaysCertificate rows words.check
   pub stored : GivesStored rows words.stored
 
 -- what the words give of a number that need not be given: the number, or nothing exactly where they don't give it

@@ -1,18 +1,15 @@
 //! The command `countygroups`, as `clap` parses it.
 ghost use Rattle.std.specs.Prelude.{◌≡◌, IfOk, codes, false};
 ghost use Rattle.clap.specs.Words.{app_of, rule_of};
-ghost use Rattle.command_words.specs.Command.{AddsCommand, AddsOption, HasMore, HasShape, countygroups, countygroups_alone, subcommand, of_number, common_options, problem_options, judge_options, solve_options, check_options, audit_options, list_options, board_options, share_options, piece_options, of_steps, required, text_option, with_default};
+ghost use Rattle.command_words.specs.Command.{AddsCommand, AddsOption, HasMore, HasShape, countygroups, countygroups_alone, subcommand, of_number, common_options, problem_options, judge_options, solve_options, check_options, audit_options, list_options, board_options, certificate_options, share_options, piece_options, of_steps, required, text_option, with_default};
 
+use crate::version::VERSION;
 use clap::{Arg, ArgAction, Command, value_parser};
 use std::alloc::{AllocError, Global};
 
 /// What `--help` begins with.
 const ABOUT: &str =
     "Finds, checks and judges groups of North Carolina's counties for legislative districts";
-
-/// What `--version` says after the program's name.
-const VERSION: &str =
-    "0.1.0 (Rattle kit 13b, logic dac8208d650f15bf; the program can't tell whether its build was proved: `rt run` proves it first, `rt try` doesn't)";
 
 /// What `--help` ends with.
 const AFTER_HELP: &str = "\
@@ -28,6 +25,9 @@ Exit status:
   4  a file, the problem, the board, or the number of a grouping or of a piece was refused
   5  a file could not be read or stored, memory was refused, or the answer could not be written
 
+With --record FILE a run with status 0, 1 or 3 stores its record, the last of its files: the words,
+the files that were read and stored with their SHA-256, the status and the answer.
+
 A file's name is its path: `/dev/stdin` is standard input, and `-` a file of that name. The
 layouts are told in docs/formats.md, and how to read the answers in docs/guide.md.";
 
@@ -40,13 +40,15 @@ Exit status:
   0  the table
   2  the words are no command
   4  a file or the problem was refused
-  5  a file could not be read, memory was refused, or the answer could not be written";
+  5  a file could not be read or stored, memory was refused, or the answer could not be written";
 
 /// What `judge --help` ends with.
 const AFTER_JUDGE: &str = "\
 With --certificate it asks whether the grouping is best, too. If the certificate proves that a
 grouping with the same counts is best, the report says `answer best` in place of `answer lawful`.
 Else standard error says why not.
+
+With --table it stores the table of a lawful grouping, which joins to shapes by GEOID.
 
 Example:
   countygroups judge --geo nc2020geo.pl --segment nc000012020.pl --chamber 50 \\
@@ -57,7 +59,7 @@ Exit status:
   1  it isn't, and this is its first fault
   2  the words are no command
   4  a file or the problem was refused
-  5  a file could not be read, memory was refused, or the answer could not be written";
+  5  a file could not be read or stored, memory was refused, or the answer could not be written";
 
 /// What `solve --help` ends with.
 const AFTER_SOLVE: &str = "\
@@ -66,10 +68,10 @@ Example:
       --adjacency county_adjacency2023.txt --certificate senate.certificate --out senate.grouping
 
 Exit status:
-  0  the grouping is the best one; it and its certificate are stored
+  0  the grouping is the best one; it, its certificate and its table are stored
   1  no grouping is lawful; the certificate of it is stored
   2  the words are no command
-  3  the steps ran out; a lawful grouping that was found is stored
+  3  the steps ran out; a lawful grouping that was found is stored, and its table
   4  a file or the problem was refused
   5  a file could not be read or stored, memory was refused, or the answer could not be written";
 
@@ -80,12 +82,12 @@ Example:
       --adjacency county_adjacency2023.txt --certificate senate.certificate
 
 Exit status:
-  0  the certificate proves that its grouping is the best one
+  0  the certificate proves that its grouping is the best one; the table of it is stored
   1  it proves that no grouping is lawful, or the text is no certificate of these files
   2  the words are no command
   3  the budget ran out
   4  a file or the problem was refused
-  5  a file could not be read, memory was refused, or the answer could not be written";
+  5  a file could not be read or stored, memory was refused, or the answer could not be written";
 
 /// What `audit --help` ends with.
 const AFTER_AUDIT: &str = "\
@@ -102,7 +104,7 @@ Exit status:
   1  something was found, or the grouping isn't lawful
   2  the words are no command
   4  a file or the problem was refused
-  5  a file could not be read, memory was refused, or the answer could not be written";
+  5  a file could not be read or stored, memory was refused, or the answer could not be written";
 
 /// What `list --help` ends with.
 const AFTER_LIST: &str = "\
@@ -160,7 +162,7 @@ Exit status:
   2  the words are no command
   3  the steps ran out, or opening the board would take more than 10,000,000
   4  a file, the problem or the board was refused, or no piece waits under the number
-  5  a file could not be read, memory was refused, or the answer could not be written";
+  5  a file could not be read or stored, memory was refused, or the answer could not be written";
 
 /// An option `--name VALUE`.
 fn text_option<'a>(alloc: Global, name: &'a str, value_name: &'a str, help: &'a str) -> Arg<'a>
@@ -247,6 +249,25 @@ fn with_option<'a>(
     command.arg(option)
 }
 
+/// `--record FILE`.
+fn record_option<'a>(alloc: Global) -> Arg<'a>
+    ensures rule { rule_of result ≡ text_option (codes "record") }
+    ensures local { result.global ≡ false }
+{
+    let help =
+        "The file to write the record of the run to: its words, its files with their sums, its answer";
+    text_option(alloc, "record", "FILE", help)
+}
+
+/// `--table FILE`.
+fn table_option<'a>(alloc: Global) -> Arg<'a>
+    ensures rule { rule_of result ≡ text_option (codes "table") }
+    ensures local { result.global ≡ false }
+{
+    let help = "The file to write the table of the counties and their groups to, as CSV";
+    text_option(alloc, "table", "FILE", help)
+}
+
 /// The command with the options that each subcommand has.
 fn with_common_options<'a>(alloc: Global, command: Command<'a>) -> Result<Command<'a>, AllocError>
     ensures { IfOk result (HasMore command.entry common_options) }
@@ -258,7 +279,8 @@ fn with_common_options<'a>(alloc: Global, command: Command<'a>) -> Result<Comman
     let made = with_option(made, chamber_option(alloc));
     let made = with_option(made, state_option(alloc));
     let made = with_option(made, part_option(alloc));
-    with_option(made, whole_option(alloc))
+    let made = with_option(made, whole_option(alloc));
+    with_option(made, record_option(alloc))
 }
 
 /// The command with the options that give a problem.
@@ -306,7 +328,8 @@ fn judge_command<'a>(alloc: Global) -> Result<Command<'a>, AllocError>
         "budget",
         "The most steps of the certificate's checker",
     );
-    with_option(made, budget)
+    let made = with_option(made, budget);
+    with_option(made, table_option(alloc))
 }
 
 /// The subcommand `solve`.
@@ -327,12 +350,16 @@ fn solve_command<'a>(alloc: Global) -> Result<Command<'a>, AllocError>
     );
     let made = with_option(made, certificate);
     let out = text_option(alloc, "out", "FILE", "The file to write the grouping to");
-    with_option(made, out)
+    let made = with_option(made, out);
+    with_option(made, table_option(alloc))
 }
 
-/// The command with the options of a check: those that give a problem, the certificate and the budget.
-fn with_check_options<'a>(alloc: Global, command: Command<'a>) -> Result<Command<'a>, AllocError>
-    ensures { IfOk result (HasMore command.entry check_options) }
+/// The command with the options that give a certificate: those that give a problem, the certificate and the budget.
+fn with_certificate_options<'a>(
+    alloc: Global,
+    command: Command<'a>,
+) -> Result<Command<'a>, AllocError>
+    ensures { IfOk result (HasMore command.entry certificate_options) }
 {
     let made = with_problem_options(alloc, command);
     let certificate = file_option(alloc, "certificate", "The certificate");
@@ -348,7 +375,8 @@ fn check_command<'a>(alloc: Global) -> Result<Command<'a>, AllocError>
     let check = Command::new(alloc, "check")
         .about("Checks a certificate")
         .after_help(AFTER_CHECK);
-    with_check_options(alloc, check)
+    let made = with_certificate_options(alloc, check);
+    with_option(made, table_option(alloc))
 }
 
 /// An option `--name NUMBER`, from 0 to 4,294,967,295.
@@ -366,7 +394,7 @@ fn list_command<'a>(alloc: Global) -> Result<Command<'a>, AllocError>
     let list = Command::new(alloc, "list")
         .about("Lists all best groupings, by a certificate")
         .after_help(AFTER_LIST);
-    let made = with_check_options(alloc, list);
+    let made = with_certificate_options(alloc, list);
     let number = number_option(
         alloc,
         "number",

@@ -15,10 +15,12 @@
 
 mod command;
 mod end;
+mod version;
 mod words;
 
 pub use end::WordsEnd;
+pub use version::version_text;
 pub use words::{
-    AuditWords, BoardWords, CheckWords, CommandWords, CommonWords, JudgeWords, ListWords,
-    PieceWords, ProblemWords, RoundWords, ShareWords, SolveWords, StoredWords, parse,
+    AuditWords, BoardWords, CertificateWords, CheckWords, CommandWords, CommonWords, JudgeWords,
+    ListWords, PieceWords, ProblemWords, RoundWords, ShareWords, SolveWords, StoredWords, parse,
 };

@@ -4,9 +4,9 @@ ghost use Rattle.std.specs.Option.{IsSomeAnd};
 ghost use Rattle.clap.specs.Takes.{is_given};
 ghost use Rattle.clap.specs.Walk.{texts};
 ghost use Rattle.clap.specs.Words.{FailsBy, first_of, found_of, kind_of, rows_of, subcommand_rows_of};
-ghost use Rattle.command_words.specs.Command.{audit_options, board_options, check_options, common_options, grouping_options, judge_options, list_options, piece_options, problem_options, share_options, solve_options};
+ghost use Rattle.command_words.specs.Command.{audit_options, board_options, certificate_options, check_options, common_options, grouping_options, judge_options, list_options, piece_options, problem_options, share_options, solve_options};
 ghost use Rattle.command_words.specs.Options.{HasCommand, HasValues};
-ghost use Rattle.command_words.specs.Words.{AreUnpaired, EndsFor, EndsTaken, GivesRound, GivesStored, IsLone, LacksLimit, Means, SaysAudit, SaysBoard, SaysCheck, SaysCommand, SaysCommon, SaysJudge, SaysList, SaysPiece, SaysProblem, SaysShare, SaysSolve, SaysWindow, faults_of, subcommand_in, takes_words};
+ghost use Rattle.command_words.specs.Words.{AreUnpaired, EndsFor, EndsTaken, GivesRound, GivesStored, IsLone, LacksLimit, Means, SaysAudit, SaysBoard, SaysCertificate, SaysCheck, SaysCommand, SaysCommon, SaysJudge, SaysList, SaysPiece, SaysProblem, SaysShare, SaysSolve, SaysWindow, faults_of, subcommand_in, takes_words};
 ghost use Rattle.command_words.specs.declared.end.LoneOption.TheVariants.{Depth, NumberOrOut};
 
 use crate::command::program;
@@ -53,6 +53,8 @@ pub struct CommonWords<'a> {
     /// If the words give no part, it is 1. If they give no whole, it is 20.
     /// The part may be more than half of the whole: a problem refuses such an allowance.
     pub window: Window,
+    /// The name of the file that the record of the run is written to, where the words give one.
+    pub record_file: Option<&'a str>,
 }
 
 /// The options that give a problem: those of each subcommand, and the files of adjacency, links and withdrawn sets.
@@ -79,6 +81,8 @@ pub struct JudgeWords<'a> {
     pub certificate: Option<&'a str>,
     /// The most steps of its checker; 10,000,000 where the words give none.
     pub budget: u64,
+    /// The name of the file that the table is written to, where the words give one.
+    pub table: Option<&'a str>,
 }
 
 /// The options of `solve`.
@@ -92,17 +96,28 @@ pub struct SolveWords<'a> {
     pub certificate: Option<&'a str>,
     /// The name of the file that the grouping is written to, where the words give one.
     pub out: Option<&'a str>,
+    /// The name of the file that the table is written to, where the words give one.
+    pub table: Option<&'a str>,
 }
 
-/// The options of `check`.
+/// The options that give a certificate.
 #[derive(Clone, Copy, Debug)]
-pub struct CheckWords<'a> {
+pub struct CertificateWords<'a> {
     /// The options that give the problem.
     pub problem: ProblemWords<'a>,
     /// The name of the file of the certificate.
     pub certificate: &'a str,
     /// The most steps of the checker; 10,000,000 where the words give none.
     pub budget: u64,
+}
+
+/// The options of `check`.
+#[derive(Clone, Copy, Debug)]
+pub struct CheckWords<'a> {
+    /// The problem, the certificate and the budget.
+    pub check: CertificateWords<'a>,
+    /// The name of the file that the table is written to, where the words give one.
+    pub table: Option<&'a str>,
 }
 
 /// The options of `audit`.
@@ -128,8 +143,8 @@ pub struct StoredWords<'a> {
 /// The options of `list`.
 #[derive(Clone, Copy, Debug)]
 pub struct ListWords<'a> {
-    /// The options of a check: the problem, the certificate and the budget.
-    pub check: CheckWords<'a>,
+    /// The problem, the certificate and the budget.
+    pub check: CertificateWords<'a>,
     /// The grouping that is stored, where the words give its number and a file.
     pub stored: Option<StoredWords<'a>>,
 }
@@ -212,6 +227,7 @@ fn common_words<'a>(found: &ArgMatches<'a>) -> CommonWords<'a>
         chamber: found.get_one::<u16>("chamber").unwrap(),
         state: found.get_one::<u8>("state").unwrap(),
         window: window_words(found),
+        record_file: found.get_str("record"),
     }
 }
 
@@ -250,6 +266,7 @@ fn judge_words<'a>(found: &ArgMatches<'a>) -> JudgeWords<'a>
         grouping,
         certificate: file,
         budget: found.get_one::<u64>("budget").unwrap(),
+        table: found.get_str("table"),
     }
 }
 
@@ -263,6 +280,19 @@ fn solve_words<'a>(found: &ArgMatches<'a>) -> SolveWords<'a>
         steps: found.get_one::<u64>("steps").unwrap(),
         certificate: found.get_str("certificate"),
         out: found.get_str("out"),
+        table: found.get_str("table"),
+    }
+}
+
+/// What the values of the options say that give a certificate.
+fn certificate_words<'a>(found: &ArgMatches<'a>) -> CertificateWords<'a>
+    requires { HasValues certificate_options (rows_of (found_of found.now)) }
+    ensures { SaysCertificate (rows_of (found_of found.now)) result }
+{
+    CertificateWords {
+        problem: problem_words(found),
+        certificate: found.get_str("certificate").unwrap(),
+        budget: found.get_one::<u64>("budget").unwrap(),
     }
 }
 
@@ -272,9 +302,8 @@ fn check_words<'a>(found: &ArgMatches<'a>) -> CheckWords<'a>
     ensures { SaysCheck (rows_of (found_of found.now)) result }
 {
     CheckWords {
-        problem: problem_words(found),
-        certificate: found.get_str("certificate").unwrap(),
-        budget: found.get_one::<u64>("budget").unwrap(),
+        check: certificate_words(found),
+        table: found.get_str("table"),
     }
 }
 
@@ -322,7 +351,7 @@ fn list_words<'a>(found: &ArgMatches<'a>) -> Result<ListWords<'a>, LoneOption>
 {
     let stored = stored_words(found)?;
     Ok(ListWords {
-        check: check_words(found),
+        check: certificate_words(found),
         stored,
     })
 }

@@ -1,16 +1,15 @@
 -- The table of the listed counties.
 use Rattle.std.specs.Prelude.{ℕ, List, [], ◌∷◌, ◌++◌, Option, Some, None, map, flat_map, codes, decimal}
-use Rattle.std.specs.String.{string_bytes}
 use Rattle.county_codes.specs.declared.county.County.{County}
 use Rattle.county_codes.specs.declared.group.Group.{Group}
 use Rattle.county_codes.specs.declared.withdrawn.Withdrawn.{Withdrawn}
 use Rattle.grouping_report.specs.Digits.{five_digits}
-use Rattle.pl94_counties.specs.declared.named.NamedCounty.{NamedCounty}
+use Rattle.pl94_counties.specs.Named.{CountyName}
 use Rattle.county_table.specs.LabelledSets.{SetValue, labelled_sets, set_of}
 use Rattle.county_table.specs.Quoting.{line_text}
 
 -- the counties without their names
-abbrev pub counties_of : List NamedCounty → List County
+abbrev pub counties_of : List CountyName → List County
 counties_of listed = map (λ k. k.county) listed
 
 -- the label, the seats and the people of a county's set; the three fields are empty if no set has the county
@@ -19,17 +18,17 @@ set_fields None = [] ∷ [] ∷ [] ∷ []
 set_fields (Some s) = s.label ∷ decimal s.seats ∷ decimal s.people ∷ []
 
 -- a county's code, its name, its people and the fields of its set
-abbrev pub county_fields : List SetValue → NamedCounty → List (List ℕ)
-county_fields sets k = five_digits k.county.code ∷ string_bytes k.name ∷ decimal k.county.people ∷ set_fields (set_of sets k.county.code)
+abbrev pub county_fields : List SetValue → CountyName → List (List ℕ)
+county_fields sets k = five_digits k.county.code ∷ k.name ∷ decimal k.county.people ∷ set_fields (set_of sets k.county.code)
 
 -- the names of the fields
 abbrev pub header_line : List ℕ
 header_line = codes "GEOID,NAME,POPULATION,GROUP,SEATS,GROUP_POPULATION\n"
 
 -- the lines of counties
-abbrev pub county_lines : List SetValue → List NamedCounty → List ℕ
+abbrev pub county_lines : List SetValue → List CountyName → List ℕ
 county_lines sets listed = flat_map (λ k. line_text (county_fields sets k)) listed
 
 -- the header, and a line for each listed county
-abbrev pub table_text : List NamedCounty → List Withdrawn → List Group → List ℕ
+abbrev pub table_text : List CountyName → List Withdrawn → List Group → List ℕ
 table_text listed withdrawn groups = header_line ++ county_lines (labelled_sets (counties_of listed) withdrawn groups) listed

@@ -1,10 +1,11 @@
 //! Withdrawn sets and groups, as the table labels them.
 
-ghost use Rattle.std.specs.Prelude.{◌≡◌, ◌++◌, IfOk, OnOk, codes as bytes_of, decimal};
+ghost use Rattle.std.specs.Prelude.{◌≡◌, ◌++◌, IfOk, OnOk, map, codes as bytes_of, decimal};
 ghost use Rattle.std.specs.Option.{option_copied};
 ghost use Rattle.place_lists.specs.Lists.{member};
-ghost use Rattle.county_table.specs.LabelledSets.{people_inside as people_of_set, set_under, numbered_groups, numbered_withdrawn, labelled_sets as sets_under_labels, set_of as set_of_code};
+ghost use Rattle.pl94_counties.specs.Named.{county_name};
 ghost use Rattle.county_table.specs.Table.{counties_of};
+ghost use Rattle.county_table.specs.LabelledSets.{people_inside as people_of_set, set_under, numbered_groups, numbered_withdrawn, labelled_sets as sets_under_labels, set_of as set_of_code};
 
 use county_codes::{Codes, CountyCode, Group, Withdrawn, has_code};
 use grouping_report::push_number;
@@ -61,7 +62,7 @@ impl LabelledSet {
 
 /// The people of the listed counties in a set. A `u128` holds the people of any list of counties.
 fn people_inside(listed: &[NamedCounty], codes: &[CountyCode]) -> u128
-    ensures { result ≡ people_of_set (counties_of listed.now) codes.now }
+    ensures { result ≡ people_of_set (counties_of (map county_name listed.now)) codes.now }
 {
     let mut people = 0;
     for named in listed {
@@ -81,7 +82,7 @@ fn numbered_set(
     seats: u16,
     codes: Codes,
 ) -> Result<LabelledSet, AllocError>
-    ensures { IfOk result (λ s. s ≡ set_under (counties_of listed.now) (mark.now ++ decimal number) seats codes) }
+    ensures { IfOk result (λ s. s ≡ set_under (counties_of (map county_name listed.now)) (mark.now ++ decimal number) seats codes) }
 {
     let mut label = Vec::from_slice(alloc, mark)?;
     push_number(&mut label, number)?;
@@ -100,7 +101,7 @@ fn push_withdrawn(
     listed: &[NamedCounty],
     withdrawn: &[Withdrawn],
 ) -> Result<(), AllocError>
-    ensures { OnOk result (sets.new.items ≡ sets.old.items ++ numbered_withdrawn (counties_of listed.now) 1 withdrawn.now) }
+    ensures { OnOk result (sets.new.items ≡ sets.old.items ++ numbered_withdrawn (counties_of (map county_name listed.now)) 1 withdrawn.now) }
 {
     let alloc = *sets.allocator();
     for (i, set) in withdrawn.iter().enumerate() {
@@ -117,7 +118,7 @@ fn push_groups(
     listed: &[NamedCounty],
     groups: &[Group],
 ) -> Result<(), AllocError>
-    ensures { OnOk result (sets.new.items ≡ sets.old.items ++ numbered_groups (counties_of listed.now) 1 groups.now) }
+    ensures { OnOk result (sets.new.items ≡ sets.old.items ++ numbered_groups (counties_of (map county_name listed.now)) 1 groups.now) }
 {
     let alloc = *sets.allocator();
     for (i, group) in groups.iter().enumerate() {
@@ -135,7 +136,7 @@ pub(crate) fn labelled_sets(
     withdrawn: &[Withdrawn],
     groups: &[Group],
 ) -> Result<Vec<LabelledSet>, AllocError>
-    ensures { IfOk result (λ v. v.items ≡ sets_under_labels (counties_of listed.now) withdrawn.now groups.now) }
+    ensures { IfOk result (λ v. v.items ≡ sets_under_labels (counties_of (map county_name listed.now)) withdrawn.now groups.now) }
 {
     let mut sets = Vec::new(alloc);
     push_withdrawn(&mut sets, listed, withdrawn)?;

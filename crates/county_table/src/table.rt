@@ -5,6 +5,7 @@ ghost use Rattle.std.specs.Option.{option_copied};
 ghost use Rattle.csv.specs.Writing.{default_writer, row_text};
 ghost use Rattle.county_table.specs.Quoting.{line_text};
 ghost use Rattle.county_table.specs.LabelledSets.{set_of as set_of_code};
+ghost use Rattle.pl94_counties.specs.Named.{county_name};
 ghost use Rattle.county_table.specs.Table.{county_fields, county_lines, table_text};
 
 use crate::sets::{LabelledSet, labelled_sets, set_of};
@@ -44,7 +45,7 @@ fn county_line(
     sets: &[LabelledSet],
     listed: &NamedCounty,
 ) -> Result<Vec<u8>, AllocError>
-    ensures { IfOk result (λ v. v.items ≡ line_text (county_fields sets.now listed.now)) }
+    ensures { IfOk result (λ v. v.items ≡ line_text (county_fields sets.now (county_name listed.now))) }
 {
     let mut geoid = Vec::new(alloc);
     push_code(&mut geoid, listed.county.code)?;
@@ -72,7 +73,7 @@ fn push_counties(
     sets: &[LabelledSet],
     listed: &[NamedCounty],
 ) -> Result<(), AllocError>
-    ensures { OnOk result (out.new.items ≡ out.old.items ++ county_lines sets.now listed.now) }
+    ensures { OnOk result (out.new.items ≡ out.old.items ++ county_lines sets.now (map county_name listed.now)) }
 {
     let alloc = *out.allocator();
     for county in listed {
@@ -97,7 +98,7 @@ pub fn county_table(
     withdrawn: &[Withdrawn],
     groups: &[Group],
 ) -> Result<Vec<u8>, AllocError>
-    ensures { IfOk result (λ v. v.items ≡ table_text listed.now withdrawn.now groups.now) }
+    ensures { IfOk result (λ v. v.items ≡ table_text (map county_name listed.now) withdrawn.now groups.now) }
 {
     let sets = labelled_sets(alloc, listed, withdrawn, groups)?;
     let mut out = Vec::from_slice(

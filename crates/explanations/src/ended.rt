@@ -94,7 +94,8 @@ fn explain_device(out: &mut String, ended: Ended<'_>) -> Result<(), AllocError> 
         reason: ended.reason,
     };
     match option {
-        FileOption::CertificateOut | FileOption::Out => explain_unstored(out, file),
+        FileOption::CertificateOut | FileOption::Out | FileOption::Table | FileOption::Record =>
+            explain_unstored(out, file),
         _ => explain_unloaded(out, file, ended.words.is_empty()),
     }
 }

@@ -1,4 +1,4 @@
-//! The files that `solve`, `list` and `share` store: what is amiss with their names before the run, and what stays under them after it.
+//! The files that commands store: what is amiss with their names before the run, and what stays under them after it.
 
 use crate::again::{closed_reason, is_plain};
 use crate::options::path_in;
@@ -9,8 +9,8 @@ use std::alloc::AllocError;
 use std::fmt::Write;
 use std::rt::Files;
 
-/// The options of the files that `solve`, `list` and `share` load.
-const INPUTS: [FileOption; 8] = [
+/// The options of the files that commands read.
+const INPUTS: [FileOption; 9] = [
     FileOption::Geo,
     FileOption::Segment,
     FileOption::Adjacency,
@@ -18,17 +18,37 @@ const INPUTS: [FileOption; 8] = [
     FileOption::Withdrawn,
     FileOption::Certificate,
     FileOption::Grouping,
+    FileOption::Assignments,
     FileOption::Events,
 ];
 
-/// The options of the files that `solve`, `list` and `share` store, in their order.
-const OUTPUTS: [FileOption; 2] = [FileOption::CertificateOut, FileOption::Out];
+/// The options of the files that commands store, in their order, and what each file is.
+const OUTPUTS: [(FileOption, &str); 4] = [
+    (FileOption::CertificateOut, "certificate"),
+    (FileOption::Out, "grouping"),
+    (FileOption::Table, "table"),
+    (FileOption::Record, "record"),
+];
+
+/// Whether the run stored the file of an option.
+fn has_stored_option(end: &End, option: FileOption) -> bool {
+    match option {
+        FileOption::CertificateOut => end.has_stored_certificate,
+        FileOption::Out => end.has_stored_out,
+        FileOption::Table => end.has_stored_table,
+        FileOption::Record => end.has_stored_record,
+        _ => false,
+    }
+}
 
 /// Whether the run stored a file under a path.
 fn has_stored(command: CommandWords<'_>, end: &End, path: &str) -> bool {
-    let is_certificate = path_in(command, FileOption::CertificateOut) == Some(path);
-    let is_out = path_in(command, FileOption::Out) == Some(path);
-    (is_certificate && end.has_stored_certificate) || (is_out && end.has_stored_out)
+    for (option, _) in OUTPUTS {
+        if has_stored_option(end, option) && path_in(command, option) == Some(path) {
+            return true;
+        }
+    }
+    false
 }
 
 /// Warns where an output has the name of an input.
@@ -69,22 +89,39 @@ fn warn_of_name(
     }
 }
 
-/// Warns where both outputs have one name.
-fn warn_of_one_name(out: &mut String, command: CommandWords<'_>) -> Result<(), AllocError> {
-    let certificate = path_in(command, FileOption::CertificateOut);
-    match path_in(command, FileOption::Out) {
-        Some(path) if certificate == Some(path) => {
+/// Warns where an output that is stored before another one has that one's name.
+fn warn_of_one_name(
+    out: &mut String,
+    command: CommandWords<'_>,
+    (second, later): (FileOption, &str),
+    path: &str,
+) -> Result<(), AllocError> {
+    for (first, earlier) in OUTPUTS {
+        if first == second {
+            break;
+        }
+        if path_in(command, first) == Some(path) {
             let name = name_of(path);
             writeln!(
                 out,
-                "countygroups: warning: --certificate and --out are both {name}: a grouping takes the place of the certificate"
-            )
+                "countygroups: warning: {first} and {second} are both {name}: a {later} takes the place of the {earlier}"
+            )?;
         }
-        _ => Ok(()),
     }
+    Ok(())
 }
 
-/// Warns of the names of the outputs before the search.
+/// Warns where two outputs have one name.
+fn warn_of_shared_names(out: &mut String, command: CommandWords<'_>) -> Result<(), AllocError> {
+    for (option, noun) in OUTPUTS {
+        if let Some(path) = path_in(command, option) {
+            warn_of_one_name(out, command, (option, noun), path)?;
+        }
+    }
+    Ok(())
+}
+
+/// Warns of the names of the outputs before the run.
 ///
 /// # Errors
 ///
@@ -94,8 +131,8 @@ pub(crate) fn warn_of_outputs(
     out: &mut String,
     command: CommandWords<'_>,
 ) -> Result<(), AllocError> {
-    warn_of_one_name(out, command)?;
-    for option in OUTPUTS {
+    warn_of_shared_names(out, command)?;
+    for (option, _) in OUTPUTS {
         if let Some(path) = path_in(command, option) {
             warn_of_inputs(out, command, option, path)?;
             warn_of_name(rt, out, option, path)?;
@@ -115,7 +152,7 @@ pub(crate) fn warn_of_older_files(
     command: CommandWords<'_>,
     end: &End,
 ) -> Result<(), AllocError> {
-    for option in OUTPUTS {
+    for (option, _) in OUTPUTS {
         match path_in(command, option) {
             Some(path) if !has_stored(command, end, path) && is_plain(rt, path) => {
                 let name = name_of(path);

@@ -6,6 +6,7 @@ use crate::options::{NamedFile, Options};
 use crate::shown::start_of;
 use cli::{FileFault, FileOption};
 use command_words::CommandWords;
+use field_lines::field_at;
 use grouping_problem::ProblemFault;
 use pl94_counties::Pl94Kind;
 use std::alloc::AllocError;
@@ -132,6 +133,23 @@ fn explain_census(
     }
 }
 
+/// The NAME of a county line.
+fn name_on(line: Option<&[u8]>) -> &[u8] {
+    match line {
+        Some(line) => field_at(line, b'|', 87).unwrap_or(b""),
+        None => b"",
+    }
+}
+
+/// Says what helps against a NAME that isn't UTF-8.
+fn explain_name(out: &mut String, line: Option<&[u8]>) -> Result<(), AllocError> {
+    let name = start_of(name_on(line));
+    writeln!(
+        out,
+        "countygroups: its field 88, the NAME of a county, is: {name}\ncountygroups: store the file as UTF-8, or leave out --table"
+    )
+}
+
 /// Says what helps against a fault.
 fn explain_help(
     rt: &impl Files,
@@ -145,6 +163,7 @@ fn explain_help(
     }
     match fault {
         FileFault::Census(fault) => explain_census(rt, out, options, option, (fault.kind, text)),
+        FileFault::BadName(line) => explain_name(out, cut_line(text, u64::from(*line))),
         _ => {
             let words = remedy(option);
             writeln!(out, "countygroups: {words}")

@@ -7,6 +7,8 @@ use Rattle.pl94_counties.specs.declared.fault.File.TheVariants as files
 use Rattle.pl94_counties.specs.declared.fault.Pl94Kind.{Pl94Kind}
 use Rattle.pl94_counties.specs.declared.fault.Pl94Kind.TheVariants as kinds
 use Rattle.pl94_counties.specs.declared.fault.Pl94Fault.{Pl94Fault}
+use Rattle.pl94_counties.specs.declared.named.NamedFault.{NamedFault}
+use Rattle.pl94_counties.specs.declared.named.NamedFault.TheVariants as names
 use Rattle.seat_lines.specs.declared.fault.CodeLineKind.{CodeLineKind}
 use Rattle.seat_lines.specs.declared.fault.CodeLineKind.TheVariants as lines_of_codes
 use Rattle.seat_lines.specs.declared.fault.CodeLineFault.{CodeLineFault}
@@ -123,6 +125,11 @@ file_answer file kind line = input_answer file (kind_word kind) (shown_line kind
 -- the answer to a fault of a PL 94-171 file
 abbrev pub pl94_answer : Pl94Fault → Answered
 pl94_answer fault = file_answer (input_of fault.file) fault.kind fault.line
+
+-- the answer to a fault of the files of a state, or of the NAME of a county
+abbrev pub named_answer : NamedFault → Answered
+named_answer (names.Files fault) = pl94_answer fault
+named_answer (names.BadName line) = input_answer Geo (codes "BadName") line
 
 -- a fault of this kind, at this line of a file whose lines have county codes
 abbrev pub code_line_answer : InputFile → CodeLineKind → ℕ → Answered

@@ -15,6 +15,6 @@ pub use answer::{Answer, Refusal};
 pub use board_refusal::{refuse_board, refuse_events};
 pub use check_lines::{budget_answer, no_answer};
 pub use refusal::{
-    InputFile, MEMORY, refuse_assignments, refuse_codes, refuse_file, refuse_load, refuse_problem,
-    refuse_verdict,
+    InputFile, MEMORY, refuse_assignments, refuse_codes, refuse_file, refuse_load,
+    refuse_named_counties, refuse_problem, refuse_verdict,
 };

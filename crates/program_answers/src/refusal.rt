@@ -2,12 +2,13 @@
 
 ghost use Rattle.std.specs.Prelude.{◌≡◌, ◌≢◌, ℕ, ◌++◌, OnOk, IfOk, codes, decimal};
 ghost use Rattle.pl94_counties.specs.declared.fault.Pl94Kind.TheVariants as kinds;
+ghost use Rattle.pl94_counties.specs.Named.{IsNoMemory};
 ghost use Rattle.grouping_problem.specs.declared.fault.ProblemFault.TheVariants as problem;
 ghost use Rattle.program_answers.specs.Answers.{Refuses, IsShown};
 ghost use Rattle.grouping_report.specs.Digits.{five_digits};
 ghost use Rattle.seat_lines.specs.declared.fault.CodeLineKind.TheVariants as lines_of_codes;
 ghost use Rattle.assignment_file.specs.declared.fault.AssignmentKind.TheVariants as lines_of_assignments;
-ghost use Rattle.program_answers.specs.Refusals.{line_fault_word, kind_word, code_line_word, assignment_word, assignment_answer, cut_line, file_word, input_of as input_file_of, refused_line, input_answer, pl94_answer, code_file_answer, fault_line, verdict_answer, after_blank, problem_words, refused_problem, problem_answer, shelf_word, device_line, shelf_answer};
+ghost use Rattle.program_answers.specs.Refusals.{line_fault_word, kind_word, code_line_word, assignment_word, assignment_answer, cut_line, file_word, input_of as input_file_of, refused_line, input_answer, pl94_answer, named_answer, code_file_answer, fault_line, verdict_answer, after_blank, problem_words, refused_problem, problem_answer, shelf_word, device_line, shelf_answer};
 
 use crate::answer::Refusal;
 use baf_auditor::{AssignmentFault, AssignmentKind};
@@ -16,7 +17,7 @@ use field_lines::LineFault;
 use grouping_judge::GroupingFault;
 use grouping_problem::ProblemFault;
 use grouping_report::{push_code, push_grouping_fault, push_number};
-use pl94_counties::{File, Pl94Fault, Pl94Kind};
+use pl94_counties::{File, NamedFault, Pl94Fault, Pl94Kind};
 use seat_lines::{CodeLineFault, CodeLineKind};
 use shelves::ShelfFault;
 use std::alloc::{AllocError, Global};
@@ -174,6 +175,21 @@ pub fn refuse_file(alloc: Global, fault: Pl94Fault) -> Refusal
         word_of_kind(fault.kind),
         u64::from(line),
     )
+}
+
+/// The refusal of a fault of the files of a state, or of the NAME of a county. A fault of the files is refused as
+/// `refuse_file` says. If a NAME isn't UTF-8, the refusal is `refused geo BadName line L` with exit status 4, or
+/// `Memory` if the line found no memory.
+pub fn refuse_named_counties(alloc: Global, fault: NamedFault) -> Refusal
+    ensures answer { Refuses (named_answer fault) result }
+    ensures shown { IsShown result → IsNoMemory fault → ⊥ }
+{
+    match fault {
+        NamedFault::Files(fault) => refuse_file(alloc, fault),
+        NamedFault::BadName(line) => {
+            refuse_input(alloc, InputFile::Geo, b"BadName", u64::from(line))
+        }
+    }
 }
 
 /// The refusal of a fault of a file whose lines have county codes: `refused FILE KIND line L` with exit status 4, or

@@ -31,6 +31,16 @@ impl ByteSum {
         self.bytes
     }
 
+    /// An equal sum.
+    pub fn copy(&self) -> Self
+        ensures { result ≡ self.now }
+    {
+        ByteSum {
+            bytes: self.bytes,
+            digest: self.digest,
+        }
+    }
+
     /// The 64 hexadecimal digits of the digest, letters in lower case.
     pub fn digest(&self) -> &[u8]
         ensures { result.now ≡ self.now.digest }

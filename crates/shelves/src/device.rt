@@ -6,9 +6,9 @@ ghost use Rattle.shelves.specs.History.{no_history};
 ghost use Rattle.shelves.specs.declared.shelf.ShelfFault.TheVariants.{Missing, TooLarge};
 
 use crate::file_reader::FileReader;
-use crate::log::EventLog;
 use crate::replace::replace_file;
 use crate::shelf::{MAX_FILE, ReadEnd, Shelf, ShelfFault};
+use crate::sums::{EventSum, EventSums};
 use crate::whole::{WholeFault, read_whole};
 use field_lines::Reading;
 use std::alloc::Global;
@@ -23,7 +23,7 @@ pub struct FileShelf<R> {
     rt: R,
     failures: u64,
     reason: Option<ErrorKind>,
-    log: EventLog,
+    log: EventSums,
 }
 
 impl<R: Files + AllocGlobal> FileShelf<R> {
@@ -35,7 +35,7 @@ impl<R: Files + AllocGlobal> FileShelf<R> {
             rt,
             failures: 0,
             reason: None,
-            log: EventLog::new(),
+            log: EventSums::new(),
         }
     }
 
@@ -130,7 +130,7 @@ impl<R: Files + AllocGlobal> FileShelf<R> {
     fn read_file(&mut self, alloc: Global, name: &str) -> Result<Vec<u8>, ShelfFault>
         ensures small { IfOk result (λ v. vec_len v ≤ 1073741824) }
         ensures counted { IsCounted self.old.failures self.new.failures result }
-        ensures same { self.new.log.events ≡ self.old.log.events }
+        ensures same { self.new.log ≡ self.old.log }
     {
         let file = match fs::open(&self.rt, name) {
             Ok(file) => file,
@@ -167,21 +167,21 @@ impl<R: Files + AllocGlobal> Shelf for FileShelf<R> {
 
     ghost stored = { λ _. None };
 
-    ghost history = { λ s. record { failures = s.failures; events = s.log.events } };
+    ghost history = { λ s. record { failures = s.failures; events = s.log } };
 
     fn load(&mut self, alloc: Global, name: &str) -> Result<Vec<u8>, ShelfFault> {
         let answer = self.read_file(alloc, name);
-        self.log.note_load(name.as_bytes(), &answer);
+        self.log.note_load(name, &answer);
         answer
     }
 
     fn reader(&mut self, _alloc: Global, name: &str) -> Result<FileReader<R::File>, ShelfFault> {
         match fs::open(&self.rt, name) {
-            Ok(file) => Ok(FileReader::new(file)),
+            Ok(file) => Ok(FileReader::new(file, self.log.are_kept())),
             Err(error) => {
                 self.reason = Some(error.kind());
                 let fault = load_fault(&error, &mut self.failures);
-                self.log.note_load(name.as_bytes(), &Err(fault));
+                self.log.note_load(name, &Err(fault));
                 Err(fault)
             }
         }
@@ -199,7 +199,8 @@ impl<R: Files + AllocGlobal> Shelf for FileShelf<R> {
                 Err(device_fault(&mut self.failures))
             }
         };
-        self.log.note_read(name.as_bytes(), reader.log(), &answer);
+        let (given, sum) = reader.into_given();
+        self.log.note_read(name, &given, sum, &answer);
         answer
     }
 
@@ -216,11 +217,23 @@ impl<R: Files + AllocGlobal> Shelf for FileShelf<R> {
                 Err(store_fault(&error, &mut self.failures))
             }
         };
-        self.log.note_store(name.as_bytes(), bytes, &answer);
+        self.log.note_store(name, bytes, &answer);
         answer
     }
 
     fn failures(&self) -> u64 {
         self.failures
+    }
+
+    fn keep_sums(&mut self, alloc: Global) {
+        self.log.keep(alloc);
+    }
+
+    fn events(&self) -> u64 {
+        self.log.count()
+    }
+
+    fn sums(&self) -> Option<&[EventSum]> {
+        self.log.sums()
     }
 }

@@ -1,12 +1,15 @@
 //! A file of the machine, read as it comes.
 
-ghost use Rattle.std.specs.Prelude.{◌≡◌, ◌==◌, [], false, if◌then◌else◌};
+ghost use Rattle.std.specs.Prelude.{◌≡◌, ◌==◌, [], IfSome, false, if◌then◌else◌};
 ghost use Rattle.std.specs.Option.{is_some};
+ghost use Rattle.run_record.specs.Sums.{sum_of as sum_of_bytes};
 ghost use Rattle.shelves.specs.declared.shelf.ReadEnd.TheVariants.{Whole, Part};
 
 use crate::given::GivenBytes;
+use crate::given_sum::GivenSum;
 use crate::shelf::ReadEnd;
 use field_lines::{Source, SourceFault};
+use run_record::ByteSum;
 use std::io::{ErrorKind, Read};
 
 /// How often a read is made before one that was interrupted each time counts as failed.
@@ -19,7 +22,7 @@ pub struct FileReader<F> {
     file: F,
     end: ReadEnd,
     reason: Option<ErrorKind>,
-    log: GivenBytes,
+    log: GivenSum,
 }
 
 /// Where a reader stands after a pull that gave so many bytes.
@@ -34,8 +37,9 @@ fn end_after(count: usize) -> ReadEnd
 }
 
 impl<F: Read> FileReader<F> {
-    /// A reader of what is left in a file. It has given nothing, and hasn't failed.
-    pub(crate) fn new(file: F) -> Self
+    /// A reader of what is left in a file. It has given nothing, and hasn't failed. If a sum is asked for, it sums what it
+    /// gives.
+    pub(crate) fn new(file: F, is_summed: bool) -> Self
         ensures given { ⟦<FileReader<F> as Source>⟧.given result ≡ [] }
         ensures failed { ⟦<FileReader<F> as Source>⟧.is_failed result ≡ false }
     {
@@ -43,7 +47,7 @@ impl<F: Read> FileReader<F> {
             file,
             end: ReadEnd::Part,
             reason: None,
-            log: GivenBytes::new(),
+            log: GivenSum::new(is_summed),
         }
     }
 
@@ -58,19 +62,22 @@ impl<F: Read> FileReader<F> {
     {
         self.reason
     }
+}
 
-    /// The bytes that were given, as the log has them.
-    pub(crate) fn log(&self) -> &GivenBytes
-        ensures { result.now.bytes ≡ ⟦<FileReader<F> as Source>⟧.given self.now }
+impl<F: Read + Drop> FileReader<F> {
+    /// The bytes that were given, as the log has them, and their sum if it was asked for.
+    pub(crate) fn into_given(self) -> (GivenBytes, Option<ByteSum>)
+        ensures given { result.0.bytes ≡ ⟦<FileReader<F> as Source>⟧.given self }
+        ensures sum { IfSome result.1 (λ sum. sum ≡ sum_of_bytes (⟦<FileReader<F> as Source>⟧.given self)) }
     {
-        &self.log
+        self.log.finish()
     }
 }
 
 impl<F: Read> Source for FileReader<F> {
     ghost content = { λ r. F.remaining r.file };
 
-    ghost given = { λ r. r.log.bytes };
+    ghost given = { λ r. r.log };
 
     ghost is_failed = { λ r. is_some r.reason };
 

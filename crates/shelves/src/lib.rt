@@ -5,20 +5,24 @@
 mod device;
 mod file_reader;
 mod given;
+mod given_sum;
 mod log;
 mod memory;
 mod memory_reader;
 mod replace;
 mod shelf;
 mod sink;
+mod sums;
 mod whole;
 
 pub use device::FileShelf;
 pub use file_reader::FileReader;
 pub use given::GivenBytes;
+pub use given_sum::GivenSum;
 pub use log::EventLog;
 pub use memory::{MemoryFile, MemoryShelf};
 pub use memory_reader::MemoryReader;
 pub use shelf::{MAX_FILE, ReadEnd, Shelf, ShelfFault};
 pub use sink::{Sink, SinkFault, Writing};
+pub use sums::{EventKind, EventSum, EventSums};
 pub use whole::{WholeFault, read_whole};

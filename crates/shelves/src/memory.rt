@@ -7,9 +7,9 @@ ghost use Rattle.shelves.specs.Shelf.{Loads, Opens, IsCounted};
 ghost use Rattle.shelves.specs.Memory.{bytes_in, files_of, HasPlace, EndsIn};
 ghost use Rattle.shelves.specs.declared.shelf.ShelfFault.TheVariants.{Memory};
 
-use crate::log::EventLog;
 use crate::memory_reader::MemoryReader;
 use crate::shelf::{MAX_FILE, ReadEnd, Shelf, ShelfFault};
+use crate::sums::{EventSum, EventSums};
 use std::alloc::{AllocError, Global};
 use std::marker::Model;
 
@@ -27,7 +27,7 @@ pub struct MemoryFile {
 pub struct MemoryShelf {
     files: Vec<MemoryFile>,
     stored: Vec<MemoryFile>,
-    log: EventLog,
+    log: EventSums,
 }
 
 impl Model for MemoryShelf {
@@ -36,7 +36,7 @@ impl Model for MemoryShelf {
     /// The files that it began with, those that were stored, and what was loaded, read and stored.
     ghost Value = { MemoryValue };
 
-    ghost view = { λ s. record { files = files_of s.files.items; stored = files_of s.stored.items; events = s.log.events } };
+    ghost view = { λ s. record { files = files_of s.files.items; stored = files_of s.stored.items; events = s.log } };
 }
 
 /// The first file of the name.
@@ -95,7 +95,7 @@ impl MemoryShelf {
         MemoryShelf {
             files,
             stored: Vec::new(alloc),
-            log: EventLog::new(),
+            log: EventSums::new(),
         }
     }
 
@@ -193,7 +193,7 @@ impl Shelf for MemoryShelf {
 
     fn load(&mut self, alloc: Global, name: &str) -> Result<Vec<u8>, ShelfFault> {
         let answer = self.bytes(alloc, name);
-        self.log.note_load(name.as_bytes(), &answer);
+        self.log.note_load(name, &answer);
         answer
     }
 
@@ -201,7 +201,7 @@ impl Shelf for MemoryShelf {
         match self.copy_of(alloc, name) {
             Ok(bytes) => Ok(MemoryReader::new(bytes)),
             Err(fault) => {
-                self.log.note_load(name.as_bytes(), &Err(fault));
+                self.log.note_load(name, &Err(fault));
                 Err(fault)
             }
         }
@@ -209,17 +209,30 @@ impl Shelf for MemoryShelf {
 
     fn give_back(&mut self, name: &str, reader: MemoryReader) -> Result<ReadEnd, ShelfFault> {
         let answer = end_in(self.file(name), reader.given());
-        self.log.note_read(name.as_bytes(), reader.log(), &answer);
+        let sum = reader.sum_if(self.log.are_kept());
+        self.log.note_read(name, reader.log(), sum, &answer);
         answer
     }
 
     fn store(&mut self, alloc: Global, name: &str, bytes: &[u8]) -> Result<(), ShelfFault> {
         let answer = self.put(alloc, name, bytes);
-        self.log.note_store(name.as_bytes(), bytes, &answer);
+        self.log.note_store(name, bytes, &answer);
         answer
     }
 
     fn failures(&self) -> u64 {
         0
+    }
+
+    fn keep_sums(&mut self, alloc: Global) {
+        self.log.keep(alloc);
+    }
+
+    fn events(&self) -> u64 {
+        self.log.count()
+    }
+
+    fn sums(&self) -> Option<&[EventSum]> {
+        self.log.sums()
     }
 }

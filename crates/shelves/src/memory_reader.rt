@@ -1,9 +1,11 @@
 //! A file in memory, read as it comes.
 
-ghost use Rattle.std.specs.Prelude.{◌≡◌, ◌<◌, ◌≤◌, [], Some, false, length, take, drop};
+ghost use Rattle.std.specs.Prelude.{◌≡◌, ◌<◌, ◌≤◌, [], Some, IfSome, false, length, take, drop};
+ghost use Rattle.run_record.specs.Sums.{sum_of as sum_of_bytes};
 
 use crate::given::GivenBytes;
 use field_lines::{Source, SourceFault};
+use run_record::{ByteSum, sum_of};
 use std::io::Read;
 use std::marker::Model;
 
@@ -57,6 +59,17 @@ impl MemoryReader {
         ensures { result.now ≡ self.now.given }
     {
         &self.bytes[..self.at]
+    }
+
+    /// The sum of the bytes that were given, if it is asked for.
+    pub(crate) fn sum_if(&self, asked: bool) -> Option<ByteSum>
+        ensures { IfSome result (λ sum. sum ≡ sum_of_bytes self.now.given) }
+    {
+        if asked {
+            Some(sum_of(self.given()))
+        } else {
+            None
+        }
     }
 
     /// The bytes that were given, as the log has them.

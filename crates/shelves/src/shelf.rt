@@ -1,11 +1,13 @@
 //! Shelves: named files that are loaded, opened and stored.
 
-ghost use Rattle.std.specs.Prelude.{◌≡◌, ℕ, ◌<◌, ◌≤◌, false, List, [], Option, IfOk, OnOk, OnErr, option_map, vec_len};
+ghost use Rattle.std.specs.Prelude.{◌≡◌, ℕ, ◌-◌, ◌^◌, ◌<◌, ◌≤◌, false, List, [], Option, IfOk, IfSome, OnOk, OnErr, length, min, option_map, vec_len};
 ghost use Rattle.shelves.specs.Files.{File, Files, with_file, with_bytes};
 ghost use Rattle.shelves.specs.Shelf.{IsLoad, Opens, IsRead, IsStore};
 ghost use Rattle.shelves.specs.History.{History, HasLoaded, HasOpened, HasRead, HasPut};
+ghost use Rattle.shelves.specs.Sums.{AreOfLast};
 ghost use Rattle.shelves.specs.declared.shelf.ShelfFault.TheVariants.{Memory};
 
+use crate::sums::EventSum;
 use field_lines::Source;
 use std::alloc::{AllocError, Global};
 use thiserror::Error;
@@ -125,4 +127,19 @@ pub trait Shelf {
     /// How often the device has failed.
     fn failures(&self) -> u64
         ensures { result ≡ (history self.now).failures };
+
+    /// Keeps the sums of what the shelf gives and takes from now on. Sums kept before are dropped.
+    fn keep_sums(&mut self, alloc: Global)
+        ensures same { contents self.new ≡ contents self.old }
+        ensures kept { stored self.new ≡ stored self.old }
+        ensures still { history self.new ≡ history self.old };
+
+    /// How many events the history has, or 2^64 - 1 if the history has more.
+    fn events(&self) -> u64
+        ensures { result ≡ min (length (history self.now).events) (2 ^ 64 - 1) };
+
+    /// The sums of the last events of the history, one for each event since the shelf keeps sums. None if the shelf keeps none, or
+    /// if a growth was refused for one of them.
+    fn sums(&self) -> Option<&[EventSum]>
+        ensures { IfSome result (λ sums. AreOfLast (history self.now).events sums.now) };
 }

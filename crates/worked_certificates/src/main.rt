@@ -1,23 +1,28 @@
 //! Worked trees and leaves, which no file of the command reaches. From a file of cases come trees alone and in front of
 //! other text, and lines of words. Then come values without a spelling, and ten thousand trees that are made, written
-//! and read. The last is which leaf is found at the state where nothing is closed, with the checker's verdict on it.
+//! and read. Then comes which leaf is found at the state where nothing is closed, with the checker's verdict on it. The
+//! last are verdicts on texts that are pulled from a source a few bytes at a time, or whose source fails at one pull.
 //!
-//! A case begins with a line `== KIND: NAME`, and its bytes are the lines up to the next such line. In the file
-//! `problems` a case of the kind `problem` tells the problem of those behind it, and `leaf LIMIT` asks for the leaf
-//! that is found, with the grouping of the case as the target.
+//! A case begins with a line `== KIND: NAME`, and its bytes are the lines up to the next such line. In the files
+//! `problems` and `checks` a case of the kind `problem` tells the problem of those behind it. `leaf LIMIT` asks for the
+//! leaf that is found, with the grouping of the case as the target. `check` asks for the verdicts on the bytes of the
+//! case, and `cut` for those on the bytes without the last LF.
 #![tactic(auto)]
 
 mod cases;
 mod generated;
 mod leaves;
 mod problems;
+mod pulled;
 mod readings;
+mod script;
 mod unspelled;
 
 use crate::cases::{Case, cases_of};
 use crate::generated::round_trips;
 use crate::leaves::leaf_said;
 use crate::problems::problem_in;
+use crate::pulled::show_check;
 use crate::readings::reading;
 use crate::unspelled::without_spelling;
 use anyhow::{Context, Result};
@@ -73,10 +78,36 @@ fn show_leaves(rt: &HostRuntime) -> Result<()> {
     Ok(())
 }
 
+/// Prints the verdicts on the text of a case over the problem in front of it, or keeps the problem that the case tells.
+fn show_verdicts(rt: &HostRuntime, problem: &mut Option<Problem>, case: &Case) -> Result<()> {
+    if case.kind == "problem" {
+        *problem = Some(problem_in(rt.alloc(), &case.bytes)?);
+        return Ok(());
+    }
+    let problem = problem.as_ref().context("a problem")?;
+    let whole = case.bytes.as_slice();
+    let text = match case.kind {
+        "cut" => whole.strip_suffix(b"\n").unwrap_or(whole),
+        _ => whole,
+    };
+    show_check(rt, problem, case.name, text)
+}
+
+/// Prints the verdicts on the texts of the file.
+fn show_checks(rt: &HostRuntime) -> Result<()> {
+    let text = fs::read(rt, "checks")?;
+    let mut problem = None;
+    for case in &cases_of(rt.alloc(), &text)? {
+        show_verdicts(rt, &mut problem, case)?;
+    }
+    Ok(())
+}
+
 fn main(rt: HostRuntime) -> Result<()> {
     show_cases(&rt)?;
     show_unspelled(&rt)?;
     let back = round_trips(rt.alloc(), TREES)?;
     println!(rt; "{back} of {TREES} trees read back as they were written")?;
-    show_leaves(&rt)
+    show_leaves(&rt)?;
+    show_checks(&rt)
 }

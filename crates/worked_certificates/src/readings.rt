@@ -1,6 +1,6 @@
 //! What is said of a case: a tree, a tree in front of other bytes, or a line of words.
 
-use anyhow::Result;
+use anyhow::{Error, Result};
 use certificate_text::{
     ItemSource, Items, TextFault, TextKind, Words, front_tree, read_tree, write_tree,
 };
@@ -17,21 +17,29 @@ fn comes<S: ItemSource<()>>(items: &mut S) -> std::result::Result<bool, TextFaul
     Ok(items.next_item(&mut ())?.is_some())
 }
 
+/// A fault of the text. An error where memory was refused.
+fn of_text(fault: TextFault) -> Result<TextFault> {
+    match fault.kind {
+        TextKind::Memory => Err(Error::from(fault)),
+        _ => Ok(fault),
+    }
+}
+
 /// How many items come, and the fault that ends them.
-fn count_items<S: ItemSource<()>>(items: &mut S) -> (u64, Option<TextFault>) {
+fn count_items<S: ItemSource<()>>(items: &mut S) -> Result<(u64, Option<TextFault>)> {
     for count in 0..u64::MAX {
         match comes(items) {
             Ok(true) => {}
-            Ok(false) => return (count, None),
-            Err(fault) => return (count, Some(fault)),
+            Ok(false) => return Ok((count, None)),
+            Err(fault) => return Ok((count, Some(of_text(fault)?))),
         }
     }
-    (u64::MAX, None)
+    Ok((u64::MAX, None))
 }
 
 /// A fault, where it is also met item by item.
 fn fault_said(alloc: Global, fault: TextFault, met: Option<TextFault>) -> Result<String> {
-    let TextFault { kind, line } = fault;
+    let TextFault { kind, line } = of_text(fault)?;
     if met == Some(fault) {
         Ok(format!(in alloc; "{kind:?} line {line}")?)
     } else {
@@ -41,7 +49,7 @@ fn fault_said(alloc: Global, fault: TextFault, met: Option<TextFault>) -> Result
 
 /// A tree, read, copied and written, for an order of three counties.
 fn tree(alloc: Global, bytes: &[u8], language: Language) -> Result<String> {
-    let (lines, met) = count_items(&mut Items::of_tree(alloc, bytes, language, 3));
+    let (lines, met) = count_items(&mut Items::of_tree(alloc, bytes, language, 3))?;
     match read_tree(alloc, bytes, language, 3) {
         Ok(tree) => {
             let again = write_tree(alloc, &tree.copy()?, language, 3)?;
@@ -63,7 +71,7 @@ fn front(alloc: Global, bytes: &[u8], language: Language) -> Result<String> {
             Ok(format!(in alloc; "tree in front of {left} bytes, written back {outcome}")?)
         }
         Err(fault) => {
-            let TextFault { kind, line } = fault;
+            let TextFault { kind, line } = of_text(fault)?;
             Ok(format!(in alloc; "{kind:?} line {line}")?)
         }
     }
@@ -84,6 +92,7 @@ fn words(alloc: Global, bytes: &[u8]) -> Result<String> {
     let line = bytes.strip_suffix(b"\n").unwrap_or(bytes);
     match line_of(alloc, line) {
         Ok((number, codes)) => Ok(format!(in alloc; "number {number}, {codes} codes")?),
+        Err(TextKind::Memory) => Err(Error::from(TextKind::Memory)),
         Err(kind) => Ok(format!(in alloc; "{kind:?}")?),
     }
 }

@@ -3,7 +3,7 @@
 ghost use Rattle.std.specs.Prelude.{◌≤◌};
 ghost use Rattle.county_codes.specs.Limits.{most_counties};
 
-use anyhow::{Context, Result};
+use anyhow::{Context, Error, Result};
 use certificate_text::{
     Allowance, Branch, Certificate, Leaf, Take, Tree, Weight, Weights, WriteFault, read, write,
     write_tree,
@@ -33,6 +33,7 @@ fn said(
             let bytes = text.len();
             Ok(format!(in alloc; "{name}: {bytes} bytes")?)
         }
+        Err(WriteFault::Memory) => Err(Error::from(WriteFault::Memory)),
         Err(fault) => named(alloc, name, &fault),
     }
 }

@@ -1,18 +1,27 @@
-use Rattle.std.proofs.Common.{Option, subst}
-use Rattle.shelves.specs.Files.{Files}
-use Rattle.program_answers.specs.Answers.{answer_of, Comes}
-use Rattle.command_runs.specs.ProblemCourse.{problem_in}
-use Rattle.command_runs.proofs.RunLemmas.{went_on}
-use Rattle.cli.specs.Streams.{checked_text}
+use Rattle.std.proofs.Common.{[]}
+use Rattle.program_answers.specs.Answers.{said_by}
+use Rattle.command_runs.specs.CheckCourse.{check_course}
+use Rattle.command_runs.specs.Storing.{named_file}
+use Rattle.command_runs.specs.Texts.{reported_of}
+use Rattle.command_runs.proofs.StoreLemmas.{none_stored}
+use Rattle.cli.proofs.StoringLemmas.{from_start, refused_run, said_run}
 use Rattle.cli.proofs.check.check.Goals as goal
 
-pub returns-clause-course : goal.returns-clause-course
-returns-clause-course g c =
+pub returns-in_err-reported : goal.returns-in_err-reported
+returns-in_err-reported g c = (
+  [],
+  none_stored (g.H.Shelf.contents c.args.shelf.now) (g.H.Shelf.contents c.check_files.new.shelf) (g.H.Shelf.stored c.args.shelf.now) (g.H.Shelf.stored c.check_files.new.shelf) c.check_files.ensures.same c.check_files.ensures.kept,
+  refused_run (check_course (g.H.Shelf.contents c.args.shelf.now) c.args.words) (λ r. named_file c.args.words.table r.table) (λ r. r.answer) (g.H.Shelf.history c.args.shelf.now) (g.H.Shelf.history c.check_files.new.shelf) c.in_err-reported.field-0.0 c.from_residual.result c.from_residual.ensures.1 c.in_err-reported.ensures.course,
+)
+
+pub returns : goal.returns
+returns g c =
     let files = g.H.Shelf.contents c.args.shelf.now in
-    let words = c.args.words in
-    let v = c.in_ok-problem.problem in
     let before = g.H.Shelf.history c.args.shelf.now in
-    let between = g.H.Shelf.history c.load_problem.new.shelf in
-    let after = g.H.Shelf.history c.check_file.new.shelf in
-    let checked = subst (λ (known : Option Files). Comes answer_of c.check_file.result (checked_text known words v between after)) c.load_problem.ensures.same c.check_file.ensures.course in
-    went_on answer_of c.check_file.result (problem_in files words.problem) (checked_text files words) v before between after c.in_ok-problem.ensures.course checked
+    let between = g.H.Shelf.history c.check_files.new.shelf in
+    let after = g.H.Shelf.history c.store_reported.new.shelf in
+    let end = c.store_reported.ensures in (
+      end.0,
+      from_start files (g.H.Shelf.contents c.check_files.new.shelf) (g.H.Shelf.contents c.store_reported.new.shelf) (g.H.Shelf.stored c.args.shelf.now) (g.H.Shelf.stored c.check_files.new.shelf) (g.H.Shelf.stored c.store_reported.new.shelf) end.0 c.check_files.ensures.same c.check_files.ensures.kept end.2,
+      said_run (check_course files c.args.words) (λ r. named_file c.args.words.table r.table) (λ r. r.answer) (reported_of c.in_ok-reported.reported) before between after end.0 end.1 (said_by c.store_reported.result) c.in_ok-reported.ensures.course end.3 end.4,
+    )

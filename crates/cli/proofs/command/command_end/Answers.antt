@@ -1,10 +1,9 @@
 use Rattle.std.proofs.Common.{List, [], refl, sym, subst}
 use Rattle.shelves.specs.Files.{File}
 use Rattle.command_words.specs.declared.words.CommandWords.{CommandWords}
-use Rattle.command_words.specs.declared.words.CommandWords.TheVariants.{Size, Judge, Check, Audit, Piece}
+use Rattle.command_words.specs.declared.words.CommandWords.TheVariants.{Size, Audit, Piece}
 use Rattle.program_answers.specs.Answers.{said_by}
-use Rattle.command_runs.specs.JudgeCourse.{size_course, judge_course, audit_course}
-use Rattle.command_runs.specs.CheckCourse.{check_course}
+use Rattle.command_runs.specs.JudgeCourse.{size_course, audit_course}
 use Rattle.command_runs.specs.PieceCourse.{piece_course}
 use Rattle.command_runs.specs.Storing.{HasStored}
 use Rattle.command_runs.specs.Run.{CommandRun}
@@ -34,11 +33,8 @@ returns-in-Judge g c =
     let last = g.H.Shelf.stored c.judge.new.shelf in
     let before = g.H.Shelf.history c.args.shelf.now in
     let after = g.H.Shelf.history c.judge.new.shelf in
-    subst (λ (command : CommandWords). (x : List File) × HasStored files later listed last x × CommandRun files command before after x (said_by c.judge.result)) (sym c.in-Judge.is) (
-      [],
-      none_stored files later listed last c.judge.ensures.same c.judge.ensures.kept,
-      quiet_run files (Judge c.in-Judge.words) (judge_course files c.in-Judge.words) before after c.judge.result (λ a h. (h, refl)) c.judge.ensures.course,
-    )
+    subst (λ (command : CommandWords). (x : List File) × HasStored files later listed last x × CommandRun files command before after x (said_by c.judge.result)) (sym c.in-Judge.is)
+    c.judge.ensures
 
 pub returns-in-Solve : goal.returns-in-Solve
 returns-in-Solve g c =
@@ -59,11 +55,8 @@ returns-in-Check g c =
     let last = g.H.Shelf.stored c.check.new.shelf in
     let before = g.H.Shelf.history c.args.shelf.now in
     let after = g.H.Shelf.history c.check.new.shelf in
-    subst (λ (command : CommandWords). (x : List File) × HasStored files later listed last x × CommandRun files command before after x (said_by c.check.result)) (sym c.in-Check.is) (
-      [],
-      none_stored files later listed last c.check.ensures.same c.check.ensures.kept,
-      quiet_run files (Check c.in-Check.words) (check_course files c.in-Check.words) before after c.check.result (λ a h. (h, refl)) c.check.ensures.course,
-    )
+    subst (λ (command : CommandWords). (x : List File) × HasStored files later listed last x × CommandRun files command before after x (said_by c.check.result)) (sym c.in-Check.is)
+    c.check.ensures
 
 pub returns-in-Audit : goal.returns-in-Audit
 returns-in-Audit g c =

@@ -16,9 +16,9 @@ returns-in-Err g c =
 
 pub returns-in-Ok : goal.returns-in-Ok
 returns-in-Ok g c =
-    let run = c.command_answer.ensures in (
+    let run = c.answer_as_asked.ensures in (
       run.0,
       run.1,
-      meant_run (g.H.Shelf.contents c.args.shelf.now) (texts c.args.words.now) (g.H.Shelf.history c.args.shelf.now) (g.H.Shelf.history c.command_answer.new.shelf) run.0 (said_of c.command_answer.result) c.in-Ok.command
+      meant_run (g.H.Shelf.contents c.args.shelf.now) (texts c.args.words.now) (g.H.Shelf.history c.args.shelf.now) (g.H.Shelf.history c.answer_as_asked.new.shelf) run.0 (said_of c.answer_as_asked.result) c.in-Ok.command
           c.in-Ok.ensures.said c.in-Ok.ensures.ends run.2,
     )

@@ -1,73 +1,27 @@
-use Rattle.std.proofs.Common.{◌≡◌, Option, subst}
-use Rattle.std.specs.Prelude.{Ok, Err, option_map}
-use Rattle.grouping_problem.specs.ProblemValue.{ProblemValue}
-use Rattle.grouping_laws.specs.Grouping.{Grouping}
-use Rattle.command_words.specs.declared.words.JudgeWords.{JudgeWords}
-use Rattle.shelves.specs.Files.{Files}
-use Rattle.program_answers.specs.Answer.{Answered}
-use Rattle.program_answers.specs.Answers.{answer_of, Meets}
-use Rattle.command_runs.specs.Course.{Course, ◌>>=◌}
-use Rattle.command_runs.specs.ProblemCourse.{problem_in, grouping_of}
-use Rattle.command_runs.specs.JudgeWithCertificate.{certificate_of}
-use Rattle.command_runs.specs.JudgeCourse.{judge_step}
-use Rattle.command_runs.proofs.RunLemmas.{handed_on, went_on}
+use Rattle.std.proofs.Common.{[]}
+use Rattle.program_answers.specs.Answers.{said_by}
+use Rattle.command_runs.specs.JudgeCourse.{judge_course}
+use Rattle.command_runs.specs.Storing.{named_file}
+use Rattle.command_runs.specs.Texts.{reported_of}
+use Rattle.command_runs.proofs.StoreLemmas.{none_stored}
+use Rattle.cli.proofs.StoringLemmas.{from_start, refused_run, said_run}
 use Rattle.cli.proofs.judge.judge.Goals as goal
 
--- the verdict beside the certificate of a file, where the problem and the grouping are known
-with_grouping : Option Files → JudgeWords → ProblemValue → Grouping → Course Answered
-with_grouping files words v groups = certificate_of files words.certificate >>= judge_step v groups words.budget
+pub returns-in_err-reported : goal.returns-in_err-reported
+returns-in_err-reported g c = (
+  [],
+  none_stored (g.H.Shelf.contents c.args.shelf.now) (g.H.Shelf.contents c.judge_files.new.shelf) (g.H.Shelf.stored c.args.shelf.now) (g.H.Shelf.stored c.judge_files.new.shelf) c.judge_files.ensures.same c.judge_files.ensures.kept,
+  refused_run (judge_course (g.H.Shelf.contents c.args.shelf.now) c.args.words) (λ r. named_file c.args.words.table r.table) (λ r. r.answer) (g.H.Shelf.history c.args.shelf.now) (g.H.Shelf.history c.judge_files.new.shelf) c.in_err-reported.field-0.0 c.from_residual.result c.from_residual.ensures.1 c.in_err-reported.ensures.course,
+)
 
--- and where the problem is
-with_problem : Option Files → JudgeWords → ProblemValue → Course Answered
-unfolding with_grouping
-with_problem files words v = grouping_of files words.grouping.now >>= with_grouping files words v
-
-pub returns-in_err-grouping-clause-course : goal.returns-in_err-grouping-clause-course
-unfolding with_grouping with_problem
-returns-in_err-grouping-clause-course g c =
+pub returns : goal.returns
+returns g c =
     let files = g.H.Shelf.contents c.args.shelf.now in
-    let words = c.args.words in
     let before = g.H.Shelf.history c.args.shelf.now in
-    let built = g.H.Shelf.history c.load_problem.new.shelf in
-    let after = g.H.Shelf.history c.load_grouping.new.shelf in
-    let v = c.in_ok-problem.problem in
-    let met = subst (λ (f : Option Files). Meets c.in_err-grouping.field-0.0 (λ a. grouping_of f words.grouping.now built after (Err a))) c.load_problem.ensures.same c.in_err-grouping.ensures.course in
-    went_on answer_of c.from_residual-in_err-grouping.result (problem_in files words.problem) (with_problem files words) v before built after c.in_ok-problem.ensures.course
-    (handed_on answer_of c.in_err-grouping.field-0.0 c.from_residual-in_err-grouping.result (grouping_of files words.grouping.now) (with_grouping files words v) built after c.from_residual-in_err-grouping.ensures.1 met)
-
-pub returns-in_err-certificate-clause-course : goal.returns-in_err-certificate-clause-course
-unfolding with_grouping with_problem
-returns-in_err-certificate-clause-course g c =
-    let files = g.H.Shelf.contents c.args.shelf.now in
-    let words = c.args.words in
-    let before = g.H.Shelf.history c.args.shelf.now in
-    let built = g.H.Shelf.history c.load_problem.new.shelf in
-    let read = g.H.Shelf.history c.load_grouping.new.shelf in
-    let after = g.H.Shelf.history c.load_certificate.new.shelf in
-    let v = c.in_ok-problem.problem in
-    let groups = c.in_ok-grouping.grouping.groups.items in
-    let same = subst (λ (f : Option Files). g.H.Shelf.contents c.load_grouping.new.shelf ≡ f) c.load_problem.ensures.same c.load_grouping.ensures.same in
-    let grouped = subst (λ (f : Option Files). grouping_of f words.grouping.now built read (Ok groups)) c.load_problem.ensures.same c.in_ok-grouping.ensures.course in
-    let met = subst (λ (f : Option Files). Meets c.in_err-certificate.field-0.0 (λ a. certificate_of f words.certificate read after (Err a))) same c.in_err-certificate.ensures.course in
-    went_on answer_of c.from_residual-in_err-certificate.result (problem_in files words.problem) (with_problem files words) v before built after c.in_ok-problem.ensures.course
-    (went_on answer_of c.from_residual-in_err-certificate.result (grouping_of files words.grouping.now) (with_grouping files words v) groups built read after grouped
-    (handed_on answer_of c.in_err-certificate.field-0.0 c.from_residual-in_err-certificate.result (certificate_of files words.certificate) (judge_step v groups words.budget) read after c.from_residual-in_err-certificate.ensures.1 met))
-
-pub returns-clause-course : goal.returns-clause-course
-unfolding with_grouping with_problem
-returns-clause-course g c =
-    let files = g.H.Shelf.contents c.args.shelf.now in
-    let words = c.args.words in
-    let before = g.H.Shelf.history c.args.shelf.now in
-    let built = g.H.Shelf.history c.load_problem.new.shelf in
-    let read = g.H.Shelf.history c.load_grouping.new.shelf in
-    let after = g.H.Shelf.history c.load_certificate.new.shelf in
-    let v = c.in_ok-problem.problem in
-    let groups = c.in_ok-grouping.grouping.groups.items in
-    let text = option_map (λ t. t.items) c.in_ok-certificate.certificate in
-    let same = subst (λ (f : Option Files). g.H.Shelf.contents c.load_grouping.new.shelf ≡ f) c.load_problem.ensures.same c.load_grouping.ensures.same in
-    let grouped = subst (λ (f : Option Files). grouping_of f words.grouping.now built read (Ok groups)) c.load_problem.ensures.same c.in_ok-grouping.ensures.course in
-    let held = subst (λ (f : Option Files). certificate_of f words.certificate read after (Ok text)) same c.in_ok-certificate.ensures.course in
-    went_on answer_of c.verdict.result (problem_in files words.problem) (with_problem files words) v before built after c.in_ok-problem.ensures.course
-    (went_on answer_of c.verdict.result (grouping_of files words.grouping.now) (with_grouping files words v) groups built read after grouped
-    (went_on answer_of c.verdict.result (certificate_of files words.certificate) (judge_step v groups words.budget) text read after after held (c.verdict.ensures after)))
+    let between = g.H.Shelf.history c.judge_files.new.shelf in
+    let after = g.H.Shelf.history c.store_reported.new.shelf in
+    let end = c.store_reported.ensures in (
+      end.0,
+      from_start files (g.H.Shelf.contents c.judge_files.new.shelf) (g.H.Shelf.contents c.store_reported.new.shelf) (g.H.Shelf.stored c.args.shelf.now) (g.H.Shelf.stored c.judge_files.new.shelf) (g.H.Shelf.stored c.store_reported.new.shelf) end.0 c.judge_files.ensures.same c.judge_files.ensures.kept end.2,
+      said_run (judge_course files c.args.words) (λ r. named_file c.args.words.table r.table) (λ r. r.answer) (reported_of c.in_ok-reported.reported) before between after end.0 end.1 (said_by c.store_reported.result) c.in_ok-reported.ensures.course end.3 end.4,
+    )

@@ -1,76 +1,19 @@
-use Rattle.std.proofs.Common.{◌≡◌, ℕ, List, Option, subst}
-use Rattle.std.specs.Prelude.{Ok, Err}
+use Rattle.std.proofs.Common.{List, Option, subst}
 use Rattle.county_codes.specs.declared.county.County.{County}
-use Rattle.county_codes.specs.declared.withdrawn.Withdrawn.{Withdrawn}
-use Rattle.grouping_problem.specs.ProblemValue.{ProblemValue, codes_of}
-use Rattle.command_words.specs.declared.words.ProblemWords.{ProblemWords}
 use Rattle.shelves.specs.Files.{Files}
-use Rattle.program_answers.specs.Answers.{Comes, Meets}
-use Rattle.command_runs.specs.Course.{Course, ◌>>=◌}
-use Rattle.command_runs.specs.ProblemCourse.{counties_of, adjacency_of, withdrawn_of, build_step}
-use Rattle.command_runs.proofs.RunLemmas.{handed_on, went_on}
+use Rattle.program_answers.specs.Answers.{Comes}
+use Rattle.command_runs.specs.ProblemCourse.{counties_of, problem_over}
+use Rattle.command_runs.proofs.RunLemmas.{went_on}
 use Rattle.cli.proofs.problem.load_problem.Goals as goal
 
--- the problem, where the counties and the pairs are known
-with_pairs : Option Files → ProblemWords → List County → List (ℕ × ℕ) → Course ProblemValue
-with_pairs files words counties pairs = withdrawn_of files words.withdrawn >>= build_step words.common.chamber words.common.window counties pairs
-
--- the problem, where the counties are known
-with_counties : Option Files → ProblemWords → List County → Course ProblemValue
-unfolding with_pairs
-with_counties files words counties = adjacency_of files (codes_of counties) words >>= with_pairs files words counties
-
-pub returns-in_err-pairs-clause-course : goal.returns-in_err-pairs-clause-course
-unfolding with_pairs with_counties
-returns-in_err-pairs-clause-course g c =
-    let files = g.H.Shelf.contents c.args.shelf.now in
-    let before = g.H.Shelf.history c.args.shelf.now in
-    let between = g.H.Shelf.history c.load_counties.new.shelf in
-    let after = g.H.Shelf.history c.load_adjacency.new.shelf in
-    let counties = c.in_ok-counties.counties.items in
-    let known = subst (λ (f : Option Files). Meets c.in_err-pairs.field-0.0 (λ a. adjacency_of f (codes_of c.deref.result.now) c.args.words between after (Err a))) c.load_counties.ensures.same c.in_err-pairs.ensures.course in
-    let met = subst (λ (listed : List County). Meets c.in_err-pairs.field-0.0 (λ a. adjacency_of files (codes_of listed) c.args.words between after (Err a))) c.deref.ensures.value known in
-    went_on (λ p. p) c.from_residual-in_err-pairs.result (counties_of files c.args.words.common) (with_counties files c.args.words) counties before between after c.in_ok-counties.ensures.course
-    (handed_on (λ p. p) c.in_err-pairs.field-0.0 c.from_residual-in_err-pairs.result (adjacency_of files (codes_of counties) c.args.words) (with_pairs files c.args.words counties) between after c.from_residual-in_err-pairs.ensures.1 met)
-
-pub returns-in_err-withdrawn-clause-course : goal.returns-in_err-withdrawn-clause-course
-unfolding with_pairs with_counties
-returns-in_err-withdrawn-clause-course g c =
-    let files = g.H.Shelf.contents c.args.shelf.now in
-    let before = g.H.Shelf.history c.args.shelf.now in
-    let between = g.H.Shelf.history c.load_counties.new.shelf in
-    let then = g.H.Shelf.history c.load_adjacency.new.shelf in
-    let after = g.H.Shelf.history c.load_withdrawn.new.shelf in
-    let counties = c.in_ok-counties.counties.items in
-    let pairs = c.in_ok-pairs.pairs.items in
-    let told = subst (λ (f : Option Files). adjacency_of f (codes_of c.deref.result.now) c.args.words between then (Ok pairs)) c.load_counties.ensures.same c.in_ok-pairs.ensures.course in
-    let joined = subst (λ (listed : List County). adjacency_of files (codes_of listed) c.args.words between then (Ok pairs)) c.deref.ensures.value told in
-    let same = subst (λ (f : Option Files). g.H.Shelf.contents c.load_adjacency.new.shelf ≡ f) c.load_counties.ensures.same c.load_adjacency.ensures.same in
-    let met = subst (λ (f : Option Files). Meets c.in_err-withdrawn.field-0.0 (λ a. withdrawn_of f c.args.words.withdrawn then after (Err a))) same c.in_err-withdrawn.ensures.course in
-    went_on (λ p. p) c.from_residual-in_err-withdrawn.result (counties_of files c.args.words.common) (with_counties files c.args.words) counties before between after c.in_ok-counties.ensures.course
-    (went_on (λ p. p) c.from_residual-in_err-withdrawn.result (adjacency_of files (codes_of counties) c.args.words) (with_pairs files c.args.words counties) pairs between then after joined
-    (handed_on (λ p. p) c.in_err-withdrawn.field-0.0 c.from_residual-in_err-withdrawn.result (withdrawn_of files c.args.words.withdrawn) (build_step c.args.words.common.chamber c.args.words.common.window counties pairs) then after c.from_residual-in_err-withdrawn.ensures.1 met))
-
 pub returns-clause-course : goal.returns-clause-course
-unfolding with_pairs with_counties
 returns-clause-course g c =
     let files = g.H.Shelf.contents c.args.shelf.now in
+    let words = c.args.words in
     let before = g.H.Shelf.history c.args.shelf.now in
     let between = g.H.Shelf.history c.load_counties.new.shelf in
-    let then = g.H.Shelf.history c.load_adjacency.new.shelf in
-    let after = g.H.Shelf.history c.load_withdrawn.new.shelf in
-    let chamber = c.args.words.common.chamber in
-    let window = c.args.words.common.window in
+    let after = g.H.Shelf.history c.load_problem_over.new.shelf in
     let counties = c.in_ok-counties.counties.items in
-    let pairs = c.in_ok-pairs.pairs.items in
-    let sets = c.in_ok-withdrawn.withdrawn.items in
-    let told = subst (λ (f : Option Files). adjacency_of f (codes_of c.deref.result.now) c.args.words between then (Ok pairs)) c.load_counties.ensures.same c.in_ok-pairs.ensures.course in
-    let joined = subst (λ (listed : List County). adjacency_of files (codes_of listed) c.args.words between then (Ok pairs)) c.deref.ensures.value told in
-    let same = subst (λ (f : Option Files). g.H.Shelf.contents c.load_adjacency.new.shelf ≡ f) c.load_counties.ensures.same c.load_adjacency.ensures.same in
-    let withdrawn = subst (λ (f : Option Files). withdrawn_of f c.args.words.withdrawn then after (Ok sets)) same c.in_ok-withdrawn.ensures.course in
-    let by_counties = subst (λ (listed : List County). Comes (λ p. p) c.build.result (build_step chamber window listed c.deref-3.result.now c.deref-4.result.now after after)) c.deref-2.ensures.value (c.build.ensures after) in
-    let by_pairs = subst (λ (joining : List (ℕ × ℕ)). Comes (λ p. p) c.build.result (build_step chamber window counties joining c.deref-4.result.now after after)) c.deref-3.ensures.value by_counties in
-    let by_sets = subst (λ (taken : List Withdrawn). Comes (λ p. p) c.build.result (build_step chamber window counties pairs taken after after)) c.deref-4.ensures.value by_pairs in
-    went_on (λ p. p) c.build.result (counties_of files c.args.words.common) (with_counties files c.args.words) counties before between after c.in_ok-counties.ensures.course
-    (went_on (λ p. p) c.build.result (adjacency_of files (codes_of counties) c.args.words) (with_pairs files c.args.words counties) pairs between then after joined
-    (went_on (λ p. p) c.build.result (withdrawn_of files c.args.words.withdrawn) (build_step chamber window counties pairs) sets then after after withdrawn by_sets))
+    let over = subst (λ (f : Option Files). Comes (λ p. p) c.load_problem_over.result (problem_over f words c.deref.result.now between after)) c.load_counties.ensures.same c.load_problem_over.ensures.course in
+    let built = subst (λ (listed : List County). Comes (λ p. p) c.load_problem_over.result (problem_over files words listed between after)) c.deref.ensures.value over in
+    went_on (λ p. p) c.load_problem_over.result (counties_of files words.common) (problem_over files words) counties before between after c.in_ok-counties.ensures.course built

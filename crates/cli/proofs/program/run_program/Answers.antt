@@ -2,6 +2,3 @@ use Rattle.cli.proofs.program.run_program.Goals as goal
 
 pub returns-else-is_empty-clause-words : goal.returns-else-is_empty-clause-words
 returns-else-is_empty-clause-words g c = λ _. c.run_with_end.ensures.run
-
-pub returns-else-is_empty-clause-told : goal.returns-else-is_empty-clause-told
-returns-else-is_empty-clause-told g c = λ _. c.run_with_end.ensures.told

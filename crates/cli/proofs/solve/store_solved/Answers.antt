@@ -10,17 +10,26 @@ pub returns : goal.returns
 returns g c =
     let before = g.H.Shelf.history c.args.shelf.now in
     let between = g.H.Shelf.history c.store_named.new.shelf in
-    let after = g.H.Shelf.history c.store_named-2.new.shelf in
+    let then = g.H.Shelf.history c.store_named-2.new.shelf in
+    let after = g.H.Shelf.history c.store_named-3.new.shelf in
     let words = c.args.words in
+    let solved = c.args.solved.now in
     let first = c.in_ok-store_named.ensures in
-    let then = c.store_named-2.ensures in
+    let next = c.in_ok-store_named-2.ensures in
+    let last = c.store_named-3.ensures in
     let certificate = sym (seen_lent (λ t. t.items) c.as_ref.result) ∙ ap (option_map (λ t. t.items)) c.as_ref.ensures.value in
     let grouping = sym (seen_lent (λ t. t.items) c.as_ref-2.result) ∙ ap (option_map (λ t. t.items)) c.as_ref-2.ensures.value in
+    let table = sym (seen_lent (λ t. t.items) c.as_ref-3.result) ∙ ap (option_map (λ t. t.items)) c.as_ref-3.ensures.value in
     let steps = subst (λ (o : Option (List ℕ)). store_steps (named_file words.certificate o) before between first.0 None) certificate first.2 in
-    let later = subst (λ (o : Option (List ℕ)). store_steps (named_file words.out o) between after then.0 (refusal_by c.store_named-2.result)) grouping then.2 in (
-      first.0 ++ then.0,
-      stored_after (g.H.Shelf.contents c.args.shelf.now) (g.H.Shelf.contents c.store_named.new.shelf) (g.H.Shelf.contents c.store_named-2.new.shelf) (g.H.Shelf.stored c.args.shelf.now) (g.H.Shelf.stored c.store_named.new.shelf) (g.H.Shelf.stored c.store_named-2.new.shelf) first.0 then.0 first.1 then.1,
-      stores_on (named_file words.certificate (option_map (λ t. t.items) c.args.solved.now.certificate)) (named_file words.out (option_map (λ t. t.items) c.args.solved.now.grouping)) before between after first.0 then.0 (refusal_by c.store_named-2.result) steps later,
+    let later = subst (λ (o : Option (List ℕ)). store_steps (named_file words.out o) between then next.0 None) grouping next.2 in
+    let end = subst (λ (o : Option (List ℕ)). store_steps (named_file words.table o) then after last.0 (refusal_by c.store_named-3.result)) table last.2 in
+    let files = named_file words.out (option_map (λ t. t.items) solved.grouping) in
+    let tables = named_file words.table (option_map (λ t. t.items) solved.table) in
+    let behind = stored_after (g.H.Shelf.contents c.store_named.new.shelf) (g.H.Shelf.contents c.store_named-2.new.shelf) (g.H.Shelf.contents c.store_named-3.new.shelf) (g.H.Shelf.stored c.store_named.new.shelf) (g.H.Shelf.stored c.store_named-2.new.shelf) (g.H.Shelf.stored c.store_named-3.new.shelf) next.0 last.0 next.1 last.1 in (
+      first.0 ++ (next.0 ++ last.0),
+      stored_after (g.H.Shelf.contents c.args.shelf.now) (g.H.Shelf.contents c.store_named.new.shelf) (g.H.Shelf.contents c.store_named-3.new.shelf) (g.H.Shelf.stored c.args.shelf.now) (g.H.Shelf.stored c.store_named.new.shelf) (g.H.Shelf.stored c.store_named-3.new.shelf) first.0 (next.0 ++ last.0) first.1 behind,
+      stores_on (named_file words.certificate (option_map (λ t. t.items) solved.certificate)) (files ++ tables) before between after first.0 (next.0 ++ last.0) (refusal_by c.store_named-3.result) steps
+          (stores_on files tables between then after next.0 last.0 (refusal_by c.store_named-3.result) later end),
     )
 
 pub returns-in_err-store_named : goal.returns-in_err-store_named
@@ -28,10 +37,32 @@ returns-in_err-store_named g c =
     let before = g.H.Shelf.history c.args.shelf.now in
     let after = g.H.Shelf.history c.store_named.new.shelf in
     let words = c.args.words in
+    let solved = c.args.solved.now in
     let first = c.in_err-store_named.ensures in
     let certificate = sym (seen_lent (λ t. t.items) c.as_ref.result) ∙ ap (option_map (λ t. t.items)) c.as_ref.ensures.value in
     let steps = subst (λ (o : Option (List ℕ)). store_steps (named_file words.certificate o) before after first.0 (refusal_by (Err c.in_err-store_named.field-0.0))) certificate first.2 in (
       first.0,
       first.1,
-      stops_with (named_file words.certificate (option_map (λ t. t.items) c.args.solved.now.certificate)) (named_file words.out (option_map (λ t. t.items) c.args.solved.now.grouping)) before after first.0 c.in_err-store_named.field-0.0 c.from_residual.result c.from_residual.ensures.1 steps,
+      stops_with (named_file words.certificate (option_map (λ t. t.items) solved.certificate)) (named_file words.out (option_map (λ t. t.items) solved.grouping) ++ named_file words.table (option_map (λ t. t.items) solved.table)) before after first.0 c.in_err-store_named.field-0.0 c.from_residual.result c.from_residual.ensures.1 steps,
+    )
+
+pub returns-in_err-store_named-2 : goal.returns-in_err-store_named-2
+returns-in_err-store_named-2 g c =
+    let before = g.H.Shelf.history c.args.shelf.now in
+    let between = g.H.Shelf.history c.store_named.new.shelf in
+    let after = g.H.Shelf.history c.store_named-2.new.shelf in
+    let words = c.args.words in
+    let solved = c.args.solved.now in
+    let first = c.in_ok-store_named.ensures in
+    let next = c.in_err-store_named-2.ensures in
+    let certificate = sym (seen_lent (λ t. t.items) c.as_ref.result) ∙ ap (option_map (λ t. t.items)) c.as_ref.ensures.value in
+    let grouping = sym (seen_lent (λ t. t.items) c.as_ref-2.result) ∙ ap (option_map (λ t. t.items)) c.as_ref-2.ensures.value in
+    let steps = subst (λ (o : Option (List ℕ)). store_steps (named_file words.certificate o) before between first.0 None) certificate first.2 in
+    let later = subst (λ (o : Option (List ℕ)). store_steps (named_file words.out o) between after next.0 (refusal_by (Err c.in_err-store_named-2.field-0.0))) grouping next.2 in
+    let files = named_file words.out (option_map (λ t. t.items) solved.grouping) in
+    let tables = named_file words.table (option_map (λ t. t.items) solved.table) in (
+      first.0 ++ next.0,
+      stored_after (g.H.Shelf.contents c.args.shelf.now) (g.H.Shelf.contents c.store_named.new.shelf) (g.H.Shelf.contents c.store_named-2.new.shelf) (g.H.Shelf.stored c.args.shelf.now) (g.H.Shelf.stored c.store_named.new.shelf) (g.H.Shelf.stored c.store_named-2.new.shelf) first.0 next.0 first.1 next.1,
+      stores_on (named_file words.certificate (option_map (λ t. t.items) solved.certificate)) (files ++ tables) before between after first.0 next.0 (refusal_by c.from_residual-in_err-store_named-2.result) steps
+          (stops_with files tables between after next.0 c.in_err-store_named-2.field-0.0 c.from_residual-in_err-store_named-2.result c.from_residual-in_err-store_named-2.ensures.1 later),
     )

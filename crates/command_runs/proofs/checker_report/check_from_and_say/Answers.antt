@@ -7,7 +7,7 @@ use Rattle.command_runs.proofs.checker_report.check_from_and_say.Goals as goal
 pub returns-in-Ok-say : goal.returns-in-Ok-say
 returns-in-Ok-say g c =
     let bytes = c.in-Ok.ensures.verdict in
-    let of_given = subst (λ (text : List ℕ). IsAnswer (problem_of c.args.problem.now) text c.args.budget c.in-Ok.verdict) (append-nil bytes.pulled) (bytes.answer [] (λ ended. refl)) in
+    let of_given = subst (λ (text : List ℕ). IsAnswer (problem_of c.args.tabled.now.problem) text c.args.budget c.in-Ok.verdict) (append-nil bytes.pulled) (bytes.answer [] (λ ended. refl)) in
     record {
       given = bytes.pulled;
       is_given = bytes.given;

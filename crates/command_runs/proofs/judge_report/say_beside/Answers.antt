@@ -4,7 +4,7 @@ use Rattle.program_answers.specs.Answers.{answer_of}
 use Rattle.command_runs.specs.JudgeWithCertificate.{SaysBeside}
 use Rattle.command_runs.proofs.judge_report.say_beside.Goals as goal
 
-pub returns-in-Best : goal.returns-in-Best
-returns-in-Best c =
-    subst (λ (verdict : Verdict). IfOk c.say_beside_best.result (λ j. SaysBeside c.args.problem.now c.args.grouping.groups.items verdict (answer_of j.answer)))
-    (sym c.in-Best.is) c.say_beside_best.ensures
+pub returns-in-Best-clause-said : goal.returns-in-Best-clause-said
+returns-in-Best-clause-said c =
+    subst (λ (verdict : Verdict). IfOk c.say_beside_best.result (λ j. SaysBeside c.args.tabled.now.problem c.args.grouping.groups.items verdict (answer_of j.reported.answer)))
+    (sym c.in-Best.is) c.say_beside_best.ensures.said

@@ -9,10 +9,10 @@ use Rattle.command_words.proofs.words.audit_words.Goals as goal
 
 module _ (m : ArgMatches) (has : HasValues audit_options (rows_of (found_of m))) where
   grouping : HasValue (rows_of (found_of m)) (filled (required (text_option (codes "grouping"))))
-  grouping = surely _ _ refl (has 9 (new_rule []) (lit< tt) refl)
+  grouping = surely _ _ refl (has 10 (new_rule []) (lit< tt) refl)
 
   assignments : HasValue (rows_of (found_of m)) (filled (required (text_option (codes "assignments"))))
-  assignments = surely _ _ refl (has 10 (new_rule []) (lit< tt) refl)
+  assignments = surely _ _ refl (has 11 (new_rule []) (lit< tt) refl)
 
 pub problem_words-requires : goal.problem_words-requires
 problem_words-requires c = front_values problem_options (required (text_option (codes "grouping")) ∷ required (text_option (codes "assignments")) ∷ []) _ c.requires

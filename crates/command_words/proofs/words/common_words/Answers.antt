@@ -1,11 +1,11 @@
-use Rattle.std.proofs.Common.{◌≡◌, ◌≤◌, ℕ, refl, codes, lit<, List, [], Option, Some}
+use Rattle.std.proofs.Common.{◌≡◌, ◌⊎◌, ◌≤◌, ℕ, refl, codes, lit<, List, [], Option, Some}
 use Rattle.std.specs.Prelude.{pos}
 use Rattle.clap.specs.Words.{ReadsOne, found_of, new_rule, one_text, rows_of}
 use Rattle.clap.specs.Simple.{filled}
 use Rattle.clap.specs.declared.parser.matches.ArgMatches.{ArgMatches}
 use Rattle.command_words.specs.Command.{of_number, common_options, required, text_option, with_default}
-use Rattle.command_words.specs.Options.{HasValue, HasValues, Spells}
-use Rattle.command_words.proofs.ReadLemmas.{Parses, default_spells, number_given, number_is, signed_read, surely, text_is, text_read}
+use Rattle.command_words.specs.Options.{HasNone, HasValue, HasValues, Spells}
+use Rattle.command_words.proofs.ReadLemmas.{Parses, default_spells, number_given, number_is, signed_read, surely, text_given, text_is, text_read}
 use Rattle.command_words.proofs.words.common_words.Goals as goal
 
 module _ (m : ArgMatches) (has : HasValues common_options (rows_of (found_of m))) where
@@ -20,6 +20,9 @@ module _ (m : ArgMatches) (has : HasValues common_options (rows_of (found_of m))
 
   state : HasValue (rows_of (found_of m)) (filled (with_default (codes "37") (of_number 0 99 (text_option (codes "state")))))
   state = surely _ _ refl (has 3 (new_rule []) (lit< tt) refl)
+
+  record_file : HasValue (rows_of (found_of m)) (filled (text_option (codes "record"))) ⊎ HasNone (rows_of (found_of m)) (filled (text_option (codes "record")))
+  record_file = has 6 (new_rule []) (lit< tt) refl
 
 pub unwrap-requires : goal.unwrap-requires
 unwrap-requires c = text_read (found_of c.args.found.now) _ (geo c.args.found.now c.requires) c.get_str.result c.get_str.ensures
@@ -64,4 +67,5 @@ returns c =
       code = code.1;
       default = λ none. is_37 c.unwrap-4.result (default_spells f _ (state m c.requires) (codes "37") c.unwrap-4.result none refl code.2);
       window = c.window_words.ensures;
+      record_file = text_given f _ refl (record_file m c.requires) c.get_str-3.result c.get_str-3.ensures;
     }

@@ -8,7 +8,7 @@ use Rattle.command_words.proofs.ReadLemmas.{front_values, surely, text_is, text_
 use Rattle.command_words.proofs.words.grouping_words.Goals as goal
 
 grouping : (m : ArgMatches) → HasValues grouping_options (rows_of (found_of m)) → HasValue (rows_of (found_of m)) (filled (required (text_option (codes "grouping"))))
-grouping m has = surely _ _ refl (has 9 (new_rule []) (lit< tt) refl)
+grouping m has = surely _ _ refl (has 10 (new_rule []) (lit< tt) refl)
 
 pub problem_words-problem-requires : goal.problem_words-problem-requires
 problem_words-problem-requires c = front_values problem_options (required (text_option (codes "grouping")) ∷ []) _ c.requires

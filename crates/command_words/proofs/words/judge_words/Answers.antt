@@ -9,13 +9,16 @@ use Rattle.command_words.proofs.words.judge_words.Goals as goal
 
 module _ (m : ArgMatches) (has : HasValues judge_options (rows_of (found_of m))) where
   certificate : HasValue (rows_of (found_of m)) (filled (text_option (codes "certificate"))) ⊎ HasNone (rows_of (found_of m)) (filled (text_option (codes "certificate")))
-  certificate = has 10 (new_rule []) (lit< tt) refl
+  certificate = has 11 (new_rule []) (lit< tt) refl
 
   budget : HasValue (rows_of (found_of m)) (filled (of_steps (text_option (codes "budget"))))
-  budget = surely _ _ refl (has 11 (new_rule []) (lit< tt) refl)
+  budget = surely _ _ refl (has 12 (new_rule []) (lit< tt) refl)
+
+  table : HasValue (rows_of (found_of m)) (filled (text_option (codes "table"))) ⊎ HasNone (rows_of (found_of m)) (filled (text_option (codes "table")))
+  table = has 13 (new_rule []) (lit< tt) refl
 
 pub grouping_words-requires : goal.grouping_words-requires
-grouping_words-requires c = front_values grouping_options (text_option (codes "certificate") ∷ of_steps (text_option (codes "budget")) ∷ []) _ c.requires
+grouping_words-requires c = front_values grouping_options (text_option (codes "certificate") ∷ of_steps (text_option (codes "budget")) ∷ text_option (codes "table") ∷ []) _ c.requires
 
 module _ (m : ArgMatches) (has : HasValues judge_options (rows_of (found_of m))) where
   budget_read : (r : Option ℕ) → ((t : List ℕ) → one_text (found_of m) (codes "budget") ≡ Some t → ReadsOne (Parses 64) t r)
@@ -38,4 +41,5 @@ returns c =
       certificate = text_given f _ refl (certificate m c.requires) c.get_str-file.result c.get_str-file.ensures;
       budget = number_given f _ (budget m c.requires) c.unwrap.result most.2;
       default = λ none. is_ten_million c.unwrap.result (default_spells f _ (budget m c.requires) (codes "10000000") c.unwrap.result none refl most.2);
+      table = text_given f _ refl (table m c.requires) c.get_str.result c.get_str.ensures;
     }

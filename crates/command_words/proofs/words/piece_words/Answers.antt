@@ -9,16 +9,16 @@ use Rattle.command_words.proofs.words.piece_words.Goals as goal
 
 module _ (m : ArgMatches) (has : HasValues piece_options (rows_of (found_of m))) where
   events : HasValue (rows_of (found_of m)) (filled (text_option (codes "events"))) ⊎ HasNone (rows_of (found_of m)) (filled (text_option (codes "events")))
-  events = has 12 (new_rule []) (lit< tt) refl
+  events = has 13 (new_rule []) (lit< tt) refl
 
   round : HasValue (rows_of (found_of m)) (filled (of_number 0 4294967295 (required (text_option (codes "round")))))
-  round = surely _ _ refl (has 13 (new_rule []) (lit< tt) refl)
+  round = surely _ _ refl (has 14 (new_rule []) (lit< tt) refl)
 
   number : HasValue (rows_of (found_of m)) (filled (of_number 0 4294967295 (required (text_option (codes "number")))))
-  number = surely _ _ refl (has 14 (new_rule []) (lit< tt) refl)
+  number = surely _ _ refl (has 15 (new_rule []) (lit< tt) refl)
 
   steps : HasValue (rows_of (found_of m)) (filled (of_steps (text_option (codes "steps"))))
-  steps = surely _ _ refl (has 15 (new_rule []) (lit< tt) refl)
+  steps = surely _ _ refl (has 16 (new_rule []) (lit< tt) refl)
 
 pub board_words-requires : goal.board_words-requires
 board_words-requires c =

@@ -9,13 +9,13 @@ use Rattle.command_words.proofs.words.problem_words.Goals as goal
 
 module _ (m : ArgMatches) (has : HasValues problem_options (rows_of (found_of m))) where
   adjacency : HasValue (rows_of (found_of m)) (filled (required (text_option (codes "adjacency"))))
-  adjacency = surely _ _ refl (has 6 (new_rule []) (lit< tt) refl)
+  adjacency = surely _ _ refl (has 7 (new_rule []) (lit< tt) refl)
 
   links : HasValue (rows_of (found_of m)) (filled (text_option (codes "links"))) ⊎ HasNone (rows_of (found_of m)) (filled (text_option (codes "links")))
-  links = has 7 (new_rule []) (lit< tt) refl
+  links = has 8 (new_rule []) (lit< tt) refl
 
   withdrawn : HasValue (rows_of (found_of m)) (filled (text_option (codes "withdrawn"))) ⊎ HasNone (rows_of (found_of m)) (filled (text_option (codes "withdrawn")))
-  withdrawn = has 8 (new_rule []) (lit< tt) refl
+  withdrawn = has 9 (new_rule []) (lit< tt) refl
 
 pub common_words-requires : goal.common_words-requires
 common_words-requires c =

@@ -10,10 +10,10 @@ use Rattle.command_words.proofs.words.round_words.Goals as goal
 
 module _ (m : ArgMatches) (has : HasValues board_options (rows_of (found_of m))) where
   limit : HasValue (rows_of (found_of m)) (filled (of_number 0 65535 (text_option (codes "limit")))) ⊎ HasNone (rows_of (found_of m)) (filled (of_number 0 65535 (text_option (codes "limit"))))
-  limit = has 10 (new_rule []) (lit< tt) refl
+  limit = has 11 (new_rule []) (lit< tt) refl
 
   depth : HasValue (rows_of (found_of m)) (filled (of_number 0 255 (text_option (codes "depth")))) ⊎ HasNone (rows_of (found_of m)) (filled (of_number 0 255 (text_option (codes "depth"))))
-  depth = has 11 (new_rule []) (lit< tt) refl
+  depth = has 12 (new_rule []) (lit< tt) refl
 
   -- what the words give of both
   limit_given : (r : Option ℕ) → (one_text (found_of m) (codes "limit") ≡ None → r ≡ None)

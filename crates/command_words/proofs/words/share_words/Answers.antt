@@ -9,13 +9,13 @@ use Rattle.command_words.proofs.words.share_words.Goals as goal
 
 module _ (m : ArgMatches) (has : HasValues share_options (rows_of (found_of m))) where
   events : HasValue (rows_of (found_of m)) (filled (required (text_option (codes "events"))))
-  events = surely _ _ refl (has 12 (new_rule []) (lit< tt) refl)
+  events = surely _ _ refl (has 13 (new_rule []) (lit< tt) refl)
 
   budget : HasValue (rows_of (found_of m)) (filled (of_steps (text_option (codes "budget"))))
-  budget = surely _ _ refl (has 13 (new_rule []) (lit< tt) refl)
+  budget = surely _ _ refl (has 14 (new_rule []) (lit< tt) refl)
 
   certificate : HasValue (rows_of (found_of m)) (filled (text_option (codes "certificate"))) ⊎ HasNone (rows_of (found_of m)) (filled (text_option (codes "certificate")))
-  certificate = has 14 (new_rule []) (lit< tt) refl
+  certificate = has 15 (new_rule []) (lit< tt) refl
 
 pub board_words-requires : goal.board_words-requires
 board_words-requires c =

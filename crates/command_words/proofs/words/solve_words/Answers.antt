@@ -9,17 +9,21 @@ use Rattle.command_words.proofs.words.solve_words.Goals as goal
 
 module _ (m : ArgMatches) (has : HasValues solve_options (rows_of (found_of m))) where
   steps : HasValue (rows_of (found_of m)) (filled (of_steps (text_option (codes "steps"))))
-  steps = surely _ _ refl (has 9 (new_rule []) (lit< tt) refl)
+  steps = surely _ _ refl (has 10 (new_rule []) (lit< tt) refl)
 
   certificate : HasValue (rows_of (found_of m)) (filled (text_option (codes "certificate"))) ⊎ HasNone (rows_of (found_of m)) (filled (text_option (codes "certificate")))
-  certificate = has 10 (new_rule []) (lit< tt) refl
+  certificate = has 11 (new_rule []) (lit< tt) refl
 
   out : HasValue (rows_of (found_of m)) (filled (text_option (codes "out"))) ⊎ HasNone (rows_of (found_of m)) (filled (text_option (codes "out")))
-  out = has 11 (new_rule []) (lit< tt) refl
+  out = has 12 (new_rule []) (lit< tt) refl
+
+  table : HasValue (rows_of (found_of m)) (filled (text_option (codes "table"))) ⊎ HasNone (rows_of (found_of m)) (filled (text_option (codes "table")))
+  table = has 13 (new_rule []) (lit< tt) refl
 
 pub problem_words-requires : goal.problem_words-requires
 problem_words-requires c =
-    front_values problem_options (of_steps (text_option (codes "steps")) ∷ text_option (codes "certificate") ∷ text_option (codes "out") ∷ []) _ c.requires
+    front_values problem_options (of_steps (text_option (codes "steps")) ∷ text_option (codes "certificate") ∷ text_option (codes "out")
+    ∷ text_option (codes "table") ∷ []) _ c.requires
 
 module _ (m : ArgMatches) (has : HasValues solve_options (rows_of (found_of m))) where
   steps_read : (r : Option ℕ) → ((t : List ℕ) → one_text (found_of m) (codes "steps") ≡ Some t → ReadsOne (Parses 64) t r)
@@ -42,4 +46,5 @@ returns c =
       default = λ none. is_ten_million c.unwrap.result (default_spells f _ (steps m c.requires) (codes "10000000") c.unwrap.result none refl most.2);
       certificate = text_given f _ refl (certificate m c.requires) c.get_str.result c.get_str.ensures;
       out = text_given f _ refl (out m c.requires) c.get_str-2.result c.get_str-2.ensures;
+      table = text_given f _ refl (table m c.requires) c.get_str-3.result c.get_str-3.ensures;
     }

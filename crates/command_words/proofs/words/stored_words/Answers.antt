@@ -10,10 +10,10 @@ use Rattle.command_words.proofs.words.stored_words.Goals as goal
 
 module _ (m : ArgMatches) (has : HasValues list_options (rows_of (found_of m))) where
   number : HasValue (rows_of (found_of m)) (filled (of_number 0 4294967295 (text_option (codes "number")))) ⊎ HasNone (rows_of (found_of m)) (filled (of_number 0 4294967295 (text_option (codes "number"))))
-  number = has 11 (new_rule []) (lit< tt) refl
+  number = has 12 (new_rule []) (lit< tt) refl
 
   out : HasValue (rows_of (found_of m)) (filled (text_option (codes "out"))) ⊎ HasNone (rows_of (found_of m)) (filled (text_option (codes "out")))
-  out = has 12 (new_rule []) (lit< tt) refl
+  out = has 13 (new_rule []) (lit< tt) refl
 
 pub returns-in-Some-out : goal.returns-in-Some-out
 returns-in-Some-out c =

@@ -6,5 +6,5 @@ use Rattle.shelves.proofs.file_reader.FileReaderSource.pull.Given as goal
 abbrev pub invariant-loop : goal.invariant-loop
 invariant-loop g l = record {
   kept : Keeps (g.F.Read.remaining l.fn.self.file) (g.F.Read.remaining l.self.file);
-  same : l.self.log.bytes ≡ l.fn.self.log.bytes;
+  same : l.self.log ≡ l.fn.self.log;
 }

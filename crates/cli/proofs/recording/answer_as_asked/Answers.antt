@@ -1,0 +1,32 @@
+use Rattle.std.proofs.Common.{◌≡◌, ◌∙◌, List, ℕ, Option, Some, None, ap, subst, sym}
+use Rattle.std.specs.Borrow.{Bor}
+use Rattle.std.specs.Prelude.{option_map}
+use Rattle.shelves.specs.Files.{File}
+use Rattle.record_report.specs.RecordFiles.{record_name_of}
+use Rattle.command_runs.specs.Storing.{HasStored}
+use Rattle.command_runs.specs.Run.{RunsAsAsked}
+use Rattle.cli.specs.Delivery.{texts}
+use Rattle.cli.specs.Ends.{said_of}
+use Rattle.cli.proofs.recording.answer_as_asked.Goals as goal
+
+pub returns-in-Some : goal.returns-in-Some
+returns-in-Some g c =
+    let files = g.H.Shelf.contents c.args.shelf.now in
+    let later = g.H.Shelf.contents c.answer_with_record.new.shelf in
+    let listed = g.H.Shelf.stored c.args.shelf.now in
+    let last = g.H.Shelf.stored c.answer_with_record.new.shelf in
+    let is : Some c.in-Some.name.now ≡ record_name_of c.args.command = c.in-Some.ensures in
+    subst (λ (name : Option (List ℕ)). (stored : List File) × HasStored files later listed last stored
+    × RunsAsAsked files (texts c.args.words.now) c.args.command name (g.H.Shelf.history c.args.shelf.now) (g.H.Shelf.history c.answer_with_record.new.shelf) stored (said_of c.answer_with_record.result)) is
+    c.answer_with_record.ensures
+
+pub returns-in-None : goal.returns-in-None
+returns-in-None g c =
+    let files = g.H.Shelf.contents c.args.shelf.now in
+    let later = g.H.Shelf.contents c.command_answer.new.shelf in
+    let listed = g.H.Shelf.stored c.args.shelf.now in
+    let last = g.H.Shelf.stored c.command_answer.new.shelf in
+    let is : None ≡ record_name_of c.args.command = c.in-None.ensures in
+    subst (λ (name : Option (List ℕ)). (stored : List File) × HasStored files later listed last stored
+    × RunsAsAsked files (texts c.args.words.now) c.args.command name (g.H.Shelf.history c.args.shelf.now) (g.H.Shelf.history c.command_answer.new.shelf) stored (said_of c.command_answer.result)) is
+    c.command_answer.ensures

@@ -1,0 +1,56 @@
+use Rattle.std.proofs.Common.{◌++◌, ◌≡◌, ◌∙◌, List, [], Option, sym, ap, subst, refl}
+use Rattle.std.proofs.lemmas.List.{append-nil}
+use Rattle.shelves.specs.Files.{Files}
+use Rattle.shelves.specs.History.{History}
+use Rattle.program_answers.specs.Answer.{memory_answer}
+use Rattle.program_answers.specs.Answers.{answer_of}
+use Rattle.command_runs.specs.Run.{CommandRun}
+use Rattle.command_runs.proofs.StoreLemmas.{stored_after}
+use Rattle.cli.specs.Delivery.{texts}
+use Rattle.cli.specs.Ends.{said_of}
+use Rattle.cli.proofs.RecordLemmas.{unanswered}
+use Rattle.cli.proofs.StoringLemmas.{from_start}
+use Rattle.cli.proofs.recording.answer_with_record.Goals as goal
+
+pub returns-in-Ok : goal.returns-in-Ok
+returns-in-Ok g c =
+    let before = g.H.Shelf.history c.args.shelf.now in
+    let between = g.H.Shelf.history c.command_answer.new.shelf in
+    let run = c.in-Ok.ensures in
+    let end = c.store_record.ensures before c.events-first.ensures in
+    let own = from_start (g.H.Shelf.contents c.args.shelf.now) (g.H.Shelf.contents c.keep_sums.new.self) (g.H.Shelf.contents c.command_answer.new.shelf) (g.H.Shelf.stored c.args.shelf.now) (g.H.Shelf.stored c.keep_sums.new.self) (g.H.Shelf.stored c.command_answer.new.shelf) run.0 c.keep_sums.ensures.same c.keep_sums.ensures.kept run.1 in
+    let begun = subst (λ (n : History). CommandRun (g.H.Shelf.contents c.keep_sums.new.self) c.args.command n between run.0 (answer_of c.in-Ok.answer)) c.keep_sums.ensures.still run.2 in
+    let told = subst (λ (files : Option Files). CommandRun files c.args.command before between run.0 (answer_of c.in-Ok.answer)) c.keep_sums.ensures.same begun in (
+      run.0 ++ end.0,
+      stored_after (g.H.Shelf.contents c.args.shelf.now) (g.H.Shelf.contents c.command_answer.new.shelf) (g.H.Shelf.contents c.store_record.new.shelf) (g.H.Shelf.stored c.args.shelf.now) (g.H.Shelf.stored c.command_answer.new.shelf) (g.H.Shelf.stored c.store_record.new.shelf) run.0 end.0 own end.1,
+      record {
+        said = answer_of c.in-Ok.answer;
+        between = between;
+        own = run.0;
+        last = end.0;
+        run = told;
+        end = end.2;
+        all = refl;
+      },
+    )
+
+pub returns-in-Err : goal.returns-in-Err
+returns-in-Err g c =
+    let before = g.H.Shelf.history c.args.shelf.now in
+    let between = g.H.Shelf.history c.command_answer.new.shelf in
+    let run = c.in-Err.ensures in
+    let own = from_start (g.H.Shelf.contents c.args.shelf.now) (g.H.Shelf.contents c.keep_sums.new.self) (g.H.Shelf.contents c.command_answer.new.shelf) (g.H.Shelf.stored c.args.shelf.now) (g.H.Shelf.stored c.keep_sums.new.self) (g.H.Shelf.stored c.command_answer.new.shelf) run.0 c.keep_sums.ensures.same c.keep_sums.ensures.kept run.1 in
+    let begun = subst (λ (n : History). CommandRun (g.H.Shelf.contents c.keep_sums.new.self) c.args.command n between run.0 memory_answer) c.keep_sums.ensures.still run.2 in
+    let told = subst (λ (files : Option Files). CommandRun files c.args.command before between run.0 memory_answer) c.keep_sums.ensures.same begun in (
+      run.0,
+      own,
+      record {
+        said = memory_answer;
+        between = between;
+        own = run.0;
+        last = [];
+        run = told;
+        end = unanswered (texts c.args.words.now) c.args.command c.args.name.now before between;
+        all = sym (append-nil run.0);
+      },
+    )

@@ -1,0 +1,24 @@
+use Rattle.std.proofs.Common.{List, ℕ, [], inl, inr, refl, subst}
+use Rattle.record_report.specs.Recorded.{IsRecord, sums_between}
+use Rattle.cli.specs.Delivery.{texts}
+use Rattle.command_runs.proofs.StoreLemmas.{none_stored}
+use Rattle.cli.proofs.recording.store_composed.Goals as goal
+
+pub returns-in-Some : goal.returns-in-Some
+returns-in-Some g c = λ before is.
+    let end = c.store_bytes.ensures in
+    let told = subst (λ (text : List ℕ). IsRecord (texts c.args.words.now) c.args.command.now (sums_between before (g.H.Shelf.history c.args.shelf.now)) c.args.answer.status text c.in-Some.bytes.items)
+    c.deref.ensures.value (c.in-Some.ensures before is) in (
+      end.0,
+      end.2,
+      inr (c.requires, inr (record { text = c.in-Some.bytes.items; is_record = told; refusal = end.1; steps = end.3; answer = end.4 })),
+    )
+
+pub returns-in-None : goal.returns-in-None
+returns-in-None g c = λ before is.
+    let files = g.H.Shelf.contents c.args.shelf.now in
+    let listed = g.H.Shelf.stored c.args.shelf.now in (
+      [],
+      none_stored files files listed listed refl refl,
+      inr (c.requires, inl (record { still = refl; none = refl; answer = c.uncomposed.ensures })),
+    )

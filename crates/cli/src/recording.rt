@@ -1,0 +1,175 @@
+//! The record of a run, which is stored behind the files of its command.
+
+ghost use Rattle.std.specs.Prelude.{◌≡◌, ◌-◌, ◌^◌, ◌∷◌, [], true, List, Option, length, min};
+ghost use Rattle.shelves.specs.Files.{File};
+ghost use Rattle.shelves.specs.History.{History};
+ghost use Rattle.record_report.specs.RecordFiles.{record_name_of};
+ghost use Rattle.program_answers.specs.Answer.{Answered, memory_answer};
+ghost use Rattle.program_answers.specs.Answers.{answer_of};
+ghost use Rattle.command_runs.specs.Storing.{HasStored, said_after, store_steps};
+ghost use Rattle.command_runs.specs.Recording.{RecordEnds, is_recorded as must_be_recorded};
+ghost use Rattle.command_runs.specs.Run.{HasState, RunsAsAsked, RunsWithRecord};
+ghost use Rattle.cli.specs.Delivery.{texts};
+ghost use Rattle.cli.specs.Ends.{refusal_by, said_of};
+
+use crate::command::command_answer;
+use crate::end::{End, Ending, FileOption};
+use crate::storing::store_named;
+use branch_bound::Watcher;
+use command_words::CommandWords;
+use program_answers::{Answer, Refusal};
+use record_report::{record_file, record_since};
+use shelves::Shelf;
+use std::alloc::{AllocError, Global};
+
+/// Whether a run with this status stores its record.
+fn is_recorded(status: u8) -> bool
+    ensures { result ≡ must_be_recorded status }
+{
+    status == 0 || status == 1 || status == 3
+}
+
+/// The answer that stands once the record was handed over: the run's own, or that to a file which was refused.
+fn answer_after(
+    handed_over: Result<(), Refusal>,
+    answer: Answer,
+    end: &mut End,
+) -> Result<Answer, AllocError>
+    ensures { said_of result ≡ said_after (refusal_by handed_over) (answer_of answer) }
+{
+    match handed_over {
+        Ok(()) => Ok(answer),
+        Err(Refusal::Shown(refused)) => {
+            end.note_report(answer.text);
+            Ok(refused)
+        }
+        Err(Refusal::Memory) => {
+            end.note(Ending::Memory);
+            end.note_report(answer.text);
+            Err(AllocError)
+        }
+    }
+}
+
+/// Stores the bytes of a record, and answers as the run did, unless the file was refused.
+fn store_bytes<H: Shelf>(
+    alloc: Global,
+    name: &str,
+    bytes: Vec<u8>,
+    answer: Answer,
+    shelf: &mut H,
+    end: &mut End,
+) -> Result<Answer, AllocError>
+    ensures { (last : List File) × (refusal : Option Answered)
+        × HasStored (H.contents shelf.old) (H.contents shelf.new) (H.stored shelf.old) (H.stored shelf.new) last
+        × store_steps (record { name = name.now; bytes = bytes.items } ∷ []) (H.history shelf.old) (H.history shelf.new) last refusal
+        × (said_of result ≡ said_after refusal (answer_of answer)) }
+{
+    let option = FileOption::Record;
+    let handed_over = store_named(alloc, option, Some(name), Some(&bytes), shelf, end);
+    answer_after(handed_over, answer, end)
+}
+
+/// That a growth was refused in composing the record: nothing more is stored.
+fn uncomposed(answer: Answer, end: &mut End) -> Result<Answer, AllocError>
+    ensures { said_of result ≡ memory_answer }
+{
+    end.note(Ending::Memory);
+    end.note_report(answer.text);
+    Err(AllocError)
+}
+
+/// Stores the record of a run whose status asks for it. The shelf had so many events before the run.
+fn store_composed<H: Shelf>(
+    alloc: Global,
+    words: &[&str],
+    command: &CommandWords<'_>,
+    name: &str,
+    first: u64,
+    answer: Answer,
+    shelf: &mut H,
+    end: &mut End,
+) -> Result<Answer, AllocError>
+    requires { must_be_recorded answer.status ≡ true }
+    ensures { (before : History) → first ≡ min (length before.events) (2 ^ 64 - 1) → (last : List File)
+        × HasStored (H.contents shelf.old) (H.contents shelf.new) (H.stored shelf.old) (H.stored shelf.new) last
+        × RecordEnds (texts words.now) command.now name.now before (H.history shelf.old) (H.history shelf.new) last (answer_of answer) (said_of result) }
+{
+    match record_since(
+        alloc,
+        words,
+        command,
+        shelf,
+        first,
+        answer.status,
+        &answer.text,
+    ) {
+        Some(bytes) => store_bytes(alloc, name, bytes, answer, shelf, end),
+        None => uncomposed(answer, end),
+    }
+}
+
+/// Stores the record of a run, if the answer's status asks for it. The shelf had so many events before the run.
+fn store_record<H: Shelf>(
+    alloc: Global,
+    words: &[&str],
+    command: &CommandWords<'_>,
+    name: &str,
+    first: u64,
+    answer: Answer,
+    shelf: &mut H,
+    end: &mut End,
+) -> Result<Answer, AllocError>
+    ensures { (before : History) → first ≡ min (length before.events) (2 ^ 64 - 1) → (last : List File)
+        × HasStored (H.contents shelf.old) (H.contents shelf.new) (H.stored shelf.old) (H.stored shelf.new) last
+        × RecordEnds (texts words.now) command.now name.now before (H.history shelf.old) (H.history shelf.new) last (answer_of answer) (said_of result) }
+{
+    if is_recorded(answer.status) {
+        store_composed(alloc, words, command, name, first, answer, shelf, end)
+    } else {
+        Ok(answer)
+    }
+}
+
+/// The answer of a command whose words name a file for the record of the run.
+fn answer_with_record<H: Shelf, V: Watcher>(
+    alloc: Global,
+    words: &[&str],
+    command: CommandWords<'_>,
+    name: &str,
+    shelf: &mut H,
+    end: &mut End,
+    watcher: &mut V,
+) -> Result<Answer, AllocError>
+    requires { HasState command }
+    ensures { (stored : List File)
+        × HasStored (H.contents shelf.old) (H.contents shelf.new) (H.stored shelf.old) (H.stored shelf.new) stored
+        × RunsWithRecord (H.contents shelf.old) (texts words.now) command.entry name.now (H.history shelf.old) (H.history shelf.new) stored (said_of result) }
+{
+    let first = shelf.events();
+    shelf.keep_sums(alloc);
+    match command_answer(alloc, command, shelf, end, watcher) {
+        Ok(answer) => store_record(alloc, words, &command, name, first, answer, shelf, end),
+        Err(AllocError) => Err(AllocError),
+    }
+}
+
+/// The answer of a command, with its record if the words name a file for it.
+pub(crate) fn answer_as_asked<H: Shelf, V: Watcher>(
+    alloc: Global,
+    words: &[&str],
+    command: CommandWords<'_>,
+    shelf: &mut H,
+    end: &mut End,
+    watcher: &mut V,
+) -> Result<Answer, AllocError>
+    requires { HasState command }
+    ensures { (stored : List File)
+        × HasStored (H.contents shelf.old) (H.contents shelf.new) (H.stored shelf.old) (H.stored shelf.new) stored
+        × RunsAsAsked (H.contents shelf.old) (texts words.now) command.entry (record_name_of command.entry) (H.history shelf.old) (H.history shelf.new) stored (said_of result) }
+{
+    match record_file(&command) {
+        Some(name) => answer_with_record(alloc, words, command, name, shelf, end, watcher),
+        None => command_answer(alloc, command, shelf, end, watcher),
+    }
+}

@@ -1,0 +1,2 @@
+pub mod RecordFiles
+pub mod Recorded

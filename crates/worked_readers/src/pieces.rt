@@ -1,0 +1,94 @@
+//! Pieces of texts that are pulled from sources.
+
+use crate::answers::{Answers, CALLS, shown};
+use crate::calls::{Call, show_failing, show_parts};
+use crate::script::{Manner, source_of};
+use crate::texts::{FAILING, TEXTS, long_text};
+use anyhow::{Error, Result};
+use field_lines::{LineFault, Piece, PiecesFrom, RawLines, RawReader};
+use std::alloc::Global;
+
+/// The pieces of a text.
+#[derive(Clone, Copy)]
+struct PiecesOf<'a> {
+    text: &'a [u8],
+}
+
+/// The answer of one call.
+fn answer(alloc: Global, next: Result<Option<Piece<'_>>, LineFault>) -> Result<String> {
+    match next {
+        Ok(Some(piece)) => {
+            let bytes = shown(alloc, piece.bytes)?;
+            let (number, ended) = (piece.number, if piece.ended { " LF" } else { "" });
+            Ok(format!(in alloc; "{number} {bytes}{ended}")?)
+        }
+        Ok(None) => Ok(String::from_str(alloc, "end")?),
+        Err(LineFault::Memory) => Err(Error::from(LineFault::Memory)),
+        Err(fault) => Ok(format!(in alloc; "{fault}")?),
+    }
+}
+
+/// The answers of many calls.
+fn answers<F, P: PiecesFrom<F>>(alloc: Global, pieces: &mut P, from: &mut F) -> Result<String> {
+    let mut answers = Answers::new(alloc);
+    for _ in 0..CALLS {
+        answers.add(answer(alloc, pieces.next_from(from))?)?;
+    }
+    Ok(answers.text())
+}
+
+impl Call for PiecesOf<'_> {
+    fn whole(&self, alloc: Global) -> Result<String> {
+        answers(alloc, &mut RawLines::new(self.text), &mut ())
+    }
+
+    fn pulled(&self, alloc: Global, manner: Manner) -> Result<String> {
+        let mut pieces = RawReader::new(alloc)?;
+        answers(alloc, &mut pieces, &mut source_of(self.text, manner))
+    }
+}
+
+/// Prints the pieces of texts where one pull fails.
+fn show_failures(rt: &HostRuntime) -> Result<()> {
+    for (name, text) in FAILING {
+        let name = format!(in rt.alloc(); "pieces of {name}")?;
+        show_failing(
+            rt,
+            name.as_str(),
+            &PiecesOf {
+                text: text.as_bytes(),
+            },
+        )?;
+    }
+    Ok(())
+}
+
+/// Prints the pieces of a text with a long one behind a short one. In memory a piece has no limit.
+fn show_long(rt: &HostRuntime, letters: usize) -> Result<()> {
+    let text = long_text(rt.alloc(), letters)?;
+    let name = format!(in rt.alloc(); "pieces with one of {letters} letters")?;
+    show_parts(
+        rt,
+        name.as_str(),
+        &PiecesOf {
+            text: text.as_bytes(),
+        },
+    )
+}
+
+/// Prints the pieces of texts that come in parts, and of texts whose sources fail.
+pub(crate) fn show(rt: &HostRuntime) -> Result<()> {
+    for (name, text) in TEXTS {
+        let name = format!(in rt.alloc(); "pieces of {name}")?;
+        show_parts(
+            rt,
+            name.as_str(),
+            &PiecesOf {
+                text: text.as_bytes(),
+            },
+        )?;
+    }
+    show_long(rt, 65_536)?;
+    show_long(rt, 65_537)?;
+    show_failures(rt)
+}

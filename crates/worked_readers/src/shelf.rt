@@ -1,0 +1,219 @@
+//! Files in memory and a file of the machine: what their readers gave, where they stood, and what is stored.
+
+use anyhow::{Error, Result};
+use field_lines::Source;
+use shelves::{FileShelf, MemoryFile, MemoryShelf, ReadEnd, Shelf, ShelfFault};
+use std::alloc::Global;
+use std::{fs, str};
+
+/// What stands in the file `ten`.
+const TEN: &str = "0123456789";
+
+/// A file in memory.
+fn file(alloc: Global, name: &str, text: &str) -> Result<MemoryFile> {
+    Ok(MemoryFile {
+        name: String::from_str(alloc, name)?,
+        bytes: Vec::from_slice(alloc, text.as_bytes())?,
+    })
+}
+
+/// A shelf of three files: one of ten bytes, one without a byte, and one more of the first one's name.
+fn shelf(alloc: Global) -> Result<MemoryShelf> {
+    let mut files = Vec::new(alloc);
+    for (name, text) in [("ten", TEN), ("empty", ""), ("ten", "later")] {
+        files.push(file(alloc, name, text)?)?;
+    }
+    Ok(MemoryShelf::new(alloc, files))
+}
+
+/// What so many pulls give, of at most four bytes each, with a mark for each that fails.
+fn pulled<S: Source>(alloc: Global, source: &mut S, pulls: u32) -> Result<String> {
+    let mut text = String::new(alloc);
+    for _ in 0..pulls {
+        let mut buffer = [0u8; 4];
+        match source.pull(&mut buffer) {
+            Ok(count) => text.push_str(str::from_utf8(&buffer[..count])?)?,
+            Err(_) => text.push_str("!")?,
+        }
+    }
+    Ok(text)
+}
+
+/// Where a reader stood, in words, or the fault.
+fn end_said(alloc: Global, end: Result<ReadEnd, ShelfFault>) -> Result<String> {
+    match end {
+        Ok(end) => Ok(format!(in alloc; "{end:?}")?),
+        Err(ShelfFault::Memory) => Err(Error::from(ShelfFault::Memory)),
+        Err(fault) => Ok(format!(in alloc; "{fault}")?),
+    }
+}
+
+/// Prints what a reader of a file gives, and where it stood when it is given back under a name.
+fn show_reader<H: Shelf>(
+    rt: &HostRuntime,
+    shelf: &mut H,
+    name: &str,
+    pulls: u32,
+    back: &str,
+) -> Result<()> {
+    let alloc = rt.alloc();
+    let mut reader = match shelf.reader(alloc, name) {
+        Ok(reader) => reader,
+        Err(ShelfFault::Memory) => return Err(Error::from(ShelfFault::Memory)),
+        Err(fault) => {
+            println!(rt; "{name}: {fault}, failures {}", shelf.failures())?;
+            return Ok(());
+        }
+    };
+    let text = pulled(alloc, &mut reader, pulls)?;
+    let end = end_said(alloc, shelf.give_back(back, reader))?;
+    println!(rt;
+        "{name} gave {text:?}, back as {back}: {end}, failures {}",
+        shelf.failures()
+    )?;
+    Ok(())
+}
+
+/// Prints what a reader gives if another text is stored under its name behind the first pull, and where it then stood.
+fn show_replaced(rt: &HostRuntime, text: &str, pulls: u32) -> Result<()> {
+    let alloc = rt.alloc();
+    let mut shelf = shelf(alloc)?;
+    let mut reader = shelf.reader(alloc, "ten")?;
+    let first = pulled(alloc, &mut reader, 1)?;
+    shelf.store(alloc, "ten", text.as_bytes())?;
+    let rest = pulled(alloc, &mut reader, pulls)?;
+    let end = end_said(alloc, shelf.give_back("ten", reader))?;
+    println!(rt; "ten gave {first:?} and {rest:?}, now {text:?}: {end}")?;
+    Ok(())
+}
+
+/// Prints what readers of files in memory give and where they stood.
+fn show_readers(rt: &HostRuntime) -> Result<()> {
+    let mut memory = shelf(rt.alloc())?;
+    for pulls in 0..5 {
+        show_reader(rt, &mut memory, "ten", pulls, "ten")?;
+    }
+    for pulls in 0..2 {
+        show_reader(rt, &mut memory, "empty", pulls, "empty")?;
+        show_reader(rt, &mut memory, "ten", pulls, "empty")?;
+        show_reader(rt, &mut memory, "ten", pulls, "none")?;
+    }
+    show_reader(rt, &mut memory, "none", 0, "none")
+}
+
+/// Prints what readers give whose file is replaced meanwhile, and where they stood.
+fn show_replacements(rt: &HostRuntime) -> Result<()> {
+    for text in [TEN, "01234567890", "0123", "012345678x", ""] {
+        show_replaced(rt, text, 2)?;
+        show_replaced(rt, text, 0)?;
+    }
+    Ok(())
+}
+
+/// Prints what readers of the machine's files give and where they stood.
+fn show_machine(rt: &HostRuntime) -> Result<()> {
+    let mut machine = FileShelf::new(rt);
+    machine.store(rt.alloc(), "ten", TEN.as_bytes())?;
+    for pulls in 0..5 {
+        show_reader(rt, &mut machine, "ten", pulls, "ten")?;
+    }
+    show_reader(rt, &mut machine, "none", 0, "none")?;
+    show_reader(rt, &mut machine, ".", 1, ".")?;
+    fs::remove_file(rt, "ten")?;
+    Ok(())
+}
+
+/// What a file's load gives, in words.
+fn load_said(alloc: Global, shelf: &mut MemoryShelf, name: &str) -> Result<String> {
+    match shelf.load(alloc, name) {
+        Ok(bytes) => Ok(format!(in alloc; "{:?}", str::from_utf8(&bytes)?)?),
+        Err(ShelfFault::Memory) => Err(Error::from(ShelfFault::Memory)),
+        Err(fault) => Ok(format!(in alloc; "{fault}")?),
+    }
+}
+
+/// A file by its name and its text.
+type NameAndText = (&'static str, &'static str);
+
+/// Whether the stored files are these.
+fn are_stored(shelf: &MemoryShelf, files: &[NameAndText]) -> bool {
+    let stored = shelf.stored_files();
+    stored.len() == files.len()
+        && stored.iter().zip(files).all(|(file, (name, text))| {
+            file.name.as_str() == *name && file.bytes.as_slice() == text.as_bytes()
+        })
+}
+
+/// What is stored after one store, after two, and so on.
+const ONE_STORE: &[NameAndText] = &[("ten", "one")];
+
+const TWO_STORES: &[NameAndText] = &[("ten", "one"), ("new", "")];
+
+const THREE_STORES: &[NameAndText] = &[("ten", "two"), ("new", "")];
+
+const FOUR_STORES: &[NameAndText] = &[("ten", "two"), ("new", "three")];
+
+/// Files that are stored one after the other, and what is stored before and after each.
+const STORES: &[(NameAndText, &[NameAndText], &[NameAndText])] = &[
+    (("ten", "one"), &[], ONE_STORE),
+    (("new", ""), ONE_STORE, TWO_STORES),
+    (("ten", "two"), TWO_STORES, THREE_STORES),
+    (("new", "three"), THREE_STORES, FOUR_STORES),
+];
+
+/// Stores a file. If memory is refused, the stored files have to be those before, and else those after.
+fn store(
+    alloc: Global,
+    shelf: &mut MemoryShelf,
+    (name, text): NameAndText,
+    before: &[NameAndText],
+    after: &[NameAndText],
+) -> Result<()> {
+    match shelf.store(alloc, name, text.as_bytes()) {
+        Ok(()) if are_stored(shelf, after) => Ok(()),
+        Ok(()) => Err(Error::msg("a store left other files than it should")),
+        Err(fault) if are_stored(shelf, before) => Err(Error::from(fault)),
+        Err(_) => Err(Error::msg("a store that failed changed the files")),
+    }
+}
+
+/// Prints what the loads of three files give.
+fn show_loads(rt: &HostRuntime, shelf: &mut MemoryShelf) -> Result<()> {
+    for name in ["ten", "new", "empty"] {
+        let said = load_said(rt.alloc(), shelf, name)?;
+        println!(rt; "{name}: {said}")?;
+    }
+    Ok(())
+}
+
+/// Prints the stored files.
+fn show_stored(rt: &HostRuntime, shelf: &MemoryShelf) -> Result<()> {
+    for file in shelf.stored_files() {
+        println!(rt;
+            "stored {} {:?}",
+            file.name.as_str(),
+            str::from_utf8(&file.bytes)?
+        )?;
+    }
+    Ok(())
+}
+
+/// Prints what is loaded before and after files are stored.
+fn show_stores(rt: &HostRuntime) -> Result<()> {
+    let alloc = rt.alloc();
+    let mut shelf = shelf(alloc)?;
+    for (file, before, after) in STORES {
+        show_loads(rt, &mut shelf)?;
+        store(alloc, &mut shelf, *file, before, after)?;
+    }
+    show_loads(rt, &mut shelf)?;
+    show_stored(rt, &shelf)
+}
+
+/// Prints what files in memory and of the machine give.
+pub(crate) fn show(rt: &HostRuntime) -> Result<()> {
+    show_readers(rt)?;
+    show_replacements(rt)?;
+    show_machine(rt)?;
+    show_stores(rt)
+}
