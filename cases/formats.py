@@ -97,13 +97,19 @@ TEXTS = {
     ],
     "audit": [(0, r"findings 0\n"), (1, rf"findings [1-9][0-9]*\n(?:{FINDING})+")],
 }
-# (what stands on standard error behind a failed store: the report of a search)
-TOLD = rf"(?:countygroups: [^\n]*\n|(?:{HEAD}answer [a-z0-9 ]+\n(?:grouping none\n|{GROUPS})?))*"
+LINES = r"(?:countygroups: [^\n]*\n)*"
 
 
 def is_of_format(command, text, status):
     ways = REFUSED + TEXTS.get(command, [])
     return any(status == with_status and re.fullmatch(way, text, re.DOTALL) for with_status, way in ways)
+
+
+def is_told(command, told):
+    """Whether standard error has lines for a person alone, and behind a failed store the answer of the command."""
+    answers = "|".join(way for status, way in TEXTS.get(command, []) if status in (0, 1, 3))
+    shape = rf"{LINES}(?:countygroups: the answer is:\n(?:{answers}){LINES})?"
+    return re.fullmatch(shape, told, re.DOTALL) is not None and not re.search(r"[\0-\x09\x0b-\x1f\x7f\ufffd]", told)
 
 
 def is_certificate(text):

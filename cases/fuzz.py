@@ -45,7 +45,7 @@ import cases  # noqa: E402
 import check  # noqa: E402
 import compare_checkers  # noqa: E402
 import program_runs  # noqa: E402
-from formats import TEXTS, TOLD, is_certificate, is_grouping, is_of_format, is_record, table_of, wrong_record  # noqa: E402
+from formats import TEXTS, is_certificate, is_grouping, is_of_format, is_record, is_told, table_of, wrong_record  # noqa: E402
 from sweeps import named_by  # noqa: E402
 
 MOST_BYTES, QUICK_SECONDS = 40_000, 3
@@ -375,8 +375,7 @@ def wrong_ending(run, made, asked):
         return f"memory: more than {asked.memory} megabytes"
     if made.status >= 128:
         return f"signal {made.status - 128}: `{shown(made.told)}`"
-    told = made.told.decode("utf-8", "replace")
-    if not re.fullmatch(TOLD, told) or "\ufffd" in told or re.search(r"[\0-\x09\x0b-\x1f\x7f]", told):
+    if not is_told(run.words[0], made.told.decode("utf-8", "replace")):
         return f"report: status {made.status}, `{shown(made.told)}`"
     if not is_of_format(run.words[0], made.text.decode("latin-1"), made.status):
         return f"format: status {made.status}, `{shown(made.text)}`"
@@ -560,6 +559,10 @@ def tests():
     yield "too much memory", wrong_ending(run, Made(b"", 137, b"", {}), limits), "memory: more than 1024 megabytes"
     yield "a report of a bad access", wrong_ending(run, Made(b"memory\n", 5, b"ERROR: x\n", {}), limits), "report: status 5, `ERROR: x\\n`"
     yield "a byte that isn't escaped", wrong_ending(run, Made(b"memory\n", 5, b"countygroups: \x07\n", {}), limits)[:6], "report"
+    behind = "countygroups: --record r could not be stored: x\ncountygroups: the answer is:\n"
+    yield "the answer behind a failed store", is_told("audit", behind + "findings 1\nUnassigned 370010001001000\n"), True
+    yield "the answer of another command behind a failed store", is_told("size", behind + "findings 0\n"), False
+    yield "an answer without its line", is_told("audit", "countygroups: x\nfindings 0\n"), False
     yield "an ordinary end", wrong_ending(run, Made(b"memory\n", 5, b"countygroups: x\n", {}), limits), None
     yield "both say best", agrees("check", b"answer best\n", 0, (b"answer best\n", 0)), True
     yield "a No that is denied", agrees("check", b"no NoLeaf line 6\n", 1, (b"answer best\n", 0)), False
