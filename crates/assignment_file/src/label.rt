@@ -3,12 +3,16 @@
 ghost use Rattle.std.specs.Prelude.{◌≡◌, IfOk};
 ghost use Rattle.assignment_file.specs.Labels.{is_printable, is_label, label_of, assigns};
 
+use smallvec::SmallVec;
 use std::alloc::{AllocError, Global};
 use std::cmp::Ordering;
 use std::marker::Model;
 
 /// The greatest length of a label.
 const LONGEST: usize = 32;
+
+/// A label of at most so many bytes stands in the value itself. Plans have labels of one to three bytes.
+const INLINE: usize = 16;
 
 /// What some files have as the label of a block without a district.
 const NO_DISTRICT: &[u8] = b"ZZZ";
@@ -17,7 +21,7 @@ const NO_DISTRICT: &[u8] = b"ZZZ";
 /// assign nothing.
 #[derive(Debug, Drop)]
 pub struct Label {
-    bytes: Vec<u8>,
+    bytes: SmallVec<u8, INLINE>,
 }
 
 impl Model for Label {
@@ -105,7 +109,7 @@ impl Label {
             return Ok(None);
         }
         Ok(Some(Label {
-            bytes: bytes.to_vec(alloc)?,
+            bytes: SmallVec::from_slice(alloc, bytes)?,
         }))
     }
 
