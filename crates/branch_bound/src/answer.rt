@@ -1,3 +1,5 @@
+//! What a desk answers of a problem.
+
 use certificate_text::Certificate;
 use county_codes::Grouping;
 

@@ -1,3 +1,5 @@
+//! What a search of one round goes by.
+
 use ordered_counties::Ordered;
 use proof_trees::Round;
 use std::alloc::Global;

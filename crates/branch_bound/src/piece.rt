@@ -1,3 +1,5 @@
+//! What a desk answers of a piece of a shared proof, and the branch at which a piece may be split.
+
 use certificate_text::Tree;
 use county_codes::{CountyCode, Grouping};
 

@@ -1,3 +1,5 @@
+//! Where a search stands.
+
 use proof_trees::State;
 
 /// Where a search stands: a state, and what is known of its groups. None of fewer than `size` counties fits, and

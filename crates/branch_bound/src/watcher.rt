@@ -1,3 +1,5 @@
+//! Who is told how far a search is.
+
 use county_codes::Grouping;
 use ordered_counties::Steps;
 

@@ -79,7 +79,7 @@ pub(crate) fn explain_unstored(out: &mut String, file: Unmoved<'_>) -> Result<()
     }
 }
 
-/// Appends the report of a search, or the text of a list or of a board, whose files could not all be stored.
+/// Appends the text of an answer, if a file of the run could not be stored.
 ///
 /// # Errors
 ///

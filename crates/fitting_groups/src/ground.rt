@@ -1,3 +1,5 @@
+//! What a growing of sets looks at, and where it stands.
+
 use crate::tables::Tables;
 use ordered_counties::Ordered;
 use proof_trees::{Language, State};

@@ -1,3 +1,5 @@
+//! The growing of connected sets, place by place: each set that is met takes a step, and is kept if it fits.
+
 ghost use Rattle.std.specs.Prelude.{◌≡◌, ℕ, ◌+◌, ◌-◌, ◌*◌, ◌^◌, Bool, List, [], true, false, ◌<◌, ◌≤◌, ◌&&◌, not, ◌==◌, nat_lt, MatchOption, MatchResult, OnOk, IfOk, IsTrue, ◌↔◌, IsErrOf, length};
 ghost use Rattle.grouping_laws.specs.Problem.{Connected, people_of};
 ghost use Rattle.place_lists.specs.PlaceSets.{places_of};

@@ -1,3 +1,5 @@
+//! The groups that fit a state: those at a place, and those of a size.
+
 ghost use Rattle.std.specs.Prelude.{◌≡◌, ℕ, ◌+◌, true, false, ◌<◌, ◌≤◌, Bool, List, OnOk, IfOk, IsErrOf, length};
 ghost use Rattle.grouping_laws.specs.Places.{places_below};
 ghost use Rattle.ordered_counties.specs.OrderedValue.{problem_at};

@@ -1,3 +1,5 @@
+//! Which sets the growing passes over, since no group that fits can come of them.
+
 ghost use Rattle.std.specs.Prelude.{◌≡◌, ℕ, ◌+◌, ◌^◌, Bool, List, [], true, filter, ◌<◌, ◌≤◌, MatchOption, IfOk, IsTrue, length};
 ghost use Rattle.grouping_laws.specs.Sets.{member};
 ghost use Rattle.grouping_laws.specs.Problem.{people_of};

@@ -1,3 +1,5 @@
+//! The places of a set by their people, and the people of the first ones.
+
 ghost use Rattle.std.specs.Prelude.{◌≡◌, ℕ, true, ◌<◌, ◌≤◌, ◌^◌, IfOk, All, List, length, filter, take};
 ghost use Rattle.grouping_laws.specs.Sets.{total};
 ghost use Rattle.ordered_counties.specs.OrderedValue.{problem_at};

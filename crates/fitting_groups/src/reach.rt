@@ -1,3 +1,5 @@
+//! The places that a set reaches by a number of moves to adjacent free places.
+
 ghost use Rattle.std.specs.Prelude.{◌≡◌, ℕ, ◌+◌, ◌||◌, true, List, ◌<◌, ◌≤◌, IfOk, length};
 ghost use Rattle.place_lists.specs.PlaceSets.{places_of};
 ghost use Rattle.ordered_counties.specs.OrderedValue.{problem_at};

@@ -1,3 +1,5 @@
+//! Why a list of groups isn't made to its end.
+
 ghost use Rattle.std.specs.Prelude.{◌≡◌};
 ghost use Rattle.fitting_groups.specs.declared.stop.Stop.TheVariants.{Memory};
 

@@ -1,3 +1,5 @@
+//! The tables that are made once before sets grow: places by people, windows of seats, and the people of the rest.
+
 ghost use Rattle.std.specs.Prelude.{◌≡◌, ℕ, true, ◌<◌, ◌≤◌, length, IfOk};
 ghost use Rattle.place_lists.specs.PlaceSets.{places_of};
 ghost use Rattle.ordered_counties.specs.OrderedValue.{problem_at};

@@ -1,3 +1,5 @@
+//! The windows of people for each number of seats, and the tests whether some people may suit one.
+
 ghost use Rattle.std.specs.Prelude.{◌≡◌, ℕ, true, ◌-◌, ◌<◌, ◌≤◌, IsTrue, IfOk};
 ghost use Rattle.ordered_counties.specs.OrderedValue.{problem_at};
 ghost use Rattle.fitting_groups.specs.People.{HasWindow, AreWindows};

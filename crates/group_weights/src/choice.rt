@@ -1,3 +1,5 @@
+//! The county at which a branch is made, by the weights of the counties.
+
 ghost use Rattle.std.specs.Prelude.{◌≡◌, ℕ, true, false, ◌<◌, ◌≤◌, length, All, Contains, IfOk, MatchOption};
 ghost use Rattle.county_codes.specs.Limits.{most_counties};
 ghost use Rattle.growing_sets.specs.Listing.{AreBelow};

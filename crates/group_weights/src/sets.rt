@@ -1,3 +1,5 @@
+//! The places that groups cover, and the lightest group.
+
 ghost use Rattle.std.specs.Prelude.{◌≡◌, ℕ, ◌<◌, ◌≤◌, length, IfOk};
 ghost use Rattle.std.specs.List.{list_any};
 ghost use Rattle.county_codes.specs.Limits.{most_counties};

@@ -1,3 +1,5 @@
+//! The weights of the counties: how they begin, and how they are raised and lowered.
+
 ghost use Rattle.std.specs.Prelude.{◌≡◌, ℕ, true, ◌<◌, ◌≤◌, length, get_or, All, IfOk};
 ghost use Rattle.county_codes.specs.Limits.{most_counties};
 ghost use Rattle.growing_sets.specs.Listing.{AreBelow};

@@ -1,3 +1,5 @@
+//! What is kept of a list of groups: those apart from a group, those that have or lack a county, and the live ones.
+
 ghost use Rattle.std.specs.Prelude.{◌≡◌, ℕ, ◌+◌, ◌≤◌, ◌<◌, true, length, IfOk, IsErrOf};
 ghost use Rattle.grouping_problem.specs.ProblemValue.{problem_of};
 ghost use Rattle.ordered_counties.specs.OrderedValue.{problem_at, code_at};

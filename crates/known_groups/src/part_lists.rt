@@ -1,3 +1,5 @@
+//! The lists of groups that are kept by part of the rest and by size, so that none is made twice.
+
 ghost use Rattle.std.specs.Prelude.{◌≡◌, ℕ, ◌+◌, ◌≤◌, ◌<◌, ◌++◌, true, cond, get_or, length, All, IfOk, OnOk, IfSome, IsErrOf, IsTrue};
 ghost use Rattle.grouping_laws.specs.Problem.{Problem};
 ghost use Rattle.ordered_counties.specs.OrderedValue.{problem_at};

@@ -1,3 +1,5 @@
+//! The groups of one size that fit a state, made part by part from the lists that are kept.
+
 ghost use Rattle.std.specs.Prelude.{◌≡◌, ℕ, ◌*◌, ◌≤◌, ◌<◌, true, List, length, IfOk, IsErrOf, IsTrue, ◌⊎◌, ◌↔◌};
 ghost use Rattle.grouping_laws.specs.Sets.{stands};
 ghost use Rattle.grouping_problem.specs.ProblemValue.{problem_of};

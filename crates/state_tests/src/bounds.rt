@@ -1,3 +1,5 @@
+//! What bounds how many groups of a size may still be closed: the room for them, and their weights.
+
 ghost use Rattle.std.specs.Prelude.{◌≡◌, ℕ, true, ◌<◌, ◌≤◌, length, get_or, All, IfOk, IsTrue, ◌↔◌};
 ghost use Rattle.grouping_laws.specs.Sets.{total};
 ghost use Rattle.place_lists.specs.PlaceSets.{places_of};

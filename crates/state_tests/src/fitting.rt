@@ -1,3 +1,5 @@
+//! The groups that fit a state: their people suit seats, and their counties are open to their size.
+
 ghost use Rattle.std.specs.Prelude.{◌≡◌, ℕ, true, ◌<◌, ◌≤◌, length, get_or, IfOk, IsTrue, ◌↔◌};
 ghost use Rattle.grouping_laws.specs.Sets.{Inside};
 ghost use Rattle.grouping_laws.specs.Problem.{Connected, people_of};

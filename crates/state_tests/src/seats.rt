@@ -1,3 +1,5 @@
+//! The numbers of seats that the people of sets suit, and whether the seats left lie outside of them.
+
 ghost use Rattle.std.specs.Prelude.{◌≡◌, ℕ, true, ◌<◌, ◌≤◌, ◌||◌, nat_lt, length, map, All, IfOk, IfSome, IsTrue, ◌↔◌};
 ghost use Rattle.grouping_laws.specs.Problem.{Suits, people_of};
 ghost use Rattle.grouping_laws.specs.SeatWindow.{IsRun};

@@ -1,3 +1,5 @@
+//! The parts of the rest that no groups can fill, and the sets that leave such a part behind.
+
 ghost use Rattle.std.specs.Prelude.{◌≡◌, ℕ, true, false, ◌<◌, ◌≤◌, List, length, get_or, IfOk, IsTrue, ◌↔◌};
 ghost use Rattle.grouping_laws.specs.Sets.{member};
 ghost use Rattle.grouping_laws.specs.Parts.{IsPart};

@@ -1,3 +1,5 @@
+//! The people of a set, and its weight.
+
 ghost use Rattle.std.specs.Prelude.{◌≡◌, ℕ, true, ◌<◌, ◌≤◌, length, get_or};
 ghost use Rattle.grouping_laws.specs.Sets.{total};
 ghost use Rattle.grouping_laws.specs.Problem.{people_of};
