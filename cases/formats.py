@@ -209,7 +209,7 @@ def read_lines(words, files, record):
     for file, option in INPUTS.items():
         name = named_by(words, option)
         if name is not None and (file != "certificate" or words[0] not in ("solve", "share")):
-            head, shown, held = f"read {file} ".encode(), escaped(os.fsencode(name)), files.get(os.path.normpath(name), b"")
+            head, shown, held = f"read {file} ".encode(), escaped(os.fsencode(name)), files.get(name, files.get(os.path.normpath(name), b""))
             left = re.search(rb"^%s([0-9]+) [0-9a-f]{64} %s left$" % (head, re.escape(shown)), record, re.MULTILINE)
             lines.append(head + sum_of(held[: int(left[1])] if left else held) + b" " + shown + (b" left" if left else b""))
     return lines

@@ -606,6 +606,8 @@ def tests_of_outputs():
     yield "a record of other bytes", of(record.replace(b"ba78", b"ba79")) is not None, True
     yield "a record without a word", of(record.replace(b"word check\n", b"")) is not None, True
     yield "a record without a stored file", of(record, [("table", "t", b"")]) is not None, True
+    nameless, bare = record.replace(b"my geo.pl\nread", b"\nread").replace(b" my geo.pl\n", b" \n"), {"": b"abc"}
+    yield "a record of a file whose name is empty", wrong_record(["check", "--geo", ""], bare, (), b"answer best\n", 0, nameless), None
     yield "a record that is cut", is_record(record[:-1]), False
     yield "a record with a byte that isn't escaped", is_record(record.replace(b"best", b"b\xffst")), False
 
