@@ -430,7 +430,7 @@ class TooSlow(Exception):
 
 
 def second_answer(words, files):
-    """What the second checker answers, or None if it isn't quick."""
+    """What the second checker answers, or None if it isn't quick. If it ends by an error of its own, the error is its text, and it has no status."""
 
     def give_up(*_):
         raise TooSlow
@@ -442,6 +442,8 @@ def second_answer(words, files):
         return made.wrote, made.status
     except TooSlow:
         return None
+    except Exception as error:
+        return repr(error).encode(), None
     finally:
         signal.alarm(0)
 

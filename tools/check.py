@@ -330,7 +330,7 @@ class Round:
         """For each size up to `most`, all connected sets of free counties of a connected part of the rest that may fit. A set grows by a county that
         touches it. This county is then out of all sets that are grown later from the same one, so that each set is met once."""
         found, waiting = {count: [] for count in range(1, most + 1)}, []
-        for it in self.by_people:
+        for it in self.by_people if most else ():
             if it & free:
                 free &= ~it
                 waiting.append((it, self.neighbours[it], free))
