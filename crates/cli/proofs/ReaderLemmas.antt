@@ -12,7 +12,7 @@ use Rattle.shelves.specs.History.{History, HasLoaded}
 use Rattle.program_answers.specs.declared.answer.Refusal.{Refusal}
 use Rattle.program_answers.specs.declared.answer.Refusal.TheVariants.{Shown, Memory}
 use Rattle.program_answers.specs.Answer.{Answered}
-use Rattle.program_answers.specs.Answers.{answer_of, Comes, Meets, Refuses}
+use Rattle.program_answers.specs.Answers.{Comes, Meets, Refuses}
 use Rattle.certificate_checker.specs.declared.fault.CheckStop.{CheckStop}
 use Rattle.command_runs.specs.declared.checker_report.Checked.{Checked}
 use Rattle.command_runs.specs.CheckCourse.{IsChecked, ChecksGiven}

@@ -6,7 +6,7 @@ use Rattle.std.specs.Option.{option_copied}
 use Rattle.std.specs.Result.{IsErrAnd}
 use Rattle.shelves.specs.Files.{File, Files}
 use Rattle.shelves.specs.History.{History}
-use Rattle.program_answers.specs.declared.answer.Answer.{Answer}
+use Rattle.program_answers.specs.declared.answer.RunAnswer.{RunAnswer}
 use Rattle.program_answers.specs.declared.answer.Refusal.{Refusal}
 use Rattle.program_answers.specs.declared.answer.Refusal.TheVariants.{Shown, Memory}
 use Rattle.program_answers.specs.Answer.{Answered, memory_answer}
@@ -34,14 +34,14 @@ module _ {S : Type 0} (steps : Course S) (files_of : S → List File) (answer : 
   Runs before after stored a = IsOutOfMemory stored a ⊎ EndsStoring steps files_of answer before after stored a
 
   -- it ends at a fault, before anything is stored
-  pub refused_run : (before after : History) (refusal : Refusal) (end : Result Answer Refusal)
+  pub refused_run : (before after : History) (refusal : Refusal) (end : Result RunAnswer Refusal)
       → IsErrAnd end (λ e. e ≡ refusal) → Meets refusal (λ a. steps before after (Err a)) → Runs before after [] (said_by end)
   refused_run before after refusal (Ok a) i h = absurd i
   refused_run before after (Shown a) (Err e) i h = subst (λ (r : Refusal). Runs before after [] (said_by (Err r))) (sym i) (inr (inl (h, refl)))
   refused_run before after Memory (Err e) i h = subst (λ (r : Refusal). Runs before after [] (said_by (Err r))) (sym i) (inl (refl, refl))
 
   -- or at a file that was refused
-  pub stopped_run : (s : S) (before between after : History) (stored : List File) (refusal : Refusal) (end : Result Answer Refusal)
+  pub stopped_run : (s : S) (before between after : History) (stored : List File) (refusal : Refusal) (end : Result RunAnswer Refusal)
       → IsErrAnd end (λ e. e ≡ refusal) → steps before between (Ok s) → store_steps (files_of s) between after stored (refusal_by (Err refusal))
       → Runs before after stored (said_by end)
   stopped_run s before between after stored refusal (Ok a) i h k = absurd i

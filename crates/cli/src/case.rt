@@ -18,7 +18,7 @@ use crate::command::{deliver, words_answer};
 use crate::end::{End, Ending};
 use branch_bound::NoWatcher;
 use field_lines::{Piece, RawLines, Source};
-use program_answers::{Answer, MEMORY};
+use program_answers::{MEMORY, RunAnswer};
 use shelves::{MemoryFile, MemoryShelf, Sink, WholeFault, read_whole};
 use std::alloc::{AllocError, Global};
 
@@ -155,7 +155,7 @@ fn words_over_files(
     line: &str,
     mut files: Vec<MemoryFile>,
     end: &mut End,
-) -> Result<Answer, AllocError>
+) -> Result<RunAnswer, AllocError>
     ensures { IfOk result (λ a. WordsOver (reverse (files_of files.items)) (slice_split (λ b. b == 32) line.now) (answer_of a)) }
 {
     files.reverse();
@@ -167,7 +167,7 @@ fn words_over_files(
 }
 
 /// The answer to the text of a case, if its first line and its files' names are text.
-fn case_answer(alloc: Global, text: &[u8], end: &mut End) -> Result<Option<Answer>, AllocError>
+fn case_answer(alloc: Global, text: &[u8], end: &mut End) -> Result<Option<RunAnswer>, AllocError>
     ensures { IfOk result (λ a. IsCaseAnswer text.now (option_map answer_of a)) }
 {
     match parts_in(alloc, text)? {

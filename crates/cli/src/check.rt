@@ -19,7 +19,7 @@ use certificate_checker::{CheckFault, CheckStop};
 use command_runs::{Checked, Reported, Tabled, check_and_say, check_from_and_say};
 use command_words::{CertificateWords, CheckWords, CommandWords};
 use grouping_problem::Problem;
-use program_answers::{Answer, Refusal};
+use program_answers::{Refusal, RunAnswer};
 use shelves::Shelf;
 use std::alloc::Global;
 
@@ -151,7 +151,7 @@ pub(crate) fn check<H: Shelf>(
     words: CheckWords<'_>,
     shelf: &mut H,
     end: &mut End,
-) -> Result<Answer, Refusal>
+) -> Result<RunAnswer, Refusal>
     requires { words.check.problem.common.state ≤ 99 }
     ensures { (stored : List File)
         × HasStored (H.contents shelf.old) (H.contents shelf.new) (H.stored shelf.old) (H.stored shelf.new) stored

@@ -22,7 +22,7 @@ use crate::size::size;
 use crate::solve::solve;
 use branch_bound::{NoWatcher, Watcher};
 use command_words::{CommandWords, WordsEnd, parse};
-use program_answers::{Answer, MEMORY, Refusal};
+use program_answers::{MEMORY, Refusal, RunAnswer};
 use shelves::{Shelf, Sink};
 use std::alloc::{AllocError, Global};
 
@@ -33,7 +33,7 @@ fn command_end<H: Shelf, V: Watcher>(
     shelf: &mut H,
     end: &mut End,
     watcher: &mut V,
-) -> Result<Answer, Refusal>
+) -> Result<RunAnswer, Refusal>
     requires { HasState command }
     ensures { (stored : List File)
         × HasStored (H.contents shelf.old) (H.contents shelf.new) (H.stored shelf.old) (H.stored shelf.new) stored
@@ -58,7 +58,7 @@ pub(crate) fn command_answer<H: Shelf, V: Watcher>(
     shelf: &mut H,
     end: &mut End,
     watcher: &mut V,
-) -> Result<Answer, AllocError>
+) -> Result<RunAnswer, AllocError>
     requires { HasState command }
     ensures { (stored : List File)
         × HasStored (H.contents shelf.old) (H.contents shelf.new) (H.stored shelf.old) (H.stored shelf.new) stored
@@ -75,18 +75,22 @@ pub(crate) fn command_answer<H: Shelf, V: Watcher>(
 }
 
 /// The answer to words that give no command.
-fn end_answer(alloc: Global, words_end: &WordsEnd) -> Result<Answer, AllocError>
+fn end_answer(alloc: Global, words_end: &WordsEnd) -> Result<RunAnswer, AllocError>
     ensures { IfOk result (λ a. IsEndAnswer words_end.now (answer_of a)) }
 {
     match words_end {
-        WordsEnd::Help(text) | WordsEnd::Version(text) => Answer::new(alloc, text.as_bytes(), 0),
-        WordsEnd::Usage(text) => Answer::new(alloc, text.as_bytes(), 2),
-        WordsEnd::Memory => Answer::new(alloc, MEMORY, 5),
+        WordsEnd::Help(text) | WordsEnd::Version(text) => RunAnswer::new(alloc, text.as_bytes(), 0),
+        WordsEnd::Usage(text) => RunAnswer::new(alloc, text.as_bytes(), 2),
+        WordsEnd::Memory => RunAnswer::new(alloc, MEMORY, 5),
     }
 }
 
 /// The answer to words that give no command; they are noted as the end of the run.
-fn words_end_answer(alloc: Global, words_end: WordsEnd, end: &mut End) -> Result<Answer, AllocError>
+fn words_end_answer(
+    alloc: Global,
+    words_end: WordsEnd,
+    end: &mut End,
+) -> Result<RunAnswer, AllocError>
     ensures { IfOk result (λ a. IsEndAnswer words_end (answer_of a)) }
 {
     let answer = end_answer(alloc, &words_end)?;
@@ -101,7 +105,7 @@ pub(crate) fn words_answer<H: Shelf, V: Watcher>(
     shelf: &mut H,
     end: &mut End,
     watcher: &mut V,
-) -> Result<Answer, AllocError>
+) -> Result<RunAnswer, AllocError>
     ensures { (stored : List File)
         × HasStored (H.contents shelf.old) (H.contents shelf.new) (H.stored shelf.old) (H.stored shelf.new) stored
         × IsRunAnswer (H.contents shelf.old) (texts words.now) (H.history shelf.old) (H.history shelf.new) stored (said_of result) }
@@ -123,7 +127,7 @@ pub(crate) fn deliver<W: Sink>(out: &mut W, text: &[u8], status: u8) -> u8
 }
 
 /// Writes an answer, or that a growth was refused, and answers the status, or 5 where the writing failed.
-fn deliver_said<W: Sink>(out: &mut W, said: Result<Answer, AllocError>) -> u8
+fn deliver_said<W: Sink>(out: &mut W, said: Result<RunAnswer, AllocError>) -> u8
     ensures { Delivers (W.is_failed out.new) (W.contents out.old) (W.contents out.new) (said_of said) result }
 {
     match said {

@@ -19,7 +19,7 @@ use command_words::{CommandWords, JudgeWords};
 use county_codes::Grouping;
 use grouping_judge::judge as judge_grouping;
 use grouping_problem::Problem;
-use program_answers::{Answer, Refusal, refuse_verdict};
+use program_answers::{Refusal, RunAnswer, refuse_verdict};
 use shelves::Shelf;
 use std::alloc::Global;
 
@@ -103,7 +103,7 @@ pub(crate) fn judge<H: Shelf>(
     words: JudgeWords<'_>,
     shelf: &mut H,
     end: &mut End,
-) -> Result<Answer, Refusal>
+) -> Result<RunAnswer, Refusal>
     requires { words.problem.common.state ≤ 99 }
     ensures { (stored : List File)
         × HasStored (H.contents shelf.old) (H.contents shelf.new) (H.stored shelf.old) (H.stored shelf.new) stored

@@ -15,7 +15,7 @@ use crate::storing::store_named;
 use command_runs::{ListEnd, Listed, list_and_say};
 use command_words::{CommandWords, ListWords, StoredWords};
 use grouping_problem::Problem;
-use program_answers::{Answer, Refusal};
+use program_answers::{Refusal, RunAnswer};
 use shelves::Shelf;
 use std::alloc::Global;
 
@@ -84,7 +84,7 @@ pub(crate) fn list<H: Shelf>(
     words: ListWords<'_>,
     shelf: &mut H,
     end: &mut End,
-) -> Result<Answer, Refusal>
+) -> Result<RunAnswer, Refusal>
     requires { words.check.problem.common.state ≤ 99 }
     ensures { (stored : List File)
         × HasStored (H.contents shelf.old) (H.contents shelf.new) (H.stored shelf.old) (H.stored shelf.new) stored

@@ -17,7 +17,7 @@ use crate::end::{End, Ending, FileOption};
 use crate::storing::store_named;
 use branch_bound::Watcher;
 use command_words::CommandWords;
-use program_answers::{Answer, Refusal};
+use program_answers::{Refusal, RunAnswer};
 use record_report::{record_file, record_since};
 use shelves::Shelf;
 use std::alloc::{AllocError, Global};
@@ -32,9 +32,9 @@ fn is_recorded(status: u8) -> bool
 /// The answer that stands once the record was handed over: the run's own, or that to a file which was refused.
 fn answer_after(
     handed_over: Result<(), Refusal>,
-    answer: Answer,
+    answer: RunAnswer,
     end: &mut End,
-) -> Result<Answer, AllocError>
+) -> Result<RunAnswer, AllocError>
     ensures { said_of result ≡ said_after (refusal_by handed_over) (answer_of answer) }
 {
     match handed_over {
@@ -56,10 +56,10 @@ fn store_bytes<H: Shelf>(
     alloc: Global,
     name: &str,
     bytes: Vec<u8>,
-    answer: Answer,
+    answer: RunAnswer,
     shelf: &mut H,
     end: &mut End,
-) -> Result<Answer, AllocError>
+) -> Result<RunAnswer, AllocError>
     ensures { (last : List File) × (refusal : Option Answered)
         × HasStored (H.contents shelf.old) (H.contents shelf.new) (H.stored shelf.old) (H.stored shelf.new) last
         × store_steps (record { name = name.now; bytes = bytes.items } ∷ []) (H.history shelf.old) (H.history shelf.new) last refusal
@@ -71,7 +71,7 @@ fn store_bytes<H: Shelf>(
 }
 
 /// That a growth was refused in composing the record: nothing more is stored.
-fn uncomposed(answer: Answer, end: &mut End) -> Result<Answer, AllocError>
+fn uncomposed(answer: RunAnswer, end: &mut End) -> Result<RunAnswer, AllocError>
     ensures { said_of result ≡ memory_answer }
 {
     end.note(Ending::Memory);
@@ -86,10 +86,10 @@ fn store_composed<H: Shelf>(
     command: &CommandWords<'_>,
     name: &str,
     first: u64,
-    answer: Answer,
+    answer: RunAnswer,
     shelf: &mut H,
     end: &mut End,
-) -> Result<Answer, AllocError>
+) -> Result<RunAnswer, AllocError>
     requires { must_be_recorded answer.status ≡ true }
     ensures { (before : History) → first ≡ min (length before.events) (2 ^ 64 - 1) → (last : List File)
         × HasStored (H.contents shelf.old) (H.contents shelf.new) (H.stored shelf.old) (H.stored shelf.new) last
@@ -116,10 +116,10 @@ fn store_record<H: Shelf>(
     command: &CommandWords<'_>,
     name: &str,
     first: u64,
-    answer: Answer,
+    answer: RunAnswer,
     shelf: &mut H,
     end: &mut End,
-) -> Result<Answer, AllocError>
+) -> Result<RunAnswer, AllocError>
     ensures { (before : History) → first ≡ min (length before.events) (2 ^ 64 - 1) → (last : List File)
         × HasStored (H.contents shelf.old) (H.contents shelf.new) (H.stored shelf.old) (H.stored shelf.new) last
         × RecordEnds (texts words.now) command.now name.now before (H.history shelf.old) (H.history shelf.new) last (answer_of answer) (said_of result) }
@@ -140,7 +140,7 @@ fn answer_with_record<H: Shelf, V: Watcher>(
     shelf: &mut H,
     end: &mut End,
     watcher: &mut V,
-) -> Result<Answer, AllocError>
+) -> Result<RunAnswer, AllocError>
     requires { HasState command }
     ensures { (stored : List File)
         × HasStored (H.contents shelf.old) (H.contents shelf.new) (H.stored shelf.old) (H.stored shelf.new) stored
@@ -162,7 +162,7 @@ pub(crate) fn answer_as_asked<H: Shelf, V: Watcher>(
     shelf: &mut H,
     end: &mut End,
     watcher: &mut V,
-) -> Result<Answer, AllocError>
+) -> Result<RunAnswer, AllocError>
     requires { HasState command }
     ensures { (stored : List File)
         × HasStored (H.contents shelf.old) (H.contents shelf.new) (H.stored shelf.old) (H.stored shelf.new) stored

@@ -19,7 +19,7 @@ use command_runs::share_events;
 use command_words::{CommandWords, ShareWords};
 use county_codes::Grouping;
 use grouping_problem::Problem;
-use program_answers::{Answer, Refusal, refuse_board};
+use program_answers::{Refusal, RunAnswer, refuse_board};
 use share_board::Event;
 use shelves::Shelf;
 use std::alloc::Global;
@@ -70,10 +70,10 @@ fn share_files<H: Shelf>(
 }
 
 /// The answer of a board: its text, with status 0 where no piece waits, else 3.
-fn answer_to(shared: Shared) -> Answer
+fn answer_to(shared: Shared) -> RunAnswer
     ensures { answer_of result ≡ share_answer shared }
 {
-    Answer {
+    RunAnswer {
         status: if shared.left == 0 { 0 } else { 3 },
         text: shared.text,
     }
@@ -95,7 +95,7 @@ pub(crate) fn share<H: Shelf>(
     words: ShareWords<'_>,
     shelf: &mut H,
     end: &mut End,
-) -> Result<Answer, Refusal>
+) -> Result<RunAnswer, Refusal>
     requires { words.board.problem.common.state ≤ 99 }
     ensures { (stored : List File)
         × HasStored (H.contents shelf.old) (H.contents shelf.new) (H.stored shelf.old) (H.stored shelf.new) stored

@@ -15,7 +15,7 @@ use crate::storing::store_named;
 use branch_bound::Watcher;
 use command_runs::{Solved, solve_and_say};
 use command_words::{CommandWords, SolveWords};
-use program_answers::{Answer, Refusal};
+use program_answers::{Refusal, RunAnswer};
 use shelves::Shelf;
 use std::alloc::Global;
 
@@ -92,7 +92,7 @@ pub(crate) fn solve<H: Shelf, V: Watcher>(
     shelf: &mut H,
     end: &mut End,
     watcher: &mut V,
-) -> Result<Answer, Refusal>
+) -> Result<RunAnswer, Refusal>
     requires { words.problem.common.state ≤ 99 }
     ensures { (stored : List File)
         × HasStored (H.contents shelf.old) (H.contents shelf.new) (H.stored shelf.old) (H.stored shelf.new) stored

@@ -10,7 +10,7 @@ ghost use Rattle.cli.specs.Ends.{refusal_by};
 
 use crate::end::{End, FileOption};
 use command_runs::Reported;
-use program_answers::{Answer, Refusal, refuse_load};
+use program_answers::{Refusal, RunAnswer, refuse_load};
 use shelves::Shelf;
 use std::alloc::Global;
 
@@ -65,7 +65,7 @@ pub(crate) fn store_reported<H: Shelf>(
     reported: Reported,
     shelf: &mut H,
     end: &mut End,
-) -> Result<Answer, Refusal>
+) -> Result<RunAnswer, Refusal>
     ensures { (stored : List File) × (refusal : Option Answered)
         × HasStored (H.contents shelf.old) (H.contents shelf.new) (H.stored shelf.old) (H.stored shelf.new) stored
         × store_steps (named_file name.entry (reported_of reported).table) (H.history shelf.old) (H.history shelf.new) stored refusal

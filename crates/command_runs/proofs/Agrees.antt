@@ -7,7 +7,7 @@ use Rattle.grouping_laws.specs.Grouping.{Grouping}
 use Rattle.certificate_text.specs.Trees.{certificate_of}
 use Rattle.branch_bound.specs.declared.answer.Answer as desk
 use Rattle.branch_bound.specs.declared.answer.Answer.TheVariants.{Best, Impossible, Open}
-use Rattle.branch_bound.specs.Answered.{IsAnswer, NamesBest, SaysWhether}
+use Rattle.branch_bound.specs.Answered.{IsSolveAnswer, SolveIsRight, SaysWhether}
 use Rattle.desk_texts.proofs.Agrees as texts
 use Rattle.command_words.specs.declared.words.SolveWords.{SolveWords}
 use Rattle.command_words.specs.declared.words.CommandWords.TheVariants.{Solve}
@@ -85,7 +85,7 @@ module _ (files : Files) (words : SolveWords) (stored : List File) (a : Answered
   pub other_status : (s : Solved) (n m : ℕ) → h.s ≡ s → a.status ≡ n → s.answer.status ≡ m → n ≢ m → ⊥
   other_status s n m e is other apart = apart (sym is ∙ same_status a s.answer (answer_is s e) ∙ other)
 
-  shows_best : (found : desk.Answer) → IsAnswer (problem_of h.t.problem) words.steps found → NamesBest (problem_of h.t.problem) found → Says h.t found h.s → a.status ≡ 0 → ShowsBest files words stored a
+  shows_best : (found : desk.Answer) → IsSolveAnswer (problem_of h.t.problem) words.steps found → SolveIsRight (problem_of h.t.problem) found → Says h.t found h.s → a.status ≡ 0 → ShowsBest files words stored a
   shows_best (Best g c) is best said zero =
       let report : a ≡ best_answer h.t.problem g.groups.items = answer_is _ said.2 in
       record {
@@ -104,7 +104,7 @@ module _ (files : Files) (words : SolveWords) (stored : List File) (a : Answered
   shows_best (Open None steps) is best said zero = absurd (other_status _ 0 3 said zero refl (omega arith))
   shows_best (Open (Some g) steps) is best said zero = absurd (other_status _ 0 3 said zero refl (omega arith))
 
-  shows_impossible : (found : desk.Answer) → IsAnswer (problem_of h.t.problem) words.steps found → SaysWhether (problem_of h.t.problem) words.steps found → Says h.t found h.s → a.status ≡ 1 → ShowsImpossible files words stored a
+  shows_impossible : (found : desk.Answer) → IsSolveAnswer (problem_of h.t.problem) words.steps found → SaysWhether (problem_of h.t.problem) words.steps found → Says h.t found h.s → a.status ≡ 1 → ShowsImpossible files words stored a
   shows_impossible (Best g c) is whether said one = absurd (other_status _ 1 0 said.2 one refl (omega arith))
   shows_impossible (Impossible c) is whether said one =
       let report : a ≡ impossible_answer h.t.problem = answer_is _ said.2 in

@@ -1,6 +1,6 @@
 -- The values of readers by which steps over told files come to a problem.
 use Rattle.std.proofs.Common.{◌≡◌, ℕ, List, [], ◌∷◌, ◌++◌, Contains, Option, Some, None, inl, inr, refl, sym, ap, ◌∙◌, subst, subst₂}
-use Rattle.std.specs.Prelude.{Result, Ok, Err, option_map}
+use Rattle.std.specs.Prelude.{Result, Ok, option_map}
 use Rattle.std.proofs.lemmas.List.Elements.{Contains-append_right}
 use Rattle.std.specs.Borrow.{Bor}
 use Rattle.county_codes.specs.declared.county.County.{County}
@@ -9,7 +9,7 @@ use Rattle.county_codes.specs.declared.withdrawn.Withdrawn.{Withdrawn}
 use Rattle.grouping_problem.specs.ProblemValue.{ProblemValue, codes_of}
 use Rattle.grouping_laws.specs.Grouping.{Grouping}
 use Rattle.pl94_counties.specs.Counties.{county_list}
-use Rattle.pl94_counties.specs.Named.{CountyName, named_list}
+use Rattle.pl94_counties.specs.Named.{CountyName}
 use Rattle.pl94_counties.proofs.ListedLemmas.{are_counties}
 use Rattle.pl94_counties.proofs.TraceLemmas.{contains_head}
 use Rattle.adjacency_reader.specs.declared.links.Link.{Link}

@@ -15,7 +15,7 @@ use Rattle.best_groupings.specs.Answered.{IsListing, ListsAllBest}
 use Rattle.best_groupings.specs.Walking.{groups_in}
 use Rattle.branch_bound.specs.declared.answer.Answer as desk
 use Rattle.branch_bound.specs.declared.answer.Answer.TheVariants as found
-use Rattle.branch_bound.specs.Answered.{IsAnswer, HasCompleteTree}
+use Rattle.branch_bound.specs.Answered.{IsSolveAnswer, HasCompleteTree}
 use Rattle.certificate_checker.specs.declared.verdict.Verdict.TheVariants as verdict
 use Rattle.desk_texts.proofs.Agrees as texts
 use Rattle.list_report.specs.Listing.{listing_text}
@@ -161,7 +161,7 @@ module _ (files : Files) (words : SolveWords) (stored : List File) (a : Answered
   stored_list spelled name named = (text, named_file words.out h.s.grouping ++ named_file words.table h.s.table, h.all ∙ stored_first words h.s name text named spelled, lists_all)
 
 module _ (files : Files) (words : SolveWords) (stored : List File) (a : Answered) (h : HasSaid files words stored a) where
-  solved_lists : (answer : desk.Answer) → IsAnswer (problem_of h.t.problem) words.steps answer → HasCompleteTree (problem_of h.t.problem) answer → Says h.t answer h.s → a.status ≡ 0
+  solved_lists : (answer : desk.Answer) → IsSolveAnswer (problem_of h.t.problem) words.steps answer → HasCompleteTree (problem_of h.t.problem) answer → Says h.t answer h.s → a.status ≡ 0
       → IsStoredList files words stored
   solved_lists (found.Best g c) is complete said zero =
       stored_list files words stored a h said.0

@@ -50,7 +50,7 @@ use Rattle.record_report.specs.RecordFiles.{record_name_of}
 use Rattle.command_runs.specs.Course.{Course, EndsIn}
 use Rattle.command_runs.specs.Storing.{EndsStoring, named_file, store_steps}
 use Rattle.command_runs.specs.Recording.{RecordEnds}
-use Rattle.command_runs.specs.Run.{CommandEnds, CommandRun, IsRunAnswer, RunsWithRecord, RunsAsAsked}
+use Rattle.command_runs.specs.Run.{CommandEnds, CommandRun, IsRunAnswer, RunsAsAsked}
 use Rattle.command_runs.specs.Loads.{AnsweredBy, RunsAreOfTheirLoads}
 use Rattle.command_runs.specs.Told.{IsTaken}
 use Rattle.command_runs.proofs.Lifting.{Extends, extends_same, extends_twice, answered_split, Lifts, lifts_load, lifts_load_pair, lifts_text, lifts_texts, lifts_call, lifts_value, lifts_bind, lifts_optional, ends_lift}

@@ -28,7 +28,6 @@ use Rattle.adjacency_reader.specs.Links.{link_list}
 use Rattle.adjacency_reader.specs.Withdrawn.{withdrawn_list}
 use Rattle.adjacency_reader.specs.Adjacent.{AreLinked}
 use Rattle.seat_lines.specs.GroupingLines.{grouping_list}
-use Rattle.assignment_file.specs.declared.fault.AssignmentFault.{AssignmentFault}
 use Rattle.assignment_file.specs.declared.fault.AssignmentKind.{AssignmentKind}
 use Rattle.assignment_file.specs.declared.fault.AssignmentKind.TheVariants as assigned
 use Rattle.assignment_file.specs.Assignments.{assignment_list}

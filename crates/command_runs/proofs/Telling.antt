@@ -1,9 +1,9 @@
 -- What an answer with status 0 or 1 tells of the files.
-use Rattle.std.proofs.Common.{◌≡◌, ◌≢◌, ◌≤◌, ◌⊎◌, ℕ, List, [], ◌∷◌, ◌++◌, append_assoc, Option, Some, None, inl, inr, refl, sym, ap, subst, ◌∙◌, arith}
-use Rattle.std.specs.Prelude.{Result, Ok, Err, true}
+use Rattle.std.proofs.Common.{◌≡◌, ◌≢◌, ◌≤◌, ℕ, List, [], ◌∷◌, ◌++◌, append_assoc, Option, Some, None, inl, inr, refl, sym, ap, subst, ◌∙◌, arith}
+use Rattle.std.specs.Prelude.{Ok, true}
 use Rattle.std.specs.Borrow.{Bor}
 use Rattle.grouping_problem.specs.ProblemValue.{problem_of}
-use Rattle.certificate_checker.specs.Answered.{IsAnswer, NamesBest, ShowsImpossible}
+use Rattle.certificate_checker.specs.Answered.{IsCheckAnswer, CheckIsRight, ShowsImpossible}
 use Rattle.certificate_checker.specs.declared.verdict.Verdict.{Verdict}
 use Rattle.certificate_checker.specs.declared.verdict.Verdict.TheVariants.{Best, Impossible, No, Budget}
 use Rattle.command_words.specs.declared.words.ProblemWords.{ProblemWords}
@@ -16,7 +16,7 @@ use Rattle.command_words.specs.declared.words.CommandWords.{CommandWords}
 use Rattle.command_words.specs.declared.words.CommandWords.TheVariants.{Size, Judge, Solve, Check, Audit, List as ListAll, Share, Piece}
 use Rattle.command_words.specs.declared.end.WordsEnd.{WordsEnd}
 use Rattle.command_words.specs.declared.end.WordsEnd.TheVariants.{Help, Version, Usage, Memory}
-use Rattle.command_words.specs.Words.{EndsTaken, takes_words}
+use Rattle.command_words.specs.Words.{EndsTaken}
 use Rattle.shelves.specs.Files.{File, Files}
 use Rattle.shelves.specs.History.{Event, History}
 use Rattle.shelves.specs.History.Event.{Stored}
@@ -32,8 +32,7 @@ use Rattle.record_report.specs.RecordFiles.{record_name_of}
 use Rattle.command_runs.specs.Storing.{IsStoredAs, named_file, said_after, store_steps}
 use Rattle.command_runs.specs.Recording.{RecordEnds}
 use Rattle.command_runs.specs.Run.{CommandRun, IsEndAnswer, IsRunAnswer, RunsAsAsked}
-use Rattle.command_runs.specs.Loads.{AnsweredBy}
-use Rattle.command_runs.specs.Told.{IsTaken, IsTakenAs, TellsBest, TellsImpossible, TellsJudged, TellsAllBest, TellsFindings, Tells, TellsOfFiles, RunTells}
+use Rattle.command_runs.specs.Told.{IsTaken, IsTakenAs, TellsBest, TellsImpossible, TellsJudged, TellsAllBest, TellsFindings, Tells, RunTells}
 use Rattle.command_runs.proofs.Agrees.{agrees}
 use Rattle.command_runs.proofs.Judgments as judgments
 use Rattle.command_runs.proofs.Lists.{runs}
@@ -98,7 +97,7 @@ module _ (files : Files) where
     problem : IsProblemOfFiles files words.check.problem t.problem
     problem = problem_of_files files words.check.problem t.problem reads.reads
 
-    verdict_told : (verdict : Verdict) → IsAnswer (problem_of t.problem) text words.check.budget verdict → NamesBest (problem_of t.problem) verdict → ShowsImpossible (problem_of t.problem) verdict
+    verdict_told : (verdict : Verdict) → IsCheckAnswer (problem_of t.problem) text words.check.budget verdict → CheckIsRight (problem_of t.problem) verdict → ShowsImpossible (problem_of t.problem) verdict
         → a ≡ verdict_said t.problem verdict → r.table ≡ verdict_table t verdict → Tells files (Check words) before after a
     verdict_told (Best g) is best none said table = (
       (λ zero. record {

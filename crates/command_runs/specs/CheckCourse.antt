@@ -5,7 +5,7 @@ use Rattle.grouping_report.specs.Outcomes.{outcome_text}
 use Rattle.grouping_report.specs.declared.outcome.Outcome.TheVariants as outcome
 use Rattle.certificate_checker.specs.declared.verdict.Verdict.{Verdict}
 use Rattle.certificate_checker.specs.declared.verdict.Verdict.TheVariants.{Best, Impossible, No, Budget}
-use Rattle.certificate_checker.specs.Answered.{IsAnswer, NamesBest, ShowsImpossible}
+use Rattle.certificate_checker.specs.Answered.{IsCheckAnswer, CheckIsRight, ShowsImpossible}
 use Rattle.command_words.specs.declared.words.CheckWords.{CheckWords}
 use Rattle.shelves.specs.Files.{File, Files}
 use Rattle.shelves.specs.History.{History}
@@ -34,8 +34,8 @@ verdict_table t Budget = None
 -- what `check` says of a text is the verdict of a checker with such a budget
 pub record IsChecked (t : Tabled) (budget : ℕ) (text : List ℕ) (r : Reported) : Type 0 where
   pub verdict : Verdict
-  pub is : IsAnswer (problem_of t.problem) text budget verdict
-  pub best : NamesBest (problem_of t.problem) verdict
+  pub is : IsCheckAnswer (problem_of t.problem) text budget verdict
+  pub best : CheckIsRight (problem_of t.problem) verdict
   pub impossible : ShowsImpossible (problem_of t.problem) verdict
   pub said : r ≡ record { answer = verdict_said t.problem verdict; table = verdict_table t verdict }
 

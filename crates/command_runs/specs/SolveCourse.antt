@@ -8,7 +8,7 @@ use Rattle.certificate_text.specs.Trees.{certificate_of}
 use Rattle.certificate_text.specs.Spelled.{IsSpelling}
 use Rattle.branch_bound.specs.declared.answer.Answer as desk
 use Rattle.branch_bound.specs.declared.answer.Answer.TheVariants.{Best, Impossible, Open}
-use Rattle.branch_bound.specs.Answered.{IsAnswer, NamesBest, HasCompleteTree, SaysWhether}
+use Rattle.branch_bound.specs.Answered.{IsSolveAnswer, SolveIsRight, HasCompleteTree, SaysWhether}
 use Rattle.command_words.specs.declared.words.SolveWords.{SolveWords}
 use Rattle.shelves.specs.Files.{File, Files}
 use Rattle.shelves.specs.History.{History}
@@ -38,8 +38,8 @@ Says t (Open (Some g) steps) s =
 -- what `solve` says of a problem is what a desk answers with so many steps
 pub record IsSolved (t : Tabled) (limit : ℕ) (s : Solved) : Type 0 where
   pub found : desk.Answer
-  pub is : IsAnswer (problem_of t.problem) limit found
-  pub best : NamesBest (problem_of t.problem) found
+  pub is : IsSolveAnswer (problem_of t.problem) limit found
+  pub best : SolveIsRight (problem_of t.problem) found
   pub complete : HasCompleteTree (problem_of t.problem) found
   pub whether : SaysWhether (problem_of t.problem) limit found
   pub said : Says t found s

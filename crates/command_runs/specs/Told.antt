@@ -12,7 +12,7 @@ use Rattle.pl94_counties.specs.declared.blocks.Block.{Block}
 use Rattle.assignment_file.specs.declared.assignments.Assignment.{Assignment}
 use Rattle.baf_auditor.specs.Findings.{AreFindings}
 use Rattle.baf_auditor.specs.declared.finding.Finding.{Finding}
-use Rattle.certificate_checker.specs.Answered.{IsAnswer}
+use Rattle.certificate_checker.specs.Answered.{IsCheckAnswer}
 use Rattle.complete_lists.specs.AllBest.{AreAllBest}
 use Rattle.best_groupings.specs.InOrder.{AreInOrder}
 use Rattle.list_report.specs.Listing.{listing_text}
@@ -69,7 +69,7 @@ pub record TellsFault (files : Files) (words : CertificateWords) (text : List �
   pub certificate_is : files words.certificate.now ≡ Some certificate
   pub fault : CheckFault
   pub line : ℕ
-  pub verdict : IsAnswer (problem_of v) certificate words.budget (No fault line)
+  pub verdict : IsCheckAnswer (problem_of v) certificate words.budget (No fault line)
   pub report : text ≡ (no_answer fault line).text
 
 -- The answer is the report of the grouping of a file, which is lawful for the problem of the files. If the report calls the grouping best, no

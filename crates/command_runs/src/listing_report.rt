@@ -14,7 +14,7 @@ use county_codes::Grouping;
 use grouping_problem::Problem;
 use grouping_report::{Outcome, grouping_text, push_number, report};
 use list_report::listing;
-use program_answers::{Answer, budget_answer, no_answer};
+use program_answers::{RunAnswer, budget_answer, no_answer};
 use std::alloc::{AllocError, Global};
 
 /// How a list ended, for whoever explains it to a person; no clause speaks of it.
@@ -38,7 +38,7 @@ pub enum ListEnd {
 #[derive(Drop)]
 pub struct Listed {
     /// The listing, with status 0, or the line that stands in its place, with status 1, 3 or 4.
-    pub answer: Answer,
+    pub answer: RunAnswer,
     /// The lines of the grouping that is to be stored, where the words give its number.
     pub grouping: Option<Vec<u8>>,
     /// How the list ended.
@@ -46,7 +46,7 @@ pub struct Listed {
 }
 
 /// An answer, and no file.
-fn alone(answer: Answer, end: ListEnd) -> Listed
+fn alone(answer: RunAnswer, end: ListEnd) -> Listed
     ensures { listed_of result ≡ said_alone (answer_of answer) }
 {
     Listed {
@@ -79,11 +79,11 @@ fn open_text(alloc: Global, gap: Gap, line: u64) -> Result<Vec<u8>, AllocError>
 }
 
 /// That the certificate doesn't show which other groupings are best: the first leaf at which it doesn't, and the leaf's line.
-fn open_answer(alloc: Global, gap: Gap, line: u64) -> Result<Answer, AllocError>
+fn open_answer(alloc: Global, gap: Gap, line: u64) -> Result<RunAnswer, AllocError>
     ensures { IfOk result (λ a. answer_of a ≡ answer_of_gap gap line) }
 {
     let text = open_text(alloc, gap, line)?;
-    Ok(Answer { text, status: 3 })
+    Ok(RunAnswer { text, status: 3 })
 }
 
 /// The grouping of a number, which counts from 1.
@@ -109,7 +109,7 @@ fn say_with(
     let lines = grouping_text(alloc, grouping)?;
     let text = listing(alloc, problem, groupings)?;
     Ok(Listed {
-        answer: Answer { text, status: 0 },
+        answer: RunAnswer { text, status: 0 },
         grouping: Some(lines),
         end: ListEnd::All,
     })
@@ -127,7 +127,7 @@ fn say_all(
 {
     match number {
         None => Ok(alone(
-            Answer {
+            RunAnswer {
                 text: listing(alloc, problem, groupings)?,
                 status: 0,
             },
@@ -135,7 +135,7 @@ fn say_all(
         )),
         Some(number) => match numbered(groupings, number) {
             None => Ok(alone(
-                Answer::new(alloc, b"no such grouping\n", 4)?,
+                RunAnswer::new(alloc, b"no such grouping\n", 4)?,
                 ListEnd::NoSuchGrouping(groupings.len()),
             )),
             Some(grouping) => say_with(alloc, problem, groupings, grouping),
@@ -162,7 +162,7 @@ fn say(
         }
         Listing::Impossible => {
             let text = report(alloc, problem, &Outcome::Impossible)?;
-            Ok(alone(Answer { text, status: 1 }, ListEnd::Impossible))
+            Ok(alone(RunAnswer { text, status: 1 }, ListEnd::Impossible))
         }
         Listing::No(fault, line) => {
             let answer = no_answer(alloc, fault, line)?;

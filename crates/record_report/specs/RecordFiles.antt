@@ -6,7 +6,6 @@ use Rattle.std.specs.Borrow.{Bor}
 use Rattle.std.specs.Str.{bytes_eq}
 use Rattle.command_words.specs.declared.words.CommonWords.{CommonWords}
 use Rattle.command_words.specs.declared.words.ProblemWords.{ProblemWords}
-use Rattle.command_words.specs.declared.words.CertificateWords.{CertificateWords}
 use Rattle.command_words.specs.declared.words.BoardWords.{BoardWords}
 use Rattle.command_words.specs.declared.words.StoredWords.{StoredWords}
 use Rattle.command_words.specs.declared.words.CommandWords.{CommandWords}

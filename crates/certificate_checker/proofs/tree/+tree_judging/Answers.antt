@@ -1,4 +1,4 @@
-use Rattle.std.proofs.Common.{◌∷◌, All, length, Some, Ok, Err, refl, sym, ◌∙◌, ap, subst, arith}
+use Rattle.std.proofs.Common.{◌∷◌, All, length, Ok, Err, refl, sym, ◌∙◌, ap, subst, arith}
 use Rattle.grouping_problem.specs.ProblemValue.{problem_of}
 use Rattle.proof_trees.specs.RoundValue.{round_of}
 use Rattle.certificate_lines.specs.Items.{taken}
