@@ -2,7 +2,7 @@
 use Rattle.std.proofs.Common.{◌≡◌, ℕ, true, List, [], Option, inl, inr, refl}
 use Rattle.std.specs.Prelude.{Result, Ok, Err, IfOk}
 use Rattle.std.specs.declared.alloc.AllocError.{AllocError}
-use Rattle.shelves.specs.Files.{File, Files}
+use Rattle.shelves.specs.Files.{NamedFile, Files}
 use Rattle.shelves.specs.History.{History}
 use Rattle.command_words.specs.Words.{EndsFor, EndsTaken, Means, faults_of, takes_words}
 use Rattle.command_words.specs.declared.words.CommandWords.{CommandWords}
@@ -33,6 +33,6 @@ ended_words files list n end (Ok a) by taken h = inr (inl (record { end = end; b
 ended_words files list n end (Err e) by taken h = inl (refl, refl)
 
 -- words that mean a command, and the run of it
-pub meant_run : (files : Option Files) (list : List (List ℕ)) (before after : History) (stored : List File) (a : Answered) (command : CommandWords)
+pub meant_run : (files : Option Files) (list : List (List ℕ)) (before after : History) (stored : List NamedFile) (a : Answered) (command : CommandWords)
     → Means list command → faults_of list ≡ [] → RunsAsAsked files list command (record_name_of command) before after stored a → IsRunAnswer files list before after stored a
 meant_run files list before after stored a command meant taken run = inr (inr (record { command = command; meant = meant; taken = taken; run = run }))

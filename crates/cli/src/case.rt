@@ -5,7 +5,7 @@ ghost use Rattle.std.specs.List.{slice_split, list_all};
 ghost use Rattle.std.specs.Str.{is_utf8};
 ghost use Rattle.field_lines.specs.Raw.{RawLine, raw_lines};
 ghost use Rattle.field_lines.specs.Piece.{raw_of};
-ghost use Rattle.shelves.specs.Files.{File};
+ghost use Rattle.shelves.specs.Files.{NamedFile};
 ghost use Rattle.shelves.specs.Memory.{files_of};
 ghost use Rattle.cli.specs.Case.{whole_line, file_name, first_line, case_files, is_case, are_named, with_open, parts_of};
 ghost use Rattle.shelves.specs.declared.whole.WholeFault.{WholeFault};

@@ -1,7 +1,7 @@
 //! The subcommand `check`.
 
 ghost use Rattle.std.specs.Prelude.{◌≡◌, ◌≤◌, true, List, Ok, IfSome};
-ghost use Rattle.shelves.specs.Files.{File};
+ghost use Rattle.shelves.specs.Files.{NamedFile};
 ghost use Rattle.program_answers.specs.Answers.{Comes, said_by};
 ghost use Rattle.command_runs.specs.Reading.{read_one};
 ghost use Rattle.command_runs.specs.CheckCourse.{check_course};
@@ -153,7 +153,7 @@ pub(crate) fn check<H: Shelf>(
     end: &mut End,
 ) -> Result<RunAnswer, Refusal>
     requires { words.check.problem.common.state ≤ 99 }
-    ensures { (stored : List File)
+    ensures { (stored : List NamedFile)
         × HasStored (H.contents shelf.old) (H.contents shelf.new) (H.stored shelf.old) (H.stored shelf.new) stored
         × CommandRun (H.contents shelf.old) (CommandWords.Check words.entry) (H.history shelf.old) (H.history shelf.new) stored (said_by result) }
 {

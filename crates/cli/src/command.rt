@@ -1,7 +1,7 @@
 //! A run of one command: its words are parsed, the command is run, its record is stored if the words ask for it, and the answer is written.
 
 ghost use Rattle.std.specs.Prelude.{◌≡◌, List, IfOk};
-ghost use Rattle.shelves.specs.Files.{File};
+ghost use Rattle.shelves.specs.Files.{NamedFile};
 ghost use Rattle.program_answers.specs.Answer.{Answered};
 ghost use Rattle.program_answers.specs.Answers.{answer_of, said_by};
 ghost use Rattle.command_runs.specs.Storing.{HasStored};
@@ -35,7 +35,7 @@ fn command_end<H: Shelf, V: Watcher>(
     watcher: &mut V,
 ) -> Result<RunAnswer, Refusal>
     requires { HasState command }
-    ensures { (stored : List File)
+    ensures { (stored : List NamedFile)
         × HasStored (H.contents shelf.old) (H.contents shelf.new) (H.stored shelf.old) (H.stored shelf.new) stored
         × CommandRun (H.contents shelf.old) command.entry (H.history shelf.old) (H.history shelf.new) stored (said_by result) }
 {
@@ -60,7 +60,7 @@ pub(crate) fn command_answer<H: Shelf, V: Watcher>(
     watcher: &mut V,
 ) -> Result<RunAnswer, AllocError>
     requires { HasState command }
-    ensures { (stored : List File)
+    ensures { (stored : List NamedFile)
         × HasStored (H.contents shelf.old) (H.contents shelf.new) (H.stored shelf.old) (H.stored shelf.new) stored
         × CommandRun (H.contents shelf.old) command.entry (H.history shelf.old) (H.history shelf.new) stored (said_of result) }
 {
@@ -106,7 +106,7 @@ pub(crate) fn words_answer<H: Shelf, V: Watcher>(
     end: &mut End,
     watcher: &mut V,
 ) -> Result<RunAnswer, AllocError>
-    ensures { (stored : List File)
+    ensures { (stored : List NamedFile)
         × HasStored (H.contents shelf.old) (H.contents shelf.new) (H.stored shelf.old) (H.stored shelf.new) stored
         × IsRunAnswer (H.contents shelf.old) (texts words.now) (H.history shelf.old) (H.history shelf.new) stored (said_of result) }
 {
@@ -148,7 +148,7 @@ pub fn run_with_end<H: Shelf, W: Sink, V: Watcher>(
 
     // The answer is that of the steps of the words' command, its files are stored, and its text is written. If the status is 0 or 1, this
     // answer tells of the machine's files what the command promises.
-    ensures run { (a : Answered) × (stored : List File)
+    ensures run { (a : Answered) × (stored : List NamedFile)
         × HasStored (H.contents shelf.old) (H.contents shelf.new) (H.stored shelf.old) (H.stored shelf.new) stored
         × IsRunAnswer (H.contents shelf.old) (texts words.now) (H.history shelf.old) (H.history shelf.new) stored a
         × RunTells (texts words.now) (H.history shelf.old) (H.history shelf.new) a
@@ -178,7 +178,7 @@ pub fn run<H: Shelf, W: Sink>(alloc: Global, words: &[&str], shelf: &mut H, out:
 
     // The answer is that of the steps of the words' command, its files are stored, and its text is written. If the status is 0 or 1, this
     // answer tells of the machine's files what the command promises.
-    ensures run { (a : Answered) × (stored : List File)
+    ensures run { (a : Answered) × (stored : List NamedFile)
         × HasStored (H.contents shelf.old) (H.contents shelf.new) (H.stored shelf.old) (H.stored shelf.new) stored
         × IsRunAnswer (H.contents shelf.old) (texts words.now) (H.history shelf.old) (H.history shelf.new) stored a
         × RunTells (texts words.now) (H.history shelf.old) (H.history shelf.new) a

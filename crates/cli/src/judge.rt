@@ -1,7 +1,7 @@
 //! The subcommand `judge`.
 
 ghost use Rattle.std.specs.Prelude.{◌≡◌, ◌≤◌, List, option_map};
-ghost use Rattle.shelves.specs.Files.{File};
+ghost use Rattle.shelves.specs.Files.{NamedFile};
 ghost use Rattle.shelves.specs.History.{History};
 ghost use Rattle.program_answers.specs.Answers.{Comes, said_by};
 ghost use Rattle.command_runs.specs.JudgeWithCertificate.{certificate_of};
@@ -105,7 +105,7 @@ pub(crate) fn judge<H: Shelf>(
     end: &mut End,
 ) -> Result<RunAnswer, Refusal>
     requires { words.problem.common.state ≤ 99 }
-    ensures { (stored : List File)
+    ensures { (stored : List NamedFile)
         × HasStored (H.contents shelf.old) (H.contents shelf.new) (H.stored shelf.old) (H.stored shelf.new) stored
         × CommandRun (H.contents shelf.old) (CommandWords.Judge words.entry) (H.history shelf.old) (H.history shelf.new) stored (said_by result) }
 {

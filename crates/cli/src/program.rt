@@ -1,7 +1,7 @@
 //! What the program does: a command by its words, or a case by its input.
 
 ghost use Rattle.std.specs.Prelude.{◌≡◌, ◌≢◌, ◌⊎◌, ℕ, false, List, [], Option, Result};
-ghost use Rattle.shelves.specs.Files.{File};
+ghost use Rattle.shelves.specs.Files.{NamedFile};
 ghost use Rattle.shelves.specs.declared.whole.WholeFault.{WholeFault};
 ghost use Rattle.program_answers.specs.Answer.{Answered};
 ghost use Rattle.command_runs.specs.Storing.{HasStored};
@@ -33,7 +33,7 @@ pub fn run_program<H: Shelf, R: Source, W: Sink, V: Watcher>(
 
     // With words, their command was run over the shelf's files. If the status is 0 or 1, the answer tells of the machine's files what the
     // command promises.
-    ensures words { words.now ≢ [] → (a : Answered) × (stored : List File)
+    ensures words { words.now ≢ [] → (a : Answered) × (stored : List NamedFile)
         × HasStored (H.contents shelf.old) (H.contents shelf.new) (H.stored shelf.old) (H.stored shelf.new) stored
         × IsRunAnswer (H.contents shelf.old) (texts words.now) (H.history shelf.old) (H.history shelf.new) stored a
         × RunTells (texts words.now) (H.history shelf.old) (H.history shelf.new) a

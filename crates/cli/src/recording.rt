@@ -1,7 +1,7 @@
 //! The record of a run, which is stored behind the files of its command.
 
 ghost use Rattle.std.specs.Prelude.{◌≡◌, ◌-◌, ◌^◌, ◌∷◌, [], true, List, Option, length, min};
-ghost use Rattle.shelves.specs.Files.{File};
+ghost use Rattle.shelves.specs.Files.{NamedFile};
 ghost use Rattle.shelves.specs.History.{History};
 ghost use Rattle.record_report.specs.RecordFiles.{record_name_of};
 ghost use Rattle.program_answers.specs.Answer.{Answered, memory_answer};
@@ -60,7 +60,7 @@ fn store_bytes<H: Shelf>(
     shelf: &mut H,
     end: &mut End,
 ) -> Result<RunAnswer, AllocError>
-    ensures { (last : List File) × (refusal : Option Answered)
+    ensures { (last : List NamedFile) × (refusal : Option Answered)
         × HasStored (H.contents shelf.old) (H.contents shelf.new) (H.stored shelf.old) (H.stored shelf.new) last
         × store_steps (record { name = name.now; bytes = bytes.items } ∷ []) (H.history shelf.old) (H.history shelf.new) last refusal
         × (said_of result ≡ said_after refusal (answer_of answer)) }
@@ -91,7 +91,7 @@ fn store_composed<H: Shelf>(
     end: &mut End,
 ) -> Result<RunAnswer, AllocError>
     requires { must_be_recorded answer.status ≡ true }
-    ensures { (before : History) → first ≡ min (length before.events) (2 ^ 64 - 1) → (last : List File)
+    ensures { (before : History) → first ≡ min (length before.events) (2 ^ 64 - 1) → (last : List NamedFile)
         × HasStored (H.contents shelf.old) (H.contents shelf.new) (H.stored shelf.old) (H.stored shelf.new) last
         × RecordEnds (texts words.now) command.now name.now before (H.history shelf.old) (H.history shelf.new) last (answer_of answer) (said_of result) }
 {
@@ -120,7 +120,7 @@ fn store_record<H: Shelf>(
     shelf: &mut H,
     end: &mut End,
 ) -> Result<RunAnswer, AllocError>
-    ensures { (before : History) → first ≡ min (length before.events) (2 ^ 64 - 1) → (last : List File)
+    ensures { (before : History) → first ≡ min (length before.events) (2 ^ 64 - 1) → (last : List NamedFile)
         × HasStored (H.contents shelf.old) (H.contents shelf.new) (H.stored shelf.old) (H.stored shelf.new) last
         × RecordEnds (texts words.now) command.now name.now before (H.history shelf.old) (H.history shelf.new) last (answer_of answer) (said_of result) }
 {
@@ -142,7 +142,7 @@ fn answer_with_record<H: Shelf, V: Watcher>(
     watcher: &mut V,
 ) -> Result<RunAnswer, AllocError>
     requires { HasState command }
-    ensures { (stored : List File)
+    ensures { (stored : List NamedFile)
         × HasStored (H.contents shelf.old) (H.contents shelf.new) (H.stored shelf.old) (H.stored shelf.new) stored
         × RunsWithRecord (H.contents shelf.old) (texts words.now) command.entry name.now (H.history shelf.old) (H.history shelf.new) stored (said_of result) }
 {
@@ -164,7 +164,7 @@ pub(crate) fn answer_as_asked<H: Shelf, V: Watcher>(
     watcher: &mut V,
 ) -> Result<RunAnswer, AllocError>
     requires { HasState command }
-    ensures { (stored : List File)
+    ensures { (stored : List NamedFile)
         × HasStored (H.contents shelf.old) (H.contents shelf.new) (H.stored shelf.old) (H.stored shelf.new) stored
         × RunsAsAsked (H.contents shelf.old) (texts words.now) command.entry (record_name_of command.entry) (H.history shelf.old) (H.history shelf.new) stored (said_of result) }
 {

@@ -1,7 +1,7 @@
 //! The subcommand `share`.
 
 ghost use Rattle.std.specs.Prelude.{◌≡◌, ◌≤◌, List, map, length};
-ghost use Rattle.shelves.specs.Files.{File};
+ghost use Rattle.shelves.specs.Files.{NamedFile};
 ghost use Rattle.shelves.specs.History.{History};
 ghost use Rattle.share_board.specs.Events.{event_of};
 ghost use Rattle.program_answers.specs.Answers.{answer_of, Comes, said_by};
@@ -97,7 +97,7 @@ pub(crate) fn share<H: Shelf>(
     end: &mut End,
 ) -> Result<RunAnswer, Refusal>
     requires { words.board.problem.common.state ≤ 99 }
-    ensures { (stored : List File)
+    ensures { (stored : List NamedFile)
         × HasStored (H.contents shelf.old) (H.contents shelf.new) (H.stored shelf.old) (H.stored shelf.new) stored
         × CommandRun (H.contents shelf.old) (CommandWords.Share words.entry) (H.history shelf.old) (H.history shelf.new) stored (said_by result) }
 {

@@ -3,7 +3,7 @@
 ghost use Rattle.std.specs.Prelude.{◌≡◌, List, [], ◌∷◌, Option, option_map};
 ghost use Rattle.program_answers.specs.Answer.{Answered};
 ghost use Rattle.program_answers.specs.Answers.{answer_of, said_by};
-ghost use Rattle.shelves.specs.Files.{File};
+ghost use Rattle.shelves.specs.Files.{NamedFile};
 ghost use Rattle.command_runs.specs.Storing.{HasStored, named_file, said_after, store_steps};
 ghost use Rattle.command_runs.specs.Texts.{reported_of};
 ghost use Rattle.cli.specs.Ends.{refusal_by};
@@ -23,7 +23,7 @@ fn store<H: Shelf>(
     shelf: &mut H,
     end: &mut End,
 ) -> Result<(), Refusal>
-    ensures { (stored : List File)
+    ensures { (stored : List NamedFile)
         × HasStored (H.contents shelf.old) (H.contents shelf.new) (H.stored shelf.old) (H.stored shelf.new) stored
         × store_steps (record { name = name.now; bytes = bytes.now } ∷ []) (H.history shelf.old) (H.history shelf.new) stored (refusal_by result) }
 {
@@ -48,7 +48,7 @@ pub(crate) fn store_named<H: Shelf>(
     shelf: &mut H,
     end: &mut End,
 ) -> Result<(), Refusal>
-    ensures { (stored : List File)
+    ensures { (stored : List NamedFile)
         × HasStored (H.contents shelf.old) (H.contents shelf.new) (H.stored shelf.old) (H.stored shelf.new) stored
         × store_steps (named_file name.entry (option_map (λ t. t.now.items) text.entry)) (H.history shelf.old) (H.history shelf.new) stored (refusal_by result) }
 {
@@ -66,7 +66,7 @@ pub(crate) fn store_reported<H: Shelf>(
     shelf: &mut H,
     end: &mut End,
 ) -> Result<RunAnswer, Refusal>
-    ensures { (stored : List File) × (refusal : Option Answered)
+    ensures { (stored : List NamedFile) × (refusal : Option Answered)
         × HasStored (H.contents shelf.old) (H.contents shelf.new) (H.stored shelf.old) (H.stored shelf.new) stored
         × store_steps (named_file name.entry (reported_of reported).table) (H.history shelf.old) (H.history shelf.new) stored refusal
         × (said_by result ≡ said_after refusal (answer_of reported.answer)) }

@@ -13,7 +13,7 @@ use Rattle.certificate_checker.specs.declared.verdict.Verdict.TheVariants.{Best,
 use Rattle.desk_texts.specs.Says.{SaysBest, SaysImpossible}
 use Rattle.pl94_counties.specs.declared.named.NamedFault.TheVariants.{BadName}
 use Rattle.command_words.specs.declared.words.CheckWords.{CheckWords}
-use Rattle.shelves.specs.Files.{File, Files}
+use Rattle.shelves.specs.Files.{NamedFile, Files}
 use Rattle.shelves.specs.History.{History}
 use Rattle.program_answers.specs.Answer.{Answered, success}
 use Rattle.program_answers.specs.Refusals.{named_answer}
@@ -100,11 +100,11 @@ module _ (others : Files) (check : CheckWords) (v : ProblemValue) (text : List �
   agreed b (inl same) = inl same
   agreed b (inr cut) = inr (inl cut)
 
-  said : (list : List File) (before after : History) (stored : List File) (refusal : Option Answered) (b c : Answered) → IsAgreed a c → store_steps list before after stored refusal
+  said : (list : List NamedFile) (before after : History) (stored : List NamedFile) (refusal : Option Answered) (b c : Answered) → IsAgreed a c → store_steps list before after stored refusal
       → b ≡ said_after refusal c → IsAgreedOrStopped b
   said list before after stored None b c is stores same = agreed b (subst (λ (x : Answered). IsAgreed a x) (sym same) is)
   said list before after stored (Some refusal) b c is stores same = inr (inl (inr (same_status b refusal same ∙ refusal_status list before after stored refusal stores)))
 
-  pub check_agrees : (before after : History) (stored : List File) (b : Answered) → CheckEnds (Some others) check before after stored b → IsAgreedOrStopped b
+  pub check_agrees : (before after : History) (stored : List NamedFile) (b : Answered) → CheckEnds (Some others) check before after stored b → IsAgreedOrStopped b
   check_agrees before after stored b (inl stop) = stopped b (course_ends before after (Err b) stop.0)
   check_agrees before after stored b (inr h) = said (named_file check.table h.0.table) h.1 after stored h.2 b h.0.answer (course_ends before h.1 (Ok h.0) h.3) h.4 h.5

@@ -18,7 +18,7 @@ use Rattle.share_board.proofs.Renewing.{greater_same}
 use Rattle.seat_lines.specs.GroupingLines.{grouping_list}
 use Rattle.command_words.specs.declared.words.JudgeWords.{JudgeWords}
 use Rattle.command_words.specs.declared.words.CommandWords.TheVariants.{Judge}
-use Rattle.shelves.specs.Files.{File, Files}
+use Rattle.shelves.specs.Files.{NamedFile, Files}
 use Rattle.shelves.specs.History.{History}
 use Rattle.program_answers.specs.Answer.{Answered, memory_answer}
 use Rattle.program_answers.specs.Refusals.{verdict_answer}
@@ -181,7 +181,7 @@ judged files words before after r (inr p) = behind_problem p.goes_on
     behind_problem (inr k) = behind_grouping k.value k.between (read_from files words.grouping.now p.between k.between k.value k.given) k.goes_on
 
 -- an answer that was said with status 0 was not refused
-module _ (files : Files) (words : JudgeWords) (before after : History) (stored : List File) (a : Answered) (zero : a.status ≡ 0) where
+module _ (files : Files) (words : JudgeWords) (before after : History) (stored : List NamedFile) (a : Answered) (zero : a.status ≡ 0) where
   shown : (r : Reported) → HasJudged files words r → stored ≡ named_file words.table r.table → a ≡ r.answer → ShowsJudged files words stored a
   shown r h all same = record {
     v = h.t.problem;

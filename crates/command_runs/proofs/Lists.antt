@@ -23,7 +23,7 @@ use Rattle.command_words.specs.declared.words.ListWords.{ListWords}
 use Rattle.command_words.specs.declared.words.SolveWords.{SolveWords}
 use Rattle.command_words.specs.declared.words.StoredWords.{StoredWords}
 use Rattle.command_words.specs.declared.words.CommandWords.TheVariants.{List as ListAll}
-use Rattle.shelves.specs.Files.{File, Files}
+use Rattle.shelves.specs.Files.{NamedFile, Files}
 use Rattle.shelves.specs.History.{History}
 use Rattle.program_answers.specs.Answer.{Answered, success, memory_answer}
 use Rattle.command_runs.specs.Course.{◌>>=◌, load_step, value_step}
@@ -56,7 +56,7 @@ apart : (a : Answered) (s t : Listed) → a ≡ s.answer → s ≡ t → a.statu
 apart a s t said is zero other = other (sym (same_status a t.answer (said ∙ ap (λ (x : Listed). x.answer) is)) ∙ zero)
 
 -- the listing was said, and the grouping of the number stored
-module _ (v : ProblemValue) (groupings : List Grouping) (stored : List File) (a : Answered) (s : Listed) (said : a ≡ s.answer) (zero : a.status ≡ 0) where
+module _ (v : ProblemValue) (groupings : List Grouping) (stored : List NamedFile) (a : Answered) (s : Listed) (said : a ≡ s.answer) (zero : a.status ≡ 0) where
   shown_with : (w : StoredWords) (g : Option Grouping) → numbered groupings w.number ≡ g → s ≡ listed_with v groupings g → stored ≡ named_file (Some w.out) s.grouping
       → (a ≡ success (listing_text v groupings)) × IsStoredGrouping groupings (Some w) stored
   shown_with w None which is all = absurd (apart a s _ said is zero (λ e. omega (arith, e)))
@@ -68,7 +68,7 @@ module _ (v : ProblemValue) (groupings : List Grouping) (stored : List File) (a 
   shown None is all = (said ∙ ap (λ (x : Listed). x.answer) is, all)
   shown (Some w) is all = shown_with w (numbered groupings w.number) refl is all
 
-module _ (files : Files) (words : ListWords) (before after : History) (stored : List File) (a : Answered) where
+module _ (files : Files) (words : ListWords) (before after : History) (stored : List NamedFile) (a : Answered) where
   list_refuses : Refuses (list_course (Some files) words)
   list_refuses = bind_refuses _ _ (problem_refuses (Some files) words.check.problem) (λ v.
       bind_refuses _ _ (load_refuses (Some files) words.check.certificate.now) (λ text. value_refuses (IsListed v words.check.budget (number_of words.stored) text)))
@@ -131,9 +131,9 @@ abbrev IsCut : Answered → Type 0
 IsCut b = b.status ≡ 5
 
 -- a list by this text, where the problem is had again
-module _ (files : Files) (words : SolveWords) (stored : List File) (a : Answered) (h : HasSaid files words stored a) (text : List ℕ)
+module _ (files : Files) (words : SolveWords) (stored : List NamedFile) (a : Answered) (h : HasSaid files words stored a) (text : List ℕ)
     (listed : (budget : ℕ) (number : Option ℕ) (s : Listed) → IsListed h.t.problem budget number text s → IsListedOrCut s.answer) where
-  module _ (others : Files) (list : ListWords) (start end : History) (none : List File) (b : Answered) where
+  module _ (others : Files) (list : ListWords) (start end : History) (none : List NamedFile) (b : Answered) where
     after_stores : (s : Listed) (between : History) (refusal : Option Answered) → IsListedOrCut s.answer → store_steps (listed_file list s) between end none refusal
         → b ≡ said_after refusal s.answer → IsListedOrCut b
     after_stores s between None says stores said = subst IsListedOrCut (sym said) says
@@ -160,7 +160,7 @@ module _ (files : Files) (words : SolveWords) (stored : List File) (a : Answered
   stored_list : h.s.certificate ≡ Some text → IsStoredList files words stored
   stored_list spelled name named = (text, named_file words.out h.s.grouping ++ named_file words.table h.s.table, h.all ∙ stored_first words h.s name text named spelled, lists_all)
 
-module _ (files : Files) (words : SolveWords) (stored : List File) (a : Answered) (h : HasSaid files words stored a) where
+module _ (files : Files) (words : SolveWords) (stored : List NamedFile) (a : Answered) (h : HasSaid files words stored a) where
   solved_lists : (answer : desk.Answer) → IsSolveAnswer (problem_of h.t.problem) words.steps answer → HasCompleteTree (problem_of h.t.problem) answer → Says h.t answer h.s → a.status ≡ 0
       → IsStoredList files words stored
   solved_lists (found.Best g c) is complete said zero =

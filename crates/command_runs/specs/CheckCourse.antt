@@ -7,7 +7,7 @@ use Rattle.certificate_checker.specs.declared.verdict.Verdict.{Verdict}
 use Rattle.certificate_checker.specs.declared.verdict.Verdict.TheVariants.{Best, Impossible, No, Budget}
 use Rattle.certificate_checker.specs.Answered.{IsCheckAnswer, CheckIsRight, ShowsImpossible}
 use Rattle.command_words.specs.declared.words.CheckWords.{CheckWords}
-use Rattle.shelves.specs.Files.{File, Files}
+use Rattle.shelves.specs.Files.{NamedFile, Files}
 use Rattle.shelves.specs.History.{History}
 use Rattle.program_answers.specs.Answer.{Answered, success, budget_answer}
 use Rattle.program_answers.specs.CheckLines.{no_answer}
@@ -51,5 +51,5 @@ check_course files words =
     tabled_problem_in files words.check.problem words.table >>= λ t. text_of files words.check.certificate.now >>= λ text. value_step (IsChecked t words.check.budget text)
 
 -- `check` ends: at a fault that it met before anything was stored, or with its table stored and its answer, unless the table was refused
-abbrev pub CheckEnds : Option Files → CheckWords → History → History → List File → Answered → Type 0
+abbrev pub CheckEnds : Option Files → CheckWords → History → History → List NamedFile → Answered → Type 0
 CheckEnds files words = EndsStoring (check_course files words) (λ r. named_file words.table r.table) (λ r. r.answer)

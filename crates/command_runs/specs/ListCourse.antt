@@ -13,7 +13,7 @@ use Rattle.best_groupings.specs.Answered.{IsListing, ListsAllBest}
 use Rattle.best_groupings.specs.Walking.{groups_in}
 use Rattle.list_report.specs.Listing.{listing_text}
 use Rattle.command_words.specs.declared.words.ListWords.{ListWords}
-use Rattle.shelves.specs.Files.{File, Files}
+use Rattle.shelves.specs.Files.{NamedFile, Files}
 use Rattle.shelves.specs.History.{History}
 use Rattle.program_answers.specs.Answer.{Answered, success, budget_answer}
 use Rattle.program_answers.specs.CheckLines.{no_answer}
@@ -84,9 +84,9 @@ list_course files words =
     value_step (IsListed v words.check.budget (option_map (λ w. w.number) words.stored) text)
 
 -- the file that is stored: the grouping of the number, where the words give it
-abbrev pub listed_file : ListWords → Listed → List File
+abbrev pub listed_file : ListWords → Listed → List NamedFile
 listed_file words s = named_file (option_map (λ w. w.out) words.stored) s.grouping
 
 -- `list` ends: at a fault that it met before anything was stored, or with its file stored and its answer, unless the file was refused
-abbrev pub ListEnds : Option Files → ListWords → History → History → List File → Answered → Type 0
+abbrev pub ListEnds : Option Files → ListWords → History → History → List NamedFile → Answered → Type 0
 ListEnds files words = EndsStoring (list_course files words) (listed_file words) (λ s. s.answer)

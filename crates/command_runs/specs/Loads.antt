@@ -4,7 +4,7 @@ use Rattle.std.specs.List.{All}
 use Rattle.command_words.specs.declared.words.CommandWords.{CommandWords}
 use Rattle.shelves.specs.declared.shelf.ShelfFault.{ShelfFault}
 use Rattle.shelves.specs.declared.shelf.ShelfFault.TheVariants.{Missing, TooLarge, Device, Memory}
-use Rattle.shelves.specs.Files.{File, Files}
+use Rattle.shelves.specs.Files.{NamedFile, Files}
 use Rattle.shelves.specs.Shelf.{Reads}
 use Rattle.shelves.specs.History.{Event, History}
 use Rattle.shelves.specs.History.Event.{Loaded, Read, Stored}
@@ -34,7 +34,7 @@ AnsweredBy files before after = (more : List Event) × (after.events ≡ before.
 -- A run over a shelf that tells its files, or that tells none, is also a run over any files by which its loads and readers answered. The same
 -- holds of the run of a command.
 pub record RunsAreOfTheirLoads : Type 0 where
-  pub answer : (given : Option Files) (files : Files) (words : List (List ℕ)) (before after : History) (stored : List File) (a : Answered)
+  pub answer : (given : Option Files) (files : Files) (words : List (List ℕ)) (before after : History) (stored : List NamedFile) (a : Answered)
       → IsRunAnswer given words before after stored a → AnsweredBy files before after → IsRunAnswer (Some files) words before after stored a
-  pub run : (given : Option Files) (files : Files) (command : CommandWords) (before after : History) (stored : List File) (a : Answered)
+  pub run : (given : Option Files) (files : Files) (command : CommandWords) (before after : History) (stored : List NamedFile) (a : Answered)
       → CommandRun given command before after stored a → AnsweredBy files before after → CommandRun (Some files) command before after stored a

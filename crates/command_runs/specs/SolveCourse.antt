@@ -10,7 +10,7 @@ use Rattle.branch_bound.specs.declared.answer.Answer as desk
 use Rattle.branch_bound.specs.declared.answer.Answer.TheVariants.{Best, Impossible, Open}
 use Rattle.branch_bound.specs.Answered.{IsSolveAnswer, SolveIsRight, HasCompleteTree, SaysWhether}
 use Rattle.command_words.specs.declared.words.SolveWords.{SolveWords}
-use Rattle.shelves.specs.Files.{File, Files}
+use Rattle.shelves.specs.Files.{NamedFile, Files}
 use Rattle.shelves.specs.History.{History}
 use Rattle.program_answers.specs.Answer.{Answered, success}
 use Rattle.command_runs.specs.Course.{Course, ◌>>=◌, value_step}
@@ -49,9 +49,9 @@ abbrev pub solve_course : Option Files → SolveWords → Course Solved
 solve_course files words = tabled_problem_in files words.problem words.table >>= λ t. value_step (IsSolved t words.steps)
 
 -- the files that are stored: the certificate first, then the grouping, then the table
-abbrev pub files_to_store : SolveWords → Solved → List File
+abbrev pub files_to_store : SolveWords → Solved → List NamedFile
 files_to_store words s = named_file words.certificate s.certificate ++ (named_file words.out s.grouping ++ named_file words.table s.table)
 
 -- `solve` ends: at a fault that it met before anything was stored, or with its files stored and its answer, unless a file was refused
-abbrev pub SolveEnds : Option Files → SolveWords → History → History → List File → Answered → Type 0
+abbrev pub SolveEnds : Option Files → SolveWords → History → History → List NamedFile → Answered → Type 0
 SolveEnds files words = EndsStoring (solve_course files words) (files_to_store words) (λ s. s.answer)

@@ -1,7 +1,7 @@
 //! Shelves: named files that are loaded, opened and stored.
 
 ghost use Rattle.std.specs.Prelude.{◌≡◌, ℕ, ◌-◌, ◌^◌, ◌<◌, ◌≤◌, false, List, [], Option, IfOk, IfSome, OnOk, OnErr, length, min, option_map, vec_len};
-ghost use Rattle.shelves.specs.Files.{File, Files, with_file, with_bytes};
+ghost use Rattle.shelves.specs.Files.{NamedFile, Files, with_file, with_bytes};
 ghost use Rattle.shelves.specs.Shelf.{IsLoad, Opens, IsRead, IsStore};
 ghost use Rattle.shelves.specs.History.{History, HasLoaded, HasOpened, HasRead, HasPut};
 ghost use Rattle.shelves.specs.Sums.{AreOfLast};
@@ -58,7 +58,7 @@ pub trait Shelf {
     ghost contents: { Self → Option Files };
 
     /// The files that were stored, in order of storing, each name once, where the shelf tells them.
-    ghost stored: { Self → Option (List File) };
+    ghost stored: { Self → Option (List NamedFile) };
 
     /// How often the device has failed, and what was loaded, read and stored so far.
     ghost history: { Self → History };
