@@ -38,14 +38,15 @@ abbrev pub IsFoundOpen : Problem → ℕ → Option GroupingHeld → Type 0
 IsFoundOpen p limit None = limit ≡ 0
 IsFoundOpen p limit (Some g) = Lawful p g.groups.items × StandsInOrder g.groups.items
 
--- Best, with a certificate that names the grouping; that none is lawful, with a certificate of that; or that all steps that were allowed
--- were taken. With no step it is always open.
+-- Best, with a certificate that names the grouping; that none is lawful, with a certificate of that; or that all steps
+-- that were allowed were taken. With no step it is always open.
 abbrev pub IsSolveAnswer : Problem → ℕ → Answer → Type 0
 IsSolveAnswer p limit (Best g c) = (1 ≤ limit) × Certifies p Wide (Some g.groups.items) c × StandsInOrder g.groups.items
 IsSolveAnswer p limit (Impossible c) = (1 ≤ limit) × Certifies p Plain None c
 IsSolveAnswer p limit (Open found steps) = (steps ≡ limit) × IsFoundOpen p limit found
 
--- The tree of Best's certificate is complete: its ends are the sets of all best groupings (law `complete_certificates_list`).
+-- The tree of Best's certificate is complete: its ends are the sets of all best groupings (law
+-- `complete_certificates_list`).
 abbrev pub HasCompleteTree : Problem → Answer → Type 0
 HasCompleteTree p (Best g c) = IsComplete (certificate_of c).tree p (certificate_of c).round (empty_state p)
 HasCompleteTree p _ = ⊤

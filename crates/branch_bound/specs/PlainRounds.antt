@@ -13,7 +13,8 @@ use Rattle.branch_bound.specs.declared.outcome.PlainMove.{PlainMove}
 use Rattle.branch_bound.specs.declared.outcome.PlainMove.TheVariants as next_move
 use Rattle.branch_bound.specs.Searching.{problem_in, round_in, state_in, IsEnd, IsBetter}
 
--- the rows are those of the order, which is the round's, the sets have room for its places, and the round is a plain one
+-- the rows are those of the order, which is the round's, the sets have room for its places, and the round is a plain
+-- one
 pub record IsPlainGround {C : Type 0} (places : ℕ) (test : C → ℕ → Bool) (g : Ground C) : Type 0 where
   pub fits : length g.ordered.now.order ≤ places
   pub rows : AreRows C test (problem_at g.ordered.now) (length g.ordered.now.order) g.near.now

@@ -131,7 +131,8 @@ IsMove test g s (next_move.Leaf leaf) = IsEnd (problem_in g) (round_in g) s leaf
 IsMove test g s (next_move.Better found) = IsBetter (problem_in g) (round_in g) s found
 IsMove test g s (next_move.Branch place at) = IsAt test g s at × IsChoice test g.ordered.now.order at.groups.items place
 
--- where no group of at most so many counties fits: a leaf that is valid, a grouping that is better, or the groups of one county more
+-- where no group of at most so many counties fits: a leaf that is valid, a grouping that is better, or the groups of
+-- one county more
 abbrev pub IsNext : {C : Type 0} → (C → ℕ → Bool) → Ground C → State → ℕ → Next C → Type 0
 IsNext test g s size (next.Leaf leaf) = IsEnd (problem_in g) (round_in g) s leaf
 IsNext test g s size (next.Better found) = IsBetter (problem_in g) (round_in g) s found

@@ -194,13 +194,13 @@ fn ordered_piece<C: CountySet>(
     }
 }
 
-/// What a desk answers of a piece of a round: a proof tree of its state, a greater grouping that agrees with the state, or
-/// that the steps ran out.
+/// What a desk answers of a piece of a round: a proof tree of its state, a greater grouping that agrees with the state,
+/// or that the steps ran out.
 ///
-/// The round's order names each county of the problem once, its limit is at most 256, and the state is one of the round by
-/// the places of the order. If the steps ran out in a wide round, the answer has the branch that the search made first, so
-/// that the piece can be split there. A step is a state that is entered, a set that is grown, a group that is tested for
-/// being live, or a look for the list of a part.
+/// The round's order names each county of the problem once, its limit is at most 256, and the state is one of the round
+/// by the places of the order. If the steps ran out in a wide round, the answer has the branch that the search made
+/// first, so that the piece can be split there. A step is a state that is entered, a set that is grown, a group that is
+/// tested for being live, or a look for the list of a part.
 ///
 /// # Errors
 ///

@@ -164,8 +164,8 @@ fn prove_plain_takes<C: CountySet>(
     Ok(Takes::Proved(takes))
 }
 
-/// A proof tree at the state, or a lawful grouping that agrees with the state and is greater than the round's target. It
-/// goes as deep as takes nest.
+/// A proof tree at the state, or a lawful grouping that agrees with the state and is greater than the round's target.
+/// It goes as deep as takes nest.
 ///
 /// # Errors
 ///

@@ -364,8 +364,8 @@ pub fn solve_over<C: CountySet, W: Watcher>(
     }
 }
 
-/// What `solve` says, where a watcher is told how far the search is: each round as it begins, and each state that is entered.
-/// What is promised holds for each watcher.
+/// What `solve` says, where a watcher is told how far the search is: each round as it begins, and each state that is
+/// entered. What is promised holds for each watcher.
 ///
 /// # Errors
 ///

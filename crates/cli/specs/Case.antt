@@ -34,7 +34,8 @@ abbrev pub first_line : List RawLine → List ℕ
 first_line [] = []
 first_line (p ∷ ps) = p.bytes
 
--- the files of a case: each line `file NAME` begins one, whose bytes are the lines up to the next; lines before the first are ignored
+-- the files of a case: each line `file NAME` begins one, whose bytes are the lines up to the next; lines before the
+-- first are ignored
 abbrev pub case_files : List ℕ → List NamedFile
 case_files text = (parts_of (drop 1 (raw_lines text))).files
 

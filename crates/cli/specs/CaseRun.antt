@@ -18,7 +18,8 @@ stored_text files = flat_map (λ f. codes "file " ++ f.name ++ codes "\n" ++ f.b
 abbrev pub followed_by : Answered → List NamedFile → Answered
 followed_by a stored = record { text = a.text ++ stored_text stored; status = a.status }
 
--- the answer to words over files, after these events and no failure, followed by the files that were stored, each name once
+-- the answer to words over files, after these events and no failure, followed by the files that were stored, each name
+-- once
 pub record WordsOver (files : List NamedFile) (words : List (List ℕ)) (a : Answered) : Type 0 where
   pub run : Answered
   pub stored : List NamedFile
@@ -26,8 +27,8 @@ pub record WordsOver (files : List NamedFile) (words : List (List ℕ)) (a : Ans
   pub answer : IsRunAnswer (Some (held files)) words no_history (record { failures = 0; events = events }) stored run
   pub followed : a ≡ followed_by run (with_files [] stored)
 
--- the answer to the text of a case: none where its first line or a file's name isn't text; else that to its words over its files, of
--- which a later one counts in the place of an earlier one of its name
+-- the answer to the text of a case: none where its first line or a file's name isn't text; else that to its words over
+-- its files, of which a later one counts in the place of an earlier one of its name
 abbrev pub IsCaseAnswer : List ℕ → Option Answered → Type 0
 IsCaseAnswer text None = is_case text ≡ false
 IsCaseAnswer text (Some a) = (is_case text ≡ true) × WordsOver (reverse (case_files text)) (case_words text) a

@@ -179,7 +179,8 @@ fn case_answer(alloc: Global, text: &[u8], end: &mut End) -> Result<Option<RunAn
     }
 }
 
-/// Reads and runs a case, and answers the exit status and how the run ended. All that `run_case` promises holds of it and of its status.
+/// Reads and runs a case, and answers the exit status and how the run ended. All that `run_case` promises holds of it
+/// and of its status.
 pub fn run_case_with_end<R: Source, W: Sink>(alloc: Global, input: &mut R, out: &mut W) -> (u8, End)
     requires { R.is_failed input.old ≡ false }
     ensures { (read : Result (List ℕ) WholeFault)

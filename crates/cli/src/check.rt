@@ -80,8 +80,8 @@ fn if_unrefuted(checked: Result<Checked, CheckStop>, is_whole: bool) -> Option<C
     }
 }
 
-/// The verdict on a certificate that is read as it comes, and read to its end. `None` where a fault is found: the reader is then given
-/// back, and it is left open which fault is the first.
+/// The verdict on a certificate that is read as it comes, and read to its end. `None` where a fault is found: the
+/// reader is then given back, and it is left open which fault is the first.
 fn stream_check<H: Shelf>(
     alloc: Global,
     words: CertificateWords<'_>,
@@ -106,8 +106,8 @@ fn stream_check<H: Shelf>(
     Ok(if_unrefuted(checked, is_whole))
 }
 
-/// The verdict on the certificate of a file. It is read as it comes; if a fault is found, it is loaded, and the first fault of the whole
-/// text is the answer.
+/// The verdict on the certificate of a file. It is read as it comes; if a fault is found, it is loaded, and the first
+/// fault of the whole text is the answer.
 fn check_file<H: Shelf>(
     alloc: Global,
     words: CertificateWords<'_>,
@@ -144,8 +144,8 @@ fn check_files<H: Shelf>(
     check_file(alloc, words.check, tabled, shelf, end)
 }
 
-/// The verdict on a certificate. The problem is built before the certificate is opened. If a grouping is best, its table is then stored;
-/// the first fault met is the answer.
+/// The verdict on a certificate. The problem is built before the certificate is opened. If a grouping is best, its
+/// table is then stored; the first fault met is the answer.
 pub(crate) fn check<H: Shelf>(
     alloc: Global,
     words: CheckWords<'_>,

@@ -1,4 +1,5 @@
-//! A run of one command: its words are parsed, the command is run, its record is stored if the words ask for it, and the answer is written.
+//! A run of one command: its words are parsed, the command is run, its record is stored if the words ask for it, and
+//! the answer is written.
 
 ghost use Rattle.std.specs.Prelude.{◌≡◌, List, IfOk};
 ghost use Rattle.shelves.specs.Files.{NamedFile};
@@ -136,8 +137,8 @@ fn deliver_said<W: Sink>(out: &mut W, said: Result<RunAnswer, AllocError>) -> u8
     }
 }
 
-/// Runs one command, and answers the exit status and how the run ended. The watcher is told how far a search is. All that `run`
-/// promises holds of it and of its status, for each watcher.
+/// Runs one command, and answers the exit status and how the run ended. The watcher is told how far a search is. All
+/// that `run` promises holds of it and of its status, for each watcher.
 pub fn run_with_end<H: Shelf, W: Sink, V: Watcher>(
     alloc: Global,
     words: &[&str],
@@ -146,8 +147,8 @@ pub fn run_with_end<H: Shelf, W: Sink, V: Watcher>(
     watcher: &mut V,
 ) -> (u8, End)
 
-    // The answer is that of the steps of the words' command, its files are stored, and its text is written. If the status is 0 or 1, this
-    // answer tells of the machine's files what the command promises.
+    // The answer is that of the steps of the words' command, its files are stored, and its text is written. If the
+    // status is 0 or 1, this answer tells of the machine's files what the command promises.
     ensures run { (a : Answered) × (stored : List NamedFile)
         × HasStored (H.contents shelf.old) (H.contents shelf.new) (H.stored shelf.old) (H.stored shelf.new) stored
         × IsRunAnswer (H.contents shelf.old) (texts words.now) (H.history shelf.old) (H.history shelf.new) stored a
@@ -162,22 +163,24 @@ pub fn run_with_end<H: Shelf, W: Sink, V: Watcher>(
 /// Runs one command and answers the exit status. The words are those after the program's name. The answer
 /// is composed whole, files are stored, and then the answer is written.
 ///
-/// If `solve` or `check` answers with status 0, the text is the report of a grouping that is best for the problem of the
-/// files that were read. This holds of any files by which the shelf's loads and readers answered, so of the machine's
-/// files too. `specs/Told` of `command_runs` says what the other answers tell.
+/// If `solve` or `check` answers with status 0, the text is the report of a grouping that is best for the problem of
+/// the files that were read. This holds of any files by which the shelf's loads and readers answered, so of the
+/// machine's files too. `specs/Told` of `command_runs` says what the other answers tell.
 ///
-/// The status is 0 for an answer, for help and for the version, 1 where `judge` finds a fault of the grouping, `audit` finds anything,
-/// `solve`, `check` or `list` that no grouping is lawful, or `check` or `list` that the text is no certificate, 2 for usage, 3 where
-/// the steps of `solve` or `piece` or the budget of `check`, `list` or `share` ran out, the certificate of `list` doesn't show which
-/// other groupings are best, or pieces are left to `share`, 4 where the input was refused, no grouping has the number that `list`
-/// should store or no piece that of `piece`, 5 where a file could not be had or stored or memory was refused (the line is then
-/// `memory`), and 5 where the writing failed: how much went out is then not said. `solve` stores the certificate, the grouping and the
-/// table, `judge` and `check` the table, `list` a grouping, `share` a certificate, each if the words name its file. If the words name a
-/// file for the record of the run and the status is 0, 1 or 3, the record is stored last. What was stored before a fault stays stored.
+/// The status is 0 for an answer, for help and for the version, 1 where `judge` finds a fault of the grouping, `audit`
+/// finds anything, `solve`, `check` or `list` that no grouping is lawful, or `check` or `list` that the text is no
+/// certificate, 2 for usage, 3 where the steps of `solve` or `piece` or the budget of `check`, `list` or `share` ran
+/// out, the certificate of `list` doesn't show which other groupings are best, or pieces are left to `share`, 4 where
+/// the input was refused, no grouping has the number that `list` should store or no piece that of `piece`, 5 where a
+/// file could not be had or stored or memory was refused (the line is then `memory`), and 5 where the writing failed:
+/// how much went out is then not said. `solve` stores the certificate, the grouping and the table, `judge` and `check`
+/// the table, `list` a grouping, `share` a certificate, each if the words name its file. If the words name a file for
+/// the record of the run and the status is 0, 1 or 3, the record is stored last. What was stored before a fault stays
+/// stored.
 pub fn run<H: Shelf, W: Sink>(alloc: Global, words: &[&str], shelf: &mut H, out: &mut W) -> u8
 
-    // The answer is that of the steps of the words' command, its files are stored, and its text is written. If the status is 0 or 1, this
-    // answer tells of the machine's files what the command promises.
+    // The answer is that of the steps of the words' command, its files are stored, and its text is written. If the
+    // status is 0 or 1, this answer tells of the machine's files what the command promises.
     ensures run { (a : Answered) × (stored : List NamedFile)
         × HasStored (H.contents shelf.old) (H.contents shelf.new) (H.stored shelf.old) (H.stored shelf.new) stored
         × IsRunAnswer (H.contents shelf.old) (texts words.now) (H.history shelf.old) (H.history shelf.new) stored a

@@ -51,7 +51,8 @@ fn lawful_end(unshown: Option<Unshown>, certificate: Option<Vec<u8>>, problem: P
     }
 }
 
-/// What is said of a lawful grouping, with the text of a certificate or without one, or the fault of a grouping that isn't lawful.
+/// What is said of a lawful grouping, with the text of a certificate or without one, or the fault of a grouping that
+/// isn't lawful.
 fn verdict(
     alloc: Global,
     tabled: Tabled,
@@ -96,8 +97,9 @@ fn judge_files<H: Shelf>(
     verdict(alloc, tabled, grouping, certificate, words.budget, end)
 }
 
-/// Whether a grouping is lawful, and by a certificate whether it is best. The problem is built before the grouping is loaded and read,
-/// and then the certificate is loaded. If the grouping is lawful, its table is then stored; the first fault met is the answer.
+/// Whether a grouping is lawful, and by a certificate whether it is best. The problem is built before the grouping is
+/// loaded and read, and then the certificate is loaded. If the grouping is lawful, its table is then stored; the first
+/// fault met is the answer.
 pub(crate) fn judge<H: Shelf>(
     alloc: Global,
     words: JudgeWords<'_>,

@@ -77,8 +77,8 @@ fn list_files<H: Shelf>(
     Ok(listed)
 }
 
-/// All best groupings, by a certificate. The problem is built before the certificate is loaded; then the grouping of the number is
-/// stored, where the words give it; the first fault met is the answer.
+/// All best groupings, by a certificate. The problem is built before the certificate is loaded; then the grouping of
+/// the number is stored, where the words give it; the first fault met is the answer.
 pub(crate) fn list<H: Shelf>(
     alloc: Global,
     words: ListWords<'_>,

@@ -51,7 +51,8 @@ fn proved(
     }
 }
 
-/// A piece of a board, as a desk proves it. All files are read before the board is opened; the first fault met is the answer.
+/// A piece of a board, as a desk proves it. All files are read before the board is opened; the first fault met is the
+/// answer.
 pub(crate) fn piece<H: Shelf>(
     alloc: Global,
     words: PieceWords<'_>,

@@ -166,8 +166,8 @@ fn if_whole<T: Drop>(read: Result<T, Pl94Fault>, is_whole: bool) -> Option<T>
     }
 }
 
-/// The counties of the state, from census files that are read as they come. `None` where a line is at fault: the readers are then given
-/// back, and it is left open which line.
+/// The counties of the state, from census files that are read as they come. `None` where a line is at fault: the
+/// readers are then given back, and it is left open which line.
 pub(crate) fn stream_counties<H: Shelf>(
     alloc: Global,
     words: CommonWords<'_>,

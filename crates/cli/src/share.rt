@@ -88,8 +88,8 @@ fn shared_end(left: usize) -> Ending {
     }
 }
 
-/// A board takes events that desks have sent, and the certificate that it joins is stored. All files are read before the board is
-/// opened; the first fault met is the answer.
+/// A board takes events that desks have sent, and the certificate that it joins is stored. All files are read before
+/// the board is opened; the first fault met is the answer.
 pub(crate) fn share<H: Shelf>(
     alloc: Global,
     words: ShareWords<'_>,

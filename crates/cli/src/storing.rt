@@ -58,7 +58,8 @@ pub(crate) fn store_named<H: Shelf>(
     }
 }
 
-/// Stores the table that is reported, where there is one and its file is named. Then the answer is said, unless the table was refused.
+/// Stores the table that is reported, where there is one and its file is named. Then the answer is said, unless the
+/// table was refused.
 pub(crate) fn store_reported<H: Shelf>(
     alloc: Global,
     name: Option<&str>,

@@ -16,8 +16,8 @@ use Rattle.command_runs.specs.Reading.{text_of}
 use Rattle.command_runs.specs.TableCourse.{Tabled, Reported, tabled_problem_in, table_of}
 use Rattle.command_runs.specs.Storing.{EndsStoring, named_file}
 
--- A verdict, as it is said: the report of the grouping that is best, with status 0; that none is lawful, or the first fault with its
--- line, with status 1; or that the budget is too small.
+-- A verdict, as it is said: the report of the grouping that is best, with status 0; that none is lawful, or the first
+-- fault with its line, with status 1; or that the budget is too small.
 abbrev pub verdict_said : ProblemValue → Verdict → Answered
 verdict_said v (Best g) = success (outcome_text v (outcome.Best g))
 verdict_said v Impossible = record { text = outcome_text v outcome.Impossible; status = 1 }
@@ -50,6 +50,7 @@ abbrev pub check_course : Option Files → CheckWords → Course Reported
 check_course files words =
     tabled_problem_in files words.check.problem words.table >>= λ t. text_of files words.check.certificate.now >>= λ text. value_step (IsChecked t words.check.budget text)
 
--- `check` ends: at a fault that it met before anything was stored, or with its table stored and its answer, unless the table was refused
+-- `check` ends: at a fault that it met before anything was stored, or with its table stored and its answer, unless the
+-- table was refused
 abbrev pub CheckEnds : Option Files → CheckWords → History → History → List NamedFile → Answered → Type 0
 CheckEnds files words = EndsStoring (check_course files words) (λ r. named_file words.table r.table) (λ r. r.answer)

@@ -13,8 +13,9 @@ use Rattle.command_runs.specs.Storing.{IsStoredAs}
 use Rattle.command_runs.specs.JudgeWithCertificate.{lawful_answer, best_answer}
 use Rattle.command_runs.specs.Run.{CommandRun}
 
--- What a run of `judge` that ends with status 0 shows: the grouping of its file is lawful for the problem of the files. The report calls it
--- lawful, or it calls it best, and then no lawful grouping is better. If a table is named, that of the grouping was stored.
+-- What a run of `judge` that ends with status 0 shows: the grouping of its file is lawful for the problem of the files.
+-- The report calls it lawful, or it calls it best, and then no lawful grouping is better. If a table is named, that of
+-- the grouping was stored.
 pub record ShowsJudged (files : Files) (words : JudgeWords) (stored : List NamedFile) (a : Answered) : Type 0 where
   pub v : ProblemValue
   pub problem : IsProblemOfFiles files words.problem v

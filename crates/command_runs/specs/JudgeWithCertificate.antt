@@ -27,11 +27,13 @@ lawful_answer v g = success (report_text v (codes "lawful") g)
 abbrev pub best_answer : ProblemValue → Grouping → Answered
 best_answer v g = success (report_text v (codes "best") g)
 
--- what is said of a lawful grouping beside a verdict: that it is best exactly where the verdict names a best grouping with the same counts
+-- what is said of a lawful grouping beside a verdict: that it is best exactly where the verdict names a best grouping
+-- with the same counts
 abbrev pub SaysBeside : ProblemValue → Grouping → Verdict → Answered → Type 0
 SaysBeside v g verdict a = (NamesSameCounts g verdict × (a ≡ best_answer v g)) ⊎ ((¬ NamesSameCounts g verdict) × (a ≡ lawful_answer v g))
 
--- What is said of a lawful grouping by a text: what a checker's verdict with such a budget makes of it. If the grouping is called best, it is.
+-- What is said of a lawful grouping by a text: what a checker's verdict with such a budget makes of it. If the grouping
+-- is called best, it is.
 pub record IsSaidBy (v : ProblemValue) (g : Grouping) (budget : ℕ) (text : List ℕ) (a : Answered) : Type 0 where
   pub verdict : Verdict
   pub is : IsCheckAnswer (problem_of v) text budget verdict

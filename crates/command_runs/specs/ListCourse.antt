@@ -1,4 +1,5 @@
--- The steps of `list`: the problem is built, the certificate is loaded, all best groupings are listed by it, and one of them may be stored.
+-- The steps of `list`: the problem is built, the certificate is loaded, all best groupings are listed by it, and one of
+-- them may be stored.
 use Rattle.std.specs.Prelude.{◌≡◌, ℕ, zero, suc, List, ◌++◌, Option, Some, None, codes, decimal, map, option_map, slice_get}
 use Rattle.grouping_problem.specs.ProblemValue.{ProblemValue, problem_of}
 use Rattle.grouping_laws.specs.Grouping.{Grouping}
@@ -62,7 +63,8 @@ listed_all v groupings (Some number) = listed_with v groupings (numbered groupin
 abbrev pub said_alone : Answered → Listed
 said_alone a = record { answer = a; grouping = None }
 
--- What is said of a listing: all best groupings, with status 0; that the certificate doesn't show them, with status 3; else what `check` says.
+-- What is said of a listing: all best groupings, with status 0; that the certificate doesn't show them, with status 3;
+-- else what `check` says.
 abbrev pub listing_said : ProblemValue → Option ℕ → Listing → Listed
 listing_said v number (All list) = listed_all v (map groups_in list.items) number
 listing_said v number (Open gap line) = said_alone (open_answer gap line)
@@ -87,6 +89,7 @@ list_course files words =
 abbrev pub listed_file : ListWords → Listed → List NamedFile
 listed_file words s = named_file (option_map (λ w. w.out) words.stored) s.grouping
 
--- `list` ends: at a fault that it met before anything was stored, or with its file stored and its answer, unless the file was refused
+-- `list` ends: at a fault that it met before anything was stored, or with its file stored and its answer, unless the
+-- file was refused
 abbrev pub ListEnds : Option Files → ListWords → History → History → List NamedFile → Answered → Type 0
 ListEnds files words = EndsStoring (list_course files words) (listed_file words) (λ s. s.answer)

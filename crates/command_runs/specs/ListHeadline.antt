@@ -25,7 +25,8 @@ IsStoredGrouping groupings None stored = stored ≡ []
 IsStoredGrouping groupings (Some words) stored =
     (g : Grouping) × (numbered groupings words.number ≡ Some g) × (stored ≡ record { name = words.out.now; bytes = grouping_text g } ∷ [])
 
--- What a run of `list` that ends with status 0 shows: its text is the listing of all best groupings of the problem of the files, in order.
+-- What a run of `list` that ends with status 0 shows: its text is the listing of all best groupings of the problem of
+-- the files, in order.
 pub record ShowsAllBest (files : Files) (words : ListWords) (stored : List NamedFile) (a : Answered) : Type 0 where
   pub v : ProblemValue
   pub problem : IsProblemOfFiles files words.check.problem v

@@ -24,7 +24,8 @@ abbrev pub read_step : Option Files → List ℕ → Course Given
 read_step files name before after (Ok g) = IsRead files name g.bytes g.answer × HasRead before after name g.bytes g.answer
 read_step files name before after (Err a) = ⊥
 
--- The whole text, if the reader stood at its end. If the reader failed, the end is the answer to what the shelf says of the name.
+-- The whole text, if the reader stood at its end. If the reader failed, the end is the answer to what the shelf says of
+-- the name.
 abbrev pub whole_step : List ℕ → Given → Course (List ℕ)
 whole_step name g before after (Ok bytes) = (after ≡ before) × (g.answer ≡ Ok Whole) × (bytes ≡ g.bytes)
 whole_step name g before after (Err a) = (after ≡ before) × ((fault : ShelfFault) × (g.answer ≡ Err fault) × (a ≡ shelf_answer name fault))
@@ -57,6 +58,7 @@ whole_pair first second given = whole_step second given.1 >>= λ y. whole_step f
 abbrev pub load_pair : Option Files → List ℕ → List ℕ → Course (List ℕ × List ℕ)
 load_pair files first second = load_step files first >>= λ x. load_step files second >>= λ y. value_step (λ pair. pair ≡ (x, y))
 
--- The whole texts of two files: what their readers gave, if both stood at their ends; else both files are loaded behind the reading.
+-- The whole texts of two files: what their readers gave, if both stood at their ends; else both files are loaded behind
+-- the reading.
 abbrev pub texts_of : Option Files → List ℕ → List ℕ → Course (List ℕ × List ℕ)
 texts_of files first second = read_both files first second >>= λ given. either_step (whole_pair first second given) (load_pair files first second)

@@ -25,8 +25,8 @@ pub record StoresNoMore (between after : History) (last : List NamedFile) (said 
   pub none : last ≡ []
   pub answer : a ≡ said
 
--- What follows a command's own files and its answer: if its status is 0, 1 or 3, the record of the run is stored. A growth may be refused
--- in composing it.
+-- What follows a command's own files and its answer: if its status is 0, 1 or 3, the record of the run is stored. A
+-- growth may be refused in composing it.
 abbrev pub RecordEnds : List (List ℕ) → CommandWords → List ℕ → History → History → History → List NamedFile → Answered → Answered → Type 0
 RecordEnds words command name before between after last said a =
     ((is_recorded said.status ≡ false) × StoresNoMore between after last said a)

@@ -18,8 +18,8 @@ use Rattle.command_runs.specs.PieceCourse.{piece_course}
 use Rattle.record_report.specs.RecordFiles.{record_name_of}
 use Rattle.command_runs.specs.Recording.{RecordEnds}
 
--- A command ends with its answer, over a shelf of these histories before and after it, with these files stored: only `judge`, `solve`, `check`,
--- `list` and `share` store any.
+-- A command ends with its answer, over a shelf of these histories before and after it, with these files stored: only
+-- `judge`, `solve`, `check`, `list` and `share` store any.
 abbrev pub CommandEnds : Option Files → CommandWords → History → History → List NamedFile → Answered → Type 0
 CommandEnds files (Size words) before after stored a = EndsIn (size_course files words) before after a × (stored ≡ [])
 CommandEnds files (Judge words) before after stored a = JudgeEnds files words before after stored a
@@ -38,7 +38,8 @@ IsOutOfMemory stored a = (a ≡ memory_answer) × (stored ≡ [])
 abbrev pub CommandRun : Option Files → CommandWords → History → History → List NamedFile → Answered → Type 0
 CommandRun files command before after stored a = IsOutOfMemory stored a ⊎ CommandEnds files command before after stored a
 
--- a run of a command whose words name a file for its record: the command's own files are stored first, and the record is the last
+-- a run of a command whose words name a file for its record: the command's own files are stored first, and the record
+-- is the last
 pub record RunsWithRecord (files : Option Files) (words : List (List ℕ)) (command : CommandWords) (name : List ℕ) (before after : History) (stored : List NamedFile) (a : Answered) : Type 0 where
   pub said : Answered
   pub between : History
@@ -76,9 +77,9 @@ pub record RunsCommand (files : Option Files) (words : List (List ℕ)) (before 
   pub taken : faults_of words ≡ []
   pub run : RunsAsAsked files words command (record_name_of command) before after stored a
 
--- The answer to words, and the files that were stored: that of the command that they mean, or the end that they come to. Words that clap
--- takes mean a command, so they end neither in help, nor in the version, nor in usage; but words that give an option without its
--- partner end in usage. A growth may be refused before anything is stored.
+-- The answer to words, and the files that were stored: that of the command that they mean, or the end that they come
+-- to. Words that clap takes mean a command, so they end neither in help, nor in the version, nor in usage; but words
+-- that give an option without its partner end in usage. A growth may be refused before anything is stored.
 abbrev pub IsRunAnswer : Option Files → List (List ℕ) → History → History → List NamedFile → Answered → Type 0
 IsRunAnswer files words before after stored a =
     IsOutOfMemory stored a ⊎ (EndsAtWords words before after stored a ⊎ RunsCommand files words before after stored a)

@@ -1,5 +1,5 @@
--- The steps of `share`: the problem is built, the grouping and the events are read, a board takes the events, and the certificate that it
--- joins is stored.
+-- The steps of `share`: the problem is built, the grouping and the events are read, a board takes the events, and the
+-- certificate that it joins is stored.
 use Rattle.std.specs.Prelude.{ℕ, zero, suc, List, length, Option, option_map}
 use Rattle.grouping_laws.specs.Grouping.{Grouping}
 use Rattle.grouping_problem.specs.ProblemValue.{ProblemValue, problem_of}
@@ -40,6 +40,7 @@ share_course files words =
 abbrev pub joined_file : ShareWords → Shared → List NamedFile
 joined_file words s = named_file words.certificate (option_map (λ t. t.items) s.certificate)
 
--- `share` ends: at a fault that it met before anything was stored, or with its file stored and its answer, unless the file was refused
+-- `share` ends: at a fault that it met before anything was stored, or with its file stored and its answer, unless the
+-- file was refused
 abbrev pub ShareEnds : Option Files → ShareWords → History → History → List NamedFile → Answered → Type 0
 ShareEnds files words = EndsStoring (share_course files words) (joined_file words) share_answer

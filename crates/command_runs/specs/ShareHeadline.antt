@@ -23,8 +23,8 @@ IsStoredTogether files words stored v g =
     (name : Bor (List ℕ)) → words.certificate ≡ Some name
     → (text : List ℕ) × (stored ≡ record { name = name.now; bytes = text } ∷ []) × ChecksAs files words.board.problem text (best_said v g)
 
--- What a run of `share` that ends with status 0 shows: the target of its board is best for the problem of the files, and the certificate
--- that was joined says so to whoever checks it.
+-- What a run of `share` that ends with status 0 shows: the target of its board is best for the problem of the files,
+-- and the certificate that was joined says so to whoever checks it.
 pub record ShowsJoined (files : Files) (words : ShareWords) (stored : List NamedFile) : Type 0 where
   pub v : ProblemValue
   pub problem : IsProblemOfFiles files words.board.problem v
@@ -32,8 +32,8 @@ pub record ShowsJoined (files : Files) (words : ShareWords) (stored : List Named
   pub best : IsBest (problem_of v) target
   pub proof : IsStoredTogether files words stored v target
 
--- What runs of `share` over told files promise, whatever events their files hold: one that ends with status 0 has joined, and no other
--- stores anything.
+-- What runs of `share` over told files promise, whatever events their files hold: one that ends with status 0 has
+-- joined, and no other stores anything.
 pub record RunsShare : Type 0 where
   pub joined : (files : Files) (words : ShareWords) (before after : History) (stored : List NamedFile) (a : Answered)
       → CommandRun (Some files) (Share words) before after stored a → a.status ≡ 0 → ShowsJoined files words stored

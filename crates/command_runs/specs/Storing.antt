@@ -21,8 +21,9 @@ pub record IsFirstRefused (f : NamedFile) (before after : History) (stored : Lis
   pub none_stored : stored ≡ []
   pub answer : IsAnsweredBy refusal (shelf_answer f.name fault)
 
--- What storing files in turn comes to, where the shelf had this history before it and this one after it: the files that were stored, and
--- the answer to the one that was refused, if one was. Those behind it are not stored, and nothing is loaded or read.
+-- What storing files in turn comes to, where the shelf had this history before it and this one after it: the files that
+-- were stored, and the answer to the one that was refused, if one was. Those behind it are not stored, and nothing is
+-- loaded or read.
 abbrev pub store_steps : List NamedFile → History → History → List NamedFile → Option Answered → Type 0
 store_steps [] before after stored refusal = (after ≡ before) × (stored ≡ []) × (refusal ≡ None)
 store_steps (f ∷ fs) before after stored refusal =
@@ -34,8 +35,8 @@ abbrev pub said_after : Option Answered → Answered → Answered
 said_after None a = a
 said_after (Some refusal) a = refusal
 
--- Steps come to what is to be said and stored, and its files are then stored. They end at a fault that they met before anything was stored,
--- or with the files stored and the answer, unless a file was refused.
+-- Steps come to what is to be said and stored, and its files are then stored. They end at a fault that they met before
+-- anything was stored, or with the files stored and the answer, unless a file was refused.
 abbrev pub EndsStoring : {S : Type 0} → Course S → (S → List NamedFile) → (S → Answered) → History → History → List NamedFile → Answered → Type 0
 EndsStoring {S} steps files_of answer before after stored a =
     (steps before after (Err a) × (stored ≡ []))

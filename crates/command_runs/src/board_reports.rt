@@ -81,7 +81,8 @@ fn shape_for(words: RoundWords, grouping: &Grouping) -> BoardShape
     }
 }
 
-/// What a board comes to that takes the events in turn: its target is the grouping, and its first round is that of the words.
+/// What a board comes to that takes the events in turn: its target is the grouping, and its first round is that of the
+/// words.
 ///
 /// # Errors
 ///
@@ -172,8 +173,8 @@ fn say_answer(
     }
 }
 
-/// What a desk answers of a piece with at most so many steps, on a board that takes the events in turn: its target is the grouping, and
-/// its first round is that of the words.
+/// What a desk answers of a piece with at most so many steps, on a board that takes the events in turn: its target is
+/// the grouping, and its first round is that of the words.
 ///
 /// # Errors
 ///

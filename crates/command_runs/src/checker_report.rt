@@ -19,10 +19,11 @@ use std::alloc::{AllocError, Global};
 /// What `check` says, and the fault of a text that is no certificate.
 #[derive(Drop)]
 pub struct Checked {
-    /// The report with status 0 or 1, or the line that stands in its place, with status 1 or 3, and the table of a grouping that is
-    /// best.
+    /// The report with status 0 or 1, or the line that stands in its place, with status 1 or 3, and the table of a
+    /// grouping that is best.
     pub reported: Reported,
-    /// The first fault of a text that is no certificate, and its line, which counts from 1; none at every other verdict.
+    /// The first fault of a text that is no certificate, and its line, which counts from 1; none at every other
+    /// verdict.
     pub fault: Option<(CheckFault, u64)>,
 }
 
@@ -74,7 +75,8 @@ fn say(alloc: Global, tabled: &Tabled, verdict: Verdict) -> Result<Checked, Allo
     }
 }
 
-/// What `check` says of a text: the verdict of a checker with such a budget, told as a report or as the line that stands in its place.
+/// What `check` says of a text: the verdict of a checker with such a budget, told as a report or as the line that
+/// stands in its place.
 ///
 /// # Errors
 ///

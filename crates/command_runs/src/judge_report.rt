@@ -20,7 +20,8 @@ use program_answers::RunAnswer;
 use std::alloc::{AllocError, Global};
 use std::cmp::Ordering;
 
-/// Why a certificate doesn't show that a lawful grouping is best, for whoever explains it to a person; no clause speaks of it.
+/// Why a certificate doesn't show that a lawful grouping is best, for whoever explains it to a person; no clause speaks
+/// of it.
 #[derive(Drop)]
 pub enum Unshown {
     /// The text is no certificate: its first fault, and the line, which counts from 1.
@@ -29,7 +30,8 @@ pub enum Unshown {
     Impossible,
     /// The budget was too small.
     Budget,
-    /// The certificate's grouping is best, and has greater counts: those of the grouping that is judged, and then those.
+    /// The certificate's grouping is best, and has greater counts: those of the grouping that is judged, and then
+    /// those.
     Lesser(Counts, Counts),
 }
 
@@ -92,7 +94,8 @@ fn counts_of(alloc: Global, problem: &Problem, grouping: &Grouping) -> Result<Co
     }
 }
 
-/// What is said of a lawful grouping, where the target of a certificate is best: if both have the same counts, that it is best.
+/// What is said of a lawful grouping, where the target of a certificate is best: if both have the same counts, that it
+/// is best.
 fn say_beside_best(
     alloc: Global,
     tabled: &Tabled,
@@ -159,8 +162,8 @@ fn say_by(
     say_beside(alloc, tabled, grouping, own, verdict)
 }
 
-/// What `judge` says of a lawful grouping with these counts: that it is lawful; or that it is best, where a certificate shows it. The
-/// certificate's checker has a budget.
+/// What `judge` says of a lawful grouping with these counts: that it is lawful; or that it is best, where a certificate
+/// shows it. The certificate's checker has a budget.
 ///
 /// # Errors
 ///

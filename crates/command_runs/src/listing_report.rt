@@ -78,7 +78,8 @@ fn open_text(alloc: Global, gap: Gap, line: u64) -> Result<Vec<u8>, AllocError>
     Ok(out)
 }
 
-/// That the certificate doesn't show which other groupings are best: the first leaf at which it doesn't, and the leaf's line.
+/// That the certificate doesn't show which other groupings are best: the first leaf at which it doesn't, and the leaf's
+/// line.
 fn open_answer(alloc: Global, gap: Gap, line: u64) -> Result<RunAnswer, AllocError>
     ensures { IfOk result (λ a. answer_of a ≡ answer_of_gap gap line) }
 {
@@ -172,8 +173,9 @@ fn say(
     }
 }
 
-/// What `list` says of a text: all best groupings, as the text of a certificate shows them, or the line that stands in the place of the
-/// listing. Where a number is given, the grouping of the number is to be stored, from 1 in the order of the list.
+/// What `list` says of a text: all best groupings, as the text of a certificate shows them, or the line that stands in
+/// the place of the listing. Where a number is given, the grouping of the number is to be stored, from 1 in the order
+/// of the list.
 ///
 /// # Errors
 ///

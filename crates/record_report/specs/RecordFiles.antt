@@ -103,8 +103,8 @@ if_listed (Some w) = options.Out ∷ []
 abbrev pub at_status : ℕ → ℕ → List StoreOption → List StoreOption
 at_status want status list = if status == want then list else []
 
--- The options whose files a command stores, in order, where it ends with this status: the certificate of a proof, and the grouping and
--- the table where there is a grouping.
+-- The options whose files a command stores, in order, where it ends with this status: the certificate of a proof, and
+-- the grouping and the table where there is a grouping.
 abbrev pub options_to_store : CommandWords → ℕ → List StoreOption
 options_to_store (Judge w) status = at_status 0 status (if_given options.Table w.table)
 options_to_store (Solve w) status =

@@ -138,8 +138,8 @@ pub trait Shelf {
     fn events(&self) -> u64
         ensures { result ≡ min (length (history self.now).events) (2 ^ 64 - 1) };
 
-    /// The sums of the last events of the history, one for each event since the shelf keeps sums. None if the shelf keeps none, or
-    /// if a growth was refused for one of them.
+    /// The sums of the last events of the history, one for each event since the shelf keeps sums. None if the shelf
+    /// keeps none, or if a growth was refused for one of them.
     fn sums(&self) -> Option<&[EventSum]>
         ensures { IfSome result (λ sums. AreOfLast (history self.now).events sums.now) };
 }
