@@ -28,7 +28,7 @@ pub record IsStateOf {C : Type 0} (test : C → ℕ → Bool) (g : Ground C) (s 
   pub state : IsState (problem_in g) (round_in g) (state_in g test s)
 
 -- a leaf that is valid, a grouping that is better, or the place of a county to branch at
-abbrev pub IsPlainMove : {C : Type 0} → (C → ℕ → Bool) → Ground C → State → PlainMove → Type 0
-IsPlainMove test g s (next_move.Leaf leaf) = IsEnd (problem_in g) (round_in g) s leaf
-IsPlainMove test g s (next_move.Better found) = IsBetter (problem_in g) (round_in g) s found
-IsPlainMove test g s (next_move.Branch place) = (place < length g.ordered.now.order) × CanBranch (round_in g) s (code_at g.ordered.now.order place) g.round.now.limit
+abbrev pub IsNextPlainMove : {C : Type 0} → (C → ℕ → Bool) → Ground C → State → PlainMove → Type 0
+IsNextPlainMove test g s (next_move.Leaf leaf) = IsEnd (problem_in g) (round_in g) s leaf
+IsNextPlainMove test g s (next_move.Better found) = IsBetter (problem_in g) (round_in g) s found
+IsNextPlainMove test g s (next_move.Branch place) = (place < length g.ordered.now.order) × CanBranch (round_in g) s (code_at g.ordered.now.order place) g.round.now.limit

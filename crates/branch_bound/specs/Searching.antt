@@ -126,17 +126,17 @@ pub record IsChoice {C : Type 0} (test : C → ℕ → Bool) (order : List ℕ) 
   pub has : member group (code_at order place) ≡ true
 
 -- a leaf that is valid, a grouping that is better, or a county to branch at
-abbrev pub IsMove : {C : Type 0} → (C → ℕ → Bool) → Ground C → State → Move C → Type 0
-IsMove test g s (next_move.Leaf leaf) = IsEnd (problem_in g) (round_in g) s leaf
-IsMove test g s (next_move.Better found) = IsBetter (problem_in g) (round_in g) s found
-IsMove test g s (next_move.Branch place at) = IsAt test g s at × IsChoice test g.ordered.now.order at.groups.items place
+abbrev pub IsNextMove : {C : Type 0} → (C → ℕ → Bool) → Ground C → State → Move C → Type 0
+IsNextMove test g s (next_move.Leaf leaf) = IsEnd (problem_in g) (round_in g) s leaf
+IsNextMove test g s (next_move.Better found) = IsBetter (problem_in g) (round_in g) s found
+IsNextMove test g s (next_move.Branch place at) = IsAt test g s at × IsChoice test g.ordered.now.order at.groups.items place
 
 -- where no group of at most so many counties fits: a leaf that is valid, a grouping that is better, or the groups of
 -- one county more
-abbrev pub IsNext : {C : Type 0} → (C → ℕ → Bool) → Ground C → State → ℕ → Next C → Type 0
-IsNext test g s size (next.Leaf leaf) = IsEnd (problem_in g) (round_in g) s leaf
-IsNext test g s size (next.Better found) = IsBetter (problem_in g) (round_in g) s found
-IsNext test g s size (next.Groups groups) =
+abbrev pub IsNextSize : {C : Type 0} → (C → ℕ → Bool) → Ground C → State → ℕ → Next C → Type 0
+IsNextSize test g s size (next.Leaf leaf) = IsEnd (problem_in g) (round_in g) s leaf
+IsNextSize test g s size (next.Better found) = IsBetter (problem_in g) (round_in g) s found
+IsNextSize test g s size (next.Groups groups) =
     (size < g.round.now.limit)
     × AreBelow (length g.ordered.now.order) test groups.items
     × AreGroupsOf (problem_in g) (round_in g) s (size + 1) (codes_of_sets g.ordered.now.order test groups.items)

@@ -5,7 +5,7 @@ ghost use Rattle.proof_trees.specs.Leaves.{IsStuck, IsOffSeats};
 ghost use Rattle.fitting_groups.specs.declared.stop.Stop.{Stop};
 ghost use Rattle.ordered_counties.specs.OrderedValue.{problem_at};
 ghost use Rattle.known_groups.specs.PartLists.{AreListsOf};
-ghost use Rattle.branch_bound.specs.Searching.{problem_in, round_in, state_in, IsGround, IsAt, IsEnd, IsMove, IsNext};
+ghost use Rattle.branch_bound.specs.Searching.{problem_in, round_in, state_in, IsGround, IsAt, IsEnd, IsNextMove, IsNextSize};
 
 use crate::ground::Ground;
 use crate::outcome::{Move, Next};
@@ -34,7 +34,7 @@ fn next_size<C: CountySet>(
     requires no_seats { ¬ IsOffSeats (problem_in ground.now) (state_in ground.now C.test position.now.state) }
     requires lists { AreListsOf C.test (problem_at ground.now.ordered.now) (length ground.now.ordered.now.order) lists.old }
     ensures none { position.now.groups.items ≡ [] }
-    ensures next { IfOk result (IsNext C.test ground.now (state_in ground.now C.test position.now.state) position.now.size) }
+    ensures next { IfOk result (IsNextSize C.test ground.now (state_in ground.now C.test position.now.state) position.now.size) }
     ensures lists { AreListsOf C.test (problem_at ground.now.ordered.now) (length ground.now.ordered.now.order) lists.new }
     ensures more { steps.old.used ≤ steps.new.used }
     ensures limit { steps.new.limit ≡ steps.old.limit }
@@ -75,7 +75,7 @@ fn branch_at<C: CountySet>(
     requires at { IsAt C.test ground.now (state_in ground.now C.test position.state) position }
     requires some { 1 ≤ length position.groups.items }
     requires count { length weights.now ≡ length ground.now.ordered.now.order }
-    ensures { IfOk result (IsMove C.test ground.now (state_in ground.now C.test position.state)) }
+    ensures { IfOk result (IsNextMove C.test ground.now (state_in ground.now C.test position.state)) }
 {
     let places = ground.ordered.places();
     match county_of_choice(ground.alloc, places, &position.groups, weights)? {
@@ -93,7 +93,7 @@ fn weighed<C: CountySet>(
     requires ground { IsGround C.PLACES C.test ground.now }
     requires at { IsAt C.test ground.now (state_in ground.now C.test position.state) position }
     requires some { 1 ≤ length position.groups.items }
-    ensures { IfOk result (IsMove C.test ground.now (state_in ground.now C.test position.state)) }
+    ensures { IfOk result (IsNextMove C.test ground.now (state_in ground.now C.test position.state)) }
 {
     let Ground {
         alloc,
@@ -122,7 +122,7 @@ fn move_at_groups<C: CountySet>(
     requires ground { IsGround C.PLACES C.test ground.now }
     requires at { IsAt C.test ground.now (state_in ground.now C.test position.state) position }
     requires some { 1 ≤ length position.groups.items }
-    ensures { IfOk result (IsMove C.test ground.now (state_in ground.now C.test position.state)) }
+    ensures { IfOk result (IsNextMove C.test ground.now (state_in ground.now C.test position.state)) }
 {
     match wanted_more(ground.ordered, ground.round, &position.state, position.size) {
         Some(wanted) => weighed(ground, position, wanted),
@@ -145,7 +145,7 @@ fn move_at_sizes<C: CountySet>(
     requires no_stuck { (c : ℕ) → ¬ IsStuck (problem_in ground.now) (state_in ground.now C.test position.state) c }
     requires no_seats { ¬ IsOffSeats (problem_in ground.now) (state_in ground.now C.test position.state) }
     requires lists { AreListsOf C.test (problem_at ground.now.ordered.now) (length ground.now.ordered.now.order) lists.old }
-    ensures next_move { IfOk result (IsMove C.test ground.now (state_in ground.now C.test position.state)) }
+    ensures next_move { IfOk result (IsNextMove C.test ground.now (state_in ground.now C.test position.state)) }
     ensures lists { AreListsOf C.test (problem_at ground.now.ordered.now) (length ground.now.ordered.now.order) lists.new }
     ensures more { steps.old.used ≤ steps.new.used }
     ensures limit { steps.new.limit ≡ steps.old.limit }
@@ -271,7 +271,7 @@ pub(crate) fn next_move<C: CountySet>(
     requires ground { IsGround C.PLACES C.test ground.now }
     requires at { IsAt C.test ground.now (state_in ground.now C.test position.state) position }
     requires lists { AreListsOf C.test (problem_at ground.now.ordered.now) (length ground.now.ordered.now.order) lists.old }
-    ensures next_move { IfOk result (IsMove C.test ground.now (state_in ground.now C.test position.state)) }
+    ensures next_move { IfOk result (IsNextMove C.test ground.now (state_in ground.now C.test position.state)) }
     ensures counted { OnOk result (steps.old.used < steps.new.used) }
     ensures left { OnOk result (steps.old.used < steps.old.limit) }
     ensures lists { AreListsOf C.test (problem_at ground.now.ordered.now) (length ground.now.ordered.now.order) lists.new }

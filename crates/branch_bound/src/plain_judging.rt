@@ -7,7 +7,7 @@ ghost use Rattle.proof_trees.specs.Leaves.{IsStuck, IsOffSeats};
 ghost use Rattle.proof_trees.specs.Proving.{CanBranch};
 ghost use Rattle.fitting_groups.specs.declared.stop.Stop.{Stop};
 ghost use Rattle.branch_bound.specs.Searching.{problem_in, round_in, state_in, IsEnd};
-ghost use Rattle.branch_bound.specs.PlainRounds.{IsPlainGround, IsStateOf, IsPlainMove};
+ghost use Rattle.branch_bound.specs.PlainRounds.{IsPlainGround, IsStateOf, IsNextPlainMove};
 
 use crate::ground::Ground;
 use crate::outcome::PlainMove;
@@ -78,7 +78,7 @@ fn last_end<C: CountySet>(ground: &Ground<C>, state: &State<C>) -> Result<PlainM
     requires none { NoGroupFits (problem_in ground.now) (round_in ground.now) (state_in ground.now C.test state.now) }
     requires no_stuck { (c : ℕ) → ¬ IsStuck (problem_in ground.now) (state_in ground.now C.test state.now) c }
     requires no_seats { ¬ IsOffSeats (problem_in ground.now) (state_in ground.now C.test state.now) }
-    ensures { IfOk result (IsPlainMove C.test ground.now (state_in ground.now C.test state.now)) }
+    ensures { IfOk result (IsNextPlainMove C.test ground.now (state_in ground.now C.test state.now)) }
 {
     let Ground {
         alloc,
@@ -104,7 +104,7 @@ fn end_or_branch<C: CountySet>(
     requires at { IsStateOf C.test ground.now state.now }
     requires no_stuck { (c : ℕ) → ¬ IsStuck (problem_in ground.now) (state_in ground.now C.test state.now) c }
     requires no_seats { ¬ IsOffSeats (problem_in ground.now) (state_in ground.now C.test state.now) }
-    ensures { IfOk result (IsPlainMove C.test ground.now (state_in ground.now C.test state.now)) }
+    ensures { IfOk result (IsNextPlainMove C.test ground.now (state_in ground.now C.test state.now)) }
 {
     match first_open(ground, state)? {
         Some(place) => Ok(PlainMove::Branch(place)),
@@ -120,7 +120,7 @@ pub(crate) fn next_plain_move<C: CountySet>(
 ) -> Result<PlainMove, Stop>
     requires ground { IsPlainGround C.PLACES C.test ground.now }
     requires at { IsStateOf C.test ground.now state.now }
-    ensures next_move { IfOk result (IsPlainMove C.test ground.now (state_in ground.now C.test state.now)) }
+    ensures next_move { IfOk result (IsNextPlainMove C.test ground.now (state_in ground.now C.test state.now)) }
     ensures counted { OnOk result (steps.old.used < steps.new.used) }
     ensures left { OnOk result (steps.old.used < steps.old.limit) }
     ensures more { steps.old.used ≤ steps.new.used }

@@ -21,7 +21,7 @@ use Rattle.line_verdicts.specs.declared.fault.LineStop.{LineStop}
 use Rattle.line_verdicts.specs.declared.fault.LineStop.TheVariants as line_stop
 use Rattle.certificate_checker.specs.Readable.{IsReadable, AreReadable, AreSpelled}
 use Rattle.certificate_checker.specs.Feeding.{FeedValue, Fed, IsFed, TookLine, Reaches, Halts, items_to_mark}
-use Rattle.certificate_checker.specs.Judging.{IsJudged, IsLeafJudged, IsJudgedAt, IsListed, IsRefused, TookForm, line_items}
+use Rattle.certificate_checker.specs.Judging.{IsJudged, IsLeafJudged, IsJudgedAt, AreTakesListed, IsRefused, TookForm, line_items}
 use Rattle.certificate_checker.specs.declared.feed.Halt.{Halt}
 use Rattle.certificate_checker.specs.declared.feed.Halt.TheVariants as stop
 use Rattle.certificate_checker.proofs.Views.{view_branch, view_stuck, view_seats, view_bound, tree_opens}
@@ -112,7 +112,7 @@ branch_stops p round s county limit rest more old cur mid before st h fed took s
 -- the takes of the branch were judged, and its county was raised
 pub branch_on : {X : Type 0} (p : Problem) (round : Round) (s next : State) (county : ℕ) (limit : Option ℕ) (groups : List (List ℕ)) (rest : List Item) (more : List Open) (old cur mid listed new : FeedValue) (before : List Open) (done : X)
     → TreeLeft round.language p round s rest more old cur before → TookLine cur (Ok (item.Opens (opening.Branch county limit))) mid
-    → IsListed p round s county limit groups mid listed → listed.course ≡ mid.course → next ≡ raise county (limit_of round limit) s
+    → AreTakesListed p round s county limit groups mid listed → listed.course ≡ mid.course → next ≡ raise county (limit_of round limit) s
     → TakesJudged round.language p round s groups listed (Ok done) new → TreeLeft round.language p round next rest more old new before
 branch_on p round s next county limit groups rest more old cur mid listed new before done h took is same value judged =
     let v = branch_first round.language p round s county limit rest more old cur mid before h took in
@@ -126,7 +126,7 @@ branch_on p round s next county limit groups rest more old cur mid listed new be
 -- the judging of the takes of the branch stopped
 pub branch_off : (p : Problem) (round : Round) (s : State) (county : ℕ) (limit : Option ℕ) (groups : List (List ℕ)) (rest : List Item) (more : List Open) (old cur mid listed new : FeedValue) (before : List Open) (st : Halt)
     → TreeLeft round.language p round s rest more old cur before → Fed old listed → TookLine cur (Ok (item.Opens (opening.Branch county limit))) mid
-    → IsListed p round s county limit groups mid listed → listed.course ≡ mid.course
+    → AreTakesListed p round s county limit groups mid listed → listed.course ≡ mid.course
     → TakesJudged {X = Unit {0}} round.language p round s groups listed (Err st) new → Halts p round old before rest st
 branch_off p round s county limit groups rest more old cur mid listed new before st h fed took is same judged =
     let v = branch_first round.language p round s county limit rest more old cur mid before h took in
@@ -144,9 +144,9 @@ pub branch_judged : (X : Type 0) (sets : X → List (List ℕ)) (p : Problem) (r
     → IfOk judged (λ b. (m : ℕ) → AreSoMany order (IsSetAt p order s county (limit_of round limit)) m → used ≤ mid.used + 2 * m)
     → (IsErrOf judged line_stop.StepLimit → NamesLimit round.language limit × CanBranch round s county (limit_of round limit) × ((m : ℕ) → AreSoMany order (IsSetAt p order s county (limit_of round limit)) m → mid.limit ≤ mid.used + 2 * m))
     → IsJudgedAt mid.line judged r
-    → MatchResult r (λ b. IsListed p round s county limit (sets b) mid (record mid { limit = most; used = used })) (λ found. IsRefused p round s county limit mid found)
+    → MatchResult r (λ b. AreTakesListed p round s county limit (sets b) mid (record mid { limit = most; used = used })) (λ found. IsRefused p round s county limit mid found)
 branch_judged X sets p round s county limit order mid most used (Ok b) (Ok c) same is looks stops at =
-    subst (λ z. IsListed p round s county limit (sets z) mid (record mid { limit = most; used = used })) (sym at)
+    subst (λ z. AreTakesListed p round s county limit (sets z) mid (record mid { limit = most; used = used })) (sym at)
     (λ old x takes raised more took names.
     let r = branch_reaches p round s county limit takes raised (sets b) more old mid used x took names is.1 is.2 (subst (λ o. (m : ℕ) → AreSoMany o (IsSetAt p o s county (limit_of round limit)) m → used ≤ mid.used + 2 * m) same looks) in
     record { ends = r.ends; looks = r.looks })

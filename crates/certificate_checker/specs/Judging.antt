@@ -129,8 +129,8 @@ IsSmall (Even now) = now ≤ most_counties
 
 -- The groups of a branch are listed, whose line was read last: its takes are left then, and behind them what is raised
 -- past its limit.
-abbrev pub IsListed : Problem → Round → State → ℕ → Option ℕ → List (List ℕ) → FeedValue → FeedValue → Type 0
-IsListed p round s county limit groups mid new =
+abbrev pub AreTakesListed : Problem → Round → State → ℕ → Option ℕ → List (List ℕ) → FeedValue → FeedValue → Type 0
+AreTakesListed p round s county limit groups mid new =
     (old : FeedValue) (x : Item) (takes : Takes) (raised : Tree) (more : List Open)
     → TookLine old (Ok x) mid
     → NamesLimit round.language limit

@@ -11,7 +11,7 @@ ghost use Rattle.verdicts.specs.Branches.{IsNext};
 ghost use Rattle.line_verdicts.specs.Placed.{state_at, codes_of_sets, IsPlaced, IsClosable};
 ghost use Rattle.certificate_lines.specs.Courses.{Course};
 ghost use Rattle.certificate_checker.specs.Feeding.{feed_at, CountsSteps, IsFed};
-ghost use Rattle.certificate_checker.specs.Judging.{IsGround, IsListed, IsRefused, IsTakeStop};
+ghost use Rattle.certificate_checker.specs.Judging.{IsGround, AreTakesListed, IsRefused, IsTakeStop};
 
 use crate::fault::of_line;
 use crate::feed::{Feed, Halt};
@@ -40,7 +40,7 @@ pub(crate) fn listed_groups<C: CountySet, S>(
     ensures groups { IfOk result (λ b. All (IsClosable C.test state.now) b.groups.items) }
     ensures judged { (course : Course) → MatchResult
         result
-        (λ b. IsListed
+        (λ b. AreTakesListed
         (problem_of ground.now.ordered.now.problem)
         (round_of ground.now.round.now)
         (state_at ground.now.ordered.now.order C.test state.now)

@@ -5,7 +5,7 @@ ghost use Rattle.std.specs.List.Sorted.{IsStrictlyIncreasing};
 ghost use Rattle.shelves.specs.History.{History};
 ghost use Rattle.program_answers.specs.Answers.{Comes, Meets, Refuses};
 ghost use Rattle.program_answers.specs.Refusals.{shelf_answer};
-ghost use Rattle.command_runs.specs.Reading.{Given, open_step, read_step, back_step, read_both};
+ghost use Rattle.command_runs.specs.Reading.{GivenBack, open_step, read_step, back_step, read_both};
 ghost use Rattle.command_runs.specs.ProblemCourse.{counties_of};
 ghost use Rattle.command_runs.specs.PlanCourse.{blocks_of};
 ghost use Rattle.cli.specs.Streams.{IsWhole, AreWhole, Streams};
@@ -78,7 +78,7 @@ pub(crate) fn give_one_back<H: Shelf>(
     shelf: &mut H,
     end: &mut End,
 ) -> Result<bool, Refusal>
-    ensures back { (given : Given)
+    ensures back { (given : GivenBack)
         × (given.bytes ≡ H.Reader.given reader)
         × read_step (H.contents shelf.old) name.now (H.history shelf.old) (H.history shelf.new) (Ok given)
         × IsWhole name.now given (H.history shelf.new) result }
@@ -142,7 +142,7 @@ fn give_both_back<H: Shelf>(
     shelf: &mut H,
     end: &mut End,
 ) -> Result<bool, Refusal>
-    ensures back { (both : Given × Given)
+    ensures back { (both : GivenBack × GivenBack)
         × (both.0.bytes ≡ H.Reader.given readers.0)
         × (both.1.bytes ≡ H.Reader.given readers.1)
         × back_step (H.contents shelf.old) words.entry.geo.now words.entry.segment.now (H.history shelf.old) (H.history shelf.new) (Ok both)

@@ -31,7 +31,7 @@ use Rattle.command_runs.specs.ProblemCourse.{problem_in}
 use Rattle.command_runs.specs.FilesProblem.{IsProblemOfFiles}
 use Rattle.command_runs.specs.Headline.{HasSameProblem}
 use Rattle.command_runs.specs.SolveCourse.{Says}
-use Rattle.command_runs.specs.ListCourse.{Listed, IsListed, list_course, listed_file, listed_all, listed_with, listing_said, numbered}
+use Rattle.command_runs.specs.ListCourse.{Listed, IsListAnswer, list_course, listed_file, listed_all, listed_with, listing_said, numbered}
 use Rattle.command_runs.specs.Storing.{named_file, store_steps, said_after}
 use Rattle.command_runs.specs.Run.{CommandRun}
 use Rattle.command_runs.specs.ListHeadline.{IsStoredGrouping, ShowsAllBest, IsListedOrCut, ListsAll, IsStoredList, RunsList}
@@ -71,7 +71,7 @@ module _ (v : ProblemValue) (groupings : List Grouping) (stored : List NamedFile
 module _ (files : Files) (words : ListWords) (before after : History) (stored : List NamedFile) (a : Answered) where
   list_refuses : Refuses (list_course (Some files) words)
   list_refuses = bind_refuses _ _ (problem_refuses (Some files) words.check.problem) (λ v.
-      bind_refuses _ _ (load_refuses (Some files) words.check.certificate.now) (λ text. value_refuses (IsListed v words.check.budget (number_of words.stored) text)))
+      bind_refuses _ _ (load_refuses (Some files) words.check.certificate.now) (λ text. value_refuses (IsListAnswer v words.check.budget (number_of words.stored) text)))
 
   module _ (v : ProblemValue) (problem : IsProblemOfFiles files words.check.problem v) (s : Listed)
       (all : stored ≡ listed_file words s) (said : a ≡ s.answer) (zero : a.status ≡ 0) where
@@ -85,7 +85,7 @@ module _ (files : Files) (words : ListWords) (before after : History) (stored : 
     shows Budget best is = absurd (apart a s _ said is zero (λ e. omega (arith, e)))
 
   shows_behind : (v : ProblemValue) (between last : History) → problem_in (Some files) words.check.problem before between (Ok v) → (s : Listed)
-      → (load_step (Some files) words.check.certificate.now >>= λ text. value_step (IsListed v words.check.budget (number_of words.stored) text)) between last (Ok s)
+      → (load_step (Some files) words.check.certificate.now >>= λ text. value_step (IsListAnswer v words.check.budget (number_of words.stored) text)) between last (Ok s)
       → stored ≡ listed_file words s → a ≡ s.answer → a.status ≡ 0 → ShowsAllBest files words stored a
   shows_behind v between last problem s (inl stop) all said zero = absurd stop
   shows_behind v between last problem s (inr k) all said zero = shows v (problem_told files words.check.problem before between v problem) s all said zero k.goes_on.1.listing k.goes_on.1.all k.goes_on.1.said
@@ -119,12 +119,12 @@ module _ (v : ProblemValue) (text : List ℕ) (c : Certificate) (g : Grouping) (
   says number (No fault line) h = absurd (texts.agrees.best (problem_of v) text c g budget (verdict.No fault line) spelling is target h)
   says number Budget h = inr (inr (inl refl))
 
-  pub listed_says : (number : Option ℕ) (s : Listed) → IsListed v budget number text s → IsListedOrCut s.answer
+  pub listed_says : (number : Option ℕ) (s : Listed) → IsListAnswer v budget number text s → IsListedOrCut s.answer
   listed_says number s h = subst (λ (x : Listed). IsListedOrCut x.answer) (sym h.said) (says number h.listing h.is)
 
 -- what is said of a text by the words of a list
 abbrev listed_by : ListWords → ProblemValue → List ℕ → Listed → Type 0
-listed_by list v text = IsListed v list.check.budget (number_of list.stored) text
+listed_by list v text = IsListAnswer v list.check.budget (number_of list.stored) text
 
 -- a file could not be had, or memory was refused
 abbrev IsCut : Answered → Type 0
@@ -132,7 +132,7 @@ IsCut b = b.status ≡ 5
 
 -- a list by this text, where the problem is had again
 module _ (files : Files) (words : SolveWords) (stored : List NamedFile) (a : Answered) (h : HasSaid files words stored a) (text : List ℕ)
-    (listed : (budget : ℕ) (number : Option ℕ) (s : Listed) → IsListed h.t.problem budget number text s → IsListedOrCut s.answer) where
+    (listed : (budget : ℕ) (number : Option ℕ) (s : Listed) → IsListAnswer h.t.problem budget number text s → IsListedOrCut s.answer) where
   module _ (others : Files) (list : ListWords) (start end : History) (none : List NamedFile) (b : Answered) where
     after_stores : (s : Listed) (between : History) (refusal : Option Answered) → IsListedOrCut s.answer → store_steps (listed_file list s) between end none refusal
         → b ≡ said_after refusal s.answer → IsListedOrCut b

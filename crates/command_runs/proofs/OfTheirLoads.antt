@@ -38,7 +38,7 @@ use Rattle.command_runs.specs.JudgeWithCertificate.{certificate_of}
 use Rattle.command_runs.specs.JudgeCourse.{size_course, IsJudged, judge_course, IsAudited, audit_course}
 use Rattle.command_runs.specs.SolveCourse.{IsSolved, solve_course, files_to_store}
 use Rattle.command_runs.specs.CheckCourse.{IsChecked, check_course}
-use Rattle.command_runs.specs.ListCourse.{IsListed, list_course, listed_file}
+use Rattle.command_runs.specs.ListCourse.{IsListAnswer, list_course, listed_file}
 use Rattle.grouping_problem.specs.ProblemValue.{codes_of, problem_of}
 use Rattle.proof_trees.specs.Round as rounds
 use Rattle.board_report.specs.Shared.{IsShared}
@@ -138,7 +138,7 @@ module _ (given : Option Files) (files : Files) where
 
   list_lifts : (words : ListWords) → Lifts given files (list_course given words) (list_course (Some files) words)
   list_lifts words = lifts_bind given files (problem_lifts words.check.problem) (λ v. lifts_bind given files (lifts_load given files words.check.certificate.now) (λ text.
-      lifts_value given files (IsListed v words.check.budget (option_map (λ w. w.number) words.stored) text)))
+      lifts_value given files (IsListAnswer v words.check.budget (option_map (λ w. w.number) words.stored) text)))
 
   events_lift : (language : rounds.Language) (counties : ℕ) (name : List ℕ) → Lifts given files (events_of given language counties name) (events_of (Some files) language counties name)
   events_lift language counties name = lifts_bind given files (lifts_load given files name) (λ text. lifts_call given files events_answer (AreEvents language counties text))

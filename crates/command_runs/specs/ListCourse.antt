@@ -73,7 +73,7 @@ listing_said v number (No fault line) = said_alone (no_answer fault line)
 listing_said v number Budget = said_alone budget_answer
 
 -- what `list` says of a text is the listing that it gives with such a budget
-pub record IsListed (v : ProblemValue) (budget : ℕ) (number : Option ℕ) (text : List ℕ) (s : Listed) : Type 0 where
+pub record IsListAnswer (v : ProblemValue) (budget : ℕ) (number : Option ℕ) (text : List ℕ) (s : Listed) : Type 0 where
   pub listing : Listing
   pub is : IsListing (problem_of v) text budget listing
   pub all : ListsAllBest (problem_of v) listing
@@ -83,7 +83,7 @@ pub record IsListed (v : ProblemValue) (budget : ℕ) (number : Option ℕ) (tex
 abbrev pub list_course : Option Files → ListWords → Course Listed
 list_course files words =
     problem_in files words.check.problem >>= λ v. load_step files words.check.certificate.now >>= λ text.
-    value_step (IsListed v words.check.budget (option_map (λ w. w.number) words.stored) text)
+    value_step (IsListAnswer v words.check.budget (option_map (λ w. w.number) words.stored) text)
 
 -- the file that is stored: the grouping of the number, where the words give it
 abbrev pub listed_file : ListWords → Listed → List NamedFile

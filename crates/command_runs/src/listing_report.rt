@@ -5,7 +5,7 @@ ghost use Rattle.grouping_problem.specs.ProblemValue.{problem_of};
 ghost use Rattle.best_groupings.specs.Answered.{IsListing, ListsAllBest};
 ghost use Rattle.best_groupings.specs.Walking.{groups_in};
 ghost use Rattle.program_answers.specs.Answers.{answer_of};
-ghost use Rattle.command_runs.specs.ListCourse.{IsListed, gap_word, open_line, open_answer as answer_of_gap, numbered as numbered_in, listed_all, listed_with, listing_said, said_alone};
+ghost use Rattle.command_runs.specs.ListCourse.{IsListAnswer, gap_word, open_line, open_answer as answer_of_gap, numbered as numbered_in, listed_all, listed_with, listing_said, said_alone};
 ghost use Rattle.command_runs.specs.Texts.{listed_of};
 
 use best_groupings::{Gap, Listing, all_best};
@@ -187,7 +187,7 @@ pub fn list_and_say(
     budget: u64,
     number: Option<u32>,
 ) -> Result<Listed, AllocError>
-    ensures { IfOk result (λ s. IsListed problem.now budget number text.now (listed_of s)) }
+    ensures { IfOk result (λ s. IsListAnswer problem.now budget number text.now (listed_of s)) }
 {
     let found = all_best(alloc, problem, text, budget)?;
     say(alloc, problem, number, found)

@@ -1,6 +1,6 @@
 use Rattle.std.proofs.Common.{IfOk, subst}
 use Rattle.proof_trees.specs.Leaves.{IsStuck, IsOffSeats}
-use Rattle.branch_bound.specs.Searching.{problem_in, state_in, IsMove}
+use Rattle.branch_bound.specs.Searching.{problem_in, state_in, IsNextMove}
 use Rattle.branch_bound.proofs.Searches.{own}
 use Rattle.branch_bound.proofs.judging.next_move.Goals as goal
 
@@ -23,4 +23,4 @@ move_at_sizes-requires-clause-no_seats g c =
 
 pub returns-in-Ok-clause-next_move : goal.returns-in-Ok-clause-next_move
 returns-in-Ok-clause-next_move g c =
-    subst (λ z. IfOk c.move_at_sizes.result (IsMove g.C.CountySet.test c.args.ground.now (state_in c.args.ground.now g.C.CountySet.test z))) c.in-Ok.ensures.at.1 c.move_at_sizes.ensures.next_move
+    subst (λ z. IfOk c.move_at_sizes.result (IsNextMove g.C.CountySet.test c.args.ground.now (state_in c.args.ground.now g.C.CountySet.test z))) c.in-Ok.ensures.at.1 c.move_at_sizes.ensures.next_move
