@@ -4,7 +4,7 @@ use Rattle.proof_trees.specs.Groups.{AreGroupsOf}
 use Rattle.line_verdicts.specs.Placed.{codes_of_sets}
 use Rattle.branch_bound.specs.Searching.{problem_in, round_in, state_in, IsEnd, IsBetter, IsNextSize, IsNextMove}
 use Rattle.branch_bound.proofs.Searches.{own}
-use Rattle.branch_bound.proofs.Moves.{sized_at}
+use Rattle.branch_bound.proofs.NextMoves.{sized_at}
 use Rattle.branch_bound.proofs.judging.move_at_sizes.Goals as goal
 
 pub next_size-requires-clause-no_stuck : goal.next_size-requires-clause-no_stuck
