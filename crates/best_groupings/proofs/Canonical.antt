@@ -1,4 +1,5 @@
--- Groupings in order: those with the same sets have the same list of sets, and lists of them with the same groupings are the same.
+-- Groupings in order: those with the same sets have the same list of sets, and lists of them with the same groupings
+-- are the same.
 use Rattle.std.proofs.Common.{◌≡◌, ℕ, ◌<◌, List, [], ◌∷◌, map, refl, sym, ap, ◌∙◌, subst, arith, inl, inr, ⊎_elim, ◌⊎◌, AllPairs}
 use Rattle.std.specs.List.Sorted.{IsStrictlyIncreasing}
 use Rattle.std.proofs.lemmas.List.Kept.{AllPairs-from_increasing}

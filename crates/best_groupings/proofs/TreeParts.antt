@@ -20,7 +20,7 @@ use Rattle.county_codes.specs.declared.group.Grouping.{Grouping as GroupingHeld}
 use Rattle.best_groupings.specs.declared.walk.Found.{Found}
 use Rattle.best_groupings.specs.Gaps.{IsFirstGap, IsFirstGapIn}
 use Rattle.best_groupings.specs.Walking.{HasAdded, HasWalked, IsProofAt, AreTakesAt}
-use Rattle.best_groupings.specs.declared.walk.Stop.{Stop}
+use Rattle.best_groupings.specs.declared.walk.WalkStop.{WalkStop}
 use Rattle.best_groupings.proofs.WalkLemmas.{Going, going_on, going_walked, going_stops, added_none}
 use Rattle.best_groupings.proofs.Journeys.{GoesOnTakes, GoesOnTree}
 
@@ -87,7 +87,7 @@ module _ (p : Problem) (round : Round) (s : State) where
       (λ a b. (a, b)) (λ gap at h. inr (done, subst (λ z. IsFirstGap raised p round (raise county (limit_of round limit) s) z gap at) line h)) refl refl done line added
 
   -- what stops in the tree of a take, or in the takes of a branch
-  pub takes_stop : (whole : Takes) (codes : List ℕ) (tree : Tree) (others : Takes) (old now mid new other : Found) (found : Stop) → mid.line ≡ now.line + 1
+  pub takes_stop : (whole : Takes) (codes : List ℕ) (tree : Tree) (others : Takes) (old now mid new other : Found) (found : WalkStop) → mid.line ≡ now.line + 1
       → GoesOnTakes p round s whole (take codes tree others) old now
       → HasWalked p (IsComplete tree p round (close codes s)) (IsFirstGap tree p round (close codes s) mid.line) (ends tree p round (close codes s)) (tree_lines tree) mid (Err found) new
       → HasWalked p (EachIsComplete whole p round s) (IsFirstGapIn whole p round s old.line) (ends_in whole p round s) (takes_lines whole) old (Err found) other
@@ -104,7 +104,7 @@ module _ (p : Problem) (round : Round) (s : State) where
       (ends_in whole p round s) (ends_in no_take p round s) (takes_lines whole) (takes_lines no_take) old now new (Ok tt) g
       (tt, line, subst (λ (z : List GroupingHeld). HasAdded p [] now.list.items z) (sym same) (added_none p now.list.items))
 
-  pub tree_stop : (s0 : State) (whole : Tree) (county : ℕ) (limit : Option ℕ) (takes : Takes) (raised : Tree) (old now mid new other : Found) (found : Stop) → mid.line ≡ now.line + 1
+  pub tree_stop : (s0 : State) (whole : Tree) (county : ℕ) (limit : Option ℕ) (takes : Takes) (raised : Tree) (old now mid new other : Found) (found : WalkStop) → mid.line ≡ now.line + 1
       → GoesOnTree p round s0 s whole (branch county limit takes raised) old now
       → HasWalked p (EachIsComplete takes p round s) (IsFirstGapIn takes p round s mid.line) (ends_in takes p round s) (takes_lines takes) mid (Err found) new
       → HasWalked p (IsComplete whole p round s0) (IsFirstGap whole p round s0 old.line) (ends whole p round s0) (tree_lines whole) old (Err found) other

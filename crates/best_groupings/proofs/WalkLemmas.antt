@@ -26,8 +26,8 @@ use Rattle.best_groupings.specs.declared.gap.Gap.{Gap}
 use Rattle.best_groupings.specs.declared.position.Waiting.{Waiting}
 use Rattle.best_groupings.specs.declared.position.Position.{Position}
 use Rattle.best_groupings.specs.declared.walk.Found.{Found}
-use Rattle.best_groupings.specs.declared.walk.Stop.{Stop}
-use Rattle.best_groupings.specs.declared.walk.Stop.TheVariants as stop
+use Rattle.best_groupings.specs.declared.walk.WalkStop.{WalkStop}
+use Rattle.best_groupings.specs.declared.walk.WalkStop.TheVariants as stop
 use Rattle.best_groupings.specs.Positions.{waiting, IsPosition}
 use Rattle.best_groupings.specs.InOrder.{IsInOrder}
 use Rattle.best_groupings.specs.Gaps.{IsFirstGap}
@@ -66,7 +66,7 @@ pub record Going (p : Problem) (Whole Left : Type 0) (WholeGaps LeftGaps : Gap �
 pub going_start : (p : Problem) (C : Type 0) (G : Gap → ℕ → Type 0) (lists : List (List (List ℕ))) (lines : ℕ) (old : Found) → Going p C C G G lists lists lines lines old old
 going_start p C G lists lines old = record { complete = λ c. c; gaps = λ gap at g. g; lines = refl; fewer = omega arith; lists = []; ends_are = refl; added = added_none p old.list.items }
 
-pub going_walked : (p : Problem) (W L : Type 0) (WG LG : Gap → ℕ → Type 0) (whole left : List (List (List ℕ))) (m n : ℕ) (old now new : Found) (result : Result (Unit {0}) Stop)
+pub going_walked : (p : Problem) (W L : Type 0) (WG LG : Gap → ℕ → Type 0) (whole left : List (List (List ℕ))) (m n : ℕ) (old now new : Found) (result : Result (Unit {0}) WalkStop)
     → Going p W L WG LG whole left m n old now → HasWalked p L LG left n now result new → HasWalked p W WG whole m old result new
 going_walked p W L WG LG whole left m n old now new (Ok done) g h =
     (g.complete h.0, omega (arith, g.lines, h.1), subst (λ z. HasAdded p z old.list.items new.list.items) (sym g.ends_are) (added_then p g.lists left old.list.items now.list.items new.list.items g.added h.2))
@@ -146,7 +146,7 @@ pub short_of : (p : Problem) (round : Round) (s : State) (f : ℕ → ℕ) (line
 short_of p round s f lines same = ap (λ (g : ℕ → ℕ). falls_short p s g 1 0 lines) (fun_ext same)
 
 module _ (p : Problem) (round : Round) (s : State) (lines : List Allowance) (old new : Found) (counted : new.line ≡ old.line + (1 + length lines)) where
-  abbrev pub Walks : Result (Unit {0}) Stop → Type 0
+  abbrev pub Walks : Result (Unit {0}) WalkStop → Type 0
   Walks result = HasWalked p (IsComplete (leaf (bound lines)) p round s) (IsFirstGap (leaf (bound lines)) p round s old.line) (ends (leaf (bound lines)) p round s) (1 + length lines) old result new
 
   abbrev short : Bool
@@ -167,7 +167,7 @@ module _ (p : Problem) (round : Round) (s : State) (lines : List Allowance) (old
   )
 
 -- what stops in a part stops in the whole
-pub going_stops : (p : Problem) (W L P : Type 0) (WG LG PG : Gap → ℕ → Type 0) (whole left part : List (List (List ℕ))) (m n i : ℕ) (old now mid new other : Found) (found : Stop)
+pub going_stops : (p : Problem) (W L P : Type 0) (WG LG PG : Gap → ℕ → Type 0) (whole left part : List (List (List ℕ))) (m n i : ℕ) (old now mid new other : Found) (found : WalkStop)
     → Going p W L WG LG whole left m n old now → ((gap : Gap) (at : ℕ) → PG gap at → LG gap at) → HasWalked p P PG part i mid (Err found) new → HasWalked p W WG whole m old (Err found) other
 going_stops p W L P WG LG PG whole left part m n i old now mid new other (stop.Open gap at) g into h = g.gaps gap at (into gap at h)
 going_stops p W L P WG LG PG whole left part m n i old now mid new other stop.Memory g into h = tt
@@ -177,5 +177,5 @@ none_given Q None none h = h
 none_given Q (Some x) none h = absurd (none x refl)
 
 -- a walk that stopped at a gap
-pub opened : (p : Problem) (C : Type 0) (G : Gap → ℕ → Type 0) (lists : List (List (List ℕ))) (lines : ℕ) (old new : Found) (found : Stop) (gap : Gap) (at : ℕ) → found ≡ stop.Open gap at → HasWalked p C G lists lines old (Err found) new → G gap at
+pub opened : (p : Problem) (C : Type 0) (G : Gap → ℕ → Type 0) (lists : List (List (List ℕ))) (lines : ℕ) (old new : Found) (found : WalkStop) (gap : Gap) (at : ℕ) → found ≡ stop.Open gap at → HasWalked p C G lists lines old (Err found) new → G gap at
 opened p C G lists lines old new found gap at e h = subst (λ z. HasWalked p C G lists lines old (Err z) new) e h

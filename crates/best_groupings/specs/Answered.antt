@@ -10,7 +10,7 @@ use Rattle.proof_trees.specs.Certificate.{IsCertificate}
 use Rattle.certificate_text.specs.declared.certificate.Certificate.{Certificate as CertificateHeld}
 use Rattle.certificate_text.specs.Trees.{Certificate, certificate_of}
 use Rattle.certificate_text.specs.Spelled.{IsSpelling}
-use Rattle.certificate_checker.specs.Answered.{IsAnswer}
+use Rattle.certificate_checker.specs.Answered.{IsCheckAnswer}
 use Rattle.certificate_checker.specs.declared.verdict.Verdict.TheVariants as verdict
 use Rattle.complete_lists.specs.AllBest.{AreAllBest}
 use Rattle.complete_lists.specs.Complete.{IsComplete}
@@ -37,9 +37,9 @@ pub record IsReady (p : Problem) (text : List ℕ) (c : CertificateHeld) (target
 abbrev pub IsListing : Problem → List ℕ → ℕ → Listing → Type 0
 IsListing p text budget (All list) = (c : Certificate) × SpellsTarget p text c × IsComplete c.tree p c.round (empty_state p)
 IsListing p text budget (Open gap line) = (c : Certificate) × SpellsTarget p text c × IsFirstGap c.tree p c.round (empty_state p) (first_line c.round) gap line
-IsListing p text budget Impossible = IsAnswer p text budget verdict.Impossible
-IsListing p text budget (No fault line) = IsAnswer p text budget (verdict.No fault line)
-IsListing p text budget Budget = IsAnswer p text budget verdict.Budget
+IsListing p text budget Impossible = IsCheckAnswer p text budget verdict.Impossible
+IsListing p text budget (No fault line) = IsCheckAnswer p text budget (verdict.No fault line)
+IsListing p text budget Budget = IsCheckAnswer p text budget verdict.Budget
 
 -- the groupings are all best groupings, in order
 abbrev pub ListsAllBest : Problem → Listing → Type 0

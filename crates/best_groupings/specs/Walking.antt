@@ -20,8 +20,8 @@ use Rattle.complete_lists.specs.Listing.{HaveSets}
 use Rattle.best_groupings.specs.declared.gap.Gap.{Gap}
 use Rattle.best_groupings.specs.declared.walk.Ground.{Ground}
 use Rattle.best_groupings.specs.declared.walk.Found.{Found}
-use Rattle.best_groupings.specs.declared.walk.Stop.{Stop}
-use Rattle.best_groupings.specs.declared.walk.Stop.TheVariants as stop
+use Rattle.best_groupings.specs.declared.walk.WalkStop.{WalkStop}
+use Rattle.best_groupings.specs.declared.walk.WalkStop.TheVariants as stop
 use Rattle.best_groupings.specs.declared.position.Position.{Position}
 use Rattle.best_groupings.specs.Positions.{IsPosition}
 use Rattle.best_groupings.specs.Gaps.{IsFirstGap, IsFirstGapIn}
@@ -40,7 +40,7 @@ pub record HasAdded (p : Problem) (lists : List (List (List ℕ))) (old new : Li
 
 -- A part of so many lines was gone through: it is complete, and its ends were added. Or the walk stopped at its first
 -- gap.
-abbrev pub HasWalked : Problem → (Complete : Type 0) → (Gaps : Gap → ℕ → Type 0) → (lists : List (List (List ℕ))) → (lines : ℕ) → Found → Result (Unit {0}) Stop → Found → Type 0
+abbrev pub HasWalked : Problem → (Complete : Type 0) → (Gaps : Gap → ℕ → Type 0) → (lists : List (List (List ℕ))) → (lines : ℕ) → Found → Result (Unit {0}) WalkStop → Found → Type 0
 HasWalked p Complete Gaps lists lines old (Ok done) new = Complete × (new.line ≡ old.line + lines) × HasAdded p lists old.list.items new.list.items
 HasWalked p Complete Gaps lists lines old (Err (stop.Open gap at)) new = Gaps gap at
 HasWalked p Complete Gaps lists lines old (Err stop.Memory) new = ⊤
@@ -72,13 +72,13 @@ abbrev pub AreAt : Ground → State → Position → Takes → Type 0
 AreAt g s position takes = IsPosition (problem_of g.problem.now) s position × AreTakesAt (problem_of g.problem.now) (round_of g.round.now) s takes
 
 -- a tree was gone through from a state on
-abbrev pub WalksTree : Ground → State → Tree → Found → Result (Unit {0}) Stop → Found → Type 0
+abbrev pub WalksTree : Ground → State → Tree → Found → Result (Unit {0}) WalkStop → Found → Type 0
 WalksTree g s tree old result new =
     HasWalked (problem_of g.problem.now) (IsComplete tree (problem_of g.problem.now) (round_of g.round.now) s) (IsFirstGap tree (problem_of g.problem.now) (round_of g.round.now) s old.line)
     (ends tree (problem_of g.problem.now) (round_of g.round.now) s) (tree_lines tree) old result new
 
 -- takes were gone through, and the mark behind them
-abbrev pub WalksTakes : Ground → State → Takes → Found → Result (Unit {0}) Stop → Found → Type 0
+abbrev pub WalksTakes : Ground → State → Takes → Found → Result (Unit {0}) WalkStop → Found → Type 0
 WalksTakes g s takes old result new =
     HasWalked (problem_of g.problem.now) (EachIsComplete takes (problem_of g.problem.now) (round_of g.round.now) s) (IsFirstGapIn takes (problem_of g.problem.now) (round_of g.round.now) s old.line)
     (ends_in takes (problem_of g.problem.now) (round_of g.round.now) s) (takes_lines takes) old result new

@@ -10,7 +10,7 @@ ghost use Rattle.best_groupings.specs.Answered.{IsReady, IsListing, ListsAllBest
 use crate::listing::Listing;
 use crate::position::Position;
 use crate::sorting::sorted_groupings;
-use crate::walk::{Found, Ground, Stop, put_tree};
+use crate::walk::{Found, Ground, WalkStop, put_tree};
 use certificate_checker::{Verdict, check};
 use certificate_text::{Certificate, read};
 use county_codes::Grouping;
@@ -57,8 +57,8 @@ fn listing_of(
     };
     match put_tree(&ground, position, &certificate.tree, &mut found) {
         Ok(()) => Ok(Listing::All(sorted_groupings(found.list)?)),
-        Err(Stop::Open(gap, line)) => Ok(Listing::Open(gap, line)),
-        Err(Stop::Memory) => Err(AllocError),
+        Err(WalkStop::Open(gap, line)) => Ok(Listing::Open(gap, line)),
+        Err(WalkStop::Memory) => Err(AllocError),
     }
 }
 

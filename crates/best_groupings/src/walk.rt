@@ -39,7 +39,7 @@ pub(crate) struct Found {
 
 /// Why the walk stopped.
 #[derive(Clone, Copy, Debug, PartialEq, Eq)]
-pub(crate) enum Stop {
+pub(crate) enum WalkStop {
     /// The first gap, and the line of its leaf.
     Open(Gap, u64),
     /// Memory was refused.
@@ -62,7 +62,7 @@ fn add_end(
     position: &Position,
     lines: &[Allowance],
     found: &mut Found,
-) -> Result<(), Stop>
+) -> Result<(), WalkStop>
     requires ground { IsGround ground.now }
     requires at { (s : State) × IsTreeAt ground.now s position.now (leaf_tree (bound (map allowance_of lines.now))) }
     requires lines { found.old.line + (1 + length lines.now) < 2 ^ 64 }
@@ -77,16 +77,16 @@ fn add_end(
         return Ok(());
     }
     if !position.rest.is_empty() {
-        return Err(Stop::Open(Gap::CountiesLeft, line));
+        return Err(WalkStop::Open(Gap::CountiesLeft, line));
     }
     let Ok(seated) = seated_grouping(ground.alloc, ground.problem, &position.closed) else {
-        return Err(Stop::Memory);
+        return Err(WalkStop::Memory);
     };
     let Some(grouping) = seated else {
-        return Err(Stop::Open(Gap::SeatsOff, line));
+        return Err(WalkStop::Open(Gap::SeatsOff, line));
     };
     let Ok(()) = found.list.push(grouping) else {
-        return Err(Stop::Memory);
+        return Err(WalkStop::Memory);
     };
     Ok(())
 }
@@ -97,7 +97,7 @@ fn put_leaf(
     position: &Position,
     leaf: &Leaf,
     found: &mut Found,
-) -> Result<(), Stop>
+) -> Result<(), WalkStop>
     requires ground { IsGround ground.now }
     requires at { (s : State) × IsTreeAt ground.now s position.now (leaf_tree (leaf_of leaf.now)) }
     requires lines { found.old.line + leaf_lines (leaf_of leaf.now) < 2 ^ 64 }
@@ -121,7 +121,7 @@ fn put_takes(
     position: &Position,
     takes: &[Take],
     found: &mut Found,
-) -> Result<(), Stop>
+) -> Result<(), WalkStop>
     requires ground { IsGround ground.now }
     requires at { (s : State) × AreAt ground.now s position.now (list_of_takes takes.now) }
     requires lines { found.old.line + takes_lines (list_of_takes takes.now) < 2 ^ 64 }
@@ -132,7 +132,7 @@ fn put_takes(
     'taking: for take in takes {
         found.line += 1;
         let Ok(closed) = position.with_closed(ground.alloc, &take.codes) else {
-            return Err(Stop::Memory);
+            return Err(WalkStop::Memory);
         };
         match put_tree(ground, closed, &take.tree, found) {
             Ok(()) => {}
@@ -150,7 +150,7 @@ pub(crate) fn put_tree(
     position: Position,
     tree: &Tree,
     found: &mut Found,
-) -> Result<(), Stop>
+) -> Result<(), WalkStop>
     requires ground { IsGround ground.now }
     requires at { (s : State) × IsTreeAt ground.now s position (tree_of tree.now) }
     requires lines { found.old.line + tree_lines (tree_of tree.now) < 2 ^ 64 }
@@ -167,7 +167,7 @@ pub(crate) fn put_tree(
         }
         let limit = limit_for(ground.round, branch.limit);
         let Ok(raised) = position.raised(ground.alloc, branch.county, limit) else {
-            return Err(Stop::Memory);
+            return Err(WalkStop::Memory);
         };
         position = raised;
     }

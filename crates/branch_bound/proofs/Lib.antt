@@ -1,6 +1,6 @@
 pub mod Joining
 pub mod Positions
-pub mod Verdicts
+pub mod NextMoves
 pub mod LeafEnds
 pub mod Searches
 pub mod Orders

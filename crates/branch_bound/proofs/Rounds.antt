@@ -34,7 +34,7 @@ use Rattle.tree_spelling.proofs.Texts.{have_texts}
 use Rattle.bound_leaves.specs.GivenLeaf.{IsGiven}
 use Rattle.branch_bound.specs.Searching.{IsProof}
 use Rattle.branch_bound.specs.Solving.{round_over, IsTarget}
-use Rattle.branch_bound.specs.Answered.{Certifies, IsFoundOpen, IsAnswer, NamesBest, HasCompleteTree, SaysWhether}
+use Rattle.branch_bound.specs.Answered.{Certifies, IsFoundOpen, IsSolveAnswer, SolveIsRight, HasCompleteTree, SaysWhether}
 use Rattle.branch_bound.proofs.Orders.{stands_in_order}
 use Rattle.branch_bound.specs.declared.answer.Answer.{Answer}
 use Rattle.branch_bound.specs.declared.answer.Answer.TheVariants.{Best, Impossible, Open}
@@ -64,7 +64,7 @@ best_certified p order limit g round tree whole few target small large e codes r
 -- the answer that a target is best
 pub best_answer : (p : Problem) (order : List ℕ) (limit : ℕ) (g : GroupingHeld) (round : RoundHeld) (tree : Tree) → IsOrder p order → length order ≤ most_counties → IsStrictlyIncreasing order → IsTarget p order g.groups.items → limit ≤ most_counties
     → All (λ (m : Group). length m.codes ≤ limit) g.groups.items → round_of round ≡ round_over p order limit (Some g.groups.items) Wide → AreCodes round.order → FitsRange round.window
-    → IsProof p (round_over p order limit (Some g.groups.items) Wide) (empty_state p) tree → (allowed : ℕ) → 1 ≤ allowed → IsAnswer p allowed (Best g (record { round = round; tree = tree }))
+    → IsProof p (round_over p order limit (Some g.groups.items) Wide) (empty_state p) tree → (allowed : ℕ) → 1 ≤ allowed → IsSolveAnswer p allowed (Best g (record { round = round; tree = tree }))
 best_answer p order limit g round tree whole few ascending target small large e codes range proof allowed some =
     (some, best_certified p order limit g.groups.items round tree whole few target small large e codes range proof, stands_in_order order ascending g.groups.items target.sorted)
 
@@ -95,7 +95,7 @@ impossible_certified p order round branches last whole few e codes range none gi
 shown : (p : Problem) (language : Language) (target : Option Grouping) (c : CertificateHeld) → Certifies p language target c → Conclusion p target
 shown p language target c is = subst (Conclusion p) is.target_is (certificate_shows p (certificate_of c).round (certificate_of c).tree is.proves)
 
-pub answer_names_best : (p : Problem) (limit : ℕ) (a : Answer) → IsAnswer p limit a → NamesBest p a
+pub answer_names_best : (p : Problem) (limit : ℕ) (a : Answer) → IsSolveAnswer p limit a → SolveIsRight p a
 answer_names_best p limit (Best g c) is = shown p Wide (Some g.groups.items) c is.1
 answer_names_best p limit (Impossible c) is = tt
 answer_names_best p limit (Open found steps) is = tt
@@ -104,20 +104,20 @@ found_possible : (p : Problem) (limit : ℕ) (found : Option GroupingHeld) → I
 found_possible p limit None is some none = absurd (omega (arith, is, some))
 found_possible p limit (Some g) is some none = none g.groups.items is.0
 
-pub answer_says_whether : (p : Problem) (limit : ℕ) (a : Answer) → IsAnswer p limit a → SaysWhether p limit a
+pub answer_says_whether : (p : Problem) (limit : ℕ) (a : Answer) → IsSolveAnswer p limit a → SaysWhether p limit a
 answer_says_whether p limit (Best g c) is = λ none. none g.groups.items (shown p Wide (Some g.groups.items) c is.1).lawful
 answer_says_whether p limit (Impossible c) is = shown p Plain None c is.1
 answer_says_whether p limit (Open found steps) is = found_possible p limit found is.1
 
 -- what an answer says of a problem, where memory was not refused
-pub solved_best : {E : Type 0} (p q : Problem) (limit allowed : ℕ) (r : Result Answer E) → p ≡ q → limit ≡ allowed → IfOk r (IsAnswer p limit) → IfOk r (NamesBest q)
-solved_best p q limit allowed (Ok a) e k is = subst (λ (x : Problem). NamesBest x a) e (answer_names_best p limit a is)
+pub solved_best : {E : Type 0} (p q : Problem) (limit allowed : ℕ) (r : Result Answer E) → p ≡ q → limit ≡ allowed → IfOk r (IsSolveAnswer p limit) → IfOk r (SolveIsRight q)
+solved_best p q limit allowed (Ok a) e k is = subst (λ (x : Problem). SolveIsRight x a) e (answer_names_best p limit a is)
 solved_best p q limit allowed (Err f) e k is = tt
 
 pub solved_complete : {E : Type 0} (p q : Problem) (r : Result Answer E) → p ≡ q → IfOk r (HasCompleteTree p) → IfOk r (HasCompleteTree q)
 solved_complete p q r e is = subst (λ (x : Problem). IfOk r (HasCompleteTree x)) e is
 
-pub solved_whether : {E : Type 0} (p q : Problem) (limit allowed : ℕ) (r : Result Answer E) → p ≡ q → limit ≡ allowed → IfOk r (IsAnswer p limit) → IfOk r (SaysWhether q allowed)
+pub solved_whether : {E : Type 0} (p q : Problem) (limit allowed : ℕ) (r : Result Answer E) → p ≡ q → limit ≡ allowed → IfOk r (IsSolveAnswer p limit) → IfOk r (SaysWhether q allowed)
 solved_whether p q limit allowed (Ok a) e k is = subst (λ (x : Problem). SaysWhether x allowed a) e (subst (λ n. SaysWhether p n a) k (answer_says_whether p limit a is))
 solved_whether p q limit allowed (Err f) e k is = tt
 

@@ -16,6 +16,11 @@ use Rattle.certificate_text.specs.Spelled.{IsSpelling}
 use Rattle.branch_bound.specs.declared.answer.Answer.{Answer}
 use Rattle.branch_bound.specs.declared.answer.Answer.TheVariants.{Best, Impossible, Open}
 
+-- the grouping that is named is lawful, and no lawful one is greater
+abbrev pub SolveIsRight : Problem → Answer → Type 0
+SolveIsRight p (Best g c) = IsBest p g.groups.items
+SolveIsRight p _ = ⊤
+
 -- a certificate of the problem in the language, whose target is this one, and which a text spells
 pub record Certifies (p : Problem) (language : Language) (target : Option Grouping) (c : CertificateHeld) : Type 0 where
   pub proves : IsCertificate p (certificate_of c).round (certificate_of c).tree
@@ -33,19 +38,15 @@ abbrev pub IsFoundOpen : Problem → ℕ → Option GroupingHeld → Type 0
 IsFoundOpen p limit None = limit ≡ 0
 IsFoundOpen p limit (Some g) = Lawful p g.groups.items × StandsInOrder g.groups.items
 
--- Best, with a certificate that names the grouping; that none is lawful, with a certificate of that; or that all steps that were allowed
--- were taken. With no step it is always open.
-abbrev pub IsAnswer : Problem → ℕ → Answer → Type 0
-IsAnswer p limit (Best g c) = (1 ≤ limit) × Certifies p Wide (Some g.groups.items) c × StandsInOrder g.groups.items
-IsAnswer p limit (Impossible c) = (1 ≤ limit) × Certifies p Plain None c
-IsAnswer p limit (Open found steps) = (steps ≡ limit) × IsFoundOpen p limit found
+-- Best, with a certificate that names the grouping; that none is lawful, with a certificate of that; or that all steps
+-- that were allowed were taken. With no step it is always open.
+abbrev pub IsSolveAnswer : Problem → ℕ → Answer → Type 0
+IsSolveAnswer p limit (Best g c) = (1 ≤ limit) × Certifies p Wide (Some g.groups.items) c × StandsInOrder g.groups.items
+IsSolveAnswer p limit (Impossible c) = (1 ≤ limit) × Certifies p Plain None c
+IsSolveAnswer p limit (Open found steps) = (steps ≡ limit) × IsFoundOpen p limit found
 
--- the grouping that is named is lawful, and no lawful one is greater
-abbrev pub NamesBest : Problem → Answer → Type 0
-NamesBest p (Best g c) = IsBest p g.groups.items
-NamesBest p _ = ⊤
-
--- The tree of Best's certificate is complete: its ends are the sets of all best groupings (law `complete_certificates_list`).
+-- The tree of Best's certificate is complete: its ends are the sets of all best groupings (law
+-- `complete_certificates_list`).
 abbrev pub HasCompleteTree : Problem → Answer → Type 0
 HasCompleteTree p (Best g c) = IsComplete (certificate_of c).tree p (certificate_of c).round (empty_state p)
 HasCompleteTree p _ = ⊤

@@ -21,8 +21,8 @@ abbrev pub IsSplit : Round → State → Option Split → Type 0
 IsSplit round s None = ⊤
 IsSplit round s (Some split) = (round.language ≡ Wide) × (1 ≤ split.limit) × CanBranch round s split.county split.limit
 
--- A proof tree of the state that a text spells, a lawful grouping that agrees with the state and is greater than the target, or a branch
--- that the state may be split at. A grouping that is within the limit is one that a text spells.
+-- A proof tree of the state that a text spells, a lawful grouping that agrees with the state and is greater than the
+-- target, or a branch that the state may be split at. A grouping that is within the limit is one that a text spells.
 abbrev pub IsPiece : Problem → Round → State → Piece → Type 0
 IsPiece p round s (Proved tree) = Proves (tree_of tree) p round s × HasLines round.language (tree_of tree)
 IsPiece p round s (Better g) = IsFound p round s g.groups.items × IsWithin round.limit g.groups.items × HasTargetLines g.groups.items

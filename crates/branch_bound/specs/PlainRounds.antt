@@ -9,11 +9,12 @@ use Rattle.proof_trees.specs.declared.state.State.{State as StateHeld}
 use Rattle.proof_trees.specs.Proving.{CanBranch}
 use Rattle.line_verdicts.specs.Placed.{IsPlaced}
 use Rattle.branch_bound.specs.declared.ground.Ground.{Ground}
-use Rattle.branch_bound.specs.declared.outcome.PlainVerdict.{PlainVerdict}
-use Rattle.branch_bound.specs.declared.outcome.PlainVerdict.TheVariants as verdict
+use Rattle.branch_bound.specs.declared.outcome.PlainMove.{PlainMove}
+use Rattle.branch_bound.specs.declared.outcome.PlainMove.TheVariants as next_move
 use Rattle.branch_bound.specs.Searching.{problem_in, round_in, state_in, IsEnd, IsBetter}
 
--- the rows are those of the order, which is the round's, the sets have room for its places, and the round is a plain one
+-- the rows are those of the order, which is the round's, the sets have room for its places, and the round is a plain
+-- one
 pub record IsPlainGround {C : Type 0} (places : ℕ) (test : C → ℕ → Bool) (g : Ground C) : Type 0 where
   pub fits : length g.ordered.now.order ≤ places
   pub rows : AreRows C test (problem_at g.ordered.now) (length g.ordered.now.order) g.near.now
@@ -27,7 +28,7 @@ pub record IsStateOf {C : Type 0} (test : C → ℕ → Bool) (g : Ground C) (s 
   pub state : IsState (problem_in g) (round_in g) (state_in g test s)
 
 -- a leaf that is valid, a grouping that is better, or the place of a county to branch at
-abbrev pub IsPlainVerdict : {C : Type 0} → (C → ℕ → Bool) → Ground C → State → PlainVerdict → Type 0
-IsPlainVerdict test g s (verdict.Leaf leaf) = IsEnd (problem_in g) (round_in g) s leaf
-IsPlainVerdict test g s (verdict.Better found) = IsBetter (problem_in g) (round_in g) s found
-IsPlainVerdict test g s (verdict.Branch place) = (place < length g.ordered.now.order) × CanBranch (round_in g) s (code_at g.ordered.now.order place) g.round.now.limit
+abbrev pub IsNextPlainMove : {C : Type 0} → (C → ℕ → Bool) → Ground C → State → PlainMove → Type 0
+IsNextPlainMove test g s (next_move.Leaf leaf) = IsEnd (problem_in g) (round_in g) s leaf
+IsNextPlainMove test g s (next_move.Better found) = IsBetter (problem_in g) (round_in g) s found
+IsNextPlainMove test g s (next_move.Branch place) = (place < length g.ordered.now.order) × CanBranch (round_in g) s (code_at g.ordered.now.order place) g.round.now.limit

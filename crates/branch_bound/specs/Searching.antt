@@ -33,10 +33,10 @@ use Rattle.known_groups.specs.Known.{IsKnown}
 use Rattle.bound_leaves.specs.GivenLeaf.{IsGiven}
 use Rattle.branch_bound.specs.declared.ground.Ground.{Ground}
 use Rattle.branch_bound.specs.declared.position.Position.{Position}
-use Rattle.branch_bound.specs.declared.outcome.Outcome.{Outcome}
-use Rattle.branch_bound.specs.declared.outcome.Outcome.TheVariants as outcome
-use Rattle.branch_bound.specs.declared.outcome.Verdict.{Verdict}
-use Rattle.branch_bound.specs.declared.outcome.Verdict.TheVariants as verdict
+use Rattle.branch_bound.specs.declared.outcome.SearchOutcome.{SearchOutcome}
+use Rattle.branch_bound.specs.declared.outcome.SearchOutcome.TheVariants as outcome
+use Rattle.branch_bound.specs.declared.outcome.Move.{Move}
+use Rattle.branch_bound.specs.declared.outcome.Move.TheVariants as next_move
 use Rattle.branch_bound.specs.declared.outcome.Next.{Next}
 use Rattle.branch_bound.specs.declared.outcome.Next.TheVariants as next
 use Rattle.branch_bound.specs.declared.outcome.Taken.{Taken}
@@ -90,7 +90,7 @@ pub record IsBetter (p : Problem) (round : Round) (s : State) (g : GroupingHeld)
   pub sorted : IsSorted round.order g.groups.items
   pub lines : HasTargetLines g.groups.items
 
-abbrev pub IsOutcome : Problem → Round → State → Outcome → Type 0
+abbrev pub IsOutcome : Problem → Round → State → SearchOutcome → Type 0
 IsOutcome p round s (outcome.Proved tree) = IsProof p round s tree
 IsOutcome p round s (outcome.Better g) = IsBetter p round s g
 
@@ -126,16 +126,17 @@ pub record IsChoice {C : Type 0} (test : C → ℕ → Bool) (order : List ℕ) 
   pub has : member group (code_at order place) ≡ true
 
 -- a leaf that is valid, a grouping that is better, or a county to branch at
-abbrev pub IsVerdict : {C : Type 0} → (C → ℕ → Bool) → Ground C → State → Verdict C → Type 0
-IsVerdict test g s (verdict.Leaf leaf) = IsEnd (problem_in g) (round_in g) s leaf
-IsVerdict test g s (verdict.Better found) = IsBetter (problem_in g) (round_in g) s found
-IsVerdict test g s (verdict.Branch place at) = IsAt test g s at × IsChoice test g.ordered.now.order at.groups.items place
+abbrev pub IsNextMove : {C : Type 0} → (C → ℕ → Bool) → Ground C → State → Move C → Type 0
+IsNextMove test g s (next_move.Leaf leaf) = IsEnd (problem_in g) (round_in g) s leaf
+IsNextMove test g s (next_move.Better found) = IsBetter (problem_in g) (round_in g) s found
+IsNextMove test g s (next_move.Branch place at) = IsAt test g s at × IsChoice test g.ordered.now.order at.groups.items place
 
--- where no group of at most so many counties fits: a leaf that is valid, a grouping that is better, or the groups of one county more
-abbrev pub IsNext : {C : Type 0} → (C → ℕ → Bool) → Ground C → State → ℕ → Next C → Type 0
-IsNext test g s size (next.Leaf leaf) = IsEnd (problem_in g) (round_in g) s leaf
-IsNext test g s size (next.Better found) = IsBetter (problem_in g) (round_in g) s found
-IsNext test g s size (next.Groups groups) =
+-- where no group of at most so many counties fits: a leaf that is valid, a grouping that is better, or the groups of
+-- one county more
+abbrev pub IsNextSize : {C : Type 0} → (C → ℕ → Bool) → Ground C → State → ℕ → Next C → Type 0
+IsNextSize test g s size (next.Leaf leaf) = IsEnd (problem_in g) (round_in g) s leaf
+IsNextSize test g s size (next.Better found) = IsBetter (problem_in g) (round_in g) s found
+IsNextSize test g s size (next.Groups groups) =
     (size < g.round.now.limit)
     × AreBelow (length g.ordered.now.order) test groups.items
     × AreGroupsOf (problem_in g) (round_in g) s (size + 1) (codes_of_sets g.ordered.now.order test groups.items)

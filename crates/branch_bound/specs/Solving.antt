@@ -12,7 +12,8 @@ use Rattle.branch_bound.specs.Answered.{Certifies}
 use Rattle.branch_bound.specs.declared.outcome.First.{First}
 use Rattle.branch_bound.specs.declared.outcome.First.TheVariants.{Impossible, Found}
 
--- A round of a search for the problem, over its counties in this order. Its allowance is the one that a certificate names for the problem.
+-- A round of a search for the problem, over its counties in this order. Its allowance is the one that a certificate
+-- names for the problem.
 abbrev pub round_over : Problem → List ℕ → ℕ → Option Grouping → Language → Round
 round_over p order limit target language = record { order = order; limit = limit; target = target; language = language; window = named_window p }
 

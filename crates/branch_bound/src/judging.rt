@@ -5,10 +5,10 @@ ghost use Rattle.proof_trees.specs.Leaves.{IsStuck, IsOffSeats};
 ghost use Rattle.fitting_groups.specs.declared.stop.Stop.{Stop};
 ghost use Rattle.ordered_counties.specs.OrderedValue.{problem_at};
 ghost use Rattle.known_groups.specs.PartLists.{AreListsOf};
-ghost use Rattle.branch_bound.specs.Searching.{problem_in, round_in, state_in, IsGround, IsAt, IsEnd, IsVerdict, IsNext};
+ghost use Rattle.branch_bound.specs.Searching.{problem_in, round_in, state_in, IsGround, IsAt, IsEnd, IsNextMove, IsNextSize};
 
 use crate::ground::Ground;
-use crate::outcome::{Next, Verdict};
+use crate::outcome::{Move, Next};
 use crate::position::Position;
 use bound_leaves::{empty_leaf, room_leaf, wanted_more, weighed_leaf, whole_leaf};
 use certificate_text::Leaf;
@@ -34,7 +34,7 @@ fn next_size<C: CountySet>(
     requires no_seats { ¬ IsOffSeats (problem_in ground.now) (state_in ground.now C.test position.now.state) }
     requires lists { AreListsOf C.test (problem_at ground.now.ordered.now) (length ground.now.ordered.now.order) lists.old }
     ensures none { position.now.groups.items ≡ [] }
-    ensures next { IfOk result (IsNext C.test ground.now (state_in ground.now C.test position.now.state) position.now.size) }
+    ensures next { IfOk result (IsNextSize C.test ground.now (state_in ground.now C.test position.now.state) position.now.size) }
     ensures lists { AreListsOf C.test (problem_at ground.now.ordered.now) (length ground.now.ordered.now.order) lists.new }
     ensures more { steps.old.used ≤ steps.new.used }
     ensures limit { steps.new.limit ≡ steps.old.limit }
@@ -70,16 +70,16 @@ fn branch_at<C: CountySet>(
     ground: &Ground<C>,
     position: Position<C>,
     weights: &[u32],
-) -> Result<Verdict<C>, AllocError>
+) -> Result<Move<C>, AllocError>
     requires ground { IsGround C.PLACES C.test ground.now }
     requires at { IsAt C.test ground.now (state_in ground.now C.test position.state) position }
     requires some { 1 ≤ length position.groups.items }
     requires count { length weights.now ≡ length ground.now.ordered.now.order }
-    ensures { IfOk result (IsVerdict C.test ground.now (state_in ground.now C.test position.state)) }
+    ensures { IfOk result (IsNextMove C.test ground.now (state_in ground.now C.test position.state)) }
 {
     let places = ground.ordered.places();
     match county_of_choice(ground.alloc, places, &position.groups, weights)? {
-        Some(place) => Ok(Verdict::Branch(place, position)),
+        Some(place) => Ok(Move::Branch(place, position)),
         None => unreachable!(),
     }
 }
@@ -89,11 +89,11 @@ fn weighed<C: CountySet>(
     ground: &Ground<C>,
     position: Position<C>,
     wanted: u32,
-) -> Result<Verdict<C>, AllocError>
+) -> Result<Move<C>, AllocError>
     requires ground { IsGround C.PLACES C.test ground.now }
     requires at { IsAt C.test ground.now (state_in ground.now C.test position.state) position }
     requires some { 1 ≤ length position.groups.items }
-    ensures { IfOk result (IsVerdict C.test ground.now (state_in ground.now C.test position.state)) }
+    ensures { IfOk result (IsNextMove C.test ground.now (state_in ground.now C.test position.state)) }
 {
     let Ground {
         alloc,
@@ -109,20 +109,20 @@ fn weighed<C: CountySet>(
     } = &position;
     let weights = weigh(*alloc, ordered.places(), groups, *size, wanted)?;
     if let Some(leaf) = weighed_leaf(*alloc, ordered, round, state, *size, groups, &weights)? {
-        return Ok(Verdict::Leaf(leaf));
+        return Ok(Move::Leaf(leaf));
     }
     branch_at(ground, position, &weights)
 }
 
 /// A bound leaf by weights, where groups of the size are wanted and weights give one, else a branch.
-fn judge_groups<C: CountySet>(
+fn move_at_groups<C: CountySet>(
     ground: &Ground<C>,
     position: Position<C>,
-) -> Result<Verdict<C>, AllocError>
+) -> Result<Move<C>, AllocError>
     requires ground { IsGround C.PLACES C.test ground.now }
     requires at { IsAt C.test ground.now (state_in ground.now C.test position.state) position }
     requires some { 1 ≤ length position.groups.items }
-    ensures { IfOk result (IsVerdict C.test ground.now (state_in ground.now C.test position.state)) }
+    ensures { IfOk result (IsNextMove C.test ground.now (state_in ground.now C.test position.state)) }
 {
     match wanted_more(ground.ordered, ground.round, &position.state, position.size) {
         Some(wanted) => weighed(ground, position, wanted),
@@ -134,18 +134,18 @@ fn judge_groups<C: CountySet>(
 }
 
 /// Goes from size to size until there are groups, and says how the state ends or at which county it branches.
-fn judge_sizes<C: CountySet>(
+fn move_at_sizes<C: CountySet>(
     ground: &Ground<C>,
     position: Position<C>,
     lists: &mut PartLists<C>,
     steps: &mut Steps,
-) -> Result<Verdict<C>, Stop>
+) -> Result<Move<C>, Stop>
     requires ground { IsGround C.PLACES C.test ground.now }
     requires at { IsAt C.test ground.now (state_in ground.now C.test position.state) position }
     requires no_stuck { (c : ℕ) → ¬ IsStuck (problem_in ground.now) (state_in ground.now C.test position.state) c }
     requires no_seats { ¬ IsOffSeats (problem_in ground.now) (state_in ground.now C.test position.state) }
     requires lists { AreListsOf C.test (problem_at ground.now.ordered.now) (length ground.now.ordered.now.order) lists.old }
-    ensures verdict { IfOk result (IsVerdict C.test ground.now (state_in ground.now C.test position.state)) }
+    ensures next_move { IfOk result (IsNextMove C.test ground.now (state_in ground.now C.test position.state)) }
     ensures lists { AreListsOf C.test (problem_at ground.now.ordered.now) (length ground.now.ordered.now.order) lists.new }
     ensures more { steps.old.used ≤ steps.new.used }
     ensures limit { steps.new.limit ≡ steps.old.limit }
@@ -155,8 +155,8 @@ fn judge_sizes<C: CountySet>(
     let mut position = position;
     while position.groups.is_empty() {
         match next_size(ground, &position, lists, steps) {
-            Ok(Next::Leaf(leaf)) => return Ok(Verdict::Leaf(leaf)),
-            Ok(Next::Better(found)) => return Ok(Verdict::Better(found)),
+            Ok(Next::Leaf(leaf)) => return Ok(Move::Leaf(leaf)),
+            Ok(Next::Better(found)) => return Ok(Move::Better(found)),
             Ok(Next::Groups(groups)) => {
                 position.size += 1;
                 position.groups = groups;
@@ -165,8 +165,8 @@ fn judge_sizes<C: CountySet>(
             Err(stop) => return Err(stop),
         }
     }
-    match judge_groups(ground, position) {
-        Ok(verdict) => Ok(verdict),
+    match move_at_groups(ground, position) {
+        Ok(next_move) => Ok(next_move),
         Err(refused) => Err(refused.into()),
     }
 }
@@ -262,16 +262,16 @@ fn early_leaf<C: CountySet>(
 }
 
 /// How the state ends, or at which county the search branches there. A step is taken for the state.
-pub(crate) fn judge<C: CountySet>(
+pub(crate) fn next_move<C: CountySet>(
     ground: &Ground<C>,
     position: Position<C>,
     lists: &mut PartLists<C>,
     steps: &mut Steps,
-) -> Result<Verdict<C>, Stop>
+) -> Result<Move<C>, Stop>
     requires ground { IsGround C.PLACES C.test ground.now }
     requires at { IsAt C.test ground.now (state_in ground.now C.test position.state) position }
     requires lists { AreListsOf C.test (problem_at ground.now.ordered.now) (length ground.now.ordered.now.order) lists.old }
-    ensures verdict { IfOk result (IsVerdict C.test ground.now (state_in ground.now C.test position.state)) }
+    ensures next_move { IfOk result (IsNextMove C.test ground.now (state_in ground.now C.test position.state)) }
     ensures counted { OnOk result (steps.old.used < steps.new.used) }
     ensures left { OnOk result (steps.old.used < steps.old.limit) }
     ensures lists { AreListsOf C.test (problem_at ground.now.ordered.now) (length ground.now.ordered.now.order) lists.new }
@@ -283,9 +283,9 @@ pub(crate) fn judge<C: CountySet>(
         return Err(Stop::StepLimit);
     }
     match early_leaf(ground, &position) {
-        Ok(Some(leaf)) => Ok(Verdict::Leaf(leaf)),
+        Ok(Some(leaf)) => Ok(Move::Leaf(leaf)),
         Ok(None) => match without_dead(ground, position, steps) {
-            Ok(position) => judge_sizes(ground, position, lists, steps),
+            Ok(position) => move_at_sizes(ground, position, lists, steps),
             Err(stop) => Err(stop),
         },
         Err(refused) => Err(refused.into()),

@@ -6,7 +6,7 @@ use county_codes::Grouping;
 
 /// What a search says of a state.
 #[derive(Drop)]
-pub(crate) enum Outcome {
+pub(crate) enum SearchOutcome {
     /// No lawful grouping that agrees with the state is greater than the target: its proof tree.
     Proved(Tree),
     /// A lawful grouping that agrees with the state and is greater than the target.
@@ -15,7 +15,7 @@ pub(crate) enum Outcome {
 
 /// How a state ends, or how the search goes on.
 #[derive(Drop)]
-pub(crate) enum Verdict<C> {
+pub(crate) enum Move<C> {
     /// A leaf that is valid.
     Leaf(Leaf),
     /// A lawful grouping that agrees with the state and is greater than the target.
@@ -73,7 +73,7 @@ pub(crate) enum First {
 
 /// How a state of a plain round ends, or how the search goes on.
 #[derive(Drop)]
-pub(crate) enum PlainVerdict {
+pub(crate) enum PlainMove {
     /// A leaf that is valid.
     Leaf(Leaf),
     /// A lawful grouping that agrees with the state and is greater than the target.

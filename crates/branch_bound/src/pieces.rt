@@ -16,8 +16,8 @@ ghost use Rattle.branch_bound.specs.Searching.{problem_in, round_in, state_in, I
 ghost use Rattle.branch_bound.specs.Pieces.{IsWithin, IsPiece, IsOpen};
 
 use crate::ground::Ground;
-use crate::judging::judge;
-use crate::outcome::{Outcome, Verdict};
+use crate::judging::next_move;
+use crate::outcome::{Move, SearchOutcome};
 use crate::piece::{Piece, Split};
 use crate::plain_search::prove_plain;
 use crate::position::Position;
@@ -60,13 +60,13 @@ fn found_piece(round: &Round, found: Grouping) -> Piece
 }
 
 /// The piece of an outcome.
-fn piece_of(round: &Round, outcome: Outcome) -> Piece
+fn piece_of(round: &Round, outcome: SearchOutcome) -> Piece
     ensures piece { (p : ProblemLaw) (s : StateValue) → IsOutcome p (round_of round.now) s outcome → IsPiece p (round_of round.now) s result }
     ensures closed { ¬ IsOpen result }
 {
     match outcome {
-        Outcome::Proved(tree) => Piece::Proved(tree),
-        Outcome::Better(found) => found_piece(round, found),
+        SearchOutcome::Proved(tree) => Piece::Proved(tree),
+        SearchOutcome::Better(found) => found_piece(round, found),
     }
 }
 
@@ -130,13 +130,13 @@ fn wide_piece<C: CountySet>(
 {
     let position = begun(ground, state)?;
     let mut lists = PartLists::new(ground.alloc);
-    match judge(ground, position, &mut lists, steps) {
-        Ok(Verdict::Leaf(leaf)) => {
+    match next_move(ground, position, &mut lists, steps) {
+        Ok(Move::Leaf(leaf)) => {
             let branches = Vec::new(ground.alloc);
             Ok(Piece::Proved(Tree { branches, leaf }))
         }
-        Ok(Verdict::Better(found)) => Ok(found_piece(ground.round, found)),
-        Ok(Verdict::Branch(place, at)) => branched_piece(ground, place, at, &mut lists, steps),
+        Ok(Move::Better(found)) => Ok(found_piece(ground.round, found)),
+        Ok(Move::Branch(place, at)) => branched_piece(ground, place, at, &mut lists, steps),
         Err(Stop::StepLimit) => Ok(Piece::Open(None)),
         Err(Stop::Memory) => Err(AllocError),
     }
@@ -194,13 +194,13 @@ fn ordered_piece<C: CountySet>(
     }
 }
 
-/// What a desk answers of a piece of a round: a proof tree of its state, a greater grouping that agrees with the state, or
-/// that the steps ran out.
+/// What a desk answers of a piece of a round: a proof tree of its state, a greater grouping that agrees with the state,
+/// or that the steps ran out.
 ///
-/// The round's order names each county of the problem once, its limit is at most 256, and the state is one of the round by
-/// the places of the order. If the steps ran out in a wide round, the answer has the branch that the search made first, so
-/// that the piece can be split there. A step is a state that is entered, a set that is grown, a group that is tested for
-/// being live, or a look for the list of a part.
+/// The round's order names each county of the problem once, its limit is at most 256, and the state is one of the round
+/// by the places of the order. If the steps ran out in a wide round, the answer has the branch that the search made
+/// first, so that the piece can be split there. A step is a state that is entered, a set that is grown, a group that is
+/// tested for being live, or a look for the list of a part.
 ///
 /// # Errors
 ///

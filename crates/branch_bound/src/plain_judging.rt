@@ -7,10 +7,10 @@ ghost use Rattle.proof_trees.specs.Leaves.{IsStuck, IsOffSeats};
 ghost use Rattle.proof_trees.specs.Proving.{CanBranch};
 ghost use Rattle.fitting_groups.specs.declared.stop.Stop.{Stop};
 ghost use Rattle.branch_bound.specs.Searching.{problem_in, round_in, state_in, IsEnd};
-ghost use Rattle.branch_bound.specs.PlainRounds.{IsPlainGround, IsStateOf, IsPlainVerdict};
+ghost use Rattle.branch_bound.specs.PlainRounds.{IsPlainGround, IsStateOf, IsNextPlainMove};
 
 use crate::ground::Ground;
-use crate::outcome::PlainVerdict;
+use crate::outcome::PlainMove;
 use bound_leaves::{empty_leaf, room_leaf, whole_leaf};
 use certificate_text::Leaf;
 use finished_groupings::finished_grouping;
@@ -72,13 +72,13 @@ fn first_leaf<C: CountySet>(
 }
 
 /// What a state ends with at which no group of at most the limit fits.
-fn last_end<C: CountySet>(ground: &Ground<C>, state: &State<C>) -> Result<PlainVerdict, AllocError>
+fn last_end<C: CountySet>(ground: &Ground<C>, state: &State<C>) -> Result<PlainMove, AllocError>
     requires ground { IsPlainGround C.PLACES C.test ground.now }
     requires at { IsStateOf C.test ground.now state.now }
     requires none { NoGroupFits (problem_in ground.now) (round_in ground.now) (state_in ground.now C.test state.now) }
     requires no_stuck { (c : ℕ) → ¬ IsStuck (problem_in ground.now) (state_in ground.now C.test state.now) c }
     requires no_seats { ¬ IsOffSeats (problem_in ground.now) (state_in ground.now C.test state.now) }
-    ensures { IfOk result (IsPlainVerdict C.test ground.now (state_in ground.now C.test state.now)) }
+    ensures { IfOk result (IsNextPlainMove C.test ground.now (state_in ground.now C.test state.now)) }
 {
     let Ground {
         alloc,
@@ -89,38 +89,38 @@ fn last_end<C: CountySet>(ground: &Ground<C>, state: &State<C>) -> Result<PlainV
     let _places = ordered.places();
     let _problem = ordered.problem();
     if let Some(leaf) = empty_leaf(*alloc, ordered, round, state, round.limit)? {
-        return Ok(PlainVerdict::Leaf(leaf));
+        return Ok(PlainMove::Leaf(leaf));
     }
     let found = finished_grouping(*alloc, ordered, near, round, state)?;
-    Ok(PlainVerdict::Better(found))
+    Ok(PlainMove::Better(found))
 }
 
 /// How a state ends at which no early leaf is valid, or where the search branches.
 fn end_or_branch<C: CountySet>(
     ground: &Ground<C>,
     state: &State<C>,
-) -> Result<PlainVerdict, AllocError>
+) -> Result<PlainMove, AllocError>
     requires ground { IsPlainGround C.PLACES C.test ground.now }
     requires at { IsStateOf C.test ground.now state.now }
     requires no_stuck { (c : ℕ) → ¬ IsStuck (problem_in ground.now) (state_in ground.now C.test state.now) c }
     requires no_seats { ¬ IsOffSeats (problem_in ground.now) (state_in ground.now C.test state.now) }
-    ensures { IfOk result (IsPlainVerdict C.test ground.now (state_in ground.now C.test state.now)) }
+    ensures { IfOk result (IsNextPlainMove C.test ground.now (state_in ground.now C.test state.now)) }
 {
     match first_open(ground, state)? {
-        Some(place) => Ok(PlainVerdict::Branch(place)),
+        Some(place) => Ok(PlainMove::Branch(place)),
         None => last_end(ground, state),
     }
 }
 
 /// How the state ends, or at which place the search branches there. A step is taken for the state.
-pub(crate) fn judge_plain<C: CountySet>(
+pub(crate) fn next_plain_move<C: CountySet>(
     ground: &Ground<C>,
     state: &State<C>,
     steps: &mut Steps,
-) -> Result<PlainVerdict, Stop>
+) -> Result<PlainMove, Stop>
     requires ground { IsPlainGround C.PLACES C.test ground.now }
     requires at { IsStateOf C.test ground.now state.now }
-    ensures verdict { IfOk result (IsPlainVerdict C.test ground.now (state_in ground.now C.test state.now)) }
+    ensures next_move { IfOk result (IsNextPlainMove C.test ground.now (state_in ground.now C.test state.now)) }
     ensures counted { OnOk result (steps.old.used < steps.new.used) }
     ensures left { OnOk result (steps.old.used < steps.old.limit) }
     ensures more { steps.old.used ≤ steps.new.used }
@@ -131,9 +131,9 @@ pub(crate) fn judge_plain<C: CountySet>(
         return Err(Stop::StepLimit);
     }
     match first_leaf(ground, state) {
-        Ok(Some(leaf)) => Ok(PlainVerdict::Leaf(leaf)),
+        Ok(Some(leaf)) => Ok(PlainMove::Leaf(leaf)),
         Ok(None) => match end_or_branch(ground, state) {
-            Ok(verdict) => Ok(verdict),
+            Ok(next_move) => Ok(next_move),
             Err(refused) => Err(refused.into()),
         },
         Err(refused) => Err(refused.into()),

@@ -12,8 +12,8 @@ ghost use Rattle.branch_bound.specs.Searching.{problem_in, round_in, state_in, I
 ghost use Rattle.branch_bound.specs.PlainRounds.{IsPlainGround, IsStateOf};
 
 use crate::ground::Ground;
-use crate::outcome::{Outcome, PlainVerdict, Taken, Takes};
-use crate::plain_judging::judge_plain;
+use crate::outcome::{PlainMove, SearchOutcome, Taken, Takes};
+use crate::plain_judging::next_plain_move;
 use crate::search::{taken_of, with_take};
 use certificate_text::{Branch, Take, Tree};
 use fitting_groups::{Stop, groups_at};
@@ -164,8 +164,8 @@ fn prove_plain_takes<C: CountySet>(
     Ok(Takes::Proved(takes))
 }
 
-/// A proof tree at the state, or a lawful grouping that agrees with the state and is greater than the round's target. It
-/// goes as deep as takes nest.
+/// A proof tree at the state, or a lawful grouping that agrees with the state and is greater than the round's target.
+/// It goes as deep as takes nest.
 ///
 /// # Errors
 ///
@@ -175,7 +175,7 @@ pub(crate) fn prove_plain<C: CountySet>(
     ground: &Ground<C>,
     state: State<C>,
     steps: &mut Steps,
-) -> Result<Outcome, Stop>
+) -> Result<SearchOutcome, Stop>
     requires ground { IsPlainGround C.PLACES C.test ground.now }
     requires at { IsStateOf C.test ground.now state }
     ensures outcome { IfOk result (IsOutcome (problem_in ground.now) (round_in ground.now) (state_in ground.now C.test state)) }
@@ -186,16 +186,16 @@ pub(crate) fn prove_plain<C: CountySet>(
     let mut state = state;
     let mut branches = Vec::new(ground.alloc);
     'branching: loop {
-        match judge_plain(ground, &state, steps) {
-            Ok(PlainVerdict::Leaf(leaf)) => return Ok(Outcome::Proved(Tree { branches, leaf })),
-            Ok(PlainVerdict::Better(found)) => return Ok(Outcome::Better(found)),
-            Ok(PlainVerdict::Branch(place)) => {
+        match next_plain_move(ground, &state, steps) {
+            Ok(PlainMove::Leaf(leaf)) => return Ok(SearchOutcome::Proved(Tree { branches, leaf })),
+            Ok(PlainMove::Better(found)) => return Ok(SearchOutcome::Better(found)),
+            Ok(PlainMove::Branch(place)) => {
                 match prove_plain_takes(ground, &state, place, steps) {
                     Ok(Takes::Proved(takes)) => {
                         push_branch(ground, place, takes, &mut branches)?;
                         raise_place(ground.ordered, &mut state, place, ground.round.limit);
                     }
-                    Ok(Takes::Better(found)) => return Ok(Outcome::Better(found)),
+                    Ok(Takes::Better(found)) => return Ok(SearchOutcome::Better(found)),
                     Err(stop) => return Err(stop),
                 }
             }

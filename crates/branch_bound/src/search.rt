@@ -18,9 +18,9 @@ ghost use Rattle.branch_bound.specs.declared.outcome.Takes.TheVariants as all;
 ghost use Rattle.branch_bound.specs.Searching.{problem_in, round_in, state_in, IsGround, IsAt, IsBetter, IsOutcome, IsTaken, AreTakesAt, IsChoice};
 
 use crate::ground::Ground;
-use crate::judging::judge;
+use crate::judging::next_move;
 use crate::moves::{closed_position, codes_of, groups_to_take, raised_position};
-use crate::outcome::{Outcome, Raised, Taken, Takes, Verdict};
+use crate::outcome::{Move, Raised, SearchOutcome, Taken, Takes};
 use crate::position::Position;
 use crate::watcher::Watcher;
 use certificate_text::{Branch, Take, Tree};
@@ -34,7 +34,7 @@ use std::alloc::AllocError;
 pub(crate) fn taken_of<C: CountySet>(
     ground: &Ground<C>,
     group: &C,
-    outcome: Result<Outcome, Stop>,
+    outcome: Result<SearchOutcome, Stop>,
 ) -> Result<Taken, Stop>
     requires fits { length ground.now.ordered.now.order ≤ C.PLACES }
     ensures taken { (s : StateValue)
@@ -45,11 +45,11 @@ pub(crate) fn taken_of<C: CountySet>(
     ensures stopped { IsErrOf result Stop.StepLimit → IsErrOf outcome Stop.StepLimit }
 {
     match outcome {
-        Ok(Outcome::Proved(tree)) => {
+        Ok(SearchOutcome::Proved(tree)) => {
             let codes = codes_of(ground, group)?;
             Ok(Taken::Proved(Take { codes, tree }))
         }
-        Ok(Outcome::Better(found)) => Ok(Taken::Better(found)),
+        Ok(SearchOutcome::Better(found)) => Ok(Taken::Better(found)),
         Err(stop) => Err(stop),
     }
 }
@@ -211,7 +211,7 @@ pub(crate) fn prove<C: CountySet, W: Watcher>(
     lists: &mut PartLists<C>,
     watcher: &mut W,
     steps: &mut Steps,
-) -> Result<Outcome, Stop>
+) -> Result<SearchOutcome, Stop>
     requires ground { IsGround C.PLACES C.test ground.now }
     requires at { IsAt C.test ground.now (state_in ground.now C.test position.state) position }
     requires lists { AreListsOf C.test (problem_at ground.now.ordered.now) (length ground.now.ordered.now.order) lists.old }
@@ -226,14 +226,14 @@ pub(crate) fn prove<C: CountySet, W: Watcher>(
     let mut branches = Vec::new(ground.alloc);
     'branching: loop {
         watcher.step(steps);
-        match judge(ground, position, lists, steps) {
-            Ok(Verdict::Leaf(leaf)) => return Ok(Outcome::Proved(Tree { branches, leaf })),
-            Ok(Verdict::Better(found)) => return Ok(Outcome::Better(found)),
-            Ok(Verdict::Branch(place, at)) => {
+        match next_move(ground, position, lists, steps) {
+            Ok(Move::Leaf(leaf)) => return Ok(SearchOutcome::Proved(Tree { branches, leaf })),
+            Ok(Move::Better(found)) => return Ok(SearchOutcome::Better(found)),
+            Ok(Move::Branch(place, at)) => {
                 let takes = prove_takes(ground, &at, place, lists, watcher, steps);
                 match raised_behind(ground, at, place, takes, &mut branches) {
                     Ok(Raised::At(next)) => position = next,
-                    Ok(Raised::Better(found)) => return Ok(Outcome::Better(found)),
+                    Ok(Raised::Better(found)) => return Ok(SearchOutcome::Better(found)),
                     Err(stop) => return Err(stop),
                 }
             }

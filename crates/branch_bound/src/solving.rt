@@ -18,12 +18,12 @@ ghost use Rattle.known_groups.specs.PartLists.{AreListsOf};
 ghost use Rattle.branch_bound.specs.Searching.{IsOutcome, IsProof};
 ghost use Rattle.branch_bound.specs.Solving.{round_over, IsTarget, IsFirst};
 ghost use Rattle.bound_leaves.specs.GivenLeaf.{IsGiven};
-ghost use Rattle.branch_bound.specs.Answered.{IsAnswer, Certifies, NamesBest, HasCompleteTree, SaysWhether};
+ghost use Rattle.branch_bound.specs.Answered.{IsSolveAnswer, Certifies, SolveIsRight, HasCompleteTree, SaysWhether};
 
 use crate::answer::Answer;
 use crate::ground::Ground;
 use crate::moves::first_position;
-use crate::outcome::{First, Outcome};
+use crate::outcome::{First, SearchOutcome};
 use crate::search::prove;
 use crate::watcher::{NoWatcher, Watcher};
 use bound_leaves::whole_leaf;
@@ -112,7 +112,7 @@ fn prove_first<C: CountySet, W: Watcher>(
     lists: &mut PartLists<C>,
     watcher: &mut W,
     steps: &mut Steps,
-) -> Result<Outcome, Stop>
+) -> Result<SearchOutcome, Stop>
     requires fits { length ordered.now.order ≤ C.PLACES }
     requires rows { AreRows C C.test (problem_at ordered.now) (length ordered.now.order) near.now }
     requires order { ordered.now.order ≡ round.now.order }
@@ -145,7 +145,7 @@ fn prove_round<C: CountySet, W: Watcher>(
     lists: &mut PartLists<C>,
     watcher: &mut W,
     steps: &mut Steps,
-) -> Result<Outcome, Stop>
+) -> Result<SearchOutcome, Stop>
     requires fits { length ordered.now.order ≤ C.PLACES }
     requires rows { AreRows C C.test (problem_at ordered.now) (length ordered.now.order) near.now }
     requires small { limit ≤ most_counties }
@@ -185,7 +185,7 @@ fn best(
         (round_over (problem_of ordered.now.problem) ordered.now.order limit (Some target.groups.items) Wide)
         (empty_state (problem_of ordered.now.problem))
         tree }
-    ensures answer { IfOk result (λ answer. (allowed : ℕ) → 1 ≤ allowed → IsAnswer (problem_of ordered.now.problem) allowed answer) }
+    ensures answer { IfOk result (λ answer. (allowed : ℕ) → 1 ≤ allowed → IsSolveAnswer (problem_of ordered.now.problem) allowed answer) }
     ensures complete { IfOk result (HasCompleteTree (problem_of ordered.now.problem)) }
 {
     let _places = ordered.places();
@@ -208,7 +208,7 @@ fn improve<C: CountySet, W: Watcher>(
     requires order { IsStrictlyIncreasing ordered.now.order }
     requires target { IsTarget (problem_of ordered.now.problem) ordered.now.order first.groups.items }
     requires some { 1 ≤ steps.old.limit }
-    ensures answer { IfOk result (IsAnswer (problem_of ordered.now.problem) steps.old.limit) }
+    ensures answer { IfOk result (IsSolveAnswer (problem_of ordered.now.problem) steps.old.limit) }
     ensures complete { IfOk result (HasCompleteTree (problem_of ordered.now.problem)) }
 {
     let _places = ordered.places();
@@ -222,13 +222,13 @@ fn improve<C: CountySet, W: Watcher>(
         match prove_round(
             alloc, ordered, near, &target, limit, &mut lists, watcher, steps,
         ) {
-            Ok(Outcome::Proved(tree)) => {
+            Ok(SearchOutcome::Proved(tree)) => {
                 if limit == largest {
                     return best(alloc, ordered, target, limit, tree);
                 }
                 cap = limit_after(cap);
             }
-            Ok(Outcome::Better(found)) => target = found,
+            Ok(SearchOutcome::Better(found)) => target = found,
             Err(Stop::StepLimit) => {
                 return Ok(Answer::Open {
                     found: Some(target),
@@ -322,7 +322,7 @@ fn solve_ordered<C: CountySet, W: Watcher>(
     requires fits { length ordered.now.order ≤ C.PLACES }
     requires order { IsStrictlyIncreasing ordered.now.order }
     requires some { 1 ≤ steps.old.limit }
-    ensures answer { IfOk result (IsAnswer (problem_of ordered.now.problem) steps.old.limit) }
+    ensures answer { IfOk result (IsSolveAnswer (problem_of ordered.now.problem) steps.old.limit) }
     ensures complete { IfOk result (HasCompleteTree (problem_of ordered.now.problem)) }
 {
     let near: Vec<C> = neighbour_rows(alloc, ordered)?;
@@ -344,8 +344,8 @@ pub fn solve_over<C: CountySet, W: Watcher>(
     watcher: &mut W,
 ) -> Result<Answer, AllocError>
     requires fits { length problem.now.counties ≤ C.PLACES }
-    ensures answer { IfOk result (IsAnswer (problem_of problem.now) step_limit) }
-    ensures best { IfOk result (NamesBest (problem_of problem.now)) }
+    ensures answer { IfOk result (IsSolveAnswer (problem_of problem.now) step_limit) }
+    ensures best { IfOk result (SolveIsRight (problem_of problem.now)) }
     ensures complete { IfOk result (HasCompleteTree (problem_of problem.now)) }
     ensures impossible { IfOk result (SaysWhether (problem_of problem.now) step_limit) }
 {
@@ -364,8 +364,8 @@ pub fn solve_over<C: CountySet, W: Watcher>(
     }
 }
 
-/// What `solve` says, where a watcher is told how far the search is: each round as it begins, and each state that is entered.
-/// What is promised holds for each watcher.
+/// What `solve` says, where a watcher is told how far the search is: each round as it begins, and each state that is
+/// entered. What is promised holds for each watcher.
 ///
 /// # Errors
 ///
@@ -376,8 +376,8 @@ pub fn solve_watched<W: Watcher>(
     step_limit: u64,
     watcher: &mut W,
 ) -> Result<Answer, AllocError>
-    ensures answer { IfOk result (IsAnswer (problem_of problem.now) step_limit) }
-    ensures best { IfOk result (NamesBest (problem_of problem.now)) }
+    ensures answer { IfOk result (IsSolveAnswer (problem_of problem.now) step_limit) }
+    ensures best { IfOk result (SolveIsRight (problem_of problem.now)) }
     ensures complete { IfOk result (HasCompleteTree (problem_of problem.now)) }
     ensures impossible { IfOk result (SaysWhether (problem_of problem.now) step_limit) }
 {
@@ -401,8 +401,8 @@ pub fn solve_watched<W: Watcher>(
 ///
 /// Where memory was refused.
 pub fn solve(alloc: Global, problem: &Problem, step_limit: u64) -> Result<Answer, AllocError>
-    ensures answer { IfOk result (IsAnswer (problem_of problem.now) step_limit) }
-    ensures best { IfOk result (NamesBest (problem_of problem.now)) }
+    ensures answer { IfOk result (IsSolveAnswer (problem_of problem.now) step_limit) }
+    ensures best { IfOk result (SolveIsRight (problem_of problem.now)) }
     ensures complete { IfOk result (HasCompleteTree (problem_of problem.now)) }
     ensures impossible { IfOk result (SaysWhether (problem_of problem.now) step_limit) }
 {

@@ -3,7 +3,8 @@
 use county_codes::Grouping;
 use ordered_counties::Steps;
 
-/// Who is told how far a search is. It changes nothing of the answer: what is promised of a search holds for each watcher.
+/// Who is told how far a search is. It changes nothing of the answer: what is promised of a search holds for each
+/// watcher.
 pub trait Watcher {
     /// A round begins: it closes groups of at most `limit` counties, and the best grouping so far is its target.
     fn round(&mut self, limit: u16, target: &Grouping);

@@ -18,49 +18,49 @@ use Rattle.text_verdicts.proofs.LineFeeds.{lines}
 use Rattle.text_verdicts.proofs.Verdicts.{best, impossible}
 use Rattle.certificate_checker.specs.Feeding.{FeedValue, Fed}
 use Rattle.certificate_checker.specs.Certificates.{IsCertificateJudged}
-use Rattle.certificate_checker.specs.Answered.{IsAnswer, NamesBest, ShowsImpossible, ChecksItems, ChecksBytes}
+use Rattle.certificate_checker.specs.Answered.{IsCheckAnswer, CheckIsRight, ShowsImpossible, ChecksItems, ChecksBytes}
 use Rattle.certificate_checker.specs.declared.fault.CheckFault.{CheckFault}
 use Rattle.certificate_checker.specs.declared.fault.CheckFault.TheVariants.{Text}
 use Rattle.std.specs.declared.alloc.AllocError.{AllocError}
-use Rattle.certificate_checker.specs.declared.feed.Stop.{Stop}
-use Rattle.certificate_checker.specs.declared.feed.Stop.TheVariants as stop
+use Rattle.certificate_checker.specs.declared.feed.Halt.{Halt}
+use Rattle.certificate_checker.specs.declared.feed.Halt.TheVariants as stop
 use Rattle.certificate_checker.specs.declared.verdict.Verdict.{Verdict}
 use Rattle.certificate_checker.specs.declared.verdict.Verdict.TheVariants.{Best, Impossible, No, Budget}
 
 -- every certificate that the lines to come spell was judged so
-abbrev pub AreJudged : Problem → List ℕ → ℕ → Result (Option GroupingHeld) Stop → Type 0
+abbrev pub AreJudged : Problem → List ℕ → ℕ → Result (Option GroupingHeld) Halt → Type 0
 AreJudged p text limit r = (c : Certificate) → AllFit (want.Head ∷ []) (items_of_certificate c) → (certificate_course text).items ≡ items_of_certificate c → IsCertificateJudged p c limit r
 
 module _ (p : Problem) (text : List ℕ) (limit : ℕ) where
-  pub best_found : (target : GroupingHeld) → AreJudged p text limit (Ok (Some target)) → (certificate_course text).fault ≡ None → IsAnswer p text limit (Best target)
+  pub best_found : (target : GroupingHeld) → AreJudged p text limit (Ok (Some target)) → (certificate_course text).fault ≡ None → IsCheckAnswer p text limit (Best target)
   best_found target h none =
       let c = spelled text none in
       let j = h c.0 c.1.fits c.2 in
       (c.0, c.1, (fine j.1.0, j.1.1, ap said.shown j.0))
 
-  pub impossible_found : AreJudged p text limit (Ok None) → (certificate_course text).fault ≡ None → IsAnswer p text limit Impossible
+  pub impossible_found : AreJudged p text limit (Ok None) → (certificate_course text).fault ≡ None → IsCheckAnswer p text limit Impossible
   impossible_found h none =
       let c = spelled text none in
       let j = h c.0 c.1.fits c.2 in
       (c.0, c.1, (fine j.1.0, j.1.1, ap said.shown j.0))
 
-  pub fault_found : (fault : CheckFault) (line : ℕ) → AreJudged p text limit (Err (stop.Fault fault line)) → (certificate_course text).fault ≡ None → IsAnswer p text limit (No fault line)
+  pub fault_found : (fault : CheckFault) (line : ℕ) → AreJudged p text limit (Err (stop.Fault fault line)) → (certificate_course text).fault ≡ None → IsCheckAnswer p text limit (No fault line)
   fault_found fault line h none =
       let c = spelled text none in
       let j = h c.0 c.1.fits c.2 in
       inr (j.0, j.1, (c.0, c.1, (faulty j.0 line, j.2, refl)))
 
-  pub budget_found : AreJudged p text limit (Err stop.Budget) → (certificate_course text).fault ≡ None → IsAnswer p text limit Budget
+  pub budget_found : AreJudged p text limit (Err stop.Budget) → (certificate_course text).fault ≡ None → IsCheckAnswer p text limit Budget
   budget_found h none cost costs = ⊎_elim (λ s. h s.0 s.1.fits (spelling text s.0 s.1).0 cost s.2) (λ f. cc (f.1, none)) costs
 
-  pub unspelled_found : AreJudged p text limit (Err stop.Unspelled) → (certificate_course text).fault ≡ None → IsAnswer p text limit Budget
+  pub unspelled_found : AreJudged p text limit (Err stop.Unspelled) → (certificate_course text).fault ≡ None → IsCheckAnswer p text limit Budget
   unspelled_found h none = let c = spelled text none in absurd (h c.0 c.1.fits c.2)
 
-  pub text_found : (fault : TextFault) → HasTextFault text fault → IsAnswer p text limit (No (Text fault) fault.line)
+  pub text_found : (fault : TextFault) → HasTextFault text fault → IsCheckAnswer p text limit (No (Text fault) fault.line)
   text_found fault has = inl (fault, refl, has, refl)
 
   -- as many lines as steps are less than the text costs
-  pub lines_found : (start now : FeedValue) → start.course ≡ certificate_course text → start.line ≡ 0 → Fed start now → now.limit ≤ now.line + length now.course.items → start.limit ≡ limit → IsAnswer p text limit Budget
+  pub lines_found : (start now : FeedValue) → start.course ≡ certificate_course text → start.line ≡ 0 → Fed start now → now.limit ≤ now.line + length now.course.items → start.limit ≡ limit → IsCheckAnswer p text limit Budget
   lines_found start now course line fed many same cost costs =
       let few : limit ≤ length (certificate_course text).items = omega (arith, fed.lines, fed.limit, many, same, line, ap (λ c. length c.items) course) in
       ⊎_elim
@@ -69,14 +69,14 @@ module _ (p : Problem) (text : List ℕ) (limit : ℕ) where
       costs
 
 -- what an answer shows
-pub names_best : {E : Type 0} (p : Problem) (text : List ℕ) (budget : ℕ) (r : Result Verdict E) → IfOk r (IsAnswer p text budget) → IfOk r (NamesBest p)
+pub names_best : {E : Type 0} (p : Problem) (text : List ℕ) (budget : ℕ) (r : Result Verdict E) → IfOk r (IsCheckAnswer p text budget) → IfOk r (CheckIsRight p)
 names_best p text budget (Ok (Best target)) h = (best p text target.groups.items h).0
 names_best p text budget (Ok Impossible) h = tt
 names_best p text budget (Ok (No fault line)) h = tt
 names_best p text budget (Ok Budget) h = tt
 names_best p text budget (Err e) h = tt
 
-pub shows_impossible : {E : Type 0} (p : Problem) (text : List ℕ) (budget : ℕ) (r : Result Verdict E) → IfOk r (IsAnswer p text budget) → IfOk r (ShowsImpossible p)
+pub shows_impossible : {E : Type 0} (p : Problem) (text : List ℕ) (budget : ℕ) (r : Result Verdict E) → IfOk r (IsCheckAnswer p text budget) → IfOk r (ShowsImpossible p)
 shows_impossible p text budget (Ok (Best target)) h = tt
 shows_impossible p text budget (Ok Impossible) h = (impossible p text h).0
 shows_impossible p text budget (Ok (No fault line)) h = tt
@@ -84,7 +84,7 @@ shows_impossible p text budget (Ok Budget) h = tt
 shows_impossible p text budget (Err e) h = tt
 
 -- of a text in memory
-pub checked_text : (p : Problem) (course : Course) (text : List ℕ) (budget : ℕ) (r : Result Verdict AllocError) → ChecksItems p (in_memory course) [] budget r [] → course ≡ certificate_course text → IfOk r (IsAnswer p text budget)
+pub checked_text : (p : Problem) (course : Course) (text : List ℕ) (budget : ℕ) (r : Result Verdict AllocError) → ChecksItems p (in_memory course) [] budget r [] → course ≡ certificate_course text → IfOk r (IsCheckAnswer p text budget)
 checked_text p course text budget r h is = (h.answers [] (record { later = []; text = refl; may = λ ended. refl })).1 text is
 
 -- of bytes that were pulled
@@ -103,7 +103,7 @@ module _ (p : Problem) (before after : List ℕ) (budget : ℕ) where
             (h.answers (after ++ later) (record { later = later; text = refl; may = may })).1 (now.later ++ later) (ap certificate_course split);
       }
 
-  pub bytes_best : {E : Type 0} (r : Result Verdict E) → IfOk r (ChecksBytes p before after budget) → IfOk r (NamesBest p)
+  pub bytes_best : {E : Type 0} (r : Result Verdict E) → IfOk r (ChecksBytes p before after budget) → IfOk r (CheckIsRight p)
   bytes_best {E = E} (Ok v) h = names_best {E = E} p (h.pulled ++ []) budget (Ok v) (h.answer [] (λ ended. refl))
   bytes_best (Err e) h = tt
 

@@ -20,8 +20,8 @@ use Rattle.bound_verdicts.specs.declared.bound.Allowed.TheVariants.{Loss, Even}
 use Rattle.certificate_checker.specs.Feeding.{FeedValue, Fed}
 use Rattle.certificate_checker.specs.Judging.{AreWanted, line_items, IsLineJudged, IsLeafJudged, IsEndOf}
 use Rattle.certificate_checker.specs.declared.fault.CheckFault.TheVariants.{BoundLength}
-use Rattle.certificate_checker.specs.declared.feed.Stop.{Stop}
-use Rattle.certificate_checker.specs.declared.feed.Stop.TheVariants as stop
+use Rattle.certificate_checker.specs.declared.feed.Halt.{Halt}
+use Rattle.certificate_checker.specs.declared.feed.Halt.TheVariants as stop
 use Rattle.verdicts.specs.Fault as fault
 
 -- what is left of the lines of a bound leaf, after so many of them, where so many counties are used up
@@ -81,7 +81,7 @@ even_judged p round s target old now new lines rest judged used more h allowed i
     even_from p round s target old now new lines rest judged used more h.left few h.spelled h.count h.ends h.looks (subst (λ a. IsLineJudged p round s (wanted_of target) (judged + 1) used h.left rest now (Ok a) new) is k)
 
 -- a line that allows fewer
-loss_from : (p : Problem) (round : Round) (s : State) (target : Grouping) (old now new : FeedValue) (lines : List Allowance) (rest : List Item) (judged used : ℕ) (last : Bool) (r : Result (Unit {0}) Stop) (left : List Allowance)
+loss_from : (p : Problem) (round : Round) (s : State) (target : Grouping) (old now new : FeedValue) (lines : List Allowance) (rest : List Item) (judged used : ℕ) (last : Bool) (r : Result (Unit {0}) Halt) (left : List Allowance)
     → length lines ≤ round.limit → judged < length lines → (last ≡ true → judged + 1 ≡ length lines) → (last ≡ false → judged + 1 ≢ length lines) → judged + length left ≡ length lines
     → ((end : End) → BoundedEnds left p round s (wanted_of target) (judged + 1) used old.line (now.line + 1) end → LeafEnds (bound lines) p round s old.line end)
     → ((n : ℕ) → LeafLooks (bound lines) p round s n → (m : ℕ) × AllowancesLook left p round s (wanted_of target) (judged + 1) used m × (now.used + old.line + 2 * m ≤ old.used + now.line + 2 * n))
@@ -115,14 +115,14 @@ loss_from p round s target old now new lines rest judged used false (Err stop.Un
 loss_from p round s target old now new lines rest judged used false (Err stop.Budget) (a ∷ others) small few is isnt count ends looks k e = absurd e
 loss_from p round s target old now new lines rest judged used false (Err stop.Refused) (a ∷ others) small few is isnt count ends looks k e = absurd e
 
-pub loss_judged : (p : Problem) (round : Round) (s : State) (target : Grouping) (old now new : FeedValue) (lines : List Allowance) (rest : List Item) (judged used : ℕ) (h : LinesLeft p round s target old now lines rest judged used) (last : Bool) (r : Result (Unit {0}) Stop)
+pub loss_judged : (p : Problem) (round : Round) (s : State) (target : Grouping) (old now new : FeedValue) (lines : List Allowance) (rest : List Item) (judged used : ℕ) (h : LinesLeft p round s target old now lines rest judged used) (last : Bool) (r : Result (Unit {0}) Halt)
     (allowed : Allowed) → allowed ≡ Loss → length lines ≤ round.limit → judged < length lines → (last ≡ true → judged + 1 ≡ length lines) → (last ≡ false → judged + 1 ≢ length lines)
     → IsLineJudged p round s (wanted_of target) (judged + 1) used h.left rest now (Ok allowed) new → IsEndOf last old.line r → IsLeafJudged p round s (bound lines) rest old r new
 loss_judged p round s target old now new lines rest judged used h last r allowed loss small few is isnt k e =
     loss_from p round s target old now new lines rest judged used last r h.left small few is isnt h.count h.ends h.looks (subst (λ a. IsLineJudged p round s (wanted_of target) (judged + 1) used h.left rest now (Ok a) new) loss k) e
 
 -- a stop at a line
-stop_from : (p : Problem) (round : Round) (s : State) (target : Grouping) (old now new : FeedValue) (lines : List Allowance) (rest : List Item) (judged used : ℕ) (found : Stop) (left : List Allowance)
+stop_from : (p : Problem) (round : Round) (s : State) (target : Grouping) (old now new : FeedValue) (lines : List Allowance) (rest : List Item) (judged used : ℕ) (found : Halt) (left : List Allowance)
     → Fed old now → judged < length lines → judged + length left ≡ length lines → now.course.items ≡ line_items left ++ rest
     → ((end : End) → BoundedEnds left p round s (wanted_of target) (judged + 1) used old.line (now.line + 1) end → LeafEnds (bound lines) p round s old.line end)
     → ((n : ℕ) → LeafLooks (bound lines) p round s n → (m : ℕ) × AllowancesLook left p round s (wanted_of target) (judged + 1) used m × (now.used + old.line + 2 * m ≤ old.used + now.line + 2 * n))
@@ -139,7 +139,7 @@ stop_from p round s target old now new lines rest judged used stop.Budget (a ∷
     omega (arith, x.2, y.2, k y.0 y.1, fed.limit, fed.lines, size)
 stop_from p round s target old now new lines rest judged used stop.Refused (a ∷ others) fed few count items ends looks k = tt
 
-pub stop_judged : (p : Problem) (round : Round) (s : State) (target : Grouping) (old now new : FeedValue) (lines : List Allowance) (rest : List Item) (judged used : ℕ) (h : LinesLeft p round s target old now lines rest judged used) (found : Stop)
+pub stop_judged : (p : Problem) (round : Round) (s : State) (target : Grouping) (old now new : FeedValue) (lines : List Allowance) (rest : List Item) (judged used : ℕ) (h : LinesLeft p round s target old now lines rest judged used) (found : Halt)
     → Fed old now → judged < length lines → IsLineJudged p round s (wanted_of target) (judged + 1) used h.left rest now (Err found) new → IsLeafJudged {X = Unit {0}} p round s (bound lines) rest old (Err found) new
 stop_judged p round s target old now new lines rest judged used h found fed few k = stop_from p round s target old now new lines rest judged used found h.left fed few h.count h.items h.ends h.looks k
 
@@ -147,7 +147,7 @@ below : (judged n limit : ℕ) → n ≤ limit → judged ≡ n → n ≢ limit 
 below judged n limit small all apart = omega (arith, small, all, apart)
 
 -- no line is left
-all_from : (p : Problem) (round : Round) (s : State) (target : Grouping) (old now : FeedValue) (lines : List Allowance) (rest : List Item) (judged used : ℕ) (full : Bool) (r : Result (Unit {0}) Stop) (left : List Allowance)
+all_from : (p : Problem) (round : Round) (s : State) (target : Grouping) (old now : FeedValue) (lines : List Allowance) (rest : List Item) (judged used : ℕ) (full : Bool) (r : Result (Unit {0}) Halt) (left : List Allowance)
     → length lines ≤ round.limit → judged ≡ length lines → (full ≡ true → length lines ≡ round.limit) → (full ≡ false → length lines ≢ round.limit) → judged + length left ≡ length lines → now.course.items ≡ line_items left ++ rest
     → ((end : End) → BoundedEnds left p round s (wanted_of target) (judged + 1) used old.line (now.line + 1) end → LeafEnds (bound lines) p round s old.line end)
     → ((n : ℕ) → LeafLooks (bound lines) p round s n → (m : ℕ) × AllowancesLook left p round s (wanted_of target) (judged + 1) used m × (now.used + old.line + 2 * m ≤ old.used + now.line + 2 * n))
@@ -172,7 +172,7 @@ all_from p round s target old now lines rest judged used false (Err stop.Unspell
 all_from p round s target old now lines rest judged used false (Err stop.Budget) [] small all is isnt count items ends looks e = absurd e
 all_from p round s target old now lines rest judged used false (Err stop.Refused) [] small all is isnt count items ends looks e = absurd e
 
-pub all_judged : (p : Problem) (round : Round) (s : State) (target : Grouping) (old now : FeedValue) (lines : List Allowance) (rest : List Item) (judged used : ℕ) (h : LinesLeft p round s target old now lines rest judged used) (full : Bool) (r : Result (Unit {0}) Stop)
+pub all_judged : (p : Problem) (round : Round) (s : State) (target : Grouping) (old now : FeedValue) (lines : List Allowance) (rest : List Item) (judged used : ℕ) (h : LinesLeft p round s target old now lines rest judged used) (full : Bool) (r : Result (Unit {0}) Halt)
     → length lines ≤ round.limit → judged ≡ length lines → (full ≡ true → length lines ≡ round.limit) → (full ≡ false → length lines ≢ round.limit) → IsEndOf full old.line r → IsLeafJudged p round s (bound lines) rest old r now
 all_judged p round s target old now lines rest judged used h full r small all is isnt e = all_from p round s target old now lines rest judged used full r h.left small all is isnt h.count h.items h.ends h.looks e
 

@@ -23,8 +23,8 @@ use Rattle.line_verdicts.specs.declared.fault.LineStop.{LineStop}
 use Rattle.line_verdicts.specs.declared.fault.LineStop.TheVariants as line_stop
 use Rattle.certificate_checker.specs.Feeding.{FeedValue, TookLine, Reaches, Halts}
 use Rattle.certificate_checker.specs.Judging.{IsLeafJudged, IsJudged, IsStopAt}
-use Rattle.certificate_checker.specs.declared.feed.Stop.{Stop}
-use Rattle.certificate_checker.specs.declared.feed.Stop.TheVariants as stop
+use Rattle.certificate_checker.specs.declared.feed.Halt.{Halt}
+use Rattle.certificate_checker.specs.declared.feed.Halt.TheVariants as stop
 
 -- what a leaf looks through is no more than all that is left does
 leaf_first : (last : Leaf) (p : Problem) (round : Round) (s : State) (more : List Open) (n : ℕ) → WorkLooks (a_tree (leaf last) s ∷ more) p round n → (m : ℕ) × LeafLooks last p round s m × (m ≤ n)
@@ -42,7 +42,7 @@ branch_first county limit takes raised p round s more n names can l =
     (i.0, i.2, omega (arith, l.4, i.4))
 
 -- a leaf was judged whose first line was read last
-pub leaf_reaches : (p : Problem) (round : Round) (s : State) (last : Leaf) (old mid new : FeedValue) (rest : List Item) (more : List Open) (x : Item) (r : Result (Unit {0}) Stop) → TookLine old (Ok x) mid → mid.limit ≡ old.limit
+pub leaf_reaches : (p : Problem) (round : Round) (s : State) (last : Leaf) (old mid new : FeedValue) (rest : List Item) (more : List Open) (x : Item) (r : Result (Unit {0}) Halt) → TookLine old (Ok x) mid → mid.limit ≡ old.limit
     → IsLeafJudged p round s last rest mid r new → IsJudged p round (a_tree (leaf last) s ∷ more) more rest old r new
 leaf_reaches p round s last old mid new rest more x (Ok done) took limit h = (
   h.0,
@@ -76,7 +76,7 @@ branch_reaches p round s county limit takes raised groups more old mid used x to
 }
 
 -- the judging of a branch's line stopped
-pub branch_halts : (p : Problem) (round : Round) (s : State) (county : ℕ) (limit : Option ℕ) (takes : Takes) (raised : Tree) (more : List Open) (old mid : FeedValue) (rest : List Item) (x : Item) (st : LineStop) (found : Stop) → TookLine old (Ok x) mid → mid.limit ≡ old.limit
+pub branch_halts : (p : Problem) (round : Round) (s : State) (county : ℕ) (limit : Option ℕ) (takes : Takes) (raised : Tree) (more : List Open) (old mid : FeedValue) (rest : List Item) (x : Item) (st : LineStop) (found : Halt) → TookLine old (Ok x) mid → mid.limit ≡ old.limit
     → NamesLimit round.language limit → old.course.items ≡ items_of_tree (branch county limit takes raised) ++ rest
     → Stops st (IsBranchFault round s county (limit_of round limit)) (NamesLimit round.language limit → ⊥)
     → (st ≡ line_stop.StepLimit → CanBranch round s county (limit_of round limit) × ((m : ℕ) → AreSoMany round.order (IsSetAt p round.order s county (limit_of round limit)) m → mid.limit ≤ mid.used + 2 * m))

@@ -10,12 +10,12 @@ use Rattle.certificate_text.specs.Trees.{items_of_head}
 use Rattle.certificate_checker.specs.Feeding.{FeedValue}
 use Rattle.certificate_checker.specs.Judging.{TookForm}
 use Rattle.certificate_checker.specs.Certificates.{AreTaken}
-use Rattle.certificate_checker.specs.declared.feed.Stop.{Stop}
-use Rattle.certificate_checker.specs.declared.feed.Stop.TheVariants as stop
+use Rattle.certificate_checker.specs.declared.feed.Halt.{Halt}
+use Rattle.certificate_checker.specs.declared.feed.Halt.TheVariants as stop
 use Rattle.certificate_checker.proofs.Taken.{form_taken, taken_stop}
 
 -- where the reading stopped, it is no matter what it should have given
-stops_alike : {X Y : Type 0} (Gave : X → Type 0) (Other : Y → Type 0) (xs rest : List Item) (old new : FeedValue) (s : Stop) → AreTaken Gave xs rest old (Err s) new → AreTaken Other xs rest old (Err s) new
+stops_alike : {X Y : Type 0} (Gave : X → Type 0) (Other : Y → Type 0) (xs rest : List Item) (old new : FeedValue) (s : Halt) → AreTaken Gave xs rest old (Err s) new → AreTaken Other xs rest old (Err s) new
 stops_alike Gave Other xs rest old new stop.Budget h = h
 stops_alike Gave Other xs rest old new stop.Refused h = h
 stops_alike Gave Other xs rest old new stop.Unspelled h = h
@@ -26,7 +26,7 @@ abbrev head : Language × Version → Item
 head h = item.Head h.0 h.1
 
 -- the reading stopped at the head
-pub head_stops : {X : Type 0} (Gave : X → Type 0) (language : Language) (window : Option Window) (rest : List Item) (old new : FeedValue) (s : Stop) → TookForm {Y = Language × Version} head (λ h. h) old (Err s) new
+pub head_stops : {X : Type 0} (Gave : X → Type 0) (language : Language) (window : Option Window) (rest : List Item) (old new : FeedValue) (s : Halt) → TookForm {Y = Language × Version} head (λ h. h) old (Err s) new
     → old.course.items ≡ items_of_head language window ++ rest → AreTaken Gave (items_of_head language window) rest old (Err s) new
 head_stops Gave language None rest old new s took items =
     stops_alike (λ h. head h ≡ head (language, One)) Gave (item.Head language One ∷ []) rest old new s (form_taken head (λ h. h) (language, One) rest old new (Err s) took items)

@@ -14,8 +14,8 @@ use Rattle.text_verdicts.proofs.Lengths.{head_length, target_length, certificate
 use Rattle.certificate_checker.specs.Feeding.{FeedValue, Fed}
 use Rattle.certificate_checker.specs.Judging.{TookForm}
 use Rattle.certificate_checker.specs.Certificates.{AreTaken, round_items, FirstLooks, IsRoundJudged, IsCertificateJudged}
-use Rattle.certificate_checker.specs.declared.feed.Stop.{Stop}
-use Rattle.certificate_checker.specs.declared.feed.Stop.TheVariants as stop
+use Rattle.certificate_checker.specs.declared.feed.Halt.{Halt}
+use Rattle.certificate_checker.specs.declared.feed.Halt.TheVariants as stop
 use Rattle.certificate_checker.proofs.Taken.{form_taken}
 
 -- the lines in front of a tree
@@ -35,7 +35,7 @@ module _ (p : Problem) (c : Certificate) (old : FeedValue) (none_used : old.used
   below_cost : ((n : ℕ) → FirstLooks p c.round c.tree n → old.limit ≤ length (items_of_certificate c) + 2 * n) → (cost : ℕ) → CertificateCosts p c.round c.tree cost → old.limit < cost
   below_cost enough cost costs = omega (arith, enough costs.0 costs.1, costs.2, certificate_length c)
 
-  pub unread : {X : Type 0} (Gave : X → Type 0) (rest : List Item) (new : FeedValue) (s : Stop) → AreTaken Gave (round_items c) rest old (Err s) new → IsCertificateJudged p c old.limit (Err s)
+  pub unread : {X : Type 0} (Gave : X → Type 0) (rest : List Item) (new : FeedValue) (s : Halt) → AreTaken Gave (round_items c) rest old (Err s) new → IsCertificateJudged p c old.limit (Err s)
   unread Gave rest new stop.Budget h = below_cost (λ n l. omega (arith, h, none_used, all_lines c))
   unread Gave rest new stop.Refused h = tt
   unread Gave rest new stop.Unspelled h = absurd h
@@ -43,10 +43,10 @@ module _ (p : Problem) (c : Certificate) (old : FeedValue) (none_used : old.used
   unread Gave rest new (stop.Fault fault line) h = absurd h
 
   module _ {X : Type 0} (Gave : X → Type 0) (mid : FeedValue) (r : X) (taken : AreTaken Gave (round_items c) (items_of_tree c.tree ++ item.End ∷ []) old (Ok r) mid) (fed : Fed old mid) where
-    pub round_off : (round : Round) → round ≡ c.round → (new : FeedValue) (s : Stop) → IsRoundJudged p round c.tree (item.End ∷ []) mid (Err s) new → IsCertificateJudged p c old.limit (Err s)
+    pub round_off : (round : Round) → round ≡ c.round → (new : FeedValue) (s : Halt) → IsRoundJudged p round c.tree (item.End ∷ []) mid (Err s) new → IsCertificateJudged p c old.limit (Err s)
     round_off round same new s h = by_stop s (subst (λ x. IsRoundJudged p x c.tree (item.End ∷ []) mid (Err s) new) same h)
       where
-        by_stop : (s : Stop) → IsRoundJudged p c.round c.tree (item.End ∷ []) mid (Err s) new → IsCertificateJudged p c old.limit (Err s)
+        by_stop : (s : Halt) → IsRoundJudged p c.round c.tree (item.End ∷ []) mid (Err s) new → IsCertificateJudged p c old.limit (Err s)
         by_stop (stop.Fault fault line) h = h
         by_stop stop.Budget h = below_cost (λ n l. omega (arith, h n l, fed.limit, taken.3, none_used, all_lines c, ap length taken.1, length-append (items_of_tree c.tree) (item.End ∷ [])))
         by_stop stop.Refused h = tt
@@ -54,10 +54,10 @@ module _ (p : Problem) (c : Certificate) (old : FeedValue) (none_used : old.used
         by_stop (stop.Text fault) h = absurd h
 
     module _ (round : Round) (same : round ≡ c.round) (last : FeedValue) (judged : IsRoundJudged p round c.tree (item.End ∷ []) mid (Ok tt) last) (later : Fed mid last) where
-      pub end_off : (new : FeedValue) (s : Stop) → TookForm {Y = Unit {0}} (λ (u : Unit {0}). item.End) (λ u. u) last (Err s) new → IsCertificateJudged p c old.limit (Err s)
+      pub end_off : (new : FeedValue) (s : Halt) → TookForm {Y = Unit {0}} (λ (u : Unit {0}). item.End) (λ u. u) last (Err s) new → IsCertificateJudged p c old.limit (Err s)
       end_off new s took = by_stop s (form_taken {Y = Unit {0}} (λ (u : Unit {0}). item.End) (λ u. u) tt [] last new (Err s) took (sym judged.0))
         where
-          by_stop : (s : Stop) → AreTaken (λ (u : Unit {0}). item.End ≡ item.End) (item.End ∷ []) [] last (Err s) new → IsCertificateJudged p c old.limit (Err s)
+          by_stop : (s : Halt) → AreTaken (λ (u : Unit {0}). item.End ≡ item.End) (item.End ∷ []) [] last (Err s) new → IsCertificateJudged p c old.limit (Err s)
           by_stop stop.Budget h =
               below_cost
               (λ n l.

@@ -21,7 +21,7 @@ use Rattle.bound_verdicts.specs.declared.bound.Allowed.TheVariants.{Loss, Even}
 use Rattle.certificate_checker.specs.Readable.{AreSpelled}
 use Rattle.certificate_checker.specs.Feeding.{FeedValue, Fed, IsFed, TookLine}
 use Rattle.certificate_checker.specs.Judging.{line_items, IsLineJudged, IsSmall, IsStopAt, IsJudgedAt}
-use Rattle.certificate_checker.specs.declared.feed.Stop.{Stop}
+use Rattle.certificate_checker.specs.declared.feed.Halt.{Halt}
 use Rattle.certificate_checker.proofs.Views.{allowance_same}
 
 pub allowed_small : (language : Language) (p : Problem) (s : State) (wanted : ℕ → ℕ) (i used : ℕ) (line : Allowance) (allowed : Allowed) → IsAllowed language p s wanted i used line allowed → IsSmall allowed
@@ -43,7 +43,7 @@ line_ok p round s wanted i used (b ∷ others) rest old mid new a allowed took i
     let v = same_line b a mid.course.items (line_items others ++ rest) e in
     (ap (λ c. c.items) same ∙ v.2, line, subst (λ x. IsAllowed round.language p s wanted i used x allowed) v.0 is, λ m l. looks m (subst (λ x. LineLooks x p round s i m) (sym v.0) l))
 
-pub line_stop_at : (p : Problem) (round : Round) (s : State) (wanted : ℕ → ℕ) (i used : ℕ) (lines : List Allowance) (rest : List Item) (old mid new : FeedValue) (a : DeclaredAllowance) (st : LineStop) (found : Stop)
+pub line_stop_at : (p : Problem) (round : Round) (s : State) (wanted : ℕ → ℕ) (i used : ℕ) (lines : List Allowance) (rest : List Item) (old mid new : FeedValue) (a : DeclaredAllowance) (st : LineStop) (found : Halt)
     → old.course ≡ first (Allows a) mid.course → old.course.items ≡ line_items lines ++ rest → AreSpelled lines → IsStopAt (old.line + 1) st found → Stops st (IsAllowanceFault round.language p s wanted i used (allowance_of a)) (IsSpelled a → ⊥)
     → (st ≡ line_stop.StepLimit → (m : ℕ) → LineLooks (allowance_of a) p round s i m → old.limit ≤ old.used + 1 + 2 * m) → IsLineJudged p round s wanted i used lines rest old (Err found) new
 line_stop_at p round s wanted i used [] rest old mid new a st found took items spelled at stops looks = tt
@@ -52,14 +52,14 @@ line_stop_at p round s wanted i used (b ∷ others) rest old mid new a st found 
     let v = same_line b a mid.course.items (line_items others ++ rest) e in
     by_stop st found at stops looks v.0 (subst IsSpelled v.1 spelled.0)
   where
-    by_stop : (st : LineStop) (found : Stop) → IsStopAt (old.line + 1) st found → Stops st (IsAllowanceFault round.language p s wanted i used (allowance_of a)) (IsSpelled a → ⊥)
+    by_stop : (st : LineStop) (found : Halt) → IsStopAt (old.line + 1) st found → Stops st (IsAllowanceFault round.language p s wanted i used (allowance_of a)) (IsSpelled a → ⊥)
         → (st ≡ line_stop.StepLimit → (m : ℕ) → LineLooks (allowance_of a) p round s i m → old.limit ≤ old.used + 1 + 2 * m) → allowance_of a ≡ b → IsSpelled a → IsLineJudged p round s wanted i used (b ∷ others) rest old (Err found) new
     by_stop (line_stop.Fault f) found at stops looks same is = subst (λ x. IsLineJudged p round s wanted i used (b ∷ others) rest old (Err x) new) (sym at.1) (line_fault f, at.2, subst (λ x. IsAllowanceFault round.language p s wanted i used x (line_fault f)) same stops, refl)
     by_stop line_stop.Unspelled found at stops looks same is = absurd (stops is)
     by_stop line_stop.StepLimit found at stops looks same is = subst (λ x. IsLineJudged p round s wanted i used (b ∷ others) rest old (Err x) new) (sym at) (λ m l. looks refl m (subst (λ x. LineLooks x p round s i m) (sym same) l))
     by_stop line_stop.Memory found at stops looks same is = subst (λ x. IsLineJudged p round s wanted i used (b ∷ others) rest old (Err x) new) (sym at) tt
 
-pub line_judged : (p : Problem) (round : Round) (s : State) (wanted : ℕ → ℕ) (i used : ℕ) (lines : List Allowance) (rest : List Item) (old mid new : FeedValue) (a : DeclaredAllowance) (judged : Result Allowed LineStop) (r : Result Allowed Stop)
+pub line_judged : (p : Problem) (round : Round) (s : State) (wanted : ℕ → ℕ) (i used : ℕ) (lines : List Allowance) (rest : List Item) (old mid new : FeedValue) (a : DeclaredAllowance) (judged : Result Allowed LineStop) (r : Result Allowed Halt)
     → TookLine old (Ok (Allows a)) mid → mid.limit ≡ old.limit → old.course.items ≡ line_items lines ++ rest → new.course ≡ mid.course → new.line ≡ mid.line → AreSpelled lines
     → MatchResult judged (IsAllowed round.language p s wanted i used (allowance_of a)) (λ st. Stops st (IsAllowanceFault round.language p s wanted i used (allowance_of a)) (IsSpelled a → ⊥))
     → IfOk judged (λ _. (m : ℕ) → LineLooks (allowance_of a) p round s i m → new.used ≤ mid.used + 2 * m)
@@ -73,7 +73,7 @@ line_judged p round s wanted i used lines rest old mid new a (Err st) (Err found
 line_judged p round s wanted i used lines rest old mid new a (Ok x) (Err found) took limit items same line spelled is looks stops at = absurd at
 line_judged p round s wanted i used lines rest old mid new a (Err st) (Ok y) took limit items same line spelled is looks stops at = absurd at
 
-pub judged_small : (language : Language) (p : Problem) (s : State) (wanted : ℕ → ℕ) (i used line : ℕ) (a : Allowance) (judged : Result Allowed LineStop) (r : Result Allowed Stop) (Other : LineStop → Type 0)
+pub judged_small : (language : Language) (p : Problem) (s : State) (wanted : ℕ → ℕ) (i used line : ℕ) (a : Allowance) (judged : Result Allowed LineStop) (r : Result Allowed Halt) (Other : LineStop → Type 0)
     → MatchResult judged (IsAllowed language p s wanted i used a) Other → IsJudgedAt line judged r → IfOk r IsSmall
 judged_small language p s wanted i used line a (Ok x) (Ok y) Other is at = subst IsSmall (sym at) (allowed_small language p s wanted i used a x is)
 judged_small language p s wanted i used line a (Ok x) (Err found) Other is at = tt
@@ -81,7 +81,7 @@ judged_small language p s wanted i used line a (Err st) (Ok y) Other is at = abs
 judged_small language p s wanted i used line a (Err st) (Err found) Other is at = tt
 
 -- a call that only judges keeps what was read
-pub kept_fed : {X : Type 0} (old new : FeedValue) (line : ℕ) (judged : Result X LineStop) (r : Result X Stop) → Fed old new → IsJudgedAt line judged r → IsFed old r new
+pub kept_fed : {X : Type 0} (old new : FeedValue) (line : ℕ) (judged : Result X LineStop) (r : Result X Halt) → Fed old new → IsJudgedAt line judged r → IsFed old r new
 kept_fed old new line (Ok x) (Ok y) f at = f
 kept_fed {X = X} old new line (Err (line_stop.Fault k)) (Err found) f at = subst (λ z. IsFed {X = X} old (Err z) new) (sym at.1) f
 kept_fed {X = X} old new line (Err line_stop.Unspelled) (Err found) f at = subst (λ z. IsFed {X = X} old (Err z) new) (sym at) f

@@ -1,13 +1,13 @@
 -- Steps from one place of the text to a later one.
-use Rattle.std.proofs.Common.{◌≡◌, ◌≤◌, List, length, Result, Ok, Err, refl, sym, ◌∙◌, arith}
+use Rattle.std.proofs.Common.{◌≤◌, List, length, Result, Ok, Err, refl, sym, ◌∙◌, arith}
 use Rattle.grouping_laws.specs.Problem.{Problem}
 use Rattle.proof_trees.specs.Round.{Round}
 use Rattle.certificate_lines.specs.declared.item.Item.{Item}
 use Rattle.verdicts.specs.Work.{Open}
 use Rattle.certificate_checker.specs.Feeding.{FeedValue, CountsSteps, Fed, IsFed, Reaches, Halts}
 use Rattle.certificate_checker.specs.declared.feed.Feed.{Feed}
-use Rattle.certificate_checker.specs.declared.feed.Stop.{Stop}
-use Rattle.certificate_checker.specs.declared.feed.Stop.TheVariants as stop
+use Rattle.certificate_checker.specs.declared.feed.Halt.{Halt}
+use Rattle.certificate_checker.specs.declared.feed.Halt.TheVariants as stop
 
 pub fed_twice : (a b c : FeedValue) → Fed a b → Fed b c → Fed a c
 fed_twice a b c h k = record {
@@ -32,7 +32,7 @@ pub reaches_here : (p : Problem) (round : Round) (a : FeedValue) (w : List Open)
 reaches_here p round a w = record { ends = λ end e. e; looks = λ n l. (n, l, omega arith) }
 
 -- what was read from a later place on was read from the first
-pub fed_through : {X : Type 0} (a b c : FeedValue) (r : Result X Stop) → Fed a b → IsFed b r c → IsFed a r c
+pub fed_through : {X : Type 0} (a b c : FeedValue) (r : Result X Halt) → Fed a b → IsFed b r c → IsFed a r c
 fed_through a b c (Ok x) h k = fed_twice a b c h k
 fed_through a b c (Err (stop.Fault fault line)) h k = fed_twice a b c h k
 fed_through a b c (Err stop.Unspelled) h k = fed_twice a b c h k
@@ -41,7 +41,7 @@ fed_through a b c (Err (stop.Text fault)) h k = sym h.fault ∙ k
 fed_through a b c (Err stop.Refused) h k = tt
 
 -- the same where the reading stopped, whatever it should have given
-pub fed_off : (X Y : Type 0) (a b c : FeedValue) (st : Stop) → Fed a b → IsFed {X = X} b (Err st) c → IsFed {X = Y} a (Err st) c
+pub fed_off : (X Y : Type 0) (a b c : FeedValue) (st : Halt) → Fed a b → IsFed {X = X} b (Err st) c → IsFed {X = Y} a (Err st) c
 fed_off X Y a b c (stop.Fault fault line) h k = fed_twice a b c h k
 fed_off X Y a b c stop.Unspelled h k = fed_twice a b c h k
 fed_off X Y a b c stop.Budget h k = fed_twice a b c h k
@@ -64,7 +64,7 @@ reaches_twice p round a b c u v w h k = record {
       (y.0, y.1, omega (arith, x.2, y.2));
 }
 
-pub halts_back : (p : Problem) (round : Round) (a b : FeedValue) (u v : List Open) (rest more : List Item) (s : Stop) → Reaches p round a b u v → Fed a b → length rest ≤ length more → Halts p round b v more s → Halts p round a u rest s
+pub halts_back : (p : Problem) (round : Round) (a b : FeedValue) (u v : List Open) (rest more : List Item) (s : Halt) → Reaches p round a b u v → Fed a b → length rest ≤ length more → Halts p round b v more s → Halts p round a u rest s
 halts_back p round a b u v rest more (stop.Fault fault line) r f few h = (h.0, h.1, r.ends _ h.2)
 halts_back p round a b u v rest more (stop.Text fault) r f few h = h
 halts_back p round a b u v rest more stop.Unspelled r f few h = h

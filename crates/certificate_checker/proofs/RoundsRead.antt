@@ -7,8 +7,8 @@ use Rattle.certificate_lines.specs.declared.item.Item.TheVariants as item
 use Rattle.certificate_checker.specs.Feeding.{FeedValue}
 use Rattle.certificate_checker.specs.Judging.{TookForm}
 use Rattle.certificate_checker.specs.Certificates.{AreTaken}
-use Rattle.certificate_checker.specs.declared.feed.Stop.{Stop}
-use Rattle.certificate_checker.specs.declared.feed.Stop.TheVariants as stop
+use Rattle.certificate_checker.specs.declared.feed.Halt.{Halt}
+use Rattle.certificate_checker.specs.declared.feed.Halt.TheVariants as stop
 use Rattle.certificate_checker.proofs.Taken.{form_taken}
 
 -- of these groups some were read, and the others are to come with the rest behind them
@@ -43,7 +43,7 @@ group_on groups rest read g old now new left less took =
       used = omega (arith, t.3, left.used, length-append read (g ∷ []));
     })
 
-pub group_stops : {X : Type 0} (Gave : X → Type 0) (groups : List Group) (rest : List Item) (read : List Group) (old now new : FeedValue) (s : Stop) → GroupsLeft groups rest read old now → length read < length groups → now.limit ≡ old.limit
+pub group_stops : {X : Type 0} (Gave : X → Type 0) (groups : List Group) (rest : List Item) (read : List Group) (old now new : FeedValue) (s : Halt) → GroupsLeft groups rest read old now → length read < length groups → now.limit ≡ old.limit
     → TookForm {Y = Group} item.Grouped (λ x. x) now (Err s) new → AreTaken Gave (map item.Grouped groups) rest old (Err s) new
 group_stops Gave groups rest read old now new s left less limit took =
     one_later (AreTaken Gave (map item.Grouped groups) rest old (Err s) new) groups read left.later left.all less
@@ -51,7 +51,7 @@ group_stops Gave groups rest read old now new s left less limit took =
     let e : now.course.items ≡ item.Grouped first ∷ (map item.Grouped others ++ rest) = left.items ∙ ap (λ l. map item.Grouped l ++ rest) is in
     by_stop (item.Grouped first) (map item.Grouped others ++ rest) s (form_taken {Y = Group} item.Grouped (λ x. x) first (map item.Grouped others ++ rest) now new (Err s) took e))
   where
-    by_stop : (one : Item) (items : List Item) (s : Stop) → AreTaken (λ (g : Group). item.Grouped g ≡ one) (one ∷ []) items now (Err s) new → AreTaken Gave (map item.Grouped groups) rest old (Err s) new
+    by_stop : (one : Item) (items : List Item) (s : Halt) → AreTaken (λ (g : Group). item.Grouped g ≡ one) (one ∷ []) items now (Err s) new → AreTaken Gave (map item.Grouped groups) rest old (Err s) new
     by_stop one items stop.Budget h = omega (arith, h, left.used, limit, less, length-map groups item.Grouped)
     by_stop one items stop.Refused h = tt
     by_stop one items stop.Unspelled h = absurd h

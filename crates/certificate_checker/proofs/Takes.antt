@@ -20,14 +20,14 @@ use Rattle.certificate_checker.specs.Readable.{IsReadable, AreReadable}
 use Rattle.certificate_checker.specs.Feeding.{FeedValue, Fed, IsFed, TookLine, Reaches, Halts, items_to_mark}
 use Rattle.certificate_checker.specs.Judging.{IsJudged, TookForm, IsTakeStop}
 use Rattle.certificate_checker.specs.declared.fault.CheckFault.TheVariants.{MissingGroup}
-use Rattle.certificate_checker.specs.declared.feed.Stop.{Stop}
-use Rattle.certificate_checker.specs.declared.feed.Stop.TheVariants as stop
+use Rattle.certificate_checker.specs.declared.feed.Halt.{Halt}
+use Rattle.certificate_checker.specs.declared.feed.Halt.TheVariants as stop
 use Rattle.certificate_checker.proofs.Views.{view_take, view_mark, takes_begin}
 use Rattle.certificate_checker.proofs.Reaching.{reaches_twice, halts_back}
 use Rattle.certificate_checker.proofs.Branching.{take_reaches, mark_reaches}
 
 -- no line of the form was read, where the next one is of it
-pub form_halts : (X Y : Type 0) (wrap : X → Item) (view : Y → X) (p : Problem) (round : Round) (work : List Open) (rest : List Item) (cur mid : FeedValue) (st : Stop)
+pub form_halts : (X Y : Type 0) (wrap : X → Item) (view : Y → X) (p : Problem) (round : Round) (work : List Open) (rest : List Item) (cur mid : FeedValue) (st : Halt)
     → ((P : Type 0) → ((x : X) (xs : List Item) → cur.course.items ≡ wrap x ∷ xs → P) → P)
     → length rest ≤ length cur.course.items
     → TookForm wrap view cur (Err st) mid → Halts p round cur work rest st
@@ -55,7 +55,7 @@ TakesLeft language p round s groups rest more old cur before =
     × Reaches p round old cur before (some_takes others s groups ∷ more)
 
 -- the tree that is next is judged at this state
-abbrev pub TreeJudged : {X : Type 0} → Language → Problem → Round → State → FeedValue → Result X Stop → FeedValue → Type 0
+abbrev pub TreeJudged : {X : Type 0} → Language → Problem → Round → State → FeedValue → Result X Halt → FeedValue → Type 0
 TreeJudged language p round s old r new =
     (tree : Tree) (rest : List Item) (more : List Open)
     → IsReadable language tree
@@ -63,7 +63,7 @@ TreeJudged language p round s old r new =
     → IsJudged p round (a_tree tree s ∷ more) more rest old r new
 
 -- no line of takes was read
-pub takes_unread : (language : Language) (p : Problem) (round : Round) (s : State) (groups : List (List ℕ)) (rest : List Item) (more : List Open) (old cur mid : FeedValue) (before : List Open) (st : Stop)
+pub takes_unread : (language : Language) (p : Problem) (round : Round) (s : State) (groups : List (List ℕ)) (rest : List Item) (more : List Open) (old cur mid : FeedValue) (before : List Open) (st : Halt)
     → TakesLeft language p round s groups rest more old cur before → Fed old cur → TookForm {Y = Option (List ℕ)} taken (λ o. o) cur (Err st) mid → Halts p round old before rest st
 takes_unread language p round s groups rest more old cur mid before st h fed took =
     let few = rest_few (items_to_mark h.0) rest cur.course.items h.2 in
@@ -81,7 +81,7 @@ take_first language p round s codes groups rest more old cur mid before h took =
     (v.0, v.1, subst (AreReadable language) v.2 h.1, v.3, subst (λ t. Reaches p round old cur before (some_takes t s groups ∷ more)) v.2 h.3)
 
 -- the judging of the take stopped
-pub take_stops : (language : Language) (p : Problem) (round : Round) (s : State) (codes : List ℕ) (groups : List (List ℕ)) (rest : List Item) (more : List Open) (old cur mid : FeedValue) (before : List Open) (st : Stop)
+pub take_stops : (language : Language) (p : Problem) (round : Round) (s : State) (codes : List ℕ) (groups : List (List ℕ)) (rest : List Item) (more : List Open) (old cur mid : FeedValue) (before : List Open) (st : Halt)
     → TakesLeft language p round s groups rest more old cur before → TookLine cur (Ok (item.Takes codes)) mid → IsTakeStop groups codes mid.line st → Halts p round old before rest st
 take_stops language p round s codes groups rest more old cur mid before (stop.Fault f l) h took is =
     let v = take_first language p round s codes groups rest more old cur mid before h took in
@@ -92,7 +92,7 @@ take_stops language p round s codes groups rest more old cur mid before stop.Bud
 take_stops language p round s codes groups rest more old cur mid before stop.Refused h took is = tt
 
 -- the judging of a take stops where its line was read
-pub take_stop_fed : (X : Type 0) (groups : List (List ℕ)) (codes : List ℕ) (line : ℕ) (old mid : FeedValue) (st : Stop) → Fed old mid → IsTakeStop groups codes line st → IsFed {X = X} old (Err st) mid
+pub take_stop_fed : (X : Type 0) (groups : List (List ℕ)) (codes : List ℕ) (line : ℕ) (old mid : FeedValue) (st : Halt) → Fed old mid → IsTakeStop groups codes line st → IsFed {X = X} old (Err st) mid
 take_stop_fed X groups codes line old mid (stop.Fault f l) fed is = fed
 take_stop_fed X groups codes line old mid (stop.Text f) fed is = absurd is
 take_stop_fed X groups codes line old mid stop.Unspelled fed is = fed
@@ -117,7 +117,7 @@ take_on language p round s closed codes groups rest more old cur mid new before 
     )
 
 -- the judging of the tree of the take stopped
-pub take_off : (language : Language) (p : Problem) (round : Round) (s closed : State) (codes : List ℕ) (groups : List (List ℕ)) (rest : List Item) (more : List Open) (old cur mid new : FeedValue) (before : List Open) (st : Stop)
+pub take_off : (language : Language) (p : Problem) (round : Round) (s closed : State) (codes : List ℕ) (groups : List (List ℕ)) (rest : List Item) (more : List Open) (old cur mid new : FeedValue) (before : List Open) (st : Halt)
     → TakesLeft language p round s groups rest more old cur before → Fed old mid → TookLine cur (Ok (item.Takes codes)) mid → IsNext groups codes → closed ≡ close codes s
     → TreeJudged {X = Unit {0}} language p round closed mid (Err st) new → Halts p round old before rest st
 take_off language p round s closed codes groups rest more old cur mid new before st h fed took next same judged =

@@ -16,8 +16,8 @@ use Rattle.verdicts.specs.Fault.{LimitTooSmall, TargetFault}
 use Rattle.verdicts.specs.Verdict.{IsLimitFault, IsTargetFault}
 use Rattle.certificate_checker.specs.CheckFaults.{fault_of}
 use Rattle.certificate_checker.specs.Certificates.{StopsAt, IsTargetStop}
-use Rattle.certificate_checker.specs.declared.feed.Stop.{Stop}
-use Rattle.certificate_checker.specs.declared.feed.Stop.TheVariants as stop
+use Rattle.certificate_checker.specs.declared.feed.Halt.{Halt}
+use Rattle.certificate_checker.specs.declared.feed.Halt.TheVariants as stop
 
 -- a group above the limit is the first, or stands behind it
 larger_first : (limit : ℕ) (g : Group) (gs : List Group) (b : Bool) → nat_lt limit (length g.codes) ≡ b → (b || list_any (λ s. nat_lt limit (length s.codes)) gs) ≡ true
@@ -32,7 +32,7 @@ larger limit (g ∷ gs) e = larger_first limit g gs (nat_lt limit (length g.code
 pub limit_fault : (limit : ℕ) (target : Option GroupingHeld) (g : GroupingHeld) → target ≡ Some g → list_any (λ s. nat_lt limit (length s.codes)) g.groups.items ≡ true → IsLimitFault limit (target_of target) LimitTooSmall
 limit_fault limit target g is any = subst (λ t. IsLimitFault limit (target_of t) LimitTooSmall) (sym is) (refl, larger limit g.groups.items any)
 
-pub target_stopped : (p : Problem) (target : Option GroupingHeld) (g : GroupingHeld) → target ≡ Some g → (fault : GroupingFault) → IsFault p g.groups.items fault → (line : ℕ) (s : Stop) → IsTargetStop fault line s → StopsAt (IsTargetFault p (target_of target)) line s
+pub target_stopped : (p : Problem) (target : Option GroupingHeld) (g : GroupingHeld) → target ≡ Some g → (fault : GroupingFault) → IsFault p g.groups.items fault → (line : ℕ) (s : Halt) → IsTargetStop fault line s → StopsAt (IsTargetFault p (target_of target)) line s
 target_stopped p target g is fault has line (stop.Fault named found) h =
     (TargetFault fault, ap fault_of h.0, subst (λ t. IsTargetFault p (target_of t) (TargetFault fault)) (sym is) (fault, refl, has, h.2), h.1)
 target_stopped p target g is fault has line stop.Refused h = tt

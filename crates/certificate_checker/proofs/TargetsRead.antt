@@ -1,5 +1,5 @@
 -- The target of a certificate, and its round, read one line after the other.
-use Rattle.std.proofs.Common.{◌≡◌, ℕ, List, [], ◌∷◌, ◌++◌, length, map, Option, Some, None, Result, Ok, Err, sym, ◌∙◌, ap}
+use Rattle.std.proofs.Common.{◌≡◌, ℕ, List, [], ◌∷◌, ◌++◌, length, map, Option, Some, None, Result, Ok, sym, ◌∙◌, ap}
 use Rattle.county_codes.specs.declared.group.Group.{Group}
 use Rattle.county_codes.specs.declared.window.Window.{Window}
 use Rattle.certificate_languages.specs.declared.language.Language.{Language}
@@ -11,11 +11,11 @@ use Rattle.certificate_text.specs.Trees.{Certificate, items_of_head, items_of_ta
 use Rattle.certificate_checker.specs.Feeding.{FeedValue}
 use Rattle.certificate_checker.specs.Judging.{TookForm}
 use Rattle.certificate_checker.specs.Certificates.{AreTaken, round_items}
-use Rattle.certificate_checker.specs.declared.feed.Stop.{Stop}
+use Rattle.certificate_checker.specs.declared.feed.Halt.{Halt}
 use Rattle.certificate_checker.proofs.Taken.{form_taken, taken_then, gave_more}
 
 -- the first line of a target was read, and then its groups
-module _ {V : Type 0} (view : V → List Group) (count : ℕ) (old mid new : FeedValue) (took : TookForm {Y = Option ℕ} item.Target (λ n. n) old (Ok (Some count)) mid) (limit : mid.limit ≡ old.limit) (r : Result V Stop) where
+module _ {V : Type 0} (view : V → List Group) (count : ℕ) (old mid new : FeedValue) (took : TookForm {Y = Option ℕ} item.Target (λ n. n) old (Ok (Some count)) mid) (limit : mid.limit ≡ old.limit) (r : Result V Halt) where
   pub target_then : ((groups : List Group) (rest : List Item) → length groups ≡ count → mid.course.items ≡ map item.Grouped groups ++ rest → AreTaken (λ v. view v ≡ groups) (map item.Grouped groups) rest mid r new)
       → (target : Option Grouping) (rest : List Item) → old.course.items ≡ items_of_target target ++ rest → AreTaken (λ v. Some (view v) ≡ target) (items_of_target target) rest old r new
   target_then h None rest items =
@@ -60,7 +60,7 @@ module _ (c : Certificate) (old first second third new : FeedValue) (head : Lang
   pub target_next : third.course.items ≡ items_of_target c.round.target ++ tree_behind c
   target_next = limited.1
 
-  pub round_then : {T : Type 0} (Gave : T → Type 0) (r : Result T Stop) → AreTaken Gave (items_of_target c.round.target) (tree_behind c) third r new → AreTaken Gave (round_items c) (tree_behind c) old r new
+  pub round_then : {T : Type 0} (Gave : T → Type 0) (r : Result T Halt) → AreTaken Gave (items_of_target c.round.target) (tree_behind c) third r new → AreTaken Gave (round_items c) (tree_behind c) old r new
   round_then Gave r t =
       taken_then (IsHeadOf c) Gave (items_of_head c.round.language c.round.window) (item.Order c.round.order ∷ item.Limit c.round.limit ∷ items_of_target c.round.target)
       (item.Order c.round.order ∷ item.Limit c.round.limit ∷ (items_of_target c.round.target ++ tree_behind c)) (tree_behind c) old first new head r read same.0

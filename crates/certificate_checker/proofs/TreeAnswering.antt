@@ -28,8 +28,8 @@ use Rattle.certificate_checker.specs.Readable.{IsReadable}
 use Rattle.certificate_checker.specs.Feeding.{FeedValue}
 use Rattle.certificate_checker.specs.Judging.{IsJudged}
 use Rattle.certificate_checker.specs.TreeAnswered.{IsSpelledTree, IsTreeAnswer, IsRightOfTrees, IsSaid}
-use Rattle.certificate_checker.specs.declared.feed.Stop.{Stop}
-use Rattle.certificate_checker.specs.declared.feed.Stop.TheVariants as stop
+use Rattle.certificate_checker.specs.declared.feed.Halt.{Halt}
+use Rattle.certificate_checker.specs.declared.feed.Halt.TheVariants as stop
 use Rattle.certificate_checker.specs.declared.verdict.TreeVerdict.{TreeVerdict}
 use Rattle.certificate_checker.specs.declared.verdict.TreeVerdict.TheVariants.{Proof, Fault as Refused, Budget}
 use Rattle.certificate_checker.proofs.ReadableTexts.{tree_readable}
@@ -53,16 +53,16 @@ module _ (p : Problem) (round : Round) (s : State) (tree : Tree) (old new : Feed
   items : old.course.items ≡ items_of_tree tree
   items = ap (λ c. c.items) course ∙ (spell.spelled round.language (length round.order) tree numbers none).1
 
-  abbrev Judges : Result (Unit {0}) Stop → Type 0
+  abbrev Judges : Result (Unit {0}) Halt → Type 0
   Judges judged = (t : Tree) (rest : List Item) → IsReadable round.language t → old.course.items ≡ items_of_tree t ++ rest → IsJudged p round (a_tree t s ∷ []) [] rest old judged new
 
-  judges : (judged : Result (Unit {0}) Stop) → Judges judged → IsJudged p round (a_tree tree s ∷ []) [] [] old judged new
+  judges : (judged : Result (Unit {0}) Halt) → Judges judged → IsJudged p round (a_tree tree s ∷ []) [] [] old judged new
   judges judged h = h tree [] (spelled_readable round.language (length round.order) (lines_of_tree tree) tree spelled) (items ∙ sym (append-nil (items_of_tree tree)))
 
   first : old.line + 1 ≡ 1
   first = omega (arith, line)
 
-  pub tree_said : (judged : Result (Unit {0}) Stop) (said : Result TreeVerdict AllocError) → Judges judged → IsSaid judged said → IfOk said (IsTreeAnswer p round s tree old.limit)
+  pub tree_said : (judged : Result (Unit {0}) Halt) (said : Result TreeVerdict AllocError) → Judges judged → IsSaid judged said → IfOk said (IsTreeAnswer p round s tree old.limit)
   tree_said (Ok done) said h is =
       let j = judges (Ok done) h in
       subst (λ r. IfOk r (IsTreeAnswer p round s tree old.limit)) (sym is)

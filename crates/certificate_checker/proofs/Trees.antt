@@ -21,9 +21,9 @@ use Rattle.line_verdicts.specs.declared.fault.LineStop.{LineStop}
 use Rattle.line_verdicts.specs.declared.fault.LineStop.TheVariants as line_stop
 use Rattle.certificate_checker.specs.Readable.{IsReadable, AreReadable, AreSpelled}
 use Rattle.certificate_checker.specs.Feeding.{FeedValue, Fed, IsFed, TookLine, Reaches, Halts, items_to_mark}
-use Rattle.certificate_checker.specs.Judging.{IsJudged, IsLeafJudged, IsJudgedAt, IsListed, IsRefused, TookForm, line_items}
-use Rattle.certificate_checker.specs.declared.feed.Stop.{Stop}
-use Rattle.certificate_checker.specs.declared.feed.Stop.TheVariants as stop
+use Rattle.certificate_checker.specs.Judging.{IsJudged, IsLeafJudged, IsJudgedAt, AreTakesListed, IsRefused, TookForm, line_items}
+use Rattle.certificate_checker.specs.declared.feed.Halt.{Halt}
+use Rattle.certificate_checker.specs.declared.feed.Halt.TheVariants as stop
 use Rattle.certificate_checker.proofs.Views.{view_branch, view_stuck, view_seats, view_bound, tree_opens}
 use Rattle.certificate_checker.proofs.Reaching.{reaches_twice, halts_back}
 use Rattle.certificate_checker.proofs.Branching.{leaf_reaches, branch_reaches, branch_halts}
@@ -38,7 +38,7 @@ TreeLeft language p round s rest more old cur before =
     × Reaches p round old cur before (a_tree raised s ∷ more)
 
 -- the takes that are next are judged against these groups
-abbrev pub TakesJudged : {X : Type 0} → Language → Problem → Round → State → List (List ℕ) → FeedValue → Result X Stop → FeedValue → Type 0
+abbrev pub TakesJudged : {X : Type 0} → Language → Problem → Round → State → List (List ℕ) → FeedValue → Result X Halt → FeedValue → Type 0
 TakesJudged language p round s groups old r new =
     (takes : Takes) (rest : List Item) (more : List Open)
     → AreReadable language takes
@@ -46,27 +46,27 @@ TakesJudged language p round s groups old r new =
     → IsJudged p round (some_takes takes s groups ∷ more) more rest old r new
 
 -- what was judged further on was judged from the start
-pub judged_back : {X : Type 0} (p : Problem) (round : Round) (old cur new : FeedValue) (before mid after : List Open) (rest : List Item) (r : Result X Stop)
+pub judged_back : {X : Type 0} (p : Problem) (round : Round) (old cur new : FeedValue) (before mid after : List Open) (rest : List Item) (r : Result X Halt)
     → Reaches p round old cur before mid → Fed old cur → IsJudged p round mid after rest cur r new → IsJudged p round before after rest old r new
 judged_back p round old cur new before mid after rest (Ok done) reaches fed h = (h.0, reaches_twice p round old cur new before mid after reaches h.1)
 judged_back p round old cur new before mid after rest (Err st) reaches fed h = halts_back p round old cur before mid rest rest st reaches fed (omega (arith)) h
 
 -- no line that opens a tree was read
-pub tree_unread : (language : Language) (p : Problem) (round : Round) (s : State) (rest : List Item) (more : List Open) (old cur mid : FeedValue) (before : List Open) (st : Stop)
+pub tree_unread : (language : Language) (p : Problem) (round : Round) (s : State) (rest : List Item) (more : List Open) (old cur mid : FeedValue) (before : List Open) (st : Halt)
     → TreeLeft language p round s rest more old cur before → Fed old cur → TookForm {Y = Opening} item.Opens (λ o. o) cur (Err st) mid → Halts p round old before rest st
 tree_unread language p round s rest more old cur mid before st h fed took =
     halts_back p round old cur before (a_tree h.0 s ∷ more) rest rest st h.3 fed (omega (arith))
     (form_halts Opening Opening item.Opens (λ o. o) p round (a_tree h.0 s ∷ more) rest cur mid st (λ P k. tree_opens P h.0 rest (λ o xs e. k o xs (h.2 ∙ e))) (rest_few (items_of_tree h.0) rest cur.course.items h.2) took)
 
 -- a leaf is left
-pub leaf_left : (language : Language) (p : Problem) (round : Round) (s : State) (last : Leaf) (rest : List Item) (more : List Open) (old cur mid new : FeedValue) (before : List Open) (x : Item) (r : Result (Unit {0}) Stop)
+pub leaf_left : (language : Language) (p : Problem) (round : Round) (s : State) (last : Leaf) (rest : List Item) (more : List Open) (old cur mid new : FeedValue) (before : List Open) (x : Item) (r : Result (Unit {0}) Halt)
     → (h : TreeLeft language p round s rest more old cur before) → h.0 ≡ leaf last → Fed old cur → TookLine cur (Ok x) mid → mid.limit ≡ cur.limit
     → IsLeafJudged p round s last rest mid r new → IsJudged p round before more rest old r new
 leaf_left language p round s last rest more old cur mid new before x r h same fed took limit judged =
     judged_back p round old cur new before (a_tree (leaf last) s ∷ more) more rest r (subst (λ t. Reaches p round old cur before (a_tree t s ∷ more)) same h.3) fed
     (leaf_reaches p round s last cur mid new rest more x r took limit judged)
 
-pub stuck_left : (language : Language) (p : Problem) (round : Round) (s : State) (county : ℕ) (rest : List Item) (more : List Open) (old cur mid : FeedValue) (before : List Open) (r : Result (Unit {0}) Stop)
+pub stuck_left : (language : Language) (p : Problem) (round : Round) (s : State) (county : ℕ) (rest : List Item) (more : List Open) (old cur mid : FeedValue) (before : List Open) (r : Result (Unit {0}) Halt)
     → TreeLeft language p round s rest more old cur before → Fed old cur → TookLine cur (Ok (item.Opens (opening.Stuck county))) mid → mid.limit ≡ cur.limit
     → IsLeafJudged p round s (stuck county) mid.course.items mid r mid → IsJudged p round before more rest old r mid
 stuck_left language p round s county rest more old cur mid before r h fed took limit judged =
@@ -74,7 +74,7 @@ stuck_left language p round s county rest more old cur mid before r h fed took l
     leaf_left language p round s (stuck county) rest more old cur mid mid before (item.Opens (opening.Stuck county)) r h v.0 fed took limit
     (subst (λ z. IsLeafJudged p round s (stuck county) z mid r mid) v.1 judged)
 
-pub seats_left : (language : Language) (p : Problem) (round : Round) (s : State) (rest : List Item) (more : List Open) (old cur mid : FeedValue) (before : List Open) (r : Result (Unit {0}) Stop)
+pub seats_left : (language : Language) (p : Problem) (round : Round) (s : State) (rest : List Item) (more : List Open) (old cur mid : FeedValue) (before : List Open) (r : Result (Unit {0}) Halt)
     → TreeLeft language p round s rest more old cur before → Fed old cur → TookLine cur (Ok (item.Opens opening.Seats)) mid → mid.limit ≡ cur.limit
     → IsLeafJudged p round s seats mid.course.items mid r mid → IsJudged p round before more rest old r mid
 seats_left language p round s rest more old cur mid before r h fed took limit judged =
@@ -82,7 +82,7 @@ seats_left language p round s rest more old cur mid before r h fed took limit ju
     leaf_left language p round s seats rest more old cur mid mid before (item.Opens opening.Seats) r h v.0 fed took limit
     (subst (λ z. IsLeafJudged p round s seats z mid r mid) v.1 judged)
 
-pub bound_left : (language : Language) (p : Problem) (round : Round) (s : State) (count : ℕ) (rest : List Item) (more : List Open) (old cur mid new : FeedValue) (before : List Open) (r : Result (Unit {0}) Stop)
+pub bound_left : (language : Language) (p : Problem) (round : Round) (s : State) (count : ℕ) (rest : List Item) (more : List Open) (old cur mid new : FeedValue) (before : List Open) (r : Result (Unit {0}) Halt)
     → TreeLeft language p round s rest more old cur before → Fed old cur → TookLine cur (Ok (item.Opens (opening.Bound count))) mid → mid.limit ≡ cur.limit
     → ((lines : List Allowance) (rest : List Item) → AreSpelled lines → length lines ≡ count → mid.course.items ≡ line_items lines ++ rest → IsLeafJudged p round s (bound lines) rest mid r new)
     → IsJudged p round before more rest old r new
@@ -101,7 +101,7 @@ branch_first language p round s county limit rest more old cur mid before h took
     (v.0, v.1, subst (IsReadable language) v.2 h.1, v.3, subst (λ t. cur.course.items ≡ items_of_tree t ++ rest) v.2 h.2, subst (λ t. Reaches p round old cur before (a_tree t s ∷ more)) v.2 h.3)
 
 -- the judging of the branch stopped
-pub branch_stops : (p : Problem) (round : Round) (s : State) (county : ℕ) (limit : Option ℕ) (rest : List Item) (more : List Open) (old cur mid : FeedValue) (before : List Open) (st : Stop)
+pub branch_stops : (p : Problem) (round : Round) (s : State) (county : ℕ) (limit : Option ℕ) (rest : List Item) (more : List Open) (old cur mid : FeedValue) (before : List Open) (st : Halt)
     → TreeLeft round.language p round s rest more old cur before → Fed old cur → TookLine cur (Ok (item.Opens (opening.Branch county limit))) mid → mid.limit ≡ cur.limit
     → IsRefused p round s county limit mid st → Halts p round old before rest st
 branch_stops p round s county limit rest more old cur mid before st h fed took same refused =
@@ -112,7 +112,7 @@ branch_stops p round s county limit rest more old cur mid before st h fed took s
 -- the takes of the branch were judged, and its county was raised
 pub branch_on : {X : Type 0} (p : Problem) (round : Round) (s next : State) (county : ℕ) (limit : Option ℕ) (groups : List (List ℕ)) (rest : List Item) (more : List Open) (old cur mid listed new : FeedValue) (before : List Open) (done : X)
     → TreeLeft round.language p round s rest more old cur before → TookLine cur (Ok (item.Opens (opening.Branch county limit))) mid
-    → IsListed p round s county limit groups mid listed → listed.course ≡ mid.course → next ≡ raise county (limit_of round limit) s
+    → AreTakesListed p round s county limit groups mid listed → listed.course ≡ mid.course → next ≡ raise county (limit_of round limit) s
     → TakesJudged round.language p round s groups listed (Ok done) new → TreeLeft round.language p round next rest more old new before
 branch_on p round s next county limit groups rest more old cur mid listed new before done h took is same value judged =
     let v = branch_first round.language p round s county limit rest more old cur mid before h took in
@@ -124,9 +124,9 @@ branch_on p round s next county limit groups rest more old cur mid listed new be
     (v.1, v.2.2, sym j.0, subst (λ z. Reaches p round old new before (a_tree v.1 z ∷ more)) (sym value) far)
 
 -- the judging of the takes of the branch stopped
-pub branch_off : (p : Problem) (round : Round) (s : State) (county : ℕ) (limit : Option ℕ) (groups : List (List ℕ)) (rest : List Item) (more : List Open) (old cur mid listed new : FeedValue) (before : List Open) (st : Stop)
+pub branch_off : (p : Problem) (round : Round) (s : State) (county : ℕ) (limit : Option ℕ) (groups : List (List ℕ)) (rest : List Item) (more : List Open) (old cur mid listed new : FeedValue) (before : List Open) (st : Halt)
     → TreeLeft round.language p round s rest more old cur before → Fed old listed → TookLine cur (Ok (item.Opens (opening.Branch county limit))) mid
-    → IsListed p round s county limit groups mid listed → listed.course ≡ mid.course
+    → AreTakesListed p round s county limit groups mid listed → listed.course ≡ mid.course
     → TakesJudged {X = Unit {0}} round.language p round s groups listed (Err st) new → Halts p round old before rest st
 branch_off p round s county limit groups rest more old cur mid listed new before st h fed took is same judged =
     let v = branch_first round.language p round s county limit rest more old cur mid before h took in
@@ -138,15 +138,15 @@ branch_off p round s county limit groups rest more old cur mid listed new before
     (reaches_twice p round old cur listed before whole (some_takes v.0 s groups ∷ work) v.5 step) fed (rest_few (items_of_tree v.1) rest (items_of_tree v.1 ++ rest) refl) j
 
 -- what judging the branch's line gave
-pub branch_judged : (X : Type 0) (sets : X → List (List ℕ)) (p : Problem) (round : Round) (s : State) (county : ℕ) (limit : Option ℕ) (order : List ℕ) (mid : FeedValue) (most used : ℕ) (judged : Result X LineStop) (r : Result X Stop)
+pub branch_judged : (X : Type 0) (sets : X → List (List ℕ)) (p : Problem) (round : Round) (s : State) (county : ℕ) (limit : Option ℕ) (order : List ℕ) (mid : FeedValue) (most used : ℕ) (judged : Result X LineStop) (r : Result X Halt)
     → order ≡ round.order
     → MatchResult judged (λ b. NamesLimit round.language limit × CanBranch round s county (limit_of round limit) × AreGroupsAt p round s county (limit_of round limit) (sets b)) (λ st. Stops st (IsBranchFault round s county (limit_of round limit)) (NamesLimit round.language limit → ⊥))
     → IfOk judged (λ b. (m : ℕ) → AreSoMany order (IsSetAt p order s county (limit_of round limit)) m → used ≤ mid.used + 2 * m)
     → (IsErrOf judged line_stop.StepLimit → NamesLimit round.language limit × CanBranch round s county (limit_of round limit) × ((m : ℕ) → AreSoMany order (IsSetAt p order s county (limit_of round limit)) m → mid.limit ≤ mid.used + 2 * m))
     → IsJudgedAt mid.line judged r
-    → MatchResult r (λ b. IsListed p round s county limit (sets b) mid (record mid { limit = most; used = used })) (λ found. IsRefused p round s county limit mid found)
+    → MatchResult r (λ b. AreTakesListed p round s county limit (sets b) mid (record mid { limit = most; used = used })) (λ found. IsRefused p round s county limit mid found)
 branch_judged X sets p round s county limit order mid most used (Ok b) (Ok c) same is looks stops at =
-    subst (λ z. IsListed p round s county limit (sets z) mid (record mid { limit = most; used = used })) (sym at)
+    subst (λ z. AreTakesListed p round s county limit (sets z) mid (record mid { limit = most; used = used })) (sym at)
     (λ old x takes raised more took names.
     let r = branch_reaches p round s county limit takes raised (sets b) more old mid used x took names is.1 is.2 (subst (λ o. (m : ℕ) → AreSoMany o (IsSetAt p o s county (limit_of round limit)) m → used ≤ mid.used + 2 * m) same looks) in
     record { ends = r.ends; looks = r.looks })
@@ -157,14 +157,14 @@ branch_judged X sets p round s county limit order mid most used (Ok b) (Err foun
 branch_judged X sets p round s county limit order mid most used (Err st) (Ok c) same is looks stops at = absurd at
 
 -- what the judging of a line gave, the reading gives
-pub kept_ok : (X : Type 0) (P : X → Type 0) (line : ℕ) (judged : Result X LineStop) (r : Result X Stop) → IfOk judged P → IsJudgedAt line judged r → IfOk r P
+pub kept_ok : (X : Type 0) (P : X → Type 0) (line : ℕ) (judged : Result X LineStop) (r : Result X Halt) → IfOk judged P → IsJudgedAt line judged r → IfOk r P
 kept_ok X P line (Ok x) (Ok y) is at = subst P (sym at) is
 kept_ok X P line (Err st) (Err found) is at = tt
 kept_ok X P line (Ok x) (Err found) is at = tt
 kept_ok X P line (Err st) (Ok y) is at = absurd at
 
 -- a leaf of one line keeps what was read
-pub leaf_fed : (p : Problem) (round : Round) (s : State) (last : Leaf) (old mid : FeedValue) (r : Result (Unit {0}) Stop) → Fed old mid → IsLeafJudged p round s last mid.course.items mid r mid → IsFed old r mid
+pub leaf_fed : (p : Problem) (round : Round) (s : State) (last : Leaf) (old mid : FeedValue) (r : Result (Unit {0}) Halt) → Fed old mid → IsLeafJudged p round s last mid.course.items mid r mid → IsFed old r mid
 leaf_fed p round s last old mid (Ok done) fed h = fed
 leaf_fed p round s last old mid (Err (stop.Fault f l)) fed h = fed
 leaf_fed p round s last old mid (Err (stop.Text f)) fed h = absurd h

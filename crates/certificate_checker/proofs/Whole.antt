@@ -22,8 +22,8 @@ use Rattle.verdicts.proofs.WorkCost.{where_fine}
 use Rattle.certificate_checker.specs.Feeding.{FeedValue}
 use Rattle.certificate_checker.specs.Judging.{IsJudged}
 use Rattle.certificate_checker.specs.Certificates.{StopsAt, FirstLooks, IsRoundJudged}
-use Rattle.certificate_checker.specs.declared.feed.Stop.{Stop}
-use Rattle.certificate_checker.specs.declared.feed.Stop.TheVariants as stop
+use Rattle.certificate_checker.specs.declared.feed.Halt.{Halt}
+use Rattle.certificate_checker.specs.declared.feed.Halt.TheVariants as stop
 
 -- a tree alone is looked through, whether it is a proof or not
 pub looks_alone : (p : Problem) (round : Round) (tree : Tree) (s : State) (n : ℕ) → TreeLooks tree p round s n → (a b : ℕ) → ((m : ℕ) → WorkLooks (a_tree tree s ∷ []) p round m → m ≡ n → a ≤ b) → a ≤ b
@@ -57,7 +57,7 @@ module _ (p : Problem) (round : Round) (tree : Tree) where
   tree_ends window order large lawful (fine next) e = (first + 1, (window, refl), (first + 2, (order, omega arith), (first + 3, (large, omega arith), (first + 3 + (1 + group_lines round.target), (lawful, refl), e))))
   tree_ends window order large lawful (faulty f line) e = inr (first + 1, (window, refl), inr (first + 2, (order, omega arith), inr (first + 3, (large, omega arith), inr (first + 3 + (1 + group_lines round.target), (lawful, refl), e))))
 
-  pub round_stops : (Fails : Fault → Type 0) (line : ℕ) (rest : List Item) (old new : FeedValue) (s : Stop) → StopsAt Fails line s → ((f : Fault) → Fails f → CertificateEnds p round tree (faulty f line)) → IsRoundJudged p round tree rest old (Err s) new
+  pub round_stops : (Fails : Fault → Type 0) (line : ℕ) (rest : List Item) (old new : FeedValue) (s : Halt) → StopsAt Fails line s → ((f : Fault) → Fails f → CertificateEnds p round tree (faulty f line)) → IsRoundJudged p round tree rest old (Err s) new
   round_stops Fails line rest old new (stop.Fault fault found) h ends = (h.0, h.1, subst (λ n. CertificateEnds p round tree (faulty h.0 n)) (sym h.3) (ends h.0 h.2))
   round_stops Fails line rest old new stop.Refused h ends = tt
   round_stops Fails line rest old new stop.Budget h ends = absurd h
@@ -71,7 +71,7 @@ module _ (p : Problem) (round : Round) (tree : Tree) where
     looked : (n : ℕ) → FirstLooks p round tree n → TreeLooks tree p round (empty_state p) n
     looked n l = where_fine (HasWindow p round.window × IsOrder p round.order × IsLargeEnough round.limit round.target × IsLawfulTarget p round.target) (TreeLooks tree p round (empty_state p)) n (window, order, large, lawful) l
 
-    pub round_judged : (rest : List Item) (new : FeedValue) (r : Result (Unit {0}) Stop) → IsJudged p round (a_tree tree (empty_state p) ∷ []) [] rest old r new → IsRoundJudged p round tree rest old r new
+    pub round_judged : (rest : List Item) (new : FeedValue) (r : Result (Unit {0}) Halt) → IsJudged p round (a_tree tree (empty_state p) ∷ []) [] rest old r new → IsRoundJudged p round tree rest old r new
     round_judged rest new (Ok done) h = (
       h.0,
       (new.line + 1, from_tree (fine (new.line + 1)) (h.1.ends (fine (new.line + 1)) refl)),

@@ -1,5 +1,5 @@
 -- What a checker answers of a text.
-use Rattle.std.specs.Prelude.{ℕ, ◌≡◌, ◌<◌, Bool, true, false, List, ◌++◌, Some, Result, Ok, Err, IfOk, ◌⊎◌, ⊤}
+use Rattle.std.specs.Prelude.{ℕ, ◌≡◌, ◌<◌, Bool, true, false, List, ◌++◌, Some, Result, Err, IfOk, ◌⊎◌, ⊤}
 use Rattle.grouping_laws.specs.Problem.{Problem}
 use Rattle.grouping_laws.specs.Grouping.{IsBest, IsImpossible}
 use Rattle.field_lines.specs.Held.{MayCome}
@@ -19,6 +19,16 @@ use Rattle.certificate_checker.specs.declared.fault.CheckStop.TheVariants as sto
 use Rattle.certificate_checker.specs.declared.verdict.Verdict.{Verdict}
 use Rattle.certificate_checker.specs.declared.verdict.Verdict.TheVariants.{Best, Impossible, No, Budget}
 
+-- the grouping that is named is lawful, and no lawful one is greater
+abbrev pub CheckIsRight : Problem → Verdict → Type 0
+CheckIsRight p (Best target) = IsBest p target.groups.items
+CheckIsRight p _ = ⊤
+
+-- no grouping is lawful
+abbrev pub ShowsImpossible : Problem → Verdict → Type 0
+ShowsImpossible p Impossible = IsImpossible p
+ShowsImpossible p _ = ⊤
+
 -- the first fault of the text, or that of the certificate which it spells
 abbrev pub IsRefusal : Problem → List ℕ → CheckFault → ℕ → Type 0
 IsRefusal p text fault line =
@@ -26,34 +36,24 @@ IsRefusal p text fault line =
     ⊎ ((named : Fault) × (fault_of fault ≡ Some named) × IsTextVerdict p text (said.No named line))
 
 -- the verdict of the text, or that the budget is below its cost
-abbrev pub IsAnswer : Problem → List ℕ → ℕ → Verdict → Type 0
-IsAnswer p text budget (Best target) = IsTextVerdict p text (said.Best target.groups.items)
-IsAnswer p text budget Impossible = IsTextVerdict p text said.Impossible
-IsAnswer p text budget (No fault line) = IsRefusal p text fault line
-IsAnswer p text budget Budget = (cost : ℕ) → TextCosts p text cost → budget < cost
-
--- the grouping that is named is lawful, and no lawful one is greater
-abbrev pub NamesBest : Problem → Verdict → Type 0
-NamesBest p (Best target) = IsBest p target.groups.items
-NamesBest p _ = ⊤
-
--- no grouping is lawful
-abbrev pub ShowsImpossible : Problem → Verdict → Type 0
-ShowsImpossible p Impossible = IsImpossible p
-ShowsImpossible p _ = ⊤
+abbrev pub IsCheckAnswer : Problem → List ℕ → ℕ → Verdict → Type 0
+IsCheckAnswer p text budget (Best target) = IsTextVerdict p text (said.Best target.groups.items)
+IsCheckAnswer p text budget Impossible = IsTextVerdict p text said.Impossible
+IsCheckAnswer p text budget (No fault line) = IsRefusal p text fault line
+IsCheckAnswer p text budget Budget = (cost : ℕ) → TextCosts p text cost → budget < cost
 
 -- What was read of items comes to an answer, or was refused: whatever text the source may give in the end, it might
 -- give it before, and where its items are those of a certificate's text the answer is the verdict on this.
 pub record ChecksItems (p : Problem) (left : ItemsLeft) (before : List ℕ) (budget : ℕ) (result : Result Verdict AllocError) (after : List ℕ) : Type 0 where
   pub ended : Bool
-  pub answers : (all : List ℕ) → Foresees ended after all → Foresees left.ended before all × ((text : List ℕ) → course_by left before all ≡ certificate_course text → IfOk result (IsAnswer p text budget))
+  pub answers : (all : List ℕ) → Foresees ended after all → Foresees left.ended before all × ((text : List ℕ) → course_by left before all ≡ certificate_course text → IfOk result (IsCheckAnswer p text budget))
 
 -- The source gave bytes meanwhile, and has ended or not. They have this verdict, with whatever bytes may come later.
 pub record ChecksBytes (p : Problem) (before after : List ℕ) (budget : ℕ) (verdict : Verdict) : Type 0 where
   pub pulled : List ℕ
   pub ended : Bool
   pub given : after ≡ before ++ pulled
-  pub answer : (later : List ℕ) → MayCome ended later → IsAnswer p (pulled ++ later) budget verdict
+  pub answer : (later : List ℕ) → MayCome ended later → IsCheckAnswer p (pulled ++ later) budget verdict
 
 -- the source could not be read
 abbrev pub is_read_fault : Result Verdict CheckStop → Bool

@@ -22,12 +22,12 @@ use Rattle.grouping_judge.specs.declared.grouping_fault.GroupingFault.TheVariant
 use Rattle.certificate_checker.specs.CheckFaults.{fault_of}
 use Rattle.certificate_checker.specs.declared.fault.CheckFault.TheVariants.{TargetFault}
 use Rattle.certificate_checker.specs.Feeding.{FeedValue}
-use Rattle.certificate_checker.specs.declared.feed.Stop.{Stop}
-use Rattle.certificate_checker.specs.declared.feed.Stop.TheVariants as stop
+use Rattle.certificate_checker.specs.declared.feed.Halt.{Halt}
+use Rattle.certificate_checker.specs.declared.feed.Halt.TheVariants as stop
 
 -- All of these items were read, a step for each, up to the rest behind them, and gave this; or no step was left for one
 -- of them.
-abbrev pub AreTaken : {X : Type 0} → (X → Type 0) → List Item → List Item → FeedValue → Result X Stop → FeedValue → Type 0
+abbrev pub AreTaken : {X : Type 0} → (X → Type 0) → List Item → List Item → FeedValue → Result X Halt → FeedValue → Type 0
 AreTaken Gave xs rest old (Ok x) new = Gave x × (new.course.items ≡ rest) × (new.line ≡ old.line + length xs) × (new.used ≡ old.used + length xs)
 AreTaken Gave xs rest old (Err stop.Budget) new = old.limit < old.used + length xs
 AreTaken Gave xs rest old (Err stop.Refused) new = ⊤
@@ -40,7 +40,7 @@ abbrev pub round_items : Certificate → List Item
 round_items c = items_of_head c.round.language c.round.window ++ (item.Order c.round.order ∷ item.Limit c.round.limit ∷ items_of_target c.round.target)
 
 -- the judging of a line stopped at its fault
-abbrev pub StopsAt : (Fault → Type 0) → ℕ → Stop → Type 0
+abbrev pub StopsAt : (Fault → Type 0) → ℕ → Halt → Type 0
 StopsAt Fails line (stop.Fault fault found) = (named : Fault) × (fault_of fault ≡ Some named) × Fails named × (found ≡ line)
 StopsAt Fails line stop.Refused = ⊤
 StopsAt Fails line stop.Budget = ⊥
@@ -48,7 +48,7 @@ StopsAt Fails line stop.Unspelled = ⊥
 StopsAt Fails line (stop.Text fault) = ⊥
 
 -- the judging of a target stopped at this fault of it, on its first line, or memory was refused
-abbrev pub IsTargetStop : GroupingFault → ℕ → Stop → Type 0
+abbrev pub IsTargetStop : GroupingFault → ℕ → Halt → Type 0
 IsTargetStop kind line (stop.Fault fault found) = (fault ≡ TargetFault kind) × (found ≡ line) × (kind ≢ Memory)
 IsTargetStop kind line stop.Refused = kind ≡ Memory
 IsTargetStop kind line stop.Budget = ⊥
@@ -68,7 +68,7 @@ FirstLooks p round tree n = Where (HasWindow p round.window × IsOrder p round.o
 
 -- Behind allowance, order, limit and target a tree was judged, up to the rest behind it; or the judging stopped at the
 -- first fault, or where the limit of steps is not enough.
-abbrev pub IsRoundJudged : Problem → Round → Tree → List Item → FeedValue → Result (Unit {0}) Stop → FeedValue → Type 0
+abbrev pub IsRoundJudged : Problem → Round → Tree → List Item → FeedValue → Result (Unit {0}) Halt → FeedValue → Type 0
 IsRoundJudged p round tree rest old (Ok done) new =
     (rest ≡ new.course.items)
     × ((next : ℕ) × CertificateEnds p round tree (fine next))
@@ -81,7 +81,7 @@ IsRoundJudged p round tree rest old (Err (stop.Text fault)) new = ⊥
 
 -- A certificate was judged to its end and its target is given; or the judging stopped at its first fault, or where the
 -- limit of steps is below its cost.
-abbrev pub IsCertificateJudged : Problem → Certificate → ℕ → Result (Option GroupingHeld) Stop → Type 0
+abbrev pub IsCertificateJudged : Problem → Certificate → ℕ → Result (Option GroupingHeld) Halt → Type 0
 IsCertificateJudged p c limit (Ok target) = (target_of target ≡ c.round.target) × ((next : ℕ) × CertificateEnds p c.round c.tree (fine next))
 IsCertificateJudged p c limit (Err (stop.Fault fault line)) = (named : Fault) × (fault_of fault ≡ Some named) × CertificateEnds p c.round c.tree (faulty named line)
 IsCertificateJudged p c limit (Err stop.Budget) = (cost : ℕ) → CertificateCosts p c.round c.tree cost → limit < cost

@@ -16,8 +16,8 @@ use Rattle.verdicts.specs.Work.{Open, WorkEnds}
 use Rattle.verdicts.specs.WorkCost.{WorkLooks}
 use Rattle.certificate_checker.specs.CheckFaults.{fault_of}
 use Rattle.certificate_checker.specs.declared.feed.Feed.{Feed}
-use Rattle.certificate_checker.specs.declared.feed.Stop.{Stop}
-use Rattle.certificate_checker.specs.declared.feed.Stop.TheVariants as stop
+use Rattle.certificate_checker.specs.declared.feed.Halt.{Halt}
+use Rattle.certificate_checker.specs.declared.feed.Halt.TheVariants as stop
 
 -- what is to come, how many lines were read, and how many steps may be taken and were
 pub record FeedValue : Type 0 where
@@ -58,7 +58,7 @@ abbrev pub CountsSteps : {S : Type 0} → Feed S → Feed S → Type 0
 CountsSteps old new = (new.steps.limit ≡ old.steps.limit) × (old.steps.used ≤ new.steps.used) × (new.line + old.steps.used ≤ new.steps.used + old.line)
 
 -- a step was left, and was taken
-abbrev pub TakesStep : {S X : Type 0} → Feed S → Result X Stop → Feed S → Type 0
+abbrev pub TakesStep : {S X : Type 0} → Feed S → Result X Halt → Feed S → Type 0
 TakesStep old (Ok x) new = (old.steps.used < old.steps.limit) × (new.steps.used ≡ old.steps.used + 1)
 TakesStep old (Err found) new = ⊤
 
@@ -71,7 +71,7 @@ pub record Fed (old new : FeedValue) : Type 0 where
   pub counted : new.line + old.used ≤ new.used + old.line
 
 -- Lines were read from the one to the other, unless the text has a fault there or could not be read.
-abbrev pub IsFed : {X : Type 0} → FeedValue → Result X Stop → FeedValue → Type 0
+abbrev pub IsFed : {X : Type 0} → FeedValue → Result X Halt → FeedValue → Type 0
 IsFed old (Ok x) new = Fed old new
 IsFed old (Err (stop.Fault fault line)) new = Fed old new
 IsFed old (Err stop.Unspelled) new = Fed old new
@@ -86,7 +86,7 @@ pub record Reaches (p : Problem) (round : Round) (old new : FeedValue) (before a
 
 -- The reading stopped in what is left, with the rest behind it: at its fault, or where the limit of steps is not enough
 -- for it.
-abbrev pub Halts : Problem → Round → FeedValue → List Open → List Item → Stop → Type 0
+abbrev pub Halts : Problem → Round → FeedValue → List Open → List Item → Halt → Type 0
 Halts p round old work rest (stop.Fault fault line) = (named : Fault) × (fault_of fault ≡ Some named) × WorkEnds work p round (old.line + 1) (faulty named line)
 Halts p round old work rest stop.Unspelled = ⊥
 Halts p round old work rest (stop.Text fault) = ⊥
@@ -98,7 +98,7 @@ abbrev pub items_to_mark : Takes → List Item
 items_to_mark takes = items_of_takes takes ++ Mark ∷ []
 
 -- A line was read; or there was none, or no step was left.
-abbrev pub TookLine : FeedValue → Result Item Stop → FeedValue → Type 0
+abbrev pub TookLine : FeedValue → Result Item Halt → FeedValue → Type 0
 TookLine old (Ok item) new = (old.course ≡ first item new.course) × (new.line ≡ old.line + 1) × (new.used ≡ old.used + 1)
 TookLine old (Err stop.Unspelled) new = old.course ≡ nothing
 TookLine old (Err stop.Budget) new = old.used ≡ old.limit
@@ -107,7 +107,7 @@ TookLine old (Err (stop.Fault fault line)) new = ⊥
 TookLine old (Err stop.Refused) new = ⊤
 
 -- a fault of the source: the text could not be read, or is at fault
-abbrev pub StopsAtText : TextFault → Stop → Type 0
+abbrev pub StopsAtText : TextFault → Halt → Type 0
 StopsAtText fault (stop.Text same) = (same ≡ fault) × (IsUnread fault → ⊥)
 StopsAtText fault stop.Refused = IsUnread fault
 StopsAtText fault _ = ⊥
@@ -120,7 +120,7 @@ Passes old (Err fault) new = (IsUnread fault → ⊥) → old ≡ only_fault fau
 
 -- All lines were read: the text has no fault, or this one; or there are as many lines as steps, where the end counts as
 -- one more.
-abbrev pub IsRestRead : FeedValue → Result (Unit {0}) Stop → Type 0
+abbrev pub IsRestRead : FeedValue → Result (Unit {0}) Halt → Type 0
 IsRestRead old (Ok done) = old.course.fault ≡ None
 IsRestRead old (Err (stop.Text fault)) = old.course.fault ≡ Some fault
 IsRestRead old (Err stop.Budget) = old.limit ≤ old.line + length old.course.items

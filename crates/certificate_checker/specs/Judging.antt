@@ -33,8 +33,8 @@ use Rattle.certificate_checker.specs.CheckFaults.{fault_of}
 use Rattle.certificate_checker.specs.Feeding.{FeedValue, TookLine, Reaches, Halts}
 use Rattle.certificate_checker.specs.declared.fault.CheckFault.{CheckFault}
 use Rattle.certificate_checker.specs.declared.fault.CheckFault.TheVariants.{BoundLength}
-use Rattle.certificate_checker.specs.declared.feed.Stop.{Stop}
-use Rattle.certificate_checker.specs.declared.feed.Stop.TheVariants as stop
+use Rattle.certificate_checker.specs.declared.feed.Halt.{Halt}
+use Rattle.certificate_checker.specs.declared.feed.Halt.TheVariants as stop
 use Rattle.certificate_checker.specs.declared.ground.Ground.{Ground}
 
 -- the counts are those of the round's target; there are none where there is no target
@@ -54,7 +54,7 @@ pub record IsGround {C : Type 0} (places : ℕ) (test : C → ℕ → Bool) (g :
   pub wanted : AreWanted (target_of g.round.now.target) g.wanted
 
 -- A line of one form was read; or there was none, or one of another form, or no step was left.
-abbrev pub TookForm : {X Y : Type 0} → (X → Item) → (Y → X) → FeedValue → Result Y Stop → FeedValue → Type 0
+abbrev pub TookForm : {X Y : Type 0} → (X → Item) → (Y → X) → FeedValue → Result Y Halt → FeedValue → Type 0
 TookForm wrap view old (Ok y) new = TookLine old (Ok (wrap (view y))) new
 TookForm {X = X} wrap view old (Err stop.Unspelled) new = (x : X) (xs : List Item) → old.course.items ≡ wrap x ∷ xs → ⊥
 TookForm wrap view old (Err stop.Budget) new = old.used ≡ old.limit
@@ -63,25 +63,25 @@ TookForm wrap view old (Err (stop.Fault fault line)) new = ⊥
 TookForm wrap view old (Err stop.Refused) new = ⊤
 
 -- the reading stopped as the judging of the line did
-abbrev pub IsStopAt : ℕ → LineStop → Stop → Type 0
+abbrev pub IsStopAt : ℕ → LineStop → Halt → Type 0
 IsStopAt line (line_stop.Fault f) found = (fault : CheckFault) × (found ≡ stop.Fault fault line) × (fault_of fault ≡ Some (line_fault f))
 IsStopAt line line_stop.Unspelled found = found ≡ stop.Unspelled
 IsStopAt line line_stop.StepLimit found = found ≡ stop.Budget
 IsStopAt line line_stop.Memory found = found ≡ stop.Refused
 
 -- what a line's judging gave, or the stop of the reading that it stopped with
-abbrev pub IsJudgedAt : {X : Type 0} → ℕ → Result X LineStop → Result X Stop → Type 0
+abbrev pub IsJudgedAt : {X : Type 0} → ℕ → Result X LineStop → Result X Halt → Type 0
 IsJudgedAt line (Ok x) (Ok y) = y ≡ x
 IsJudgedAt line (Err st) (Err found) = IsStopAt line st found
 IsJudgedAt line _ _ = ⊥
 
 -- What is left was judged, up to the rest behind it and to what is left then; or the reading stopped in it.
-abbrev pub IsJudged : {X : Type 0} → Problem → Round → List Open → List Open → List Item → FeedValue → Result X Stop → FeedValue → Type 0
+abbrev pub IsJudged : {X : Type 0} → Problem → Round → List Open → List Open → List Item → FeedValue → Result X Halt → FeedValue → Type 0
 IsJudged p round before after rest old (Ok done) new = (rest ≡ new.course.items) × Reaches p round old new before after
 IsJudged p round before after rest old (Err found) new = Halts p round old before rest found
 
 -- A leaf was judged, whose first line was read last, up to the rest behind it; or the reading stopped in it.
-abbrev pub IsLeafJudged : {X : Type 0} → Problem → Round → State → Leaf → List Item → FeedValue → Result X Stop → FeedValue → Type 0
+abbrev pub IsLeafJudged : {X : Type 0} → Problem → Round → State → Leaf → List Item → FeedValue → Result X Halt → FeedValue → Type 0
 IsLeafJudged p round s last rest old (Ok done) new =
     (rest ≡ new.course.items)
     × LeafEnds last p round s old.line (fine (new.line + 1))
@@ -97,19 +97,19 @@ abbrev pub line_items : List Allowance → List Item
 line_items lines = map (λ a. Allows (declared_allowance a)) lines
 
 -- the fault of a leaf of one line stands at its line
-abbrev pub IsFoundAt : Option LineFault → ℕ → Result (Unit {0}) Stop → Type 0
+abbrev pub IsFoundAt : Option LineFault → ℕ → Result (Unit {0}) Halt → Type 0
 IsFoundAt None line (Ok done) = ⊤
 IsFoundAt (Some f) line (Err (stop.Fault fault found)) = (fault_of fault ≡ Some (line_fault f)) × (found ≡ line)
 IsFoundAt _ line _ = ⊥
 
 -- a bound leaf ends here, or it is at fault at its first line
-abbrev pub IsEndOf : Bool → ℕ → Result (Unit {0}) Stop → Type 0
+abbrev pub IsEndOf : Bool → ℕ → Result (Unit {0}) Halt → Type 0
 IsEndOf true opened (Ok done) = ⊤
 IsEndOf false opened (Err (stop.Fault BoundLength found)) = found ≡ opened
 IsEndOf _ opened _ = ⊥
 
 -- The next one of these lines of a bound leaf was judged, the one for size i; or the reading stopped in it.
-abbrev pub IsLineJudged : Problem → Round → State → (ℕ → ℕ) → ℕ → ℕ → List Allowance → List Item → FeedValue → Result Allowed Stop → FeedValue → Type 0
+abbrev pub IsLineJudged : Problem → Round → State → (ℕ → ℕ) → ℕ → ℕ → List Allowance → List Item → FeedValue → Result Allowed Halt → FeedValue → Type 0
 IsLineJudged p round s wanted i used [] rest old result new = ⊤
 IsLineJudged p round s wanted i used (line ∷ lines) rest old (Ok allowed) new =
     (new.course.items ≡ line_items lines ++ rest)
@@ -129,15 +129,15 @@ IsSmall (Even now) = now ≤ most_counties
 
 -- The groups of a branch are listed, whose line was read last: its takes are left then, and behind them what is raised
 -- past its limit.
-abbrev pub IsListed : Problem → Round → State → ℕ → Option ℕ → List (List ℕ) → FeedValue → FeedValue → Type 0
-IsListed p round s county limit groups mid new =
+abbrev pub AreTakesListed : Problem → Round → State → ℕ → Option ℕ → List (List ℕ) → FeedValue → FeedValue → Type 0
+AreTakesListed p round s county limit groups mid new =
     (old : FeedValue) (x : Item) (takes : Takes) (raised : Tree) (more : List Open)
     → TookLine old (Ok x) mid
     → NamesLimit round.language limit
     → Reaches p round old new (a_tree (branch county limit takes raised) s ∷ more) (some_takes takes s groups ∷ a_tree raised (raise county (limit_of round limit) s) ∷ more)
 
 -- the judging of a branch stopped at its line, which was read last
-abbrev pub IsRefused : Problem → Round → State → ℕ → Option ℕ → FeedValue → Stop → Type 0
+abbrev pub IsRefused : Problem → Round → State → ℕ → Option ℕ → FeedValue → Halt → Type 0
 IsRefused p round s county limit mid found =
     (old : FeedValue) (x : Item) (takes : Takes) (raised : Tree) (rest : List Item) (more : List Open)
     → TookLine old (Ok x) mid
@@ -147,7 +147,7 @@ IsRefused p round s county limit mid found =
     → Halts p round old (a_tree (branch county limit takes raised) s ∷ more) rest found
 
 -- the judging of a take stopped at its line, where these groups are still to be taken
-abbrev pub IsTakeStop : List (List ℕ) → List ℕ → ℕ → Stop → Type 0
+abbrev pub IsTakeStop : List (List ℕ) → List ℕ → ℕ → Halt → Type 0
 IsTakeStop groups codes line (stop.Fault fault found) = (named : Fault) × (fault_of fault ≡ Some named) × IsTakeFault groups codes named × (found ≡ line)
 IsTakeStop groups codes line stop.Refused = ⊤
 IsTakeStop groups codes line _ = ⊥

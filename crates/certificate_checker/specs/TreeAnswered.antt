@@ -15,8 +15,8 @@ use Rattle.verdicts.specs.Cost.{TreeCosts}
 use Rattle.certificate_checker.specs.CheckFaults.{fault_of}
 use Rattle.certificate_checker.specs.declared.fault.CheckFault.{CheckFault}
 use Rattle.certificate_checker.specs.declared.fault.CheckFault.TheVariants.{Text}
-use Rattle.certificate_checker.specs.declared.feed.Stop.{Stop}
-use Rattle.certificate_checker.specs.declared.feed.Stop.TheVariants as stop
+use Rattle.certificate_checker.specs.declared.feed.Halt.{Halt}
+use Rattle.certificate_checker.specs.declared.feed.Halt.TheVariants as stop
 use Rattle.std.specs.declared.alloc.AllocError.{AllocError}
 use Rattle.certificate_checker.specs.declared.verdict.TreeVerdict.{TreeVerdict}
 use Rattle.certificate_checker.specs.declared.verdict.TreeVerdict.TheVariants.{Proof, Fault as Refused, Budget}
@@ -44,7 +44,7 @@ IsRightOfTrees p round s tree (Refused fault) = (text : List ℕ) → IsTreeSpel
 IsRightOfTrees p round s tree Budget = ⊤
 
 -- what is said where the judging of lines without a fault ended so
-abbrev pub IsSaid : Result (Unit {0}) Stop → Result TreeVerdict AllocError → Type 0
+abbrev pub IsSaid : Result (Unit {0}) Halt → Result TreeVerdict AllocError → Type 0
 IsSaid (Ok done) said = said ≡ Ok Proof
 IsSaid (Err (stop.Fault fault line)) said = said ≡ Ok (Refused fault)
 IsSaid (Err stop.Budget) said = said ≡ Ok Budget

@@ -11,10 +11,10 @@ ghost use Rattle.verdicts.specs.Branches.{IsNext};
 ghost use Rattle.line_verdicts.specs.Placed.{state_at, codes_of_sets, IsPlaced, IsClosable};
 ghost use Rattle.certificate_lines.specs.Courses.{Course};
 ghost use Rattle.certificate_checker.specs.Feeding.{feed_at, CountsSteps, IsFed};
-ghost use Rattle.certificate_checker.specs.Judging.{IsGround, IsListed, IsRefused, IsTakeStop};
+ghost use Rattle.certificate_checker.specs.Judging.{IsGround, AreTakesListed, IsRefused, IsTakeStop};
 
 use crate::fault::of_line;
-use crate::feed::{Feed, Stop};
+use crate::feed::{Feed, Halt};
 use crate::forms::judged_at;
 use crate::ground::Ground;
 use county_codes::CountyCode;
@@ -29,7 +29,7 @@ pub(crate) fn listed_groups<C: CountySet, S>(
     county: CountyCode,
     limit: Option<u16>,
     feed: &mut Feed<S>,
-) -> Result<Branching<C>, Stop>
+) -> Result<Branching<C>, Halt>
     requires ground { IsGround C.PLACES C.test ground.now }
     requires placed { IsPlaced (length ground.now.ordered.now.order) C.test state.now }
     ensures counts { CountsSteps feed.old feed.new }
@@ -40,7 +40,7 @@ pub(crate) fn listed_groups<C: CountySet, S>(
     ensures groups { IfOk result (λ b. All (IsClosable C.test state.now) b.groups.items) }
     ensures judged { (course : Course) → MatchResult
         result
-        (λ b. IsListed
+        (λ b. AreTakesListed
         (problem_of ground.now.ordered.now.problem)
         (round_of ground.now.round.now)
         (state_at ground.now.ordered.now.order C.test state.now)
@@ -78,7 +78,7 @@ pub(crate) fn taken_state<C: CountySet>(
     left: &[C],
     codes: &[CountyCode],
     line: u64,
-) -> Result<State<C>, Stop>
+) -> Result<State<C>, Halt>
     requires ground { IsGround C.PLACES C.test ground.now }
     requires placed { IsPlaced (length ground.now.ordered.now.order) C.test state.now }
     requires groups { All (IsClosable C.test state.now) left.now }
@@ -93,11 +93,11 @@ pub(crate) fn taken_state<C: CountySet>(
         Ok(()) => match left.split_first() {
             Some((group, _)) => match closed_state(ground.alloc, ground.ordered, state, group) {
                 Ok(closed) => Ok(closed),
-                Err(_) => Err(Stop::Refused),
+                Err(_) => Err(Halt::Refused),
             },
-            None => Err(Stop::Refused),
+            None => Err(Halt::Refused),
         },
-        Err(fault) => Err(Stop::Fault(of_line(fault), line)),
+        Err(fault) => Err(Halt::Fault(of_line(fault), line)),
     }
 }
 

@@ -23,7 +23,7 @@ ghost use Rattle.certificate_checker.specs.Judging.{IsJudged, AreWanted};
 ghost use Rattle.certificate_checker.specs.Certificates.{StopsAt, IsTargetStop, AreCounts, IsRoundJudged, IsCertificateJudged};
 
 use crate::fault::CheckFault;
-use crate::feed::{Feed, Stop};
+use crate::feed::{Feed, Halt};
 use crate::forms::next_end;
 use crate::ground::Ground;
 use crate::rounds::read_round;
@@ -50,14 +50,14 @@ fn window_line(round: &Round) -> u64
 }
 
 /// Judges the allowance of a certificate, which is the problem's where the fractions are equal.
-fn judge_window(problem: &Problem, round: &Round) -> Result<(), Stop>
+fn judge_window(problem: &Problem, round: &Round) -> Result<(), Halt>
     ensures { MatchResult result (λ _. HasWindow (problem_of problem.now) round.now.window) (StopsAt (IsWindowFault (problem_of problem.now) (round_of round.now)) (window_line round.now.window)) }
 {
     let window = round.window.unwrap_or(Window::twentieth());
     if window.same_as(problem.window()) {
         Ok(())
     } else {
-        Err(Stop::Fault(CheckFault::WrongWindow, window_line(round)))
+        Err(Halt::Fault(CheckFault::WrongWindow, window_line(round)))
     }
 }
 
@@ -66,16 +66,16 @@ pub(crate) fn judge_order<'a>(
     alloc: Global,
     problem: &'a Problem,
     round: &Round,
-) -> Result<Ordered<'a>, Stop>
+) -> Result<Ordered<'a>, Halt>
     ensures value { IfOk result (λ o. o ≡ record { problem = problem.now; order = round.now.order }) }
     ensures order { MatchResult result (λ _. IsOrder (problem_of problem.now) round.now.order) (StopsAt (IsOrderFault (problem_of problem.now) (round_of round.now)) (window_line round.now.window + 1)) }
 {
     match Ordered::build(alloc, problem, round.order.as_slice()) {
         Ok(ordered) => Ok(ordered),
         Err(OrderFault::WrongOrder) => {
-            Err(Stop::Fault(CheckFault::WrongOrder, window_line(round) + 1))
+            Err(Halt::Fault(CheckFault::WrongOrder, window_line(round) + 1))
         }
-        Err(OrderFault::Memory) => Err(Stop::Refused),
+        Err(OrderFault::Memory) => Err(Halt::Refused),
     }
 }
 
@@ -89,13 +89,13 @@ fn has_larger(groups: &[Group], limit: u16) -> bool
 }
 
 /// Judges the limit, which stands behind the order: no group of the target may have more counties.
-fn judge_limit(round: &Round) -> Result<(), Stop>
+fn judge_limit(round: &Round) -> Result<(), Halt>
     ensures { MatchResult result (λ _. IsLargeEnough round.now.limit (target_of round.now.target)) (StopsAt (IsLimitFault round.now.limit (target_of round.now.target)) (window_line round.now.window + 2)) }
 {
     match &round.target {
         Some(target) => {
             if has_larger(&target.groups, round.limit) {
-                return Err(Stop::Fault(CheckFault::LimitTooSmall, window_line(round) + 2));
+                return Err(Halt::Fault(CheckFault::LimitTooSmall, window_line(round) + 2));
             }
             Ok(())
         }
@@ -104,12 +104,12 @@ fn judge_limit(round: &Round) -> Result<(), Stop>
 }
 
 /// What the judging of a target stops with, whose first line this is.
-fn target_stop(fault: GroupingFault, line: u64) -> Stop
+fn target_stop(fault: GroupingFault, line: u64) -> Halt
     ensures { IsTargetStop fault line result }
 {
     match fault {
-        GroupingFault::Memory => Stop::Refused,
-        _ => Stop::Fault(CheckFault::TargetFault(fault), line),
+        GroupingFault::Memory => Halt::Refused,
+        _ => Halt::Fault(CheckFault::TargetFault(fault), line),
     }
 }
 
@@ -118,7 +118,7 @@ pub(crate) fn judge_target(
     alloc: Global,
     problem: &Problem,
     round: &Round,
-) -> Result<Option<Counts>, Stop>
+) -> Result<Option<Counts>, Halt>
     ensures { MatchResult
         result
         (λ wanted. IsLawfulTarget (problem_of problem.now) (target_of round.now.target) × AreCounts (target_of round.now.target) wanted)
@@ -142,7 +142,7 @@ pub(crate) fn judge_placed<C: CountySet, F, S: ItemSource<F>>(
     state: &mut State<C>,
     feed: &mut Feed<S>,
     from: &mut F,
-) -> Result<(), Stop>
+) -> Result<(), Halt>
     requires fits { length ordered.now.order ≤ C.PLACES }
     requires order { ordered.now.order ≡ round.now.order }
     requires small { round.now.limit ≤ most_counties }
@@ -183,7 +183,7 @@ fn judge_first<C: CountySet, F, S: ItemSource<F>>(
     wanted: Option<&Counts>,
     feed: &mut Feed<S>,
     from: &mut F,
-) -> Result<(), Stop>
+) -> Result<(), Halt>
     requires fits { length ordered.now.order ≤ C.PLACES }
     requires order { ordered.now.order ≡ round.now.order }
     requires small { round.now.limit ≤ most_counties }
@@ -208,7 +208,7 @@ fn judge_first<C: CountySet, F, S: ItemSource<F>>(
         Ok(mut state) => judge_placed::<C, F, S>(
             alloc, ordered, round, wanted, &mut state, feed, from,
         ),
-        Err(_) => Err(Stop::Refused),
+        Err(_) => Err(Halt::Refused),
     }
 }
 
@@ -219,7 +219,7 @@ fn judge_behind<C: CountySet, F, S: ItemSource<F>>(
     round: &Round,
     feed: &mut Feed<S>,
     from: &mut F,
-) -> Result<(), Stop>
+) -> Result<(), Halt>
     requires fits { length problem.now.counties ≤ C.PLACES }
     requires small { round.now.limit ≤ most_counties }
     requires counted { feed.old.line ≤ feed.old.steps.used }
@@ -254,7 +254,7 @@ fn judge_round<C: CountySet, F, S: ItemSource<F>>(
     round: &Round,
     feed: &mut Feed<S>,
     from: &mut F,
-) -> Result<(), Stop>
+) -> Result<(), Halt>
     requires fits { length problem.now.counties ≤ C.PLACES }
     requires small { round.now.limit ≤ most_counties }
     requires counted { feed.old.line ≤ feed.old.steps.used }
@@ -278,7 +278,7 @@ pub(crate) fn judge_certificate<C: CountySet, F, S: ItemSource<F>>(
     problem: &Problem,
     feed: &mut Feed<S>,
     from: &mut F,
-) -> Result<Option<Grouping>, Stop>
+) -> Result<Option<Grouping>, Halt>
     requires fits { length problem.now.counties ≤ C.PLACES }
     requires start { (feed.old.line ≡ 0) × (feed.old.steps.used ≡ 0) }
     ensures counts { CountsSteps feed.old feed.new }
@@ -291,7 +291,7 @@ pub(crate) fn judge_certificate<C: CountySet, F, S: ItemSource<F>>(
     match read_round(alloc, feed, from) {
         Ok(round) => {
             if u32::from(round.limit) > MOST {
-                return Err(Stop::Unspelled);
+                return Err(Halt::Unspelled);
             }
             match judge_round::<C, F, S>(alloc, problem, &round, feed, from) {
                 Ok(()) => match next_end(feed, from) {

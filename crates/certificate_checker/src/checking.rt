@@ -6,11 +6,11 @@ ghost use Rattle.grouping_laws.specs.Grouping.{IsBest, IsImpossible};
 ghost use Rattle.grouping_problem.specs.ProblemValue.{problem_of};
 ghost use Rattle.certificate_lines.specs.Courses.{certificate_course};
 ghost use Rattle.certificate_checker.specs.Feeding.{FeedValue, Fed, stream_of, Through};
-ghost use Rattle.certificate_checker.specs.Answered.{IsAnswer, NamesBest, ShowsImpossible, ChecksItems, ChecksBytes, is_read_fault};
+ghost use Rattle.certificate_checker.specs.Answered.{IsCheckAnswer, CheckIsRight, ShowsImpossible, ChecksItems, ChecksBytes, is_read_fault};
 
 use crate::certificate::judge_certificate;
 use crate::fault::{CheckFault, CheckStop};
-use crate::feed::{Feed, Stop, read_rest};
+use crate::feed::{Feed, Halt, read_rest};
 use crate::verdict::Verdict;
 use certificate_lines::{ItemSource, Items, ItemsFrom};
 use field_lines::Source;
@@ -29,13 +29,13 @@ fn verdict_after<F, S: ItemSource<F>>(
         → start.course ≡ certificate_course text
         → start.line ≡ 0
         → Fed start a
-        → ((certificate_course text).fault ≡ None → IsAnswer p text start.limit found)
-        → IfOk result (IsAnswer p text start.limit)) }
+        → ((certificate_course text).fault ≡ None → IsCheckAnswer p text start.limit found)
+        → IfOk result (IsCheckAnswer p text start.limit)) }
 {
     match read_rest(feed, from) {
         Ok(()) => Ok(found),
-        Err(Stop::Text(fault)) => Ok(Verdict::No(CheckFault::Text(fault), fault.line)),
-        Err(Stop::Budget) => Ok(Verdict::Budget),
+        Err(Halt::Text(fault)) => Ok(Verdict::No(CheckFault::Text(fault), fault.line)),
+        Err(Halt::Budget) => Ok(Verdict::Budget),
         Err(_) => Err(AllocError),
     }
 }
@@ -60,11 +60,11 @@ fn check_source<C: CountySet, F, S: ItemSource<F> + Drop>(
     match judge_certificate::<C, F, S>(alloc, problem, &mut feed, from) {
         Ok(Some(target)) => verdict_after(Verdict::Best(target), &mut feed, from),
         Ok(None) => verdict_after(Verdict::Impossible, &mut feed, from),
-        Err(Stop::Fault(fault, line)) => verdict_after(Verdict::No(fault, line), &mut feed, from),
-        Err(Stop::Budget) => verdict_after(Verdict::Budget, &mut feed, from),
-        Err(Stop::Unspelled) => verdict_after(Verdict::Budget, &mut feed, from),
-        Err(Stop::Text(fault)) => Ok(Verdict::No(CheckFault::Text(fault), fault.line)),
-        Err(Stop::Refused) => Err(AllocError),
+        Err(Halt::Fault(fault, line)) => verdict_after(Verdict::No(fault, line), &mut feed, from),
+        Err(Halt::Budget) => verdict_after(Verdict::Budget, &mut feed, from),
+        Err(Halt::Unspelled) => verdict_after(Verdict::Budget, &mut feed, from),
+        Err(Halt::Text(fault)) => Ok(Verdict::No(CheckFault::Text(fault), fault.line)),
+        Err(Halt::Refused) => Err(AllocError),
     }
 }
 
@@ -80,8 +80,8 @@ pub fn check_over<C: CountySet>(
     budget: u64,
 ) -> Result<Verdict, AllocError>
     requires fits { length problem.now.counties ≤ C.PLACES }
-    ensures verdict { IfOk result (IsAnswer (problem_of problem.now) text.now budget) }
-    ensures best { IfOk result (NamesBest (problem_of problem.now)) }
+    ensures verdict { IfOk result (IsCheckAnswer (problem_of problem.now) text.now budget) }
+    ensures best { IfOk result (CheckIsRight (problem_of problem.now)) }
     ensures impossible { IfOk result (ShowsImpossible (problem_of problem.now)) }
 {
     let items = Items::of_certificate(alloc, text);
@@ -105,8 +105,8 @@ pub fn check(
     text: &[u8],
     budget: u64,
 ) -> Result<Verdict, AllocError>
-    ensures verdict { IfOk result (IsAnswer (problem_of problem.now) text.now budget) }
-    ensures best { IfOk result (NamesBest (problem_of problem.now)) }
+    ensures verdict { IfOk result (IsCheckAnswer (problem_of problem.now) text.now budget) }
+    ensures best { IfOk result (CheckIsRight (problem_of problem.now)) }
     ensures impossible { IfOk result (ShowsImpossible (problem_of problem.now)) }
 {
     if fits_mask(problem.counties().len()) {
@@ -130,7 +130,7 @@ pub fn check_from_over<C: CountySet, S: Source>(
     requires fits { length problem.now.counties ≤ C.PLACES }
     requires works { S.is_failed source.old ≡ false }
     ensures verdict { IfOk result (ChecksBytes (problem_of problem.now) (S.given source.old) (S.given source.new) budget) }
-    ensures best { IfOk result (NamesBest (problem_of problem.now)) }
+    ensures best { IfOk result (CheckIsRight (problem_of problem.now)) }
     ensures impossible { IfOk result (ShowsImpossible (problem_of problem.now)) }
     ensures failed { S.is_failed source.new ≡ is_read_fault result }
 {
@@ -165,7 +165,7 @@ pub fn check_from<S: Source>(
 ) -> Result<Verdict, CheckStop>
     requires { S.is_failed source.old ≡ false }
     ensures verdict { IfOk result (ChecksBytes (problem_of problem.now) (S.given source.old) (S.given source.new) budget) }
-    ensures best { IfOk result (NamesBest (problem_of problem.now)) }
+    ensures best { IfOk result (CheckIsRight (problem_of problem.now)) }
     ensures impossible { IfOk result (ShowsImpossible (problem_of problem.now)) }
     ensures failed { S.is_failed source.new ≡ is_read_fault result }
 {

@@ -3,7 +3,7 @@
 ghost use Rattle.std.specs.Prelude.{◌≡◌, ◌≤◌, IfOk};
 ghost use Rattle.certificate_lines.specs.ItemsLeft.{Through as ItemsThrough};
 ghost use Rattle.certificate_checker.specs.Feeding.{stream_of, Through, ForEach, CountsSteps, TakesStep, IsFed, TookLine, StopsAtText, Passes, IsRestRead};
-ghost use Rattle.certificate_checker.specs.declared.feed.Stop.TheVariants.{Refused};
+ghost use Rattle.certificate_checker.specs.declared.feed.Halt.TheVariants.{Refused};
 
 use crate::fault::CheckFault;
 use certificate_lines::{Item, ItemSource, Items, TextFault, TextKind};
@@ -21,7 +21,7 @@ pub(crate) struct Feed<S> {
 
 /// Why the judging of a certificate or of a tree stopped.
 #[derive(Clone, Copy, Debug, PartialEq, Eq)]
-pub(crate) enum Stop {
+pub(crate) enum Halt {
     /// A line is at fault.
     Fault(CheckFault, u64),
     /// The text is at fault.
@@ -34,34 +34,34 @@ pub(crate) enum Stop {
     Refused,
 }
 
-impl From<AllocError> for Stop {
+impl From<AllocError> for Halt {
     ghost from_gives = { λ _ e. e ≡ Refused };
 
-    fn from(_e: AllocError) -> Stop {
-        Stop::Refused
+    fn from(_e: AllocError) -> Halt {
+        Halt::Refused
     }
 }
 
-impl<T: Drop> From<AllocFailed<T>> for Stop {
+impl<T: Drop> From<AllocFailed<T>> for Halt {
     ghost from_gives = { λ _ e. e ≡ Refused };
 
-    fn from(_e: AllocFailed<T>) -> Stop {
-        Stop::Refused
+    fn from(_e: AllocFailed<T>) -> Halt {
+        Halt::Refused
     }
 }
 
 /// What a fault of the source stops with.
-fn of_source(fault: TextFault) -> Stop
+fn of_source(fault: TextFault) -> Halt
     ensures { StopsAtText fault result }
 {
     match fault.kind {
-        TextKind::Memory | TextKind::ReadFault => Stop::Refused,
-        _ => Stop::Text(fault),
+        TextKind::Memory | TextKind::ReadFault => Halt::Refused,
+        _ => Halt::Text(fault),
     }
 }
 
 /// The next line.
-pub(crate) fn next_line<F, S: ItemSource<F>>(feed: &mut Feed<S>, from: &mut F) -> Result<Item, Stop>
+pub(crate) fn next_line<F, S: ItemSource<F>>(feed: &mut Feed<S>, from: &mut F) -> Result<Item, Halt>
     requires { feed.old.line ≤ feed.old.steps.used }
     ensures step { TakesStep feed.old result feed.new }
     ensures counts { CountsSteps feed.old feed.new }
@@ -70,14 +70,14 @@ pub(crate) fn next_line<F, S: ItemSource<F>>(feed: &mut Feed<S>, from: &mut F) -
 {
     let _limit = feed.steps.limit();
     if !feed.steps.tick() {
-        return Err(Stop::Budget);
+        return Err(Halt::Budget);
     }
     match feed.source.next_item(from) {
         Ok(Some(item)) => {
             feed.line += 1;
             Ok(item)
         }
-        Ok(None) => Err(Stop::Unspelled),
+        Ok(None) => Err(Halt::Unspelled),
         Err(fault) => Err(of_source(fault)),
     }
 }
@@ -94,13 +94,13 @@ fn pass_item<F, S: ItemSource<F>>(source: &mut S, from: &mut F) -> Result<bool, 
 }
 
 /// Reads the lines that are left, as many as there may be steps.
-pub(crate) fn read_rest<F, S: ItemSource<F>>(feed: &mut Feed<S>, from: &mut F) -> Result<(), Stop>
+pub(crate) fn read_rest<F, S: ItemSource<F>>(feed: &mut Feed<S>, from: &mut F) -> Result<(), Halt>
     ensures { Through (stream_of S.left S.given feed.old from.old) (stream_of S.left S.given feed.new from.new) (λ a _. IsRestRead a result) }
 {
     let limit = feed.steps.limit();
     loop {
         if feed.line >= limit {
-            return Err(Stop::Budget);
+            return Err(Halt::Budget);
         }
         match pass_item(&mut feed.source, from) {
             Ok(true) => feed.line += 1,

@@ -7,7 +7,7 @@ ghost use Rattle.certificate_checker.specs.Feeding.{stream_of, CountsSteps, Take
 ghost use Rattle.certificate_checker.specs.Judging.{TookForm, IsStopAt, IsJudgedAt};
 
 use crate::fault::of_line;
-use crate::feed::{Feed, Stop, next_line};
+use crate::feed::{Feed, Halt, next_line};
 use certificate_lines::{Allowance, Item, ItemSource, Opening, Version};
 use county_codes::{Codes, Group, Window};
 use line_verdicts::LineStop;
@@ -17,7 +17,7 @@ use proof_trees::Language;
 pub(crate) fn next_opening<F, S: ItemSource<F>>(
     feed: &mut Feed<S>,
     from: &mut F,
-) -> Result<Opening, Stop>
+) -> Result<Opening, Halt>
     requires { feed.old.line ≤ feed.old.steps.used }
     ensures step { TakesStep feed.old result feed.new }
     ensures counts { CountsSteps feed.old feed.new }
@@ -27,7 +27,7 @@ pub(crate) fn next_opening<F, S: ItemSource<F>>(
     let item = next_line(feed, from)?;
     match &item {
         Item::Opens(opening) => Ok(*opening),
-        _ => Err(Stop::Unspelled),
+        _ => Err(Halt::Unspelled),
     }
 }
 
@@ -35,7 +35,7 @@ pub(crate) fn next_opening<F, S: ItemSource<F>>(
 pub(crate) fn next_take<F, S: ItemSource<F>>(
     feed: &mut Feed<S>,
     from: &mut F,
-) -> Result<Option<Codes>, Stop>
+) -> Result<Option<Codes>, Halt>
     requires { feed.old.line ≤ feed.old.steps.used }
     ensures step { TakesStep feed.old result feed.new }
     ensures counts { CountsSteps feed.old feed.new }
@@ -45,7 +45,7 @@ pub(crate) fn next_take<F, S: ItemSource<F>>(
     match next_line(feed, from)? {
         Item::Takes(codes) => Ok(Some(codes)),
         Item::Mark => Ok(None),
-        _ => Err(Stop::Unspelled),
+        _ => Err(Halt::Unspelled),
     }
 }
 
@@ -53,7 +53,7 @@ pub(crate) fn next_take<F, S: ItemSource<F>>(
 pub(crate) fn next_allowance<F, S: ItemSource<F>>(
     feed: &mut Feed<S>,
     from: &mut F,
-) -> Result<Allowance, Stop>
+) -> Result<Allowance, Halt>
     requires { feed.old.line ≤ feed.old.steps.used }
     ensures counts { CountsSteps feed.old feed.new }
     ensures fed { Through (stream_of S.left S.given feed.old from.old) (stream_of S.left S.given feed.new from.new) (λ a b. IsFed a result b) }
@@ -61,7 +61,7 @@ pub(crate) fn next_allowance<F, S: ItemSource<F>>(
 {
     match next_line(feed, from)? {
         Item::Allows(allowance) => Ok(allowance),
-        _ => Err(Stop::Unspelled),
+        _ => Err(Halt::Unspelled),
     }
 }
 
@@ -69,7 +69,7 @@ pub(crate) fn next_allowance<F, S: ItemSource<F>>(
 pub(crate) fn next_head<F, S: ItemSource<F>>(
     feed: &mut Feed<S>,
     from: &mut F,
-) -> Result<(Language, Version), Stop>
+) -> Result<(Language, Version), Halt>
     requires { feed.old.line ≤ feed.old.steps.used }
     ensures counts { CountsSteps feed.old feed.new }
     ensures fed { Through (stream_of S.left S.given feed.old from.old) (stream_of S.left S.given feed.new from.new) (λ a b. IsFed a result b) }
@@ -77,7 +77,7 @@ pub(crate) fn next_head<F, S: ItemSource<F>>(
 {
     match next_line(feed, from)? {
         Item::Head(language, version) => Ok((language, version)),
-        _ => Err(Stop::Unspelled),
+        _ => Err(Halt::Unspelled),
     }
 }
 
@@ -85,7 +85,7 @@ pub(crate) fn next_head<F, S: ItemSource<F>>(
 pub(crate) fn next_window<F, S: ItemSource<F>>(
     feed: &mut Feed<S>,
     from: &mut F,
-) -> Result<Window, Stop>
+) -> Result<Window, Halt>
     requires { feed.old.line ≤ feed.old.steps.used }
     ensures counts { CountsSteps feed.old feed.new }
     ensures fed { Through (stream_of S.left S.given feed.old from.old) (stream_of S.left S.given feed.new from.new) (λ a b. IsFed a result b) }
@@ -93,7 +93,7 @@ pub(crate) fn next_window<F, S: ItemSource<F>>(
 {
     match next_line(feed, from)? {
         Item::Within(window) => Ok(window),
-        _ => Err(Stop::Unspelled),
+        _ => Err(Halt::Unspelled),
     }
 }
 
@@ -101,7 +101,7 @@ pub(crate) fn next_window<F, S: ItemSource<F>>(
 pub(crate) fn next_order<F, S: ItemSource<F>>(
     feed: &mut Feed<S>,
     from: &mut F,
-) -> Result<Codes, Stop>
+) -> Result<Codes, Halt>
     requires { feed.old.line ≤ feed.old.steps.used }
     ensures counts { CountsSteps feed.old feed.new }
     ensures fed { Through (stream_of S.left S.given feed.old from.old) (stream_of S.left S.given feed.new from.new) (λ a b. IsFed a result b) }
@@ -109,12 +109,12 @@ pub(crate) fn next_order<F, S: ItemSource<F>>(
 {
     match next_line(feed, from)? {
         Item::Order(order) => Ok(order),
-        _ => Err(Stop::Unspelled),
+        _ => Err(Halt::Unspelled),
     }
 }
 
 /// The next line, which has to be the limit.
-pub(crate) fn next_limit<F, S: ItemSource<F>>(feed: &mut Feed<S>, from: &mut F) -> Result<u16, Stop>
+pub(crate) fn next_limit<F, S: ItemSource<F>>(feed: &mut Feed<S>, from: &mut F) -> Result<u16, Halt>
     requires { feed.old.line ≤ feed.old.steps.used }
     ensures counts { CountsSteps feed.old feed.new }
     ensures fed { Through (stream_of S.left S.given feed.old from.old) (stream_of S.left S.given feed.new from.new) (λ a b. IsFed a result b) }
@@ -122,7 +122,7 @@ pub(crate) fn next_limit<F, S: ItemSource<F>>(feed: &mut Feed<S>, from: &mut F) 
 {
     match next_line(feed, from)? {
         Item::Limit(limit) => Ok(limit),
-        _ => Err(Stop::Unspelled),
+        _ => Err(Halt::Unspelled),
     }
 }
 
@@ -130,7 +130,7 @@ pub(crate) fn next_limit<F, S: ItemSource<F>>(feed: &mut Feed<S>, from: &mut F) 
 pub(crate) fn next_target<F, S: ItemSource<F>>(
     feed: &mut Feed<S>,
     from: &mut F,
-) -> Result<Option<u16>, Stop>
+) -> Result<Option<u16>, Halt>
     requires { feed.old.line ≤ feed.old.steps.used }
     ensures counts { CountsSteps feed.old feed.new }
     ensures fed { Through (stream_of S.left S.given feed.old from.old) (stream_of S.left S.given feed.new from.new) (λ a b. IsFed a result b) }
@@ -138,7 +138,7 @@ pub(crate) fn next_target<F, S: ItemSource<F>>(
 {
     match next_line(feed, from)? {
         Item::Target(count) => Ok(count),
-        _ => Err(Stop::Unspelled),
+        _ => Err(Halt::Unspelled),
     }
 }
 
@@ -146,7 +146,7 @@ pub(crate) fn next_target<F, S: ItemSource<F>>(
 pub(crate) fn next_group<F, S: ItemSource<F>>(
     feed: &mut Feed<S>,
     from: &mut F,
-) -> Result<Group, Stop>
+) -> Result<Group, Halt>
     requires { feed.old.line ≤ feed.old.steps.used }
     ensures counts { CountsSteps feed.old feed.new }
     ensures fed { Through (stream_of S.left S.given feed.old from.old) (stream_of S.left S.given feed.new from.new) (λ a b. IsFed a result b) }
@@ -154,12 +154,12 @@ pub(crate) fn next_group<F, S: ItemSource<F>>(
 {
     match next_line(feed, from)? {
         Item::Grouped(group) => Ok(group),
-        _ => Err(Stop::Unspelled),
+        _ => Err(Halt::Unspelled),
     }
 }
 
 /// The next line, which has to be the end.
-pub(crate) fn next_end<F, S: ItemSource<F>>(feed: &mut Feed<S>, from: &mut F) -> Result<(), Stop>
+pub(crate) fn next_end<F, S: ItemSource<F>>(feed: &mut Feed<S>, from: &mut F) -> Result<(), Halt>
     requires { feed.old.line ≤ feed.old.steps.used }
     ensures counts { CountsSteps feed.old feed.new }
     ensures fed { Through (stream_of S.left S.given feed.old from.old) (stream_of S.left S.given feed.new from.new) (λ a b. IsFed a result b) }
@@ -167,24 +167,24 @@ pub(crate) fn next_end<F, S: ItemSource<F>>(feed: &mut Feed<S>, from: &mut F) ->
 {
     match next_line(feed, from)? {
         Item::End => Ok(()),
-        _ => Err(Stop::Unspelled),
+        _ => Err(Halt::Unspelled),
     }
 }
 
 /// The stop of a line's judging as one of the reading.
-fn stop_at(stop: LineStop, line: u64) -> Stop
+fn stop_at(stop: LineStop, line: u64) -> Halt
     ensures { IsStopAt line stop result }
 {
     match stop {
-        LineStop::Fault(fault) => Stop::Fault(of_line(fault), line),
-        LineStop::Unspelled => Stop::Unspelled,
-        LineStop::StepLimit => Stop::Budget,
-        LineStop::Memory => Stop::Refused,
+        LineStop::Fault(fault) => Halt::Fault(of_line(fault), line),
+        LineStop::Unspelled => Halt::Unspelled,
+        LineStop::StepLimit => Halt::Budget,
+        LineStop::Memory => Halt::Refused,
     }
 }
 
 /// What a line's judging gave, its stop as one of the reading.
-pub(crate) fn judged_at<T>(judged: Result<T, LineStop>, line: u64) -> Result<T, Stop>
+pub(crate) fn judged_at<T>(judged: Result<T, LineStop>, line: u64) -> Result<T, Halt>
     ensures { IsJudgedAt line judged result }
 {
     match judged {

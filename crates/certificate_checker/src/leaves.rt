@@ -12,7 +12,7 @@ ghost use Rattle.certificate_checker.specs.Feeding.{FeedValue, stream_of, Counts
 ghost use Rattle.certificate_checker.specs.Judging.{IsGround, IsLeafJudged, IsFoundAt, IsEndOf, IsSmall, IsLineJudged, line_items};
 
 use crate::fault::{CheckFault, of_line};
-use crate::feed::{Feed, Stop};
+use crate::feed::{Feed, Halt};
 use crate::forms::{judged_at, next_allowance};
 use crate::ground::Ground;
 use bound_verdicts::{Allowed, judge_allowance};
@@ -23,11 +23,11 @@ use place_sets::CountySet;
 use proof_trees::State;
 
 /// What a leaf of one line comes to, with its fault, if there is one, at its line.
-fn found_at(fault: Option<LineFault>, line: u64) -> Result<(), Stop>
+fn found_at(fault: Option<LineFault>, line: u64) -> Result<(), Halt>
     ensures { IsFoundAt fault line result }
 {
     match fault {
-        Some(fault) => Err(Stop::Fault(of_line(fault), line)),
+        Some(fault) => Err(Halt::Fault(of_line(fault), line)),
         None => Ok(()),
     }
 }
@@ -38,7 +38,7 @@ pub(crate) fn judge_stuck_leaf<C: CountySet>(
     state: &State<C>,
     county: CountyCode,
     line: u64,
-) -> Result<(), Stop>
+) -> Result<(), Halt>
     requires ground { IsGround C.PLACES C.test ground.now }
     requires placed { IsPlaced (length ground.now.ordered.now.order) C.test state.now }
     ensures { (feed : FeedValue)
@@ -54,7 +54,7 @@ pub(crate) fn judge_seats_leaf<C: CountySet>(
     ground: &Ground<C>,
     state: &State<C>,
     line: u64,
-) -> Result<(), Stop>
+) -> Result<(), Halt>
     requires ground { IsGround C.PLACES C.test ground.now }
     requires placed { IsPlaced (length ground.now.ordered.now.order) C.test state.now }
     ensures { (feed : FeedValue)
@@ -67,13 +67,13 @@ pub(crate) fn judge_seats_leaf<C: CountySet>(
 
 /// What a bound leaf comes to where a line of it allows fewer groups than the target has: more lines are a fault of
 /// its first one.
-fn loss_at(last: bool, opened: u64) -> Result<(), Stop>
+fn loss_at(last: bool, opened: u64) -> Result<(), Halt>
     ensures { IsEndOf last opened result }
 {
     if last {
         Ok(())
     } else {
-        Err(Stop::Fault(CheckFault::BoundLength, opened))
+        Err(Halt::Fault(CheckFault::BoundLength, opened))
     }
 }
 
@@ -87,7 +87,7 @@ fn judge_line<C: CountySet, F, S: ItemSource<F>>(
     used: u32,
     feed: &mut Feed<S>,
     from: &mut F,
-) -> Result<Allowed, Stop>
+) -> Result<Allowed, Halt>
     requires ground { IsGround C.PLACES C.test ground.now }
     requires placed { IsPlaced (length ground.now.ordered.now.order) C.test state.now }
     requires counted { feed.old.line ≤ feed.old.steps.used }
@@ -136,7 +136,7 @@ pub(crate) fn judge_bound_leaf<C: CountySet, F, S: ItemSource<F>>(
     count: u16,
     feed: &mut Feed<S>,
     from: &mut F,
-) -> Result<(), Stop>
+) -> Result<(), Halt>
     requires ground { IsGround C.PLACES C.test ground.now }
     requires placed { IsPlaced (length ground.now.ordered.now.order) C.test state.now }
     requires counted { feed.old.line ≤ feed.old.steps.used }
@@ -158,10 +158,10 @@ pub(crate) fn judge_bound_leaf<C: CountySet, F, S: ItemSource<F>>(
 {
     let opened = feed.line;
     let Some(wanted) = ground.wanted else {
-        return Err(Stop::Fault(CheckFault::BoundWithoutTarget, opened));
+        return Err(Halt::Fault(CheckFault::BoundWithoutTarget, opened));
     };
     if count > ground.round.limit {
-        return Err(Stop::Fault(CheckFault::BoundLength, opened));
+        return Err(Halt::Fault(CheckFault::BoundLength, opened));
     }
     let mut used = 0;
     'judging: for before in 0..count {

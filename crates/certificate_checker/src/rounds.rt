@@ -12,7 +12,7 @@ ghost use Rattle.certificate_text.specs.Trees.{Certificate, items_of_head, items
 ghost use Rattle.certificate_checker.specs.Feeding.{stream_of, CountsSteps, IsFed, Through, ForEach};
 ghost use Rattle.certificate_checker.specs.Certificates.{AreTaken, round_items};
 
-use crate::feed::{Feed, Stop};
+use crate::feed::{Feed, Halt};
 use crate::forms::{next_group, next_head, next_limit, next_order, next_target, next_window};
 use certificate_lines::{ItemSource, Version};
 use county_codes::{Group, Grouping, Window};
@@ -25,7 +25,7 @@ fn read_groups<F, S: ItemSource<F>>(
     feed: &mut Feed<S>,
     from: &mut F,
     count: u16,
-) -> Result<Vec<Group>, Stop>
+) -> Result<Vec<Group>, Halt>
     requires { feed.old.line ≤ feed.old.steps.used }
     ensures counts { CountsSteps feed.old feed.new }
     ensures fed { Through (stream_of S.left S.given feed.old from.old) (stream_of S.left S.given feed.new from.new) (λ a b. IsFed a result b) }
@@ -49,7 +49,7 @@ fn read_target<F, S: ItemSource<F>>(
     alloc: Global,
     feed: &mut Feed<S>,
     from: &mut F,
-) -> Result<Option<Grouping>, Stop>
+) -> Result<Option<Grouping>, Halt>
     requires { feed.old.line ≤ feed.old.steps.used }
     ensures counts { CountsSteps feed.old feed.new }
     ensures fed { Through (stream_of S.left S.given feed.old from.old) (stream_of S.left S.given feed.new from.new) (λ a b. IsFed a result b) }
@@ -71,7 +71,7 @@ fn read_target<F, S: ItemSource<F>>(
 fn read_head<F, S: ItemSource<F>>(
     feed: &mut Feed<S>,
     from: &mut F,
-) -> Result<(Language, Option<Window>), Stop>
+) -> Result<(Language, Option<Window>), Halt>
     requires { feed.old.line ≤ feed.old.steps.used }
     ensures counts { CountsSteps feed.old feed.new }
     ensures fed { Through (stream_of S.left S.given feed.old from.old) (stream_of S.left S.given feed.new from.new) (λ a b. IsFed a result b) }
@@ -94,7 +94,7 @@ pub(crate) fn read_round<F, S: ItemSource<F>>(
     alloc: Global,
     feed: &mut Feed<S>,
     from: &mut F,
-) -> Result<Round, Stop>
+) -> Result<Round, Halt>
     requires { feed.old.line ≤ feed.old.steps.used }
     ensures counts { CountsSteps feed.old feed.new }
     ensures fed { Through (stream_of S.left S.given feed.old from.old) (stream_of S.left S.given feed.new from.new) (λ a b. IsFed a result b) }

@@ -14,7 +14,7 @@ ghost use Rattle.certificate_checker.specs.Judging.{IsGround, IsJudged};
 
 use crate::branches::{groups_behind, listed_groups, taken_state};
 use crate::fault::CheckFault;
-use crate::feed::{Feed, Stop};
+use crate::feed::{Feed, Halt};
 use crate::forms::{next_opening, next_take};
 use crate::ground::Ground;
 use crate::leaves::{judge_bound_leaf, judge_seats_leaf, judge_stuck_leaf};
@@ -31,7 +31,7 @@ fn judge_takes<C: CountySet, F, S: ItemSource<F>>(
     groups: &[C],
     feed: &mut Feed<S>,
     from: &mut F,
-) -> Result<(), Stop>
+) -> Result<(), Halt>
     requires ground { IsGround C.PLACES C.test ground.now }
     requires placed { IsPlaced (length ground.now.ordered.now.order) C.test state.now }
     requires groups { All (IsClosable C.test state.now) groups.now }
@@ -65,7 +65,7 @@ fn judge_takes<C: CountySet, F, S: ItemSource<F>>(
                 if left.is_empty() {
                     return Ok(());
                 }
-                return Err(Stop::Fault(CheckFault::MissingGroup, feed.line));
+                return Err(Halt::Fault(CheckFault::MissingGroup, feed.line));
             }
             Err(stop) => return Err(stop),
         }
@@ -80,7 +80,7 @@ pub(crate) fn judge_tree<C: CountySet, F, S: ItemSource<F>>(
     state: &mut State<C>,
     feed: &mut Feed<S>,
     from: &mut F,
-) -> Result<(), Stop>
+) -> Result<(), Halt>
     requires ground { IsGround C.PLACES C.test ground.now }
     requires placed { IsPlaced (length ground.now.ordered.now.order) C.test state.old }
     requires counted { feed.old.line ≤ feed.old.steps.used }

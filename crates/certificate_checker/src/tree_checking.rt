@@ -18,7 +18,7 @@ ghost use Rattle.certificate_checker.specs.TreeAnswered.{IsTreeAnswer, IsRightOf
 
 use crate::certificate::{judge_order, judge_placed, judge_target};
 use crate::fault::CheckFault;
-use crate::feed::{Feed, Stop, first_fault};
+use crate::feed::{Feed, Halt, first_fault};
 use crate::verdict::TreeVerdict;
 use certificate_lines::{Items, TextFault};
 use certificate_text::Tree;
@@ -32,13 +32,13 @@ use std::alloc::{AllocError, Global};
 use tree_lines::tree_lines;
 
 /// What is said of a tree whose lines have no fault. The stops that a fault of the text gives never come here.
-fn said_of(judged: Result<(), Stop>) -> Result<TreeVerdict, AllocError>
+fn said_of(judged: Result<(), Halt>) -> Result<TreeVerdict, AllocError>
     ensures { IsSaid judged result }
 {
     match judged {
         Ok(()) => Ok(TreeVerdict::Proof),
-        Err(Stop::Fault(fault, _)) => Ok(TreeVerdict::Fault(fault)),
-        Err(Stop::Budget) => Ok(TreeVerdict::Budget),
+        Err(Halt::Fault(fault, _)) => Ok(TreeVerdict::Fault(fault)),
+        Err(Halt::Budget) => Ok(TreeVerdict::Budget),
         Err(_) => Err(AllocError),
     }
 }

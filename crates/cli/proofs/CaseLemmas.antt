@@ -5,7 +5,7 @@ use Rattle.std.specs.Option.{option_or, option_map}
 use Rattle.std.proofs.lemmas.List.{reverse-append, map_push}
 use mathlib.Core.Path.{fun_ext}
 use Rattle.program_answers.specs.Answer.{Answered}
-use Rattle.shelves.specs.Files.{File, Files, held, with_files}
+use Rattle.shelves.specs.Files.{NamedFile, Files, held, with_files}
 use Rattle.shelves.specs.History.{Event, no_history}
 use Rattle.std.specs.List.{slice_split}
 use Rattle.field_lines.specs.Raw.{raw_lines}
@@ -16,35 +16,35 @@ use Rattle.shelves.specs.Memory.{files_of}
 use Rattle.shelves.specs.declared.memory.MemoryFile.{MemoryFile}
 
 -- a shelf in memory on which nothing was stored
-nothing_stored : (stored files : List File) → stored ≡ [] → (λ name. option_or (held stored name) (held files name)) ≡ held files
+nothing_stored : (stored files : List NamedFile) → stored ≡ [] → (λ name. option_or (held stored name) (held files name)) ≡ held files
 nothing_stored stored files none = fun_ext (λ name. rw none refl)
 
 -- an answer over such a shelf, with the files that were stored since
-pub words_over : (began files now : List File) (words : List (List ℕ)) (text after : List ℕ) (status : ℕ) (stored : List File) (first events : List Event)
+pub words_over : (began files now : List NamedFile) (words : List (List ℕ)) (text after : List ℕ) (status : ℕ) (stored : List NamedFile) (first events : List Event)
     → began ≡ [] → first ≡ [] → Some now ≡ option_map (λ held. with_files held stored) (Some began) → after ≡ text ++ stored_text now
     → IsRunAnswer (Some (λ name. option_or (held began name) (held files name))) words (record { failures = 0; events = first }) (record { failures = 0; events = events }) stored (record { text = text; status = status })
     → WordsOver files words (record { text = after; status = status })
 words_over began files now words text after status stored first events none fresh kept is answer =
-    let same : now ≡ with_files [] stored = some_same kept ∙ ap (λ (l : List File). with_files l stored) none in
+    let same : now ≡ with_files [] stored = some_same kept ∙ ap (λ (l : List NamedFile). with_files l stored) none in
     record {
       run = record { text = text; status = status };
       stored = stored;
       events = events;
       answer = subst (λ (f : Files). IsRunAnswer (Some f) words no_history (record { failures = 0; events = events }) stored (record { text = text; status = status })) (nothing_stored began files none)
           (subst (λ (l : List Event). IsRunAnswer (Some (λ name. option_or (held began name) (held files name))) words (record { failures = 0; events = l }) (record { failures = 0; events = events }) stored (record { text = text; status = status })) fresh answer);
-      followed = ap (λ (t : List ℕ). record { text = t; status = status }) (is ∙ ap (λ (l : List File). text ++ stored_text l) same);
+      followed = ap (λ (t : List ℕ). record { text = t; status = status }) (is ∙ ap (λ (l : List NamedFile). text ++ stored_text l) same);
     }
   where
-    some_same : {x y : List File} → Some x ≡ Some y → x ≡ y
+    some_same : {x y : List NamedFile} → Some x ≡ Some y → x ≡ y
     some_same e = cc
 
 -- the answer to a case whose line and files are known
-pub case_over : (text line : List ℕ) (files : List File) (a : Answered) → is_case text ≡ true → line ≡ first_line (raw_lines text) → files ≡ case_files text
+pub case_over : (text line : List ℕ) (files : List NamedFile) (a : Answered) → is_case text ≡ true → line ≡ first_line (raw_lines text) → files ≡ case_files text
     → WordsOver (reverse files) (slice_split (λ b. b == 32) line) a → IsCaseAnswer text (Some a)
 case_over text line files a case is_line is_files answer = (
   case,
   subst (λ (l : List ℕ). WordsOver (reverse (case_files text)) (slice_split (λ b. b == 32) l) a) is_line
-      (subst (λ (f : List File). WordsOver (reverse f) (slice_split (λ b. b == 32) line) a) is_files answer),
+      (subst (λ (f : List NamedFile). WordsOver (reverse f) (slice_split (λ b. b == 32) line) a) is_files answer),
 )
 
 -- a list read from its end, each changed

@@ -2,12 +2,12 @@
 use Rattle.std.proofs.Common.{◌≡◌, ℕ, true, List, [], Option, inl, inr, refl}
 use Rattle.std.specs.Prelude.{Result, Ok, Err, IfOk}
 use Rattle.std.specs.declared.alloc.AllocError.{AllocError}
-use Rattle.shelves.specs.Files.{File, Files}
+use Rattle.shelves.specs.Files.{NamedFile, Files}
 use Rattle.shelves.specs.History.{History}
 use Rattle.command_words.specs.Words.{EndsFor, EndsTaken, Means, faults_of, takes_words}
 use Rattle.command_words.specs.declared.words.CommandWords.{CommandWords}
 use Rattle.command_words.specs.declared.end.WordsEnd.{WordsEnd}
-use Rattle.program_answers.specs.declared.answer.Answer.{Answer}
+use Rattle.program_answers.specs.declared.answer.RunAnswer.{RunAnswer}
 use Rattle.program_answers.specs.declared.answer.Refusal.{Refusal}
 use Rattle.program_answers.specs.declared.answer.Refusal.TheVariants.{Shown, Memory}
 use Rattle.program_answers.specs.Answer.{Answered}
@@ -18,7 +18,7 @@ use Rattle.command_runs.specs.Run.{CommandEnds, CommandRun, IsEndAnswer, IsRunAn
 use Rattle.cli.specs.Ends.{said_of}
 
 -- a command that stores no file
-pub quiet_run : (files : Option Files) (command : CommandWords) (steps : Course Answered) (before after : History) (end : Result Answer Refusal)
+pub quiet_run : (files : Option Files) (command : CommandWords) (steps : Course Answered) (before after : History) (end : Result RunAnswer Refusal)
     → ((a : Answered) → EndsIn steps before after a → CommandEnds files command before after [] a)
     → Comes answer_of end (steps before after) → CommandRun files command before after [] (said_by end)
 quiet_run files command steps before after (Ok a) k h = inr (k (answer_of a) (inl h))
@@ -26,13 +26,13 @@ quiet_run files command steps before after (Err (Shown a)) k h = inr (k (answer_
 quiet_run files command steps before after (Err Memory) k h = inl (refl, refl)
 
 -- words that give no command
-pub ended_words : (files : Option Files) (list : List (List ℕ)) (n : History) (end : WordsEnd) (answer : Result Answer AllocError)
+pub ended_words : (files : Option Files) (list : List (List ℕ)) (n : History) (end : WordsEnd) (answer : Result RunAnswer AllocError)
     → EndsFor list end → (takes_words list ≡ true → EndsTaken list end) → IfOk answer (λ a. IsEndAnswer end (answer_of a))
     → IsRunAnswer files list n n [] (said_of answer)
 ended_words files list n end (Ok a) by taken h = inr (inl (record { end = end; by = by; taken = taken; answer = h; none_stored = refl; none_loaded = refl }))
 ended_words files list n end (Err e) by taken h = inl (refl, refl)
 
 -- words that mean a command, and the run of it
-pub meant_run : (files : Option Files) (list : List (List ℕ)) (before after : History) (stored : List File) (a : Answered) (command : CommandWords)
+pub meant_run : (files : Option Files) (list : List (List ℕ)) (before after : History) (stored : List NamedFile) (a : Answered) (command : CommandWords)
     → Means list command → faults_of list ≡ [] → RunsAsAsked files list command (record_name_of command) before after stored a → IsRunAnswer files list before after stored a
 meant_run files list before after stored a command meant taken run = inr (inr (record { command = command; meant = meant; taken = taken; run = run }))

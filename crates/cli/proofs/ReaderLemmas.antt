@@ -12,7 +12,7 @@ use Rattle.shelves.specs.History.{History, HasLoaded}
 use Rattle.program_answers.specs.declared.answer.Refusal.{Refusal}
 use Rattle.program_answers.specs.declared.answer.Refusal.TheVariants.{Shown, Memory}
 use Rattle.program_answers.specs.Answer.{Answered}
-use Rattle.program_answers.specs.Answers.{answer_of, Comes, Meets, Refuses}
+use Rattle.program_answers.specs.Answers.{Comes, Meets, Refuses}
 use Rattle.certificate_checker.specs.declared.fault.CheckStop.{CheckStop}
 use Rattle.command_runs.specs.declared.checker_report.Checked.{Checked}
 use Rattle.command_runs.specs.CheckCourse.{IsChecked, ChecksGiven}
@@ -20,7 +20,7 @@ use Rattle.command_runs.specs.TableCourse.{Tabled}
 use Rattle.command_runs.specs.Texts.{reported_of}
 use Rattle.program_answers.specs.Refusals.{pl94_answer, shelf_answer}
 use Rattle.command_runs.specs.Course.{Course, ◌>>=◌, load_step, call_step, value_step}
-use Rattle.command_runs.specs.Reading.{Given, open_step, read_step, whole_step, read_one, text_of, back_step, read_both, whole_pair, load_pair, texts_of}
+use Rattle.command_runs.specs.Reading.{GivenBack, open_step, read_step, whole_step, read_one, text_of, back_step, read_both, whole_pair, load_pair, texts_of}
 use Rattle.cli.specs.Streams.{IsWhole, AreWhole, Streams}
 
 -- an answer that is shown
@@ -57,7 +57,7 @@ kept_holds P (Ok value) is_whole (Some kept) holds h = subst P (ok_same (Ok valu
 kept_holds P (Err fault) is_whole (Some kept) holds h = absurd (err_ok (Err fault) fault kept refl h.0)
 
 -- what was read of two census files, if their readers stood at their ends
-pub census_read : {T Y : Type 0} (view : T → List Y) (list : List ℕ → List ℕ → Result (List Y) Pl94Fault) (first second geo segment : List ℕ) (both : Given × Given) (now : History) (read : Result T Pl94Fault)
+pub census_read : {T Y : Type 0} (view : T → List Y) (list : List ℕ → List ℕ → Result (List Y) Pl94Fault) (first second geo segment : List ℕ) (both : GivenBack × GivenBack) (now : History) (read : Result T Pl94Fault)
     (is_whole : Bool) (found : Option T) → ReadsBoth view [] geo [] segment read list → both.0.bytes ≡ geo → both.1.bytes ≡ segment → AreWhole first second both now (Ok is_whole)
     → IfSome found (λ value. (read ≡ Ok value) × (is_whole ≡ true))
     → IfSome found (λ value. (both.0.answer ≡ Ok Whole) × (both.1.answer ≡ Ok Whole) × call_step pl94_answer (λ answer. list both.0.bytes both.1.bytes ≡ answer) now now (Ok (view value)))
@@ -73,7 +73,7 @@ census_read view list first second geo segment both now read false (Some found) 
     false_true e = cc
 
 -- the second of two readers failed, or the first did
-pub second_failed : (first second : List ℕ) (g : Given) (bytes : List ℕ) (fault : ShelfFault) (now : History) (refusal : Refusal) → Refuses (shelf_answer second fault) refusal
+pub second_failed : (first second : List ℕ) (g : GivenBack) (bytes : List ℕ) (fault : ShelfFault) (now : History) (refusal : Refusal) → Refuses (shelf_answer second fault) refusal
     → Meets refusal (λ a. whole_pair first second (g, record { bytes = bytes; answer = Err fault }) now now (Err a))
 second_failed first second g bytes fault now refusal is =
     shown refusal (shelf_answer second fault) (λ a. whole_pair first second (g, record { bytes = bytes; answer = Err fault }) now now (Err a)) is (inl (refl, (fault, refl, refl)))
@@ -96,13 +96,13 @@ module _ (files : Option Files) (first second : List ℕ) where
   second_unopened before between after Memory same h = tt
 
   -- both readers were given back
-  pub both_back : (before between after : History) (g h : Given) → read_step files second before between (Ok h) → read_step files first between after (Ok g)
+  pub both_back : (before between after : History) (g h : GivenBack) → read_step files second before between (Ok h) → read_step files first between after (Ok g)
       → back_step files first second before after (Ok (g, h))
   both_back before between after g h other one =
       inr (record { value = h; between = between; given = other; goes_on = inr (record { value = g; between = after; given = one; goes_on = (refl, refl) }) })
 
   -- both were opened, and both readers were given back
-  pub both_read : (before between after : History) (given : Given × Given) → between ≡ before → back_step files first second between after (Ok given)
+  pub both_read : (before between after : History) (given : GivenBack × GivenBack) → between ≡ before → back_step files first second between after (Ok given)
       → read_both files first second before after (Ok given)
   both_read before between after given same back =
       inr (record { value = tt; between = between; given = same; goes_on = inr (record { value = tt; between = between; given = refl; goes_on = back }) })
@@ -115,7 +115,7 @@ module _ (files : Option Files) (first second : List ℕ) where
     stream_unopened before after (Shown a) h = inl (inl h)
     stream_unopened before after Memory h = tt
 
-    pub stream_failed : (before after : History) (given : Given × Given) (refusal : Refusal) → read_both files first second before after (Ok given)
+    pub stream_failed : (before after : History) (given : GivenBack × GivenBack) (refusal : Refusal) → read_both files first second before after (Ok given)
         → Meets refusal (λ a. whole_pair first second given after after (Err a)) → Meets refusal (λ a. steps before after (Err a))
     stream_failed before after given (Shown a) read h = inl (inr (record { value = given; between = after; given = read; goes_on = inl h }))
     stream_failed before after given Memory read h = tt
@@ -125,7 +125,7 @@ module _ (files : Option Files) (first second : List ℕ) where
     stream_ended before after (Ok found) refusal is h = absurd is
     stream_ended before after (Err e) refusal is h = subst (λ (r : Refusal). Meets r (λ a. steps before after (Err a))) (sym is) h
 
-    whole_texts : (before after : History) (given : Given × Given) → read_both files first second before after (Ok given) → given.0.answer ≡ Ok Whole → given.1.answer ≡ Ok Whole
+    whole_texts : (before after : History) (given : GivenBack × GivenBack) → read_both files first second before after (Ok given) → given.0.answer ≡ Ok Whole → given.1.answer ≡ Ok Whole
         → texts_of files first second before after (Ok (given.0.bytes, given.1.bytes))
     whole_texts before after given read whole whole_too = inr (record {
       value = given;
@@ -140,7 +140,7 @@ module _ (files : Option Files) (first second : List ℕ) where
     })
 
     -- what was streamed is of whole texts, or only the readers were given back
-    pub streamed : (before after : History) (given : Given × Given) (found : Option S) → read_both files first second before after (Ok given)
+    pub streamed : (before after : History) (given : GivenBack × GivenBack) (found : Option S) → read_both files first second before after (Ok given)
         → IfSome found (λ value. (given.0.answer ≡ Ok Whole) × (given.1.answer ≡ Ok Whole) × next (given.0.bytes, given.1.bytes) after after (Ok (view value)))
         → Streams view steps (read_both files first second) (Ok found) before after
     streamed before after given (Some value) read h =
@@ -148,7 +148,7 @@ module _ (files : Option Files) (first second : List ℕ) where
     streamed before after given None read h = (given, read)
 
     -- both files were loaded behind the reading
-    loaded : (before between after : History) (given : Given × Given) (end : Result X Answered) → read_both files first second before between (Ok given)
+    loaded : (before between after : History) (given : GivenBack × GivenBack) (end : Result X Answered) → read_both files first second before between (Ok given)
         → (load_pair files first second >>= next) between after end → steps before after end
     loaded before between after given (Ok value) read (inl stop) = absurd stop
     loaded before between after given (Err a) read (inl stop) = inl (inr (record { value = given; between = between; given = read; goes_on = inr stop }))
@@ -159,7 +159,7 @@ module _ (files : Option Files) (first second : List ℕ) where
       goes_on = on.goes_on;
     })
 
-    pub reloaded : (before between after : History) (given : Given × Given) (end : Result S Refusal) → read_both files first second before between (Ok given)
+    pub reloaded : (before between after : History) (given : GivenBack × GivenBack) (end : Result S Refusal) → read_both files first second before between (Ok given)
         → Comes view end ((load_pair files first second >>= next) between after) → Comes view end (steps before after)
     reloaded before between after given (Ok value) read h = loaded before between after given (Ok (view value)) read h
     reloaded before between after given (Err (Shown a)) read h = loaded before between after given (Err _) read h
@@ -190,7 +190,7 @@ module _ (files : Option Files) (first second : List ℕ) where
 
 module _ (files : Option Files) (name : List ℕ) where
   -- the file could not be opened, or its reader was given back
-  pub one_read : (before between after : History) (given : Given) → between ≡ before → read_step files name between after (Ok given) → read_one files name before after (Ok given)
+  pub one_read : (before between after : History) (given : GivenBack) → between ≡ before → read_step files name between after (Ok given) → read_one files name before after (Ok given)
   one_read before between after given same back = inr (record { value = tt; between = between; given = same; goes_on = back })
 
   module _ {S X : Type 0} (view : S → X) (next : List ℕ → Course X) where
@@ -201,7 +201,7 @@ module _ (files : Option Files) (name : List ℕ) where
     text_unopened before after (Shown a) h = inl (inl (inl h))
     text_unopened before after Memory h = tt
 
-    pub text_failed : (before after : History) (given : Given) (refusal : Refusal) → read_one files name before after (Ok given)
+    pub text_failed : (before after : History) (given : GivenBack) (refusal : Refusal) → read_one files name before after (Ok given)
         → Meets refusal (λ a. whole_step name given after after (Err a)) → Meets refusal (λ a. text_steps before after (Err a))
     text_failed before after given (Shown a) read h = inl (inr (record { value = given; between = after; given = read; goes_on = inl h }))
     text_failed before after given Memory read h = tt
@@ -212,7 +212,7 @@ module _ (files : Option Files) (name : List ℕ) where
     text_ended before after (Err e) refusal is h = subst (λ (r : Refusal). Meets r (λ a. text_steps before after (Err a))) (sym is) h
 
     -- what was streamed is of the whole text, or only the reader was given back
-    pub text_streamed : (before after : History) (given : Given) (found : Option S) → read_one files name before after (Ok given)
+    pub text_streamed : (before after : History) (given : GivenBack) (found : Option S) → read_one files name before after (Ok given)
         → IfSome found (λ value. (given.answer ≡ Ok Whole) × next given.bytes after after (Ok (view value)))
         → Streams view text_steps (read_one files name) (Ok found) before after
     text_streamed before after given (Some value) read h = inr (record {
@@ -224,7 +224,7 @@ module _ (files : Option Files) (name : List ℕ) where
     text_streamed before after given None read h = (given, read)
 
     -- the file was loaded behind the reading
-    text_loaded : (before between after : History) (given : Given) (end : Result X Answered) → read_one files name before between (Ok given)
+    text_loaded : (before between after : History) (given : GivenBack) (end : Result X Answered) → read_one files name before between (Ok given)
         → (load_step files name >>= next) between after end → text_steps before after end
     text_loaded before between after given (Ok value) read (inl stop) = absurd stop
     text_loaded before between after given (Err a) read (inl stop) = inl (inr (record { value = given; between = between; given = read; goes_on = inr stop }))
@@ -235,14 +235,14 @@ module _ (files : Option Files) (name : List ℕ) where
       goes_on = on.goes_on;
     })
 
-    pub text_reloaded : (before between after : History) (given : Given) (end : Result S Refusal) → read_one files name before between (Ok given)
+    pub text_reloaded : (before between after : History) (given : GivenBack) (end : Result S Refusal) → read_one files name before between (Ok given)
         → Comes view end ((load_step files name >>= next) between after) → Comes view end (text_steps before after)
     text_reloaded before between after given (Ok value) read h = text_loaded before between after given (Ok (view value)) read h
     text_reloaded before between after given (Err (Shown a)) read h = text_loaded before between after given (Err _) read h
     text_reloaded before between after given (Err Memory) read h = tt
 
 -- what was said of a certificate that was read to its end
-pub certificate_checked : (t : Tabled) (budget : ℕ) (name bytes : List ℕ) (given : Given) (now : History) (checked : Result Checked CheckStop) (is_whole : Bool) (found : Option Checked)
+pub certificate_checked : (t : Tabled) (budget : ℕ) (name bytes : List ℕ) (given : GivenBack) (now : History) (checked : Result Checked CheckStop) (is_whole : Bool) (found : Option Checked)
     → IfOk checked (λ c. ChecksGiven t budget [] bytes (reported_of c.reported)) → given.bytes ≡ bytes → IsWhole name given now (Ok is_whole)
     → IfSome found (λ value. (checked ≡ Ok value) × (is_whole ≡ true))
     → IfSome found (λ value. (given.answer ≡ Ok Whole) × value_step (IsChecked t budget given.bytes) now now (Ok (reported_of value.reported)))

@@ -4,9 +4,9 @@ use Rattle.std.specs.Prelude.{Result, Ok, Err, option_map}
 use Rattle.std.specs.Borrow.{Bor}
 use Rattle.std.specs.Option.{option_copied}
 use Rattle.std.specs.Result.{IsErrAnd}
-use Rattle.shelves.specs.Files.{File, Files}
+use Rattle.shelves.specs.Files.{NamedFile, Files}
 use Rattle.shelves.specs.History.{History}
-use Rattle.program_answers.specs.declared.answer.Answer.{Answer}
+use Rattle.program_answers.specs.declared.answer.RunAnswer.{RunAnswer}
 use Rattle.program_answers.specs.declared.answer.Refusal.{Refusal}
 use Rattle.program_answers.specs.declared.answer.Refusal.TheVariants.{Shown, Memory}
 use Rattle.program_answers.specs.Answer.{Answered, memory_answer}
@@ -23,25 +23,25 @@ seen_lent f None = refl
 seen_lent f (Some t) = refl
 
 -- the shelf was as it was until the files were stored
-pub from_start : (files files_then after : Option Files) (listed listed_then last : Option (List File)) (stored : List File)
+pub from_start : (files files_then after : Option Files) (listed listed_then last : Option (List NamedFile)) (stored : List NamedFile)
     → files_then ≡ files → listed_then ≡ listed → HasStored files_then after listed_then last stored → HasStored files after listed last stored
 from_start files files_then after listed listed_then last stored same kept h =
-    subst (λ (f : Option Files). HasStored f after listed last stored) same (subst (λ (l : Option (List File)). HasStored files_then after l last stored) kept h)
+    subst (λ (f : Option Files). HasStored f after listed last stored) same (subst (λ (l : Option (List NamedFile)). HasStored files_then after l last stored) kept h)
 
-module _ {S : Type 0} (steps : Course S) (files_of : S → List File) (answer : S → Answered) where
+module _ {S : Type 0} (steps : Course S) (files_of : S → List NamedFile) (answer : S → Answered) where
   -- a run of the steps, whose files are stored; a growth may be refused
-  abbrev pub Runs : History → History → List File → Answered → Type 0
+  abbrev pub Runs : History → History → List NamedFile → Answered → Type 0
   Runs before after stored a = IsOutOfMemory stored a ⊎ EndsStoring steps files_of answer before after stored a
 
   -- it ends at a fault, before anything is stored
-  pub refused_run : (before after : History) (refusal : Refusal) (end : Result Answer Refusal)
+  pub refused_run : (before after : History) (refusal : Refusal) (end : Result RunAnswer Refusal)
       → IsErrAnd end (λ e. e ≡ refusal) → Meets refusal (λ a. steps before after (Err a)) → Runs before after [] (said_by end)
   refused_run before after refusal (Ok a) i h = absurd i
   refused_run before after (Shown a) (Err e) i h = subst (λ (r : Refusal). Runs before after [] (said_by (Err r))) (sym i) (inr (inl (h, refl)))
   refused_run before after Memory (Err e) i h = subst (λ (r : Refusal). Runs before after [] (said_by (Err r))) (sym i) (inl (refl, refl))
 
   -- or at a file that was refused
-  pub stopped_run : (s : S) (before between after : History) (stored : List File) (refusal : Refusal) (end : Result Answer Refusal)
+  pub stopped_run : (s : S) (before between after : History) (stored : List NamedFile) (refusal : Refusal) (end : Result RunAnswer Refusal)
       → IsErrAnd end (λ e. e ≡ refusal) → steps before between (Ok s) → store_steps (files_of s) between after stored (refusal_by (Err refusal))
       → Runs before after stored (said_by end)
   stopped_run s before between after stored refusal (Ok a) i h k = absurd i
@@ -51,12 +51,12 @@ module _ {S : Type 0} (steps : Course S) (files_of : S → List File) (answer : 
       subst (λ (r : Refusal). Runs before after stored (said_by (Err r))) (sym i) (inr (inr (s, between, Some memory_answer, h, k, refl)))
 
   -- or with all its files stored
-  pub ended_run : (s : S) (before between after : History) (stored : List File) → steps before between (Ok s) → store_steps (files_of s) between after stored None
+  pub ended_run : (s : S) (before between after : History) (stored : List NamedFile) → steps before between (Ok s) → store_steps (files_of s) between after stored None
       → Runs before after stored (answer s)
   ended_run s before between after stored h k = inr (inr (s, between, None, h, k, refl))
 
   -- or with its answer, unless a file was refused
-  pub said_run : (s : S) (before between after : History) (stored : List File) (refusal : Option Answered) (a : Answered) → steps before between (Ok s)
+  pub said_run : (s : S) (before between after : History) (stored : List NamedFile) (refusal : Option Answered) (a : Answered) → steps before between (Ok s)
       → store_steps (files_of s) between after stored refusal → a ≡ said_after refusal (answer s) → Runs before after stored a
   said_run s before between after stored refusal a h k said = inr (inr (s, between, refusal, h, k, said))
 
@@ -66,7 +66,7 @@ refused_said (Shown s) a = refl
 refused_said Memory a = refl
 
 -- files of which one is refused, with others behind them
-pub stops_with : (xs ys : List File) (before after : History) (stored : List File) (refusal : Refusal) (end : Result (Unit {0}) Refusal)
+pub stops_with : (xs ys : List NamedFile) (before after : History) (stored : List NamedFile) (refusal : Refusal) (end : Result (Unit {0}) Refusal)
     → IsErrAnd end (λ e. e ≡ refusal) → store_steps xs before after stored (refusal_by (Err refusal)) → store_steps (xs ++ ys) before after stored (refusal_by end)
 stops_with xs ys before after stored refusal (Ok x) i h = absurd i
 stops_with xs ys before after stored (Shown a) (Err e) i h =

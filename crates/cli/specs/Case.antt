@@ -4,7 +4,7 @@ use Rattle.std.specs.List.{starts_with, slice_split, list_all}
 use Rattle.std.specs.Prelude.{nat_eq}
 use Rattle.std.specs.Str.{is_utf8}
 use Rattle.field_lines.specs.Raw.{RawLine, raw_lines}
-use Rattle.shelves.specs.Files.{File}
+use Rattle.shelves.specs.Files.{NamedFile}
 
 -- a piece with its LF, if it has one
 abbrev pub whole_line : RawLine → List ℕ
@@ -17,7 +17,7 @@ file_name bytes = if starts_with nat_eq bytes (codes "file ") then Some (drop 5 
 -- the lines up to the next that names a file, and the files from there on
 pub record Parts : Type 0 where
   pub lines : List ℕ
-  pub files : List File
+  pub files : List NamedFile
 
 -- a line that names a file begins it; any other joins the lines that follow
 abbrev pub in_front : Option (List ℕ) → RawLine → Parts → Parts
@@ -34,8 +34,9 @@ abbrev pub first_line : List RawLine → List ℕ
 first_line [] = []
 first_line (p ∷ ps) = p.bytes
 
--- the files of a case: each line `file NAME` begins one, whose bytes are the lines up to the next; lines before the first are ignored
-abbrev pub case_files : List ℕ → List File
+-- the files of a case: each line `file NAME` begins one, whose bytes are the lines up to the next; lines before the
+-- first are ignored
+abbrev pub case_files : List ℕ → List NamedFile
 case_files text = (parts_of (drop 1 (raw_lines text))).files
 
 -- the words of a case: its first line, cut at each blank
@@ -43,7 +44,7 @@ abbrev pub case_words : List ℕ → List (List ℕ)
 case_words text = slice_split (λ b. b == 32) (first_line (raw_lines text))
 
 -- the files whose names are text
-abbrev pub are_named : List File → Bool
+abbrev pub are_named : List NamedFile → Bool
 are_named files = list_all (λ f. is_utf8 f.name) files
 
 -- the first line and the names of the files are text
@@ -51,6 +52,6 @@ abbrev pub is_case : List ℕ → Bool
 is_case text = is_utf8 (first_line (raw_lines text)) && are_named (case_files text)
 
 -- a file that is being read with the bytes so far, and the files after it
-abbrev pub with_open : Option (List ℕ) → List ℕ → Parts → List File
+abbrev pub with_open : Option (List ℕ) → List ℕ → Parts → List NamedFile
 with_open None bytes parts = parts.files
 with_open (Some name) bytes parts = record { name = name; bytes = bytes ++ parts.lines } ∷ parts.files

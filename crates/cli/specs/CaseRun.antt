@@ -4,30 +4,31 @@ use Rattle.std.specs.List.{flat_map}
 use Rattle.shelves.specs.declared.whole.WholeFault.{WholeFault}
 use Rattle.shelves.specs.declared.whole.WholeFault.TheVariants.{TooLarge, Failed, Memory}
 use Rattle.program_answers.specs.Answer.{Answered, memory_answer}
-use Rattle.shelves.specs.Files.{File, held, with_files}
+use Rattle.shelves.specs.Files.{NamedFile, held, with_files}
 use Rattle.shelves.specs.History.{Event, no_history}
 use Rattle.cli.specs.Case.{case_files, case_words, is_case}
 use Rattle.command_runs.specs.Run.{IsRunAnswer}
 use Rattle.cli.specs.Delivery.{Delivers}
 
 -- the files that were stored: a line `file NAME` and the bytes of each
-abbrev pub stored_text : List File → List ℕ
+abbrev pub stored_text : List NamedFile → List ℕ
 stored_text files = flat_map (λ f. codes "file " ++ f.name ++ codes "\n" ++ f.bytes) files
 
 -- an answer, and the files that were stored after it
-abbrev pub followed_by : Answered → List File → Answered
+abbrev pub followed_by : Answered → List NamedFile → Answered
 followed_by a stored = record { text = a.text ++ stored_text stored; status = a.status }
 
--- the answer to words over files, after these events and no failure, followed by the files that were stored, each name once
-pub record WordsOver (files : List File) (words : List (List ℕ)) (a : Answered) : Type 0 where
+-- the answer to words over files, after these events and no failure, followed by the files that were stored, each name
+-- once
+pub record WordsOver (files : List NamedFile) (words : List (List ℕ)) (a : Answered) : Type 0 where
   pub run : Answered
-  pub stored : List File
+  pub stored : List NamedFile
   pub events : List Event
   pub answer : IsRunAnswer (Some (held files)) words no_history (record { failures = 0; events = events }) stored run
   pub followed : a ≡ followed_by run (with_files [] stored)
 
--- the answer to the text of a case: none where its first line or a file's name isn't text; else that to its words over its files, of
--- which a later one counts in the place of an earlier one of its name
+-- the answer to the text of a case: none where its first line or a file's name isn't text; else that to its words over
+-- its files, of which a later one counts in the place of an earlier one of its name
 abbrev pub IsCaseAnswer : List ℕ → Option Answered → Type 0
 IsCaseAnswer text None = is_case text ≡ false
 IsCaseAnswer text (Some a) = (is_case text ≡ true) × WordsOver (reverse (case_files text)) (case_words text) a

@@ -10,20 +10,20 @@ use Rattle.command_words.specs.declared.words.CommonWords.{CommonWords}
 use Rattle.command_words.specs.declared.words.CertificateWords.{CertificateWords}
 use Rattle.shelves.specs.Files.{Files}
 use Rattle.command_runs.specs.Course.{Course, ◌>>=◌, load_step, value_step}
-use Rattle.command_runs.specs.Reading.{Given, whole_step, text_of, whole_pair, load_pair}
+use Rattle.command_runs.specs.Reading.{GivenBack, whole_step, text_of, whole_pair, load_pair}
 use Rattle.command_runs.specs.ProblemCourse.{counties_in}
 use Rattle.command_runs.specs.PlanCourse.{blocks_in}
 use Rattle.command_runs.specs.TableCourse.{Tabled, Reported}
 use Rattle.command_runs.specs.CheckCourse.{IsChecked}
 
 -- whether a reader stood at the end of its file, or the answer to its failure
-abbrev pub IsWhole : List ℕ → Given → History → Result Bool Refusal → Type 0
+abbrev pub IsWhole : List ℕ → GivenBack → History → Result Bool Refusal → Type 0
 IsWhole name given now (Ok true) = given.answer ≡ Ok Whole
 IsWhole name given now (Ok false) = Unit {0}
 IsWhole name given now (Err refusal) = Meets refusal (λ a. whole_step name given now now (Err a))
 
 -- the same of two readers
-abbrev pub AreWhole : List ℕ → List ℕ → Given × Given → History → Result Bool Refusal → Type 0
+abbrev pub AreWhole : List ℕ → List ℕ → GivenBack × GivenBack → History → Result Bool Refusal → Type 0
 AreWhole first second given now (Ok true) = (given.0.answer ≡ Ok Whole) × (given.1.answer ≡ Ok Whole)
 AreWhole first second given now (Ok false) = Unit {0}
 AreWhole first second given now (Err refusal) = Meets refusal (λ a. whole_pair first second given now now (Err a))

@@ -16,7 +16,7 @@ use county_codes::Grouping;
 use grouping_problem::Problem;
 use grouping_report::findings_text;
 use pl94_counties::Block;
-use program_answers::{Answer, Refusal};
+use program_answers::{Refusal, RunAnswer};
 use shelves::Shelf;
 use std::alloc::Global;
 
@@ -37,7 +37,7 @@ fn all_findings(
     blocks: &[Block],
     lines: &[Assignment],
     end: &mut End,
-) -> Result<Answer, Refusal>
+) -> Result<RunAnswer, Refusal>
     requires fits { All (λ block. block.code < 1000000000000000) blocks.now }
     requires ascending { IsStrictlyIncreasing (map (λ block. block.code) blocks.now) }
     requires few { length lines.now ≤ 4000000 }
@@ -47,7 +47,7 @@ fn all_findings(
     let text = findings_text(alloc, &findings)?;
     let status = if findings.list.is_empty() { 0 } else { 1 };
     end.note(audited(findings, problem, grouping));
-    Ok(Answer { text, status })
+    Ok(RunAnswer { text, status })
 }
 
 /// All that is wrong with the assignments of a plan. The problem is built before the census blocks are read, then the
@@ -57,7 +57,7 @@ pub(crate) fn audit<H: Shelf>(
     words: AuditWords<'_>,
     shelf: &mut H,
     end: &mut End,
-) -> Result<Answer, Refusal>
+) -> Result<RunAnswer, Refusal>
     requires { words.problem.common.state ≤ 99 }
     ensures course { Comes answer_of result (audit_course (H.contents shelf.old) words.entry (H.history shelf.old) (H.history shelf.new)) }
     ensures same { H.contents shelf.new ≡ H.contents shelf.old }

@@ -5,7 +5,7 @@ ghost use Rattle.std.specs.List.{slice_split, list_all};
 ghost use Rattle.std.specs.Str.{is_utf8};
 ghost use Rattle.field_lines.specs.Raw.{RawLine, raw_lines};
 ghost use Rattle.field_lines.specs.Piece.{raw_of};
-ghost use Rattle.shelves.specs.Files.{File};
+ghost use Rattle.shelves.specs.Files.{NamedFile};
 ghost use Rattle.shelves.specs.Memory.{files_of};
 ghost use Rattle.cli.specs.Case.{whole_line, file_name, first_line, case_files, is_case, are_named, with_open, parts_of};
 ghost use Rattle.shelves.specs.declared.whole.WholeFault.{WholeFault};
@@ -18,7 +18,7 @@ use crate::command::{deliver, words_answer};
 use crate::end::{End, Ending};
 use branch_bound::NoWatcher;
 use field_lines::{Piece, RawLines, Source};
-use program_answers::{Answer, MEMORY};
+use program_answers::{MEMORY, RunAnswer};
 use shelves::{MemoryFile, MemoryShelf, Sink, WholeFault, read_whole};
 use std::alloc::{AllocError, Global};
 
@@ -155,7 +155,7 @@ fn words_over_files(
     line: &str,
     mut files: Vec<MemoryFile>,
     end: &mut End,
-) -> Result<Answer, AllocError>
+) -> Result<RunAnswer, AllocError>
     ensures { IfOk result (λ a. WordsOver (reverse (files_of files.items)) (slice_split (λ b. b == 32) line.now) (answer_of a)) }
 {
     files.reverse();
@@ -167,7 +167,7 @@ fn words_over_files(
 }
 
 /// The answer to the text of a case, if its first line and its files' names are text.
-fn case_answer(alloc: Global, text: &[u8], end: &mut End) -> Result<Option<Answer>, AllocError>
+fn case_answer(alloc: Global, text: &[u8], end: &mut End) -> Result<Option<RunAnswer>, AllocError>
     ensures { IfOk result (λ a. IsCaseAnswer text.now (option_map answer_of a)) }
 {
     match parts_in(alloc, text)? {
@@ -179,7 +179,8 @@ fn case_answer(alloc: Global, text: &[u8], end: &mut End) -> Result<Option<Answe
     }
 }
 
-/// Reads and runs a case, and answers the exit status and how the run ended. All that `run_case` promises holds of it and of its status.
+/// Reads and runs a case, and answers the exit status and how the run ended. All that `run_case` promises holds of it
+/// and of its status.
 pub fn run_case_with_end<R: Source, W: Sink>(alloc: Global, input: &mut R, out: &mut W) -> (u8, End)
     requires { R.is_failed input.old ≡ false }
     ensures { (read : Result (List ℕ) WholeFault)

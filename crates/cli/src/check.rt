@@ -1,7 +1,7 @@
 //! The subcommand `check`.
 
 ghost use Rattle.std.specs.Prelude.{◌≡◌, ◌≤◌, true, List, Ok, IfSome};
-ghost use Rattle.shelves.specs.Files.{File};
+ghost use Rattle.shelves.specs.Files.{NamedFile};
 ghost use Rattle.program_answers.specs.Answers.{Comes, said_by};
 ghost use Rattle.command_runs.specs.Reading.{read_one};
 ghost use Rattle.command_runs.specs.CheckCourse.{check_course};
@@ -19,7 +19,7 @@ use certificate_checker::{CheckFault, CheckStop};
 use command_runs::{Checked, Reported, Tabled, check_and_say, check_from_and_say};
 use command_words::{CertificateWords, CheckWords, CommandWords};
 use grouping_problem::Problem;
-use program_answers::{Answer, Refusal};
+use program_answers::{Refusal, RunAnswer};
 use shelves::Shelf;
 use std::alloc::Global;
 
@@ -80,8 +80,8 @@ fn if_unrefuted(checked: Result<Checked, CheckStop>, is_whole: bool) -> Option<C
     }
 }
 
-/// The verdict on a certificate that is read as it comes, and read to its end. `None` where a fault is found: the reader is then given
-/// back, and it is left open which fault is the first.
+/// The verdict on a certificate that is read as it comes, and read to its end. `None` where a fault is found: the
+/// reader is then given back, and it is left open which fault is the first.
 fn stream_check<H: Shelf>(
     alloc: Global,
     words: CertificateWords<'_>,
@@ -106,8 +106,8 @@ fn stream_check<H: Shelf>(
     Ok(if_unrefuted(checked, is_whole))
 }
 
-/// The verdict on the certificate of a file. It is read as it comes; if a fault is found, it is loaded, and the first fault of the whole
-/// text is the answer.
+/// The verdict on the certificate of a file. It is read as it comes; if a fault is found, it is loaded, and the first
+/// fault of the whole text is the answer.
 fn check_file<H: Shelf>(
     alloc: Global,
     words: CertificateWords<'_>,
@@ -144,16 +144,16 @@ fn check_files<H: Shelf>(
     check_file(alloc, words.check, tabled, shelf, end)
 }
 
-/// The verdict on a certificate. The problem is built before the certificate is opened. If a grouping is best, its table is then stored;
-/// the first fault met is the answer.
+/// The verdict on a certificate. The problem is built before the certificate is opened. If a grouping is best, its
+/// table is then stored; the first fault met is the answer.
 pub(crate) fn check<H: Shelf>(
     alloc: Global,
     words: CheckWords<'_>,
     shelf: &mut H,
     end: &mut End,
-) -> Result<Answer, Refusal>
+) -> Result<RunAnswer, Refusal>
     requires { words.check.problem.common.state ≤ 99 }
-    ensures { (stored : List File)
+    ensures { (stored : List NamedFile)
         × HasStored (H.contents shelf.old) (H.contents shelf.new) (H.stored shelf.old) (H.stored shelf.new) stored
         × CommandRun (H.contents shelf.old) (CommandWords.Check words.entry) (H.history shelf.old) (H.history shelf.new) stored (said_by result) }
 {

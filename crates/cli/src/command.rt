@@ -1,7 +1,8 @@
-//! A run of one command: its words are parsed, the command is run, its record is stored if the words ask for it, and the answer is written.
+//! A run of one command: its words are parsed, the command is run, its record is stored if the words ask for it, and
+//! the answer is written.
 
 ghost use Rattle.std.specs.Prelude.{◌≡◌, List, IfOk};
-ghost use Rattle.shelves.specs.Files.{File};
+ghost use Rattle.shelves.specs.Files.{NamedFile};
 ghost use Rattle.program_answers.specs.Answer.{Answered};
 ghost use Rattle.program_answers.specs.Answers.{answer_of, said_by};
 ghost use Rattle.command_runs.specs.Storing.{HasStored};
@@ -22,7 +23,7 @@ use crate::size::size;
 use crate::solve::solve;
 use branch_bound::{NoWatcher, Watcher};
 use command_words::{CommandWords, WordsEnd, parse};
-use program_answers::{Answer, MEMORY, Refusal};
+use program_answers::{MEMORY, Refusal, RunAnswer};
 use shelves::{Shelf, Sink};
 use std::alloc::{AllocError, Global};
 
@@ -33,9 +34,9 @@ fn command_end<H: Shelf, V: Watcher>(
     shelf: &mut H,
     end: &mut End,
     watcher: &mut V,
-) -> Result<Answer, Refusal>
+) -> Result<RunAnswer, Refusal>
     requires { HasState command }
-    ensures { (stored : List File)
+    ensures { (stored : List NamedFile)
         × HasStored (H.contents shelf.old) (H.contents shelf.new) (H.stored shelf.old) (H.stored shelf.new) stored
         × CommandRun (H.contents shelf.old) command.entry (H.history shelf.old) (H.history shelf.new) stored (said_by result) }
 {
@@ -58,9 +59,9 @@ pub(crate) fn command_answer<H: Shelf, V: Watcher>(
     shelf: &mut H,
     end: &mut End,
     watcher: &mut V,
-) -> Result<Answer, AllocError>
+) -> Result<RunAnswer, AllocError>
     requires { HasState command }
-    ensures { (stored : List File)
+    ensures { (stored : List NamedFile)
         × HasStored (H.contents shelf.old) (H.contents shelf.new) (H.stored shelf.old) (H.stored shelf.new) stored
         × CommandRun (H.contents shelf.old) command.entry (H.history shelf.old) (H.history shelf.new) stored (said_of result) }
 {
@@ -75,18 +76,22 @@ pub(crate) fn command_answer<H: Shelf, V: Watcher>(
 }
 
 /// The answer to words that give no command.
-fn end_answer(alloc: Global, words_end: &WordsEnd) -> Result<Answer, AllocError>
+fn end_answer(alloc: Global, words_end: &WordsEnd) -> Result<RunAnswer, AllocError>
     ensures { IfOk result (λ a. IsEndAnswer words_end.now (answer_of a)) }
 {
     match words_end {
-        WordsEnd::Help(text) | WordsEnd::Version(text) => Answer::new(alloc, text.as_bytes(), 0),
-        WordsEnd::Usage(text) => Answer::new(alloc, text.as_bytes(), 2),
-        WordsEnd::Memory => Answer::new(alloc, MEMORY, 5),
+        WordsEnd::Help(text) | WordsEnd::Version(text) => RunAnswer::new(alloc, text.as_bytes(), 0),
+        WordsEnd::Usage(text) => RunAnswer::new(alloc, text.as_bytes(), 2),
+        WordsEnd::Memory => RunAnswer::new(alloc, MEMORY, 5),
     }
 }
 
 /// The answer to words that give no command; they are noted as the end of the run.
-fn words_end_answer(alloc: Global, words_end: WordsEnd, end: &mut End) -> Result<Answer, AllocError>
+fn words_end_answer(
+    alloc: Global,
+    words_end: WordsEnd,
+    end: &mut End,
+) -> Result<RunAnswer, AllocError>
     ensures { IfOk result (λ a. IsEndAnswer words_end (answer_of a)) }
 {
     let answer = end_answer(alloc, &words_end)?;
@@ -101,8 +106,8 @@ pub(crate) fn words_answer<H: Shelf, V: Watcher>(
     shelf: &mut H,
     end: &mut End,
     watcher: &mut V,
-) -> Result<Answer, AllocError>
-    ensures { (stored : List File)
+) -> Result<RunAnswer, AllocError>
+    ensures { (stored : List NamedFile)
         × HasStored (H.contents shelf.old) (H.contents shelf.new) (H.stored shelf.old) (H.stored shelf.new) stored
         × IsRunAnswer (H.contents shelf.old) (texts words.now) (H.history shelf.old) (H.history shelf.new) stored (said_of result) }
 {
@@ -123,7 +128,7 @@ pub(crate) fn deliver<W: Sink>(out: &mut W, text: &[u8], status: u8) -> u8
 }
 
 /// Writes an answer, or that a growth was refused, and answers the status, or 5 where the writing failed.
-fn deliver_said<W: Sink>(out: &mut W, said: Result<Answer, AllocError>) -> u8
+fn deliver_said<W: Sink>(out: &mut W, said: Result<RunAnswer, AllocError>) -> u8
     ensures { Delivers (W.is_failed out.new) (W.contents out.old) (W.contents out.new) (said_of said) result }
 {
     match said {
@@ -132,8 +137,8 @@ fn deliver_said<W: Sink>(out: &mut W, said: Result<Answer, AllocError>) -> u8
     }
 }
 
-/// Runs one command, and answers the exit status and how the run ended. The watcher is told how far a search is. All that `run`
-/// promises holds of it and of its status, for each watcher.
+/// Runs one command, and answers the exit status and how the run ended. The watcher is told how far a search is. All
+/// that `run` promises holds of it and of its status, for each watcher.
 pub fn run_with_end<H: Shelf, W: Sink, V: Watcher>(
     alloc: Global,
     words: &[&str],
@@ -142,9 +147,9 @@ pub fn run_with_end<H: Shelf, W: Sink, V: Watcher>(
     watcher: &mut V,
 ) -> (u8, End)
 
-    // The answer is that of the steps of the words' command, its files are stored, and its text is written. If the status is 0 or 1, this
-    // answer tells of the machine's files what the command promises.
-    ensures run { (a : Answered) × (stored : List File)
+    // The answer is that of the steps of the words' command, its files are stored, and its text is written. If the
+    // status is 0 or 1, this answer tells of the machine's files what the command promises.
+    ensures run { (a : Answered) × (stored : List NamedFile)
         × HasStored (H.contents shelf.old) (H.contents shelf.new) (H.stored shelf.old) (H.stored shelf.new) stored
         × IsRunAnswer (H.contents shelf.old) (texts words.now) (H.history shelf.old) (H.history shelf.new) stored a
         × RunTells (texts words.now) (H.history shelf.old) (H.history shelf.new) a
@@ -158,23 +163,25 @@ pub fn run_with_end<H: Shelf, W: Sink, V: Watcher>(
 /// Runs one command and answers the exit status. The words are those after the program's name. The answer
 /// is composed whole, files are stored, and then the answer is written.
 ///
-/// If `solve` or `check` answers with status 0, the text is the report of a grouping that is best for the problem of the
-/// files that were read. This holds of any files by which the shelf's loads and readers answered, so of the machine's
-/// files too. `specs/Told` of `command_runs` says what the other answers tell.
+/// If `solve` or `check` answers with status 0, the text is the report of a grouping that is best for the problem of
+/// the files that were read. This holds of any files by which the shelf's loads and readers answered, so of the
+/// machine's files too. `specs/Told` of `command_runs` says what the other answers tell.
 ///
-/// The status is 0 for an answer, for help and for the version, 1 where `judge` finds a fault of the grouping, `audit` finds anything,
-/// `solve`, `check` or `list` that no grouping is lawful, or `check` or `list` that the text is no certificate, 2 for usage, 3 where
-/// the steps of `solve` or `piece` or the budget of `check`, `list` or `share` ran out, the certificate of `list` doesn't show which
-/// other groupings are best, or pieces are left to `share`, 4 where the input was refused, no grouping has the number that `list`
-/// should store or no piece that of `piece`, 5 where a file could not be had or stored or memory was refused (the line is then
-/// `memory`), and 5 where the writing failed: how much went out is then not said. `solve` stores the certificate, the grouping and the
-/// table, `judge` and `check` the table, `list` a grouping, `share` a certificate, each if the words name its file. If the words name a
-/// file for the record of the run and the status is 0, 1 or 3, the record is stored last. What was stored before a fault stays stored.
+/// The status is 0 for an answer, for help and for the version, 1 where `judge` finds a fault of the grouping, `audit`
+/// finds anything, `solve`, `check` or `list` that no grouping is lawful, or `check` or `list` that the text is no
+/// certificate, 2 for usage, 3 where the steps of `solve` or `piece` or the budget of `check`, `list` or `share` ran
+/// out, the certificate of `list` doesn't show which other groupings are best, or pieces are left to `share`, 4 where
+/// the input was refused, no grouping has the number that `list` should store or no piece that of `piece`, 5 where a
+/// file could not be had or stored or memory was refused (the line is then `memory`), and 5 where the writing failed:
+/// how much went out is then not said. `solve` stores the certificate, the grouping and the table, `judge` and `check`
+/// the table, `list` a grouping, `share` a certificate, each if the words name its file. If the words name a file for
+/// the record of the run and the status is 0, 1 or 3, the record is stored last. What was stored before a fault stays
+/// stored.
 pub fn run<H: Shelf, W: Sink>(alloc: Global, words: &[&str], shelf: &mut H, out: &mut W) -> u8
 
-    // The answer is that of the steps of the words' command, its files are stored, and its text is written. If the status is 0 or 1, this
-    // answer tells of the machine's files what the command promises.
-    ensures run { (a : Answered) × (stored : List File)
+    // The answer is that of the steps of the words' command, its files are stored, and its text is written. If the
+    // status is 0 or 1, this answer tells of the machine's files what the command promises.
+    ensures run { (a : Answered) × (stored : List NamedFile)
         × HasStored (H.contents shelf.old) (H.contents shelf.new) (H.stored shelf.old) (H.stored shelf.new) stored
         × IsRunAnswer (H.contents shelf.old) (texts words.now) (H.history shelf.old) (H.history shelf.new) stored a
         × RunTells (texts words.now) (H.history shelf.old) (H.history shelf.new) a

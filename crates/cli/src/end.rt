@@ -1,4 +1,5 @@
-//! How a run ended, as a value beside its exit status. It is for whoever explains the run to a person; no clause speaks of it.
+//! How a run ended, as a value beside its exit status. It is for whoever explains the run to a person; no clause speaks
+//! of it.
 
 use baf_auditor::{AssignmentFault, Findings};
 use certificate_checker::CheckFault;
@@ -142,8 +143,8 @@ pub enum Ending {
     Impossible,
     /// The steps of the search ran out.
     Open,
-    /// The target of a certificate is best, but the certificate doesn't show which other groupings are: the line of the first leaf at
-    /// which it doesn't, from 1.
+    /// The target of a certificate is best, but the certificate doesn't show which other groupings are: the line of the
+    /// first leaf at which it doesn't, from 1.
     ListOpen(u64),
     /// So many groupings are best, and none of them has the number that was to be stored.
     NoSuchGrouping(usize),
@@ -155,8 +156,8 @@ pub enum Ending {
     PieceOpen(bool),
     /// No piece of the number waits on the board.
     NoSuchPiece,
-    /// The answer is the table, a lawful grouping without a certificate, a grouping that is best, all best groupings, that a board joined
-    /// its certificate, an event that a piece gave, or that an audit found nothing.
+    /// The answer is the table, a lawful grouping without a certificate, a grouping that is best, all best groupings,
+    /// that a board joined its certificate, an event that a piece gave, or that an audit found nothing.
     Done,
 }
 

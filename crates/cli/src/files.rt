@@ -72,8 +72,8 @@ fn load_whole_counties<H: Shelf>(
     }
 }
 
-/// The counties of the state. Both census files are read as they come; if a line is at fault, both are loaded, and the first fault of
-/// the whole texts is the answer.
+/// The counties of the state. Both census files are read as they come; if a line is at fault, both are loaded, and the
+/// first fault of the whole texts is the answer.
 pub(crate) fn load_counties<H: Shelf>(
     alloc: Global,
     words: CommonWords<'_>,

@@ -1,7 +1,7 @@
 //! The subcommand `judge`.
 
 ghost use Rattle.std.specs.Prelude.{◌≡◌, ◌≤◌, List, option_map};
-ghost use Rattle.shelves.specs.Files.{File};
+ghost use Rattle.shelves.specs.Files.{NamedFile};
 ghost use Rattle.shelves.specs.History.{History};
 ghost use Rattle.program_answers.specs.Answers.{Comes, said_by};
 ghost use Rattle.command_runs.specs.JudgeWithCertificate.{certificate_of};
@@ -19,7 +19,7 @@ use command_words::{CommandWords, JudgeWords};
 use county_codes::Grouping;
 use grouping_judge::judge as judge_grouping;
 use grouping_problem::Problem;
-use program_answers::{Answer, Refusal, refuse_verdict};
+use program_answers::{Refusal, RunAnswer, refuse_verdict};
 use shelves::Shelf;
 use std::alloc::Global;
 
@@ -51,7 +51,8 @@ fn lawful_end(unshown: Option<Unshown>, certificate: Option<Vec<u8>>, problem: P
     }
 }
 
-/// What is said of a lawful grouping, with the text of a certificate or without one, or the fault of a grouping that isn't lawful.
+/// What is said of a lawful grouping, with the text of a certificate or without one, or the fault of a grouping that
+/// isn't lawful.
 fn verdict(
     alloc: Global,
     tabled: Tabled,
@@ -96,16 +97,17 @@ fn judge_files<H: Shelf>(
     verdict(alloc, tabled, grouping, certificate, words.budget, end)
 }
 
-/// Whether a grouping is lawful, and by a certificate whether it is best. The problem is built before the grouping is loaded and read,
-/// and then the certificate is loaded. If the grouping is lawful, its table is then stored; the first fault met is the answer.
+/// Whether a grouping is lawful, and by a certificate whether it is best. The problem is built before the grouping is
+/// loaded and read, and then the certificate is loaded. If the grouping is lawful, its table is then stored; the first
+/// fault met is the answer.
 pub(crate) fn judge<H: Shelf>(
     alloc: Global,
     words: JudgeWords<'_>,
     shelf: &mut H,
     end: &mut End,
-) -> Result<Answer, Refusal>
+) -> Result<RunAnswer, Refusal>
     requires { words.problem.common.state ≤ 99 }
-    ensures { (stored : List File)
+    ensures { (stored : List NamedFile)
         × HasStored (H.contents shelf.old) (H.contents shelf.new) (H.stored shelf.old) (H.stored shelf.new) stored
         × CommandRun (H.contents shelf.old) (CommandWords.Judge words.entry) (H.history shelf.old) (H.history shelf.new) stored (said_by result) }
 {

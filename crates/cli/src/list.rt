@@ -1,7 +1,7 @@
 //! The subcommand `list`.
 
 ghost use Rattle.std.specs.Prelude.{◌≡◌, ◌≤◌, List, option_map};
-ghost use Rattle.shelves.specs.Files.{File};
+ghost use Rattle.shelves.specs.Files.{NamedFile};
 ghost use Rattle.program_answers.specs.Answers.{Comes, said_by};
 ghost use Rattle.command_runs.specs.Storing.{HasStored};
 ghost use Rattle.command_runs.specs.ListCourse.{list_course};
@@ -15,7 +15,7 @@ use crate::storing::store_named;
 use command_runs::{ListEnd, Listed, list_and_say};
 use command_words::{CommandWords, ListWords, StoredWords};
 use grouping_problem::Problem;
-use program_answers::{Answer, Refusal};
+use program_answers::{Refusal, RunAnswer};
 use shelves::Shelf;
 use std::alloc::Global;
 
@@ -77,16 +77,16 @@ fn list_files<H: Shelf>(
     Ok(listed)
 }
 
-/// All best groupings, by a certificate. The problem is built before the certificate is loaded; then the grouping of the number is
-/// stored, where the words give it; the first fault met is the answer.
+/// All best groupings, by a certificate. The problem is built before the certificate is loaded; then the grouping of
+/// the number is stored, where the words give it; the first fault met is the answer.
 pub(crate) fn list<H: Shelf>(
     alloc: Global,
     words: ListWords<'_>,
     shelf: &mut H,
     end: &mut End,
-) -> Result<Answer, Refusal>
+) -> Result<RunAnswer, Refusal>
     requires { words.check.problem.common.state ≤ 99 }
-    ensures { (stored : List File)
+    ensures { (stored : List NamedFile)
         × HasStored (H.contents shelf.old) (H.contents shelf.new) (H.stored shelf.old) (H.stored shelf.new) stored
         × CommandRun (H.contents shelf.old) (CommandWords.List words.entry) (H.history shelf.old) (H.history shelf.new) stored (said_by result) }
 {

@@ -14,7 +14,7 @@ use command_runs::{PieceEnd, piece_and_say};
 use command_words::PieceWords;
 use county_codes::Grouping;
 use grouping_problem::Problem;
-use program_answers::{Answer, Refusal, refuse_board};
+use program_answers::{Refusal, RunAnswer, refuse_board};
 use share_board::Event;
 use shelves::Shelf;
 use std::alloc::Global;
@@ -36,7 +36,7 @@ fn proved(
     events: Vec<Event>,
     words: PieceWords<'_>,
     end: &mut End,
-) -> Result<Answer, Refusal>
+) -> Result<RunAnswer, Refusal>
     ensures { (history : History) → Comes answer_of result (said_step problem.now grouping.now.groups.items words.entry (map event_of events.items) history history) }
 {
     match piece_and_say(alloc, problem, grouping, words, events) {
@@ -51,13 +51,14 @@ fn proved(
     }
 }
 
-/// A piece of a board, as a desk proves it. All files are read before the board is opened; the first fault met is the answer.
+/// A piece of a board, as a desk proves it. All files are read before the board is opened; the first fault met is the
+/// answer.
 pub(crate) fn piece<H: Shelf>(
     alloc: Global,
     words: PieceWords<'_>,
     shelf: &mut H,
     end: &mut End,
-) -> Result<Answer, Refusal>
+) -> Result<RunAnswer, Refusal>
     requires { words.board.problem.common.state ≤ 99 }
     ensures course { Comes answer_of result (piece_course (H.contents shelf.old) words.entry (H.history shelf.old) (H.history shelf.new)) }
     ensures same { H.contents shelf.new ≡ H.contents shelf.old }

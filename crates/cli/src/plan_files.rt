@@ -39,7 +39,8 @@ fn blocks_from(
     }
 }
 
-/// The census blocks of the state, from census files that are loaded, the geographic header first, before they are read.
+/// The census blocks of the state, from census files that are loaded, the geographic header first, before they are
+/// read.
 fn load_whole_blocks<H: Shelf>(
     alloc: Global,
     words: CommonWords<'_>,

@@ -80,7 +80,8 @@ pub(crate) fn load_problem<H: Shelf>(
     load_problem_over(alloc, words, &counties, shelf, end)
 }
 
-/// The problem of the files with the names of its counties: the census files are loaded and read first, and then the other files.
+/// The problem of the files with the names of its counties: the census files are loaded and read first, and then the
+/// other files.
 fn load_named_problem<H: Shelf>(
     alloc: Global,
     words: ProblemWords<'_>,

@@ -1,7 +1,7 @@
 //! What the program does: a command by its words, or a case by its input.
 
 ghost use Rattle.std.specs.Prelude.{◌≡◌, ◌≢◌, ◌⊎◌, ℕ, false, List, [], Option, Result};
-ghost use Rattle.shelves.specs.Files.{File};
+ghost use Rattle.shelves.specs.Files.{NamedFile};
 ghost use Rattle.shelves.specs.declared.whole.WholeFault.{WholeFault};
 ghost use Rattle.program_answers.specs.Answer.{Answered};
 ghost use Rattle.command_runs.specs.Storing.{HasStored};
@@ -18,9 +18,9 @@ use field_lines::Source;
 use shelves::{Shelf, Sink};
 use std::alloc::Global;
 
-/// What the program does, its exit status, and how the run ended: with words it runs their command over the shelf's files (as `run`); without any it runs the
-/// case that the input holds (as `run_case`), and the shelf stays as it was. The watcher is told how far the search of a command is. What is promised holds
-/// for each watcher.
+/// What the program does, its exit status, and how the run ended: with words it runs their command over the shelf's
+/// files (as `run`); without any it runs the case that the input holds (as `run_case`), and the shelf stays as it was.
+/// The watcher is told how far the search of a command is. What is promised holds for each watcher.
 pub fn run_program<H: Shelf, R: Source, W: Sink, V: Watcher>(
     alloc: Global,
     words: &[&str],
@@ -31,9 +31,9 @@ pub fn run_program<H: Shelf, R: Source, W: Sink, V: Watcher>(
 ) -> (u8, End)
     requires { R.is_failed input.old ≡ false }
 
-    // With words, their command was run over the shelf's files. If the status is 0 or 1, the answer tells of the machine's files what the
-    // command promises.
-    ensures words { words.now ≢ [] → (a : Answered) × (stored : List File)
+    // With words, their command was run over the shelf's files. If the status is 0 or 1, the answer tells of the
+    // machine's files what the command promises.
+    ensures words { words.now ≢ [] → (a : Answered) × (stored : List NamedFile)
         × HasStored (H.contents shelf.old) (H.contents shelf.new) (H.stored shelf.old) (H.stored shelf.new) stored
         × IsRunAnswer (H.contents shelf.old) (texts words.now) (H.history shelf.old) (H.history shelf.new) stored a
         × RunTells (texts words.now) (H.history shelf.old) (H.history shelf.new) a

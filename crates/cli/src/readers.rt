@@ -5,7 +5,7 @@ ghost use Rattle.std.specs.List.Sorted.{IsStrictlyIncreasing};
 ghost use Rattle.shelves.specs.History.{History};
 ghost use Rattle.program_answers.specs.Answers.{Comes, Meets, Refuses};
 ghost use Rattle.program_answers.specs.Refusals.{shelf_answer};
-ghost use Rattle.command_runs.specs.Reading.{Given, open_step, read_step, back_step, read_both};
+ghost use Rattle.command_runs.specs.Reading.{GivenBack, open_step, read_step, back_step, read_both};
 ghost use Rattle.command_runs.specs.ProblemCourse.{counties_of};
 ghost use Rattle.command_runs.specs.PlanCourse.{blocks_of};
 ghost use Rattle.cli.specs.Streams.{IsWhole, AreWhole, Streams};
@@ -78,7 +78,7 @@ pub(crate) fn give_one_back<H: Shelf>(
     shelf: &mut H,
     end: &mut End,
 ) -> Result<bool, Refusal>
-    ensures back { (given : Given)
+    ensures back { (given : GivenBack)
         × (given.bytes ≡ H.Reader.given reader)
         × read_step (H.contents shelf.old) name.now (H.history shelf.old) (H.history shelf.new) (Ok given)
         × IsWhole name.now given (H.history shelf.new) result }
@@ -142,7 +142,7 @@ fn give_both_back<H: Shelf>(
     shelf: &mut H,
     end: &mut End,
 ) -> Result<bool, Refusal>
-    ensures back { (both : Given × Given)
+    ensures back { (both : GivenBack × GivenBack)
         × (both.0.bytes ≡ H.Reader.given readers.0)
         × (both.1.bytes ≡ H.Reader.given readers.1)
         × back_step (H.contents shelf.old) words.entry.geo.now words.entry.segment.now (H.history shelf.old) (H.history shelf.new) (Ok both)
@@ -166,8 +166,8 @@ fn if_whole<T: Drop>(read: Result<T, Pl94Fault>, is_whole: bool) -> Option<T>
     }
 }
 
-/// The counties of the state, from census files that are read as they come. `None` where a line is at fault: the readers are then given
-/// back, and it is left open which line.
+/// The counties of the state, from census files that are read as they come. `None` where a line is at fault: the
+/// readers are then given back, and it is left open which line.
 pub(crate) fn stream_counties<H: Shelf>(
     alloc: Global,
     words: CommonWords<'_>,

@@ -1,7 +1,7 @@
 //! The record of a run, which is stored behind the files of its command.
 
 ghost use Rattle.std.specs.Prelude.{◌≡◌, ◌-◌, ◌^◌, ◌∷◌, [], true, List, Option, length, min};
-ghost use Rattle.shelves.specs.Files.{File};
+ghost use Rattle.shelves.specs.Files.{NamedFile};
 ghost use Rattle.shelves.specs.History.{History};
 ghost use Rattle.record_report.specs.RecordFiles.{record_name_of};
 ghost use Rattle.program_answers.specs.Answer.{Answered, memory_answer};
@@ -17,7 +17,7 @@ use crate::end::{End, Ending, FileOption};
 use crate::storing::store_named;
 use branch_bound::Watcher;
 use command_words::CommandWords;
-use program_answers::{Answer, Refusal};
+use program_answers::{Refusal, RunAnswer};
 use record_report::{record_file, record_since};
 use shelves::Shelf;
 use std::alloc::{AllocError, Global};
@@ -32,9 +32,9 @@ fn is_recorded(status: u8) -> bool
 /// The answer that stands once the record was handed over: the run's own, or that to a file which was refused.
 fn answer_after(
     handed_over: Result<(), Refusal>,
-    answer: Answer,
+    answer: RunAnswer,
     end: &mut End,
-) -> Result<Answer, AllocError>
+) -> Result<RunAnswer, AllocError>
     ensures { said_of result ≡ said_after (refusal_by handed_over) (answer_of answer) }
 {
     match handed_over {
@@ -56,11 +56,11 @@ fn store_bytes<H: Shelf>(
     alloc: Global,
     name: &str,
     bytes: Vec<u8>,
-    answer: Answer,
+    answer: RunAnswer,
     shelf: &mut H,
     end: &mut End,
-) -> Result<Answer, AllocError>
-    ensures { (last : List File) × (refusal : Option Answered)
+) -> Result<RunAnswer, AllocError>
+    ensures { (last : List NamedFile) × (refusal : Option Answered)
         × HasStored (H.contents shelf.old) (H.contents shelf.new) (H.stored shelf.old) (H.stored shelf.new) last
         × store_steps (record { name = name.now; bytes = bytes.items } ∷ []) (H.history shelf.old) (H.history shelf.new) last refusal
         × (said_of result ≡ said_after refusal (answer_of answer)) }
@@ -71,7 +71,7 @@ fn store_bytes<H: Shelf>(
 }
 
 /// That a growth was refused in composing the record: nothing more is stored.
-fn uncomposed(answer: Answer, end: &mut End) -> Result<Answer, AllocError>
+fn uncomposed(answer: RunAnswer, end: &mut End) -> Result<RunAnswer, AllocError>
     ensures { said_of result ≡ memory_answer }
 {
     end.note(Ending::Memory);
@@ -86,12 +86,12 @@ fn store_composed<H: Shelf>(
     command: &CommandWords<'_>,
     name: &str,
     first: u64,
-    answer: Answer,
+    answer: RunAnswer,
     shelf: &mut H,
     end: &mut End,
-) -> Result<Answer, AllocError>
+) -> Result<RunAnswer, AllocError>
     requires { must_be_recorded answer.status ≡ true }
-    ensures { (before : History) → first ≡ min (length before.events) (2 ^ 64 - 1) → (last : List File)
+    ensures { (before : History) → first ≡ min (length before.events) (2 ^ 64 - 1) → (last : List NamedFile)
         × HasStored (H.contents shelf.old) (H.contents shelf.new) (H.stored shelf.old) (H.stored shelf.new) last
         × RecordEnds (texts words.now) command.now name.now before (H.history shelf.old) (H.history shelf.new) last (answer_of answer) (said_of result) }
 {
@@ -116,11 +116,11 @@ fn store_record<H: Shelf>(
     command: &CommandWords<'_>,
     name: &str,
     first: u64,
-    answer: Answer,
+    answer: RunAnswer,
     shelf: &mut H,
     end: &mut End,
-) -> Result<Answer, AllocError>
-    ensures { (before : History) → first ≡ min (length before.events) (2 ^ 64 - 1) → (last : List File)
+) -> Result<RunAnswer, AllocError>
+    ensures { (before : History) → first ≡ min (length before.events) (2 ^ 64 - 1) → (last : List NamedFile)
         × HasStored (H.contents shelf.old) (H.contents shelf.new) (H.stored shelf.old) (H.stored shelf.new) last
         × RecordEnds (texts words.now) command.now name.now before (H.history shelf.old) (H.history shelf.new) last (answer_of answer) (said_of result) }
 {
@@ -140,9 +140,9 @@ fn answer_with_record<H: Shelf, V: Watcher>(
     shelf: &mut H,
     end: &mut End,
     watcher: &mut V,
-) -> Result<Answer, AllocError>
+) -> Result<RunAnswer, AllocError>
     requires { HasState command }
-    ensures { (stored : List File)
+    ensures { (stored : List NamedFile)
         × HasStored (H.contents shelf.old) (H.contents shelf.new) (H.stored shelf.old) (H.stored shelf.new) stored
         × RunsWithRecord (H.contents shelf.old) (texts words.now) command.entry name.now (H.history shelf.old) (H.history shelf.new) stored (said_of result) }
 {
@@ -162,9 +162,9 @@ pub(crate) fn answer_as_asked<H: Shelf, V: Watcher>(
     shelf: &mut H,
     end: &mut End,
     watcher: &mut V,
-) -> Result<Answer, AllocError>
+) -> Result<RunAnswer, AllocError>
     requires { HasState command }
-    ensures { (stored : List File)
+    ensures { (stored : List NamedFile)
         × HasStored (H.contents shelf.old) (H.contents shelf.new) (H.stored shelf.old) (H.stored shelf.new) stored
         × RunsAsAsked (H.contents shelf.old) (texts words.now) command.entry (record_name_of command.entry) (H.history shelf.old) (H.history shelf.new) stored (said_of result) }
 {

@@ -1,7 +1,7 @@
 //! The subcommand `share`.
 
 ghost use Rattle.std.specs.Prelude.{◌≡◌, ◌≤◌, List, map, length};
-ghost use Rattle.shelves.specs.Files.{File};
+ghost use Rattle.shelves.specs.Files.{NamedFile};
 ghost use Rattle.shelves.specs.History.{History};
 ghost use Rattle.share_board.specs.Events.{event_of};
 ghost use Rattle.program_answers.specs.Answers.{answer_of, Comes, said_by};
@@ -19,7 +19,7 @@ use command_runs::share_events;
 use command_words::{CommandWords, ShareWords};
 use county_codes::Grouping;
 use grouping_problem::Problem;
-use program_answers::{Answer, Refusal, refuse_board};
+use program_answers::{Refusal, RunAnswer, refuse_board};
 use share_board::Event;
 use shelves::Shelf;
 use std::alloc::Global;
@@ -70,10 +70,10 @@ fn share_files<H: Shelf>(
 }
 
 /// The answer of a board: its text, with status 0 where no piece waits, else 3.
-fn answer_to(shared: Shared) -> Answer
+fn answer_to(shared: Shared) -> RunAnswer
     ensures { answer_of result ≡ share_answer shared }
 {
-    Answer {
+    RunAnswer {
         status: if shared.left == 0 { 0 } else { 3 },
         text: shared.text,
     }
@@ -88,16 +88,16 @@ fn shared_end(left: usize) -> Ending {
     }
 }
 
-/// A board takes events that desks have sent, and the certificate that it joins is stored. All files are read before the board is
-/// opened; the first fault met is the answer.
+/// A board takes events that desks have sent, and the certificate that it joins is stored. All files are read before
+/// the board is opened; the first fault met is the answer.
 pub(crate) fn share<H: Shelf>(
     alloc: Global,
     words: ShareWords<'_>,
     shelf: &mut H,
     end: &mut End,
-) -> Result<Answer, Refusal>
+) -> Result<RunAnswer, Refusal>
     requires { words.board.problem.common.state ≤ 99 }
-    ensures { (stored : List File)
+    ensures { (stored : List NamedFile)
         × HasStored (H.contents shelf.old) (H.contents shelf.new) (H.stored shelf.old) (H.stored shelf.new) stored
         × CommandRun (H.contents shelf.old) (CommandWords.Share words.entry) (H.history shelf.old) (H.history shelf.new) stored (said_by result) }
 {

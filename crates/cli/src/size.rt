@@ -9,7 +9,7 @@ use crate::files::load_counties;
 use crate::problem::build;
 use command_words::CommonWords;
 use grouping_report::size_table;
-use program_answers::{Answer, Refusal};
+use program_answers::{Refusal, RunAnswer};
 use shelves::Shelf;
 use std::alloc::Global;
 
@@ -19,7 +19,7 @@ pub(crate) fn size<H: Shelf>(
     words: CommonWords<'_>,
     shelf: &mut H,
     end: &mut End,
-) -> Result<Answer, Refusal>
+) -> Result<RunAnswer, Refusal>
     requires { words.state ≤ 99 }
     ensures course { Comes answer_of result (size_course (H.contents shelf.old) words.entry (H.history shelf.old) (H.history shelf.new)) }
     ensures same { H.contents shelf.new ≡ H.contents shelf.old }
@@ -29,5 +29,5 @@ pub(crate) fn size<H: Shelf>(
     let problem = build(alloc, &counties, &[], &[], words.chamber, words.window, end)?;
     let text = size_table(alloc, &problem)?;
     end.note(Ending::Done);
-    Ok(Answer { text, status: 0 })
+    Ok(RunAnswer { text, status: 0 })
 }

@@ -1,7 +1,7 @@
 //! The subcommand `solve`.
 
 ghost use Rattle.std.specs.Prelude.{◌≡◌, ◌≤◌, List};
-ghost use Rattle.shelves.specs.Files.{File};
+ghost use Rattle.shelves.specs.Files.{NamedFile};
 ghost use Rattle.program_answers.specs.Answers.{Comes, said_by};
 ghost use Rattle.command_runs.specs.Storing.{HasStored, store_steps};
 ghost use Rattle.command_runs.specs.SolveCourse.{solve_course, files_to_store};
@@ -15,7 +15,7 @@ use crate::storing::store_named;
 use branch_bound::Watcher;
 use command_runs::{Solved, solve_and_say};
 use command_words::{CommandWords, SolveWords};
-use program_answers::{Answer, Refusal};
+use program_answers::{Refusal, RunAnswer};
 use shelves::Shelf;
 use std::alloc::Global;
 
@@ -54,7 +54,7 @@ fn store_solved<H: Shelf>(
     shelf: &mut H,
     end: &mut End,
 ) -> Result<(), Refusal>
-    ensures { (stored : List File)
+    ensures { (stored : List NamedFile)
         × HasStored (H.contents shelf.old) (H.contents shelf.new) (H.stored shelf.old) (H.stored shelf.new) stored
         × store_steps (files_to_store words.entry (solved_of solved.now)) (H.history shelf.old) (H.history shelf.new) stored (refusal_by result) }
 {
@@ -92,9 +92,9 @@ pub(crate) fn solve<H: Shelf, V: Watcher>(
     shelf: &mut H,
     end: &mut End,
     watcher: &mut V,
-) -> Result<Answer, Refusal>
+) -> Result<RunAnswer, Refusal>
     requires { words.problem.common.state ≤ 99 }
-    ensures { (stored : List File)
+    ensures { (stored : List NamedFile)
         × HasStored (H.contents shelf.old) (H.contents shelf.new) (H.stored shelf.old) (H.stored shelf.new) stored
         × CommandRun (H.contents shelf.old) (CommandWords.Solve words.entry) (H.history shelf.old) (H.history shelf.new) stored (said_by result) }
 {

@@ -3,14 +3,14 @@
 ghost use Rattle.std.specs.Prelude.{◌≡◌, List, [], ◌∷◌, Option, option_map};
 ghost use Rattle.program_answers.specs.Answer.{Answered};
 ghost use Rattle.program_answers.specs.Answers.{answer_of, said_by};
-ghost use Rattle.shelves.specs.Files.{File};
+ghost use Rattle.shelves.specs.Files.{NamedFile};
 ghost use Rattle.command_runs.specs.Storing.{HasStored, named_file, said_after, store_steps};
 ghost use Rattle.command_runs.specs.Texts.{reported_of};
 ghost use Rattle.cli.specs.Ends.{refusal_by};
 
 use crate::end::{End, FileOption};
 use command_runs::Reported;
-use program_answers::{Answer, Refusal, refuse_load};
+use program_answers::{Refusal, RunAnswer, refuse_load};
 use shelves::Shelf;
 use std::alloc::Global;
 
@@ -23,7 +23,7 @@ fn store<H: Shelf>(
     shelf: &mut H,
     end: &mut End,
 ) -> Result<(), Refusal>
-    ensures { (stored : List File)
+    ensures { (stored : List NamedFile)
         × HasStored (H.contents shelf.old) (H.contents shelf.new) (H.stored shelf.old) (H.stored shelf.new) stored
         × store_steps (record { name = name.now; bytes = bytes.now } ∷ []) (H.history shelf.old) (H.history shelf.new) stored (refusal_by result) }
 {
@@ -48,7 +48,7 @@ pub(crate) fn store_named<H: Shelf>(
     shelf: &mut H,
     end: &mut End,
 ) -> Result<(), Refusal>
-    ensures { (stored : List File)
+    ensures { (stored : List NamedFile)
         × HasStored (H.contents shelf.old) (H.contents shelf.new) (H.stored shelf.old) (H.stored shelf.new) stored
         × store_steps (named_file name.entry (option_map (λ t. t.now.items) text.entry)) (H.history shelf.old) (H.history shelf.new) stored (refusal_by result) }
 {
@@ -58,15 +58,16 @@ pub(crate) fn store_named<H: Shelf>(
     }
 }
 
-/// Stores the table that is reported, where there is one and its file is named. Then the answer is said, unless the table was refused.
+/// Stores the table that is reported, where there is one and its file is named. Then the answer is said, unless the
+/// table was refused.
 pub(crate) fn store_reported<H: Shelf>(
     alloc: Global,
     name: Option<&str>,
     reported: Reported,
     shelf: &mut H,
     end: &mut End,
-) -> Result<Answer, Refusal>
-    ensures { (stored : List File) × (refusal : Option Answered)
+) -> Result<RunAnswer, Refusal>
+    ensures { (stored : List NamedFile) × (refusal : Option Answered)
         × HasStored (H.contents shelf.old) (H.contents shelf.new) (H.stored shelf.old) (H.stored shelf.new) stored
         × store_steps (named_file name.entry (reported_of reported).table) (H.history shelf.old) (H.history shelf.new) stored refusal
         × (said_by result ≡ said_after refusal (answer_of reported.answer)) }

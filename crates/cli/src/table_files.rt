@@ -45,7 +45,8 @@ fn named_from(
     }
 }
 
-/// The counties of the state with their names. Both census files are loaded, the geographic header first, before they are read.
+/// The counties of the state with their names. Both census files are loaded, the geographic header first, before they
+/// are read.
 pub(crate) fn load_named_counties<H: Shelf>(
     alloc: Global,
     words: CommonWords<'_>,

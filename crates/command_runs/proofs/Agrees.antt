@@ -7,11 +7,11 @@ use Rattle.grouping_laws.specs.Grouping.{Grouping}
 use Rattle.certificate_text.specs.Trees.{certificate_of}
 use Rattle.branch_bound.specs.declared.answer.Answer as desk
 use Rattle.branch_bound.specs.declared.answer.Answer.TheVariants.{Best, Impossible, Open}
-use Rattle.branch_bound.specs.Answered.{IsAnswer, NamesBest, SaysWhether}
+use Rattle.branch_bound.specs.Answered.{IsSolveAnswer, SolveIsRight, SaysWhether}
 use Rattle.desk_texts.proofs.Agrees as texts
 use Rattle.command_words.specs.declared.words.SolveWords.{SolveWords}
 use Rattle.command_words.specs.declared.words.CommandWords.TheVariants.{Solve}
-use Rattle.shelves.specs.Files.{File, Files}
+use Rattle.shelves.specs.Files.{NamedFile, Files}
 use Rattle.shelves.specs.History.{History}
 use Rattle.program_answers.specs.Answer.{Answered, memory_answer}
 use Rattle.command_runs.specs.TableCourse.{Tabled, Reported, table_of}
@@ -28,7 +28,7 @@ use Rattle.command_runs.proofs.FilesRead.{ReadsTabled, tabled_reads, problem_of_
 use Rattle.command_runs.proofs.Checking.{IsAgreed, impossible_answer, checked_best, checked_impossible, check_agrees}
 
 -- what a run said, after it stored all its files
-pub record HasSaid (files : Files) (words : SolveWords) (stored : List File) (a : Answered) : Type 0 where
+pub record HasSaid (files : Files) (words : SolveWords) (stored : List NamedFile) (a : Answered) : Type 0 where
   pub t : Tabled
   pub reads : ReadsTabled files words.problem words.table t
   pub s : Solved
@@ -36,7 +36,7 @@ pub record HasSaid (files : Files) (words : SolveWords) (stored : List File) (a 
   pub all : stored ≡ files_to_store words s
   pub said : a ≡ s.answer
 
-module _ (files : Files) (words : SolveWords) (before after : History) (stored : List File) (a : Answered) where
+module _ (files : Files) (words : SolveWords) (before after : History) (stored : List NamedFile) (a : Answered) where
   solve_refuses : Refuses (solve_course (Some files) words)
   solve_refuses = bind_refuses _ _ (tabled_refuses (Some files) words.problem words.table) (λ t. value_refuses (IsSolved t words.steps))
 
@@ -58,7 +58,7 @@ stored_first words s name text named spelled =
     ap₂ (λ (n : Option (Bor (List ℕ))) (t : Option (List ℕ)). named_file n t ++ (named_file words.out s.grouping ++ named_file words.table s.table)) named spelled
 
 -- what every check of a text says, every check of the stored certificate says
-module _ (files : Files) (words : SolveWords) (stored : List File) (a : Answered) (h : HasSaid files words stored a) (text : List ℕ)
+module _ (files : Files) (words : SolveWords) (stored : List NamedFile) (a : Answered) (h : HasSaid files words stored a) (text : List ℕ)
     (checked : (budget : ℕ) (t : Tabled) (r : Reported) → t.problem ≡ h.t.problem → IsChecked t budget text r → IsAgreed a r.answer) where
   checks_as : ChecksAs files words.problem text a
   checks_as others check start end none b same certificate (inl memory) = inr (inl (inr (same_status b memory_answer memory.0)))
@@ -70,7 +70,7 @@ module _ (files : Files) (words : SolveWords) (stored : List File) (a : Answered
   stored_proof spelled name named =
       (text, named_file words.out h.s.grouping ++ named_file words.table h.s.table, h.all ∙ stored_first words h.s name text named spelled, checks_as)
 
-module _ (files : Files) (words : SolveWords) (stored : List File) (a : Answered) (h : HasSaid files words stored a) where
+module _ (files : Files) (words : SolveWords) (stored : List NamedFile) (a : Answered) (h : HasSaid files words stored a) where
   -- the table is the last file that is stored
   table_last : (g : Grouping) → h.s.table ≡ table_of h.t g → IsStoredAs words.table (IsTableOfFiles files words.problem h.t.problem g) stored
   table_last g is =
@@ -85,7 +85,7 @@ module _ (files : Files) (words : SolveWords) (stored : List File) (a : Answered
   pub other_status : (s : Solved) (n m : ℕ) → h.s ≡ s → a.status ≡ n → s.answer.status ≡ m → n ≢ m → ⊥
   other_status s n m e is other apart = apart (sym is ∙ same_status a s.answer (answer_is s e) ∙ other)
 
-  shows_best : (found : desk.Answer) → IsAnswer (problem_of h.t.problem) words.steps found → NamesBest (problem_of h.t.problem) found → Says h.t found h.s → a.status ≡ 0 → ShowsBest files words stored a
+  shows_best : (found : desk.Answer) → IsSolveAnswer (problem_of h.t.problem) words.steps found → SolveIsRight (problem_of h.t.problem) found → Says h.t found h.s → a.status ≡ 0 → ShowsBest files words stored a
   shows_best (Best g c) is best said zero =
       let report : a ≡ best_answer h.t.problem g.groups.items = answer_is _ said.2 in
       record {
@@ -104,7 +104,7 @@ module _ (files : Files) (words : SolveWords) (stored : List File) (a : Answered
   shows_best (Open None steps) is best said zero = absurd (other_status _ 0 3 said zero refl (omega arith))
   shows_best (Open (Some g) steps) is best said zero = absurd (other_status _ 0 3 said zero refl (omega arith))
 
-  shows_impossible : (found : desk.Answer) → IsAnswer (problem_of h.t.problem) words.steps found → SaysWhether (problem_of h.t.problem) words.steps found → Says h.t found h.s → a.status ≡ 1 → ShowsImpossible files words stored a
+  shows_impossible : (found : desk.Answer) → IsSolveAnswer (problem_of h.t.problem) words.steps found → SaysWhether (problem_of h.t.problem) words.steps found → Says h.t found h.s → a.status ≡ 1 → ShowsImpossible files words stored a
   shows_impossible (Best g c) is whether said one = absurd (other_status _ 1 0 said.2 one refl (omega arith))
   shows_impossible (Impossible c) is whether said one =
       let report : a ≡ impossible_answer h.t.problem = answer_is _ said.2 in

@@ -1,19 +1,19 @@
 -- A check of a certificate answers what the certificate shows, unless it is cut off.
 use Rattle.std.proofs.Common.{◌≡◌, ◌⊎◌, ℕ, List, Option, Some, None, inl, inr, refl, sym, ap, subst, ◌∙◌}
-use Rattle.std.specs.Prelude.{Result, Ok, Err, codes}
+use Rattle.std.specs.Prelude.{Ok, Err, codes}
 use Rattle.std.specs.Borrow.{Bor}
 use Rattle.grouping_problem.specs.ProblemValue.{ProblemValue, problem_of}
 use Rattle.grouping_laws.specs.Grouping.{Grouping}
 use Rattle.grouping_report.specs.Outcomes.{outcome_text}
 use Rattle.grouping_report.specs.Report.{report_text}
 use Rattle.grouping_report.specs.declared.outcome.Outcome.TheVariants as outcome
-use Rattle.certificate_checker.specs.Answered.{IsAnswer}
+use Rattle.certificate_checker.specs.Answered.{IsCheckAnswer}
 use Rattle.certificate_checker.specs.declared.verdict.Verdict.{Verdict}
 use Rattle.certificate_checker.specs.declared.verdict.Verdict.TheVariants.{Best, Impossible, No, Budget}
 use Rattle.desk_texts.specs.Says.{SaysBest, SaysImpossible}
 use Rattle.pl94_counties.specs.declared.named.NamedFault.TheVariants.{BadName}
 use Rattle.command_words.specs.declared.words.CheckWords.{CheckWords}
-use Rattle.shelves.specs.Files.{File, Files}
+use Rattle.shelves.specs.Files.{NamedFile, Files}
 use Rattle.shelves.specs.History.{History}
 use Rattle.program_answers.specs.Answer.{Answered, success}
 use Rattle.program_answers.specs.Refusals.{named_answer}
@@ -54,16 +54,16 @@ said_impossible v Budget says = inr (inl refl)
 
 -- what is said of a text whose every verdict says so, by a check of the same problem
 module _ (v : ProblemValue) (text : List ℕ) (budget : ℕ) (t : Tabled) (same : t.problem ≡ v) (r : Reported) (h : IsChecked t budget text r) where
-  verdict_is : IsAnswer (problem_of v) text budget h.verdict
-  verdict_is = subst (λ (w : ProblemValue). IsAnswer (problem_of w) text budget h.verdict) same h.is
+  verdict_is : IsCheckAnswer (problem_of v) text budget h.verdict
+  verdict_is = subst (λ (w : ProblemValue). IsCheckAnswer (problem_of w) text budget h.verdict) same h.is
 
   answer_is : r.answer ≡ verdict_said v h.verdict
   answer_is = ap (λ (x : Reported). x.answer) h.said ∙ ap (λ (w : ProblemValue). verdict_said w h.verdict) same
 
-  pub checked_best : (g : Grouping) → ((verdict : Verdict) → IsAnswer (problem_of v) text budget verdict → SaysBest g verdict) → IsAgreed (best_answer v g) r.answer
+  pub checked_best : (g : Grouping) → ((verdict : Verdict) → IsCheckAnswer (problem_of v) text budget verdict → SaysBest g verdict) → IsAgreed (best_answer v g) r.answer
   checked_best g says = subst (λ (x : Answered). IsAgreed (best_answer v g) x) (sym answer_is) (said_best v g h.verdict (says h.verdict verdict_is))
 
-  pub checked_impossible : ((verdict : Verdict) → IsAnswer (problem_of v) text budget verdict → SaysImpossible verdict) → IsAgreed (impossible_answer v) r.answer
+  pub checked_impossible : ((verdict : Verdict) → IsCheckAnswer (problem_of v) text budget verdict → SaysImpossible verdict) → IsAgreed (impossible_answer v) r.answer
   checked_impossible says = subst (λ (x : Answered). IsAgreed (impossible_answer v) x) (sym answer_is) (said_impossible v h.verdict (says h.verdict verdict_is))
 
 -- a check of this text over files that tell the problem
@@ -100,11 +100,11 @@ module _ (others : Files) (check : CheckWords) (v : ProblemValue) (text : List �
   agreed b (inl same) = inl same
   agreed b (inr cut) = inr (inl cut)
 
-  said : (list : List File) (before after : History) (stored : List File) (refusal : Option Answered) (b c : Answered) → IsAgreed a c → store_steps list before after stored refusal
+  said : (list : List NamedFile) (before after : History) (stored : List NamedFile) (refusal : Option Answered) (b c : Answered) → IsAgreed a c → store_steps list before after stored refusal
       → b ≡ said_after refusal c → IsAgreedOrStopped b
   said list before after stored None b c is stores same = agreed b (subst (λ (x : Answered). IsAgreed a x) (sym same) is)
   said list before after stored (Some refusal) b c is stores same = inr (inl (inr (same_status b refusal same ∙ refusal_status list before after stored refusal stores)))
 
-  pub check_agrees : (before after : History) (stored : List File) (b : Answered) → CheckEnds (Some others) check before after stored b → IsAgreedOrStopped b
+  pub check_agrees : (before after : History) (stored : List NamedFile) (b : Answered) → CheckEnds (Some others) check before after stored b → IsAgreedOrStopped b
   check_agrees before after stored b (inl stop) = stopped b (course_ends before after (Err b) stop.0)
   check_agrees before after stored b (inr h) = said (named_file check.table h.0.table) h.1 after stored h.2 b h.0.answer (course_ends before h.1 (Ok h.0) h.3) h.4 h.5

@@ -1,7 +1,7 @@
 -- What steps whose files are stored came to, where they end with a low status.
 use Rattle.std.proofs.Common.{◌≡◌, ◌≤◌, List, Option, Some, None, inl, inr, ap, ◌∙◌, arith}
 use Rattle.std.specs.Prelude.{Ok}
-use Rattle.shelves.specs.Files.{File}
+use Rattle.shelves.specs.Files.{NamedFile}
 use Rattle.shelves.specs.History.{History}
 use Rattle.program_answers.specs.Answer.{Answered}
 use Rattle.command_runs.specs.Course.{Course}
@@ -19,14 +19,14 @@ not_refused a low (inr (inl s)) = omega arith
 not_refused a low (inr (inr s)) = omega arith
 
 -- they came to a value, all its files were stored, and its answer was said
-pub record HasEnded {S : Type 0} (steps : Course S) (files_of : S → List File) (answer : S → Answered) (before : History) (stored : List File) (a : Answered) : Type 0 where
+pub record HasEnded {S : Type 0} (steps : Course S) (files_of : S → List NamedFile) (answer : S → Answered) (before : History) (stored : List NamedFile) (a : Answered) : Type 0 where
   pub s : S
   pub between : History
   pub given : steps before between (Ok s)
   pub all : stored ≡ files_of s
   pub said : a ≡ answer s
 
-module _ {S : Type 0} (steps : Course S) (files_of : S → List File) (answer : S → Answered) (before after : History) (stored : List File) (a : Answered)
+module _ {S : Type 0} (steps : Course S) (files_of : S → List NamedFile) (answer : S → Answered) (before after : History) (stored : List NamedFile) (a : Answered)
     (refuses : Refuses steps) (low : a.status ≤ 1) where
   ended_with : (s : S) (between : History) (refusal : Option Answered) → steps before between (Ok s) → store_steps (files_of s) between after stored refusal
       → a ≡ said_after refusal (answer s) → HasEnded steps files_of answer before stored a

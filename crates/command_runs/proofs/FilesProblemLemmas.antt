@@ -1,5 +1,5 @@
 -- The problem that steps over told files come to is the problem of the files.
-use Rattle.std.proofs.Common.{◌≡◌, ℕ, List, Option, Some}
+use Rattle.std.proofs.Common.{ℕ, List, Some}
 use Rattle.std.specs.Prelude.{Ok}
 use Rattle.grouping_laws.specs.Grouping as groups
 use Rattle.grouping_problem.specs.ProblemValue.{ProblemValue}

@@ -1,6 +1,6 @@
 -- The values of readers by which steps over told files come to a problem.
 use Rattle.std.proofs.Common.{◌≡◌, ℕ, List, [], ◌∷◌, ◌++◌, Contains, Option, Some, None, inl, inr, refl, sym, ap, ◌∙◌, subst, subst₂}
-use Rattle.std.specs.Prelude.{Result, Ok, Err, option_map}
+use Rattle.std.specs.Prelude.{Result, Ok, option_map}
 use Rattle.std.proofs.lemmas.List.Elements.{Contains-append_right}
 use Rattle.std.specs.Borrow.{Bor}
 use Rattle.county_codes.specs.declared.county.County.{County}
@@ -9,7 +9,7 @@ use Rattle.county_codes.specs.declared.withdrawn.Withdrawn.{Withdrawn}
 use Rattle.grouping_problem.specs.ProblemValue.{ProblemValue, codes_of}
 use Rattle.grouping_laws.specs.Grouping.{Grouping}
 use Rattle.pl94_counties.specs.Counties.{county_list}
-use Rattle.pl94_counties.specs.Named.{CountyName, named_list}
+use Rattle.pl94_counties.specs.Named.{CountyName}
 use Rattle.pl94_counties.proofs.ListedLemmas.{are_counties}
 use Rattle.pl94_counties.proofs.TraceLemmas.{contains_head}
 use Rattle.adjacency_reader.specs.declared.links.Link.{Link}
@@ -20,7 +20,7 @@ use Rattle.adjacency_reader.specs.Adjacent.{AreLinked}
 use Rattle.county_table.specs.Table.{counties_of as without_names, table_text}
 use Rattle.command_words.specs.declared.words.CommonWords.{CommonWords}
 use Rattle.command_words.specs.declared.words.ProblemWords.{ProblemWords}
-use Rattle.shelves.specs.Files.{File, Files}
+use Rattle.shelves.specs.Files.{NamedFile, Files}
 use Rattle.shelves.specs.History.{History}
 use Rattle.command_runs.specs.Course.{Course, ◌>>=◌, GoesOn}
 use Rattle.command_runs.specs.ProblemCourse.{IsBuilt, links_of, withdrawn_of, problem_over, problem_in}
@@ -175,17 +175,17 @@ module _ (files : Files) where
   }
 
   -- the table of a grouping is the last of the files that are stored
-  pub table_stored : (words : ProblemWords) (table : Option (Bor (List ℕ))) (t : Tabled) (g : Grouping) (text : Option (List ℕ)) (earlier stored : List File)
+  pub table_stored : (words : ProblemWords) (table : Option (Bor (List ℕ))) (t : Tabled) (g : Grouping) (text : Option (List ℕ)) (earlier stored : List NamedFile)
       → ReadsTabled words table t → text ≡ table_of t g → stored ≡ earlier ++ named_file table text → IsStoredAs table (IsTableOfFiles files words t.problem g) stored
   table_stored words None t g text earlier stored r is all = tt
   table_stored words (Some name) t g text earlier stored r is all =
       let bytes = table_text r.names.0 t.problem.withdrawn g in
-      let file : File = record { name = name.now; bytes = bytes } in
+      let file : NamedFile = record { name = name.now; bytes = bytes } in
       let own : text ≡ Some bytes = is ∙ ap (option_map (λ named. table_text named t.problem.withdrawn g)) r.names.1 in
       let whole : stored ≡ earlier ++ file ∷ [] = all ∙ ap (λ (x : Option (List ℕ)). earlier ++ named_file (Some name) x) own in (
         bytes,
         record { named = r.names.0; named_are = r.names.2; table = refl },
-        subst (λ (list : List File). Contains list file) (sym whole) (Contains-append_right earlier (file ∷ []) file (contains_head file [])),
+        subst (λ (list : List NamedFile). Contains list file) (sym whole) (Contains-append_right earlier (file ∷ []) file (contains_head file [])),
       )
 
 -- the same bytes are read as the same values

@@ -12,7 +12,7 @@ use Rattle.board_report.specs.declared.shared.Shared.{Shared}
 use Rattle.desk_texts.proofs.Agrees as texts
 use Rattle.command_words.specs.declared.words.ShareWords.{ShareWords}
 use Rattle.command_words.specs.declared.words.CommandWords.TheVariants.{Share}
-use Rattle.shelves.specs.Files.{File, Files}
+use Rattle.shelves.specs.Files.{NamedFile, Files}
 use Rattle.shelves.specs.History.{History}
 use Rattle.program_answers.specs.Answer.{Answered, memory_answer}
 use Rattle.program_answers.specs.Refusals.{board_answer}
@@ -99,7 +99,7 @@ module _ (files : Files) (words : ShareWords) (s : Shared) (h : HasShared files 
       start end none b run
 
 -- one file that is refused
-refused_none : (name : Option (Bor (List ℕ))) (text : Option (List ℕ)) (before after : History) (stored : List File) (refusal : Answered)
+refused_none : (name : Option (Bor (List ℕ))) (text : Option (List ℕ)) (before after : History) (stored : List NamedFile) (refusal : Answered)
     → store_steps (named_file name text) before after stored (Some refusal) → stored ≡ []
 refused_none None text before after stored refusal h = h.1
 refused_none (Some name) None before after stored refusal h = h.1
@@ -109,7 +109,7 @@ refused_none (Some name) (Some text) before after stored refusal (inr h) = absur
     some_none : Some refusal ≡ None → ⊥
     some_none e = cc
 
-module _ (files : Files) (words : ShareWords) (before after : History) (stored : List File) (a : Answered) where
+module _ (files : Files) (words : ShareWords) (before after : History) (stored : List NamedFile) (a : Answered) where
   shows_joined : CommandRun (Some files) (Share words) before after stored a → a.status ≡ 0 → ShowsJoined files words stored
   shows_joined (inl none) well = absurd (not_refused a (omega (arith, well)) (inr (inl (same_status a memory_answer none.0))))
   shows_joined (inr run) well =

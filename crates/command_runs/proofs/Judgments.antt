@@ -11,14 +11,14 @@ use Rattle.grouping_judge.specs.CountList.{count_at}
 use Rattle.grouping_judge.specs.declared.grouping_fault.GroupingFault.{GroupingFault}
 use Rattle.grouping_judge.specs.declared.grouping_fault.GroupingFault.TheVariants as fault
 use Rattle.grouping_report.specs.Report.{head_lines, answer_line, counts_line, group_lines}
-use Rattle.certificate_checker.specs.Answered.{NamesBest}
+use Rattle.certificate_checker.specs.Answered.{CheckIsRight}
 use Rattle.certificate_checker.specs.declared.verdict.Verdict.{Verdict}
 use Rattle.certificate_checker.specs.declared.verdict.Verdict.TheVariants.{Best, Impossible, No, Budget}
 use Rattle.share_board.proofs.Renewing.{greater_same}
 use Rattle.seat_lines.specs.GroupingLines.{grouping_list}
 use Rattle.command_words.specs.declared.words.JudgeWords.{JudgeWords}
 use Rattle.command_words.specs.declared.words.CommandWords.TheVariants.{Judge}
-use Rattle.shelves.specs.Files.{File, Files}
+use Rattle.shelves.specs.Files.{NamedFile, Files}
 use Rattle.shelves.specs.History.{History}
 use Rattle.program_answers.specs.Answer.{Answered, memory_answer}
 use Rattle.program_answers.specs.Refusals.{verdict_answer}
@@ -58,14 +58,14 @@ best_of_same p g target lawful best same = record {
       best.none_greater h other (greater_same (counts (sets_of h)) (counts (sets_of target)) (counts (sets_of h)) (counts (sets_of g)) (λ i. refl) same greater);
 }
 
-best_by : (p : Problem) (g : Grouping) (verdict : Verdict) → Lawful p g → NamesBest p verdict → NamesSameCounts g verdict → IsBest p g
+best_by : (p : Problem) (g : Grouping) (verdict : Verdict) → Lawful p g → CheckIsRight p verdict → NamesSameCounts g verdict → IsBest p g
 best_by p g (Best target) lawful best same = best_of_same p g target.groups.items lawful best same
 best_by p g Impossible lawful best same = absurd same
 best_by p g (No fault line) lawful best same = absurd same
 best_by p g Budget lawful best same = absurd same
 
 -- where it is said beside such a verdict that a lawful grouping is best, it is
-pub said_best : (v : ProblemValue) (g : Grouping) (verdict : Verdict) (a : Answered) → Lawful (problem_of v) g → NamesBest (problem_of v) verdict → SaysBeside v g verdict a
+pub said_best : (v : ProblemValue) (g : Grouping) (verdict : Verdict) (a : Answered) → Lawful (problem_of v) g → CheckIsRight (problem_of v) verdict → SaysBeside v g verdict a
     → a ≡ best_answer v g → IsBest (problem_of v) g
 said_best v g verdict a lawful best (inl said) is = best_by (problem_of v) g verdict lawful best said.0
 said_best v g verdict a lawful best (inr said) is = absurd (differ v g (sym is ∙ said.1))
@@ -181,7 +181,7 @@ judged files words before after r (inr p) = behind_problem p.goes_on
     behind_problem (inr k) = behind_grouping k.value k.between (read_from files words.grouping.now p.between k.between k.value k.given) k.goes_on
 
 -- an answer that was said with status 0 was not refused
-module _ (files : Files) (words : JudgeWords) (before after : History) (stored : List File) (a : Answered) (zero : a.status ≡ 0) where
+module _ (files : Files) (words : JudgeWords) (before after : History) (stored : List NamedFile) (a : Answered) (zero : a.status ≡ 0) where
   shown : (r : Reported) → HasJudged files words r → stored ≡ named_file words.table r.table → a ≡ r.answer → ShowsJudged files words stored a
   shown r h all same = record {
     v = h.t.problem;

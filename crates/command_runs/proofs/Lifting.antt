@@ -12,7 +12,7 @@ use Rattle.shelves.specs.Shelf.{IsLoad}
 use Rattle.shelves.specs.History.{Event, History}
 use Rattle.program_answers.specs.Answer.{Answered}
 use Rattle.command_runs.specs.Course.{Course, ◌>>=◌, EndsIn, load_step, call_step, value_step, optional_step}
-use Rattle.command_runs.specs.Reading.{Given, open_step, read_step, whole_step, either_step, read_one, text_of, back_step, read_both, whole_pair, load_pair, texts_of}
+use Rattle.command_runs.specs.Reading.{GivenBack, open_step, read_step, whole_step, either_step, read_one, text_of, back_step, read_both, whole_pair, load_pair, texts_of}
 use Rattle.command_runs.specs.Loads.{HasAnswer, Answers, AnsweredBy}
 
 -- the events of one history are those of another and then more
@@ -140,11 +140,11 @@ module _ (given : Option Files) (files : Files) where
   lifts_open : (name : List ℕ) → Lifts (open_step given name) (open_step (Some files) name)
   lifts_open name = record { extends = open_extends name; lifts = open_lifted name }
 
-  read_extends : (name : List ℕ) (before after : History) (end : Result Given Answered) → read_step given name before after end → Extends before after
+  read_extends : (name : List ℕ) (before after : History) (end : Result GivenBack Answered) → read_step given name before after end → Extends before after
   read_extends name before after (Ok g) h = (_, h.1.1)
   read_extends name before after (Err a) h = absurd h
 
-  read_lifted : (name : List ℕ) (before after : History) (end : Result Given Answered) → read_step given name before after end → AnsweredBy files before after
+  read_lifted : (name : List ℕ) (before after : History) (end : Result GivenBack Answered) → read_step given name before after end → AnsweredBy files before after
       → read_step (Some files) name before after end
   read_lifted name before after (Ok g) h by = (one_answer before after _ h.1.1 by, h.1)
   read_lifted name before after (Err a) h by = absurd h
@@ -152,11 +152,11 @@ module _ (given : Option Files) (files : Files) where
   lifts_read : (name : List ℕ) → Lifts (read_step given name) (read_step (Some files) name)
   lifts_read name = record { extends = read_extends name; lifts = read_lifted name }
 
-  whole_same : (name : List ℕ) (g : Given) (before after : History) (end : Result (List ℕ) Answered) → whole_step name g before after end → after ≡ before
+  whole_same : (name : List ℕ) (g : GivenBack) (before after : History) (end : Result (List ℕ) Answered) → whole_step name g before after end → after ≡ before
   whole_same name g before after (Ok bytes) h = h.0
   whole_same name g before after (Err a) h = h.0
 
-  lifts_whole : (name : List ℕ) (g : Given) → Lifts (whole_step name g) (whole_step name g)
+  lifts_whole : (name : List ℕ) (g : GivenBack) → Lifts (whole_step name g) (whole_step name g)
   lifts_whole name g = lifts_same (whole_step name g) (whole_same name g)
 
   module _ {X : Type 0} (one told_one other told_other : Course X) (f : Lifts one told_one) (n : Lifts other told_other) where
@@ -184,7 +184,7 @@ module _ (given : Option Files) (files : Files) where
   lifts_read_both : (first second : List ℕ) → Lifts (read_both given first second) (read_both (Some files) first second)
   lifts_read_both first second = lifts_bind (lifts_open first) (λ opened. lifts_bind (lifts_open second) (λ both. lifts_back first second))
 
-  lifts_whole_pair : (first second : List ℕ) (given : Given × Given) → Lifts (whole_pair first second given) (whole_pair first second given)
+  lifts_whole_pair : (first second : List ℕ) (given : GivenBack × GivenBack) → Lifts (whole_pair first second given) (whole_pair first second given)
   lifts_whole_pair first second given = lifts_bind (lifts_whole second given.1) (λ y. lifts_bind (lifts_whole first given.0) (λ x. lifts_value (λ pair. pair ≡ (x, y))))
 
   pub lifts_load_pair : (first second : List ℕ) → Lifts (load_pair given first second) (load_pair (Some files) first second)

@@ -15,7 +15,7 @@ use Rattle.best_groupings.specs.Answered.{IsListing, ListsAllBest}
 use Rattle.best_groupings.specs.Walking.{groups_in}
 use Rattle.branch_bound.specs.declared.answer.Answer as desk
 use Rattle.branch_bound.specs.declared.answer.Answer.TheVariants as found
-use Rattle.branch_bound.specs.Answered.{IsAnswer, HasCompleteTree}
+use Rattle.branch_bound.specs.Answered.{IsSolveAnswer, HasCompleteTree}
 use Rattle.certificate_checker.specs.declared.verdict.Verdict.TheVariants as verdict
 use Rattle.desk_texts.proofs.Agrees as texts
 use Rattle.list_report.specs.Listing.{listing_text}
@@ -23,7 +23,7 @@ use Rattle.command_words.specs.declared.words.ListWords.{ListWords}
 use Rattle.command_words.specs.declared.words.SolveWords.{SolveWords}
 use Rattle.command_words.specs.declared.words.StoredWords.{StoredWords}
 use Rattle.command_words.specs.declared.words.CommandWords.TheVariants.{List as ListAll}
-use Rattle.shelves.specs.Files.{File, Files}
+use Rattle.shelves.specs.Files.{NamedFile, Files}
 use Rattle.shelves.specs.History.{History}
 use Rattle.program_answers.specs.Answer.{Answered, success, memory_answer}
 use Rattle.command_runs.specs.Course.{◌>>=◌, load_step, value_step}
@@ -31,7 +31,7 @@ use Rattle.command_runs.specs.ProblemCourse.{problem_in}
 use Rattle.command_runs.specs.FilesProblem.{IsProblemOfFiles}
 use Rattle.command_runs.specs.Headline.{HasSameProblem}
 use Rattle.command_runs.specs.SolveCourse.{Says}
-use Rattle.command_runs.specs.ListCourse.{Listed, IsListed, list_course, listed_file, listed_all, listed_with, listing_said, numbered}
+use Rattle.command_runs.specs.ListCourse.{Listed, IsListAnswer, list_course, listed_file, listed_all, listed_with, listing_said, numbered}
 use Rattle.command_runs.specs.Storing.{named_file, store_steps, said_after}
 use Rattle.command_runs.specs.Run.{CommandRun}
 use Rattle.command_runs.specs.ListHeadline.{IsStoredGrouping, ShowsAllBest, IsListedOrCut, ListsAll, IsStoredList, RunsList}
@@ -56,7 +56,7 @@ apart : (a : Answered) (s t : Listed) → a ≡ s.answer → s ≡ t → a.statu
 apart a s t said is zero other = other (sym (same_status a t.answer (said ∙ ap (λ (x : Listed). x.answer) is)) ∙ zero)
 
 -- the listing was said, and the grouping of the number stored
-module _ (v : ProblemValue) (groupings : List Grouping) (stored : List File) (a : Answered) (s : Listed) (said : a ≡ s.answer) (zero : a.status ≡ 0) where
+module _ (v : ProblemValue) (groupings : List Grouping) (stored : List NamedFile) (a : Answered) (s : Listed) (said : a ≡ s.answer) (zero : a.status ≡ 0) where
   shown_with : (w : StoredWords) (g : Option Grouping) → numbered groupings w.number ≡ g → s ≡ listed_with v groupings g → stored ≡ named_file (Some w.out) s.grouping
       → (a ≡ success (listing_text v groupings)) × IsStoredGrouping groupings (Some w) stored
   shown_with w None which is all = absurd (apart a s _ said is zero (λ e. omega (arith, e)))
@@ -68,10 +68,10 @@ module _ (v : ProblemValue) (groupings : List Grouping) (stored : List File) (a 
   shown None is all = (said ∙ ap (λ (x : Listed). x.answer) is, all)
   shown (Some w) is all = shown_with w (numbered groupings w.number) refl is all
 
-module _ (files : Files) (words : ListWords) (before after : History) (stored : List File) (a : Answered) where
+module _ (files : Files) (words : ListWords) (before after : History) (stored : List NamedFile) (a : Answered) where
   list_refuses : Refuses (list_course (Some files) words)
   list_refuses = bind_refuses _ _ (problem_refuses (Some files) words.check.problem) (λ v.
-      bind_refuses _ _ (load_refuses (Some files) words.check.certificate.now) (λ text. value_refuses (IsListed v words.check.budget (number_of words.stored) text)))
+      bind_refuses _ _ (load_refuses (Some files) words.check.certificate.now) (λ text. value_refuses (IsListAnswer v words.check.budget (number_of words.stored) text)))
 
   module _ (v : ProblemValue) (problem : IsProblemOfFiles files words.check.problem v) (s : Listed)
       (all : stored ≡ listed_file words s) (said : a ≡ s.answer) (zero : a.status ≡ 0) where
@@ -85,7 +85,7 @@ module _ (files : Files) (words : ListWords) (before after : History) (stored : 
     shows Budget best is = absurd (apart a s _ said is zero (λ e. omega (arith, e)))
 
   shows_behind : (v : ProblemValue) (between last : History) → problem_in (Some files) words.check.problem before between (Ok v) → (s : Listed)
-      → (load_step (Some files) words.check.certificate.now >>= λ text. value_step (IsListed v words.check.budget (number_of words.stored) text)) between last (Ok s)
+      → (load_step (Some files) words.check.certificate.now >>= λ text. value_step (IsListAnswer v words.check.budget (number_of words.stored) text)) between last (Ok s)
       → stored ≡ listed_file words s → a ≡ s.answer → a.status ≡ 0 → ShowsAllBest files words stored a
   shows_behind v between last problem s (inl stop) all said zero = absurd stop
   shows_behind v between last problem s (inr k) all said zero = shows v (problem_told files words.check.problem before between v problem) s all said zero k.goes_on.1.listing k.goes_on.1.all k.goes_on.1.said
@@ -119,21 +119,21 @@ module _ (v : ProblemValue) (text : List ℕ) (c : Certificate) (g : Grouping) (
   says number (No fault line) h = absurd (texts.agrees.best (problem_of v) text c g budget (verdict.No fault line) spelling is target h)
   says number Budget h = inr (inr (inl refl))
 
-  pub listed_says : (number : Option ℕ) (s : Listed) → IsListed v budget number text s → IsListedOrCut s.answer
+  pub listed_says : (number : Option ℕ) (s : Listed) → IsListAnswer v budget number text s → IsListedOrCut s.answer
   listed_says number s h = subst (λ (x : Listed). IsListedOrCut x.answer) (sym h.said) (says number h.listing h.is)
 
 -- what is said of a text by the words of a list
 abbrev listed_by : ListWords → ProblemValue → List ℕ → Listed → Type 0
-listed_by list v text = IsListed v list.check.budget (number_of list.stored) text
+listed_by list v text = IsListAnswer v list.check.budget (number_of list.stored) text
 
 -- a file could not be had, or memory was refused
 abbrev IsCut : Answered → Type 0
 IsCut b = b.status ≡ 5
 
 -- a list by this text, where the problem is had again
-module _ (files : Files) (words : SolveWords) (stored : List File) (a : Answered) (h : HasSaid files words stored a) (text : List ℕ)
-    (listed : (budget : ℕ) (number : Option ℕ) (s : Listed) → IsListed h.t.problem budget number text s → IsListedOrCut s.answer) where
-  module _ (others : Files) (list : ListWords) (start end : History) (none : List File) (b : Answered) where
+module _ (files : Files) (words : SolveWords) (stored : List NamedFile) (a : Answered) (h : HasSaid files words stored a) (text : List ℕ)
+    (listed : (budget : ℕ) (number : Option ℕ) (s : Listed) → IsListAnswer h.t.problem budget number text s → IsListedOrCut s.answer) where
+  module _ (others : Files) (list : ListWords) (start end : History) (none : List NamedFile) (b : Answered) where
     after_stores : (s : Listed) (between : History) (refusal : Option Answered) → IsListedOrCut s.answer → store_steps (listed_file list s) between end none refusal
         → b ≡ said_after refusal s.answer → IsListedOrCut b
     after_stores s between None says stores said = subst IsListedOrCut (sym said) says
@@ -160,8 +160,8 @@ module _ (files : Files) (words : SolveWords) (stored : List File) (a : Answered
   stored_list : h.s.certificate ≡ Some text → IsStoredList files words stored
   stored_list spelled name named = (text, named_file words.out h.s.grouping ++ named_file words.table h.s.table, h.all ∙ stored_first words h.s name text named spelled, lists_all)
 
-module _ (files : Files) (words : SolveWords) (stored : List File) (a : Answered) (h : HasSaid files words stored a) where
-  solved_lists : (answer : desk.Answer) → IsAnswer (problem_of h.t.problem) words.steps answer → HasCompleteTree (problem_of h.t.problem) answer → Says h.t answer h.s → a.status ≡ 0
+module _ (files : Files) (words : SolveWords) (stored : List NamedFile) (a : Answered) (h : HasSaid files words stored a) where
+  solved_lists : (answer : desk.Answer) → IsSolveAnswer (problem_of h.t.problem) words.steps answer → HasCompleteTree (problem_of h.t.problem) answer → Says h.t answer h.s → a.status ≡ 0
       → IsStoredList files words stored
   solved_lists (found.Best g c) is complete said zero =
       stored_list files words stored a h said.0

@@ -1,5 +1,5 @@
 -- Lists of counties with their names, and the lists without.
-use Rattle.std.proofs.Common.{◌≡◌, ℕ, List, [], ◌∷◌, map, Option, Some, None, refl, sym, ap, ◌∙◌}
+use Rattle.std.proofs.Common.{◌≡◌, ℕ, List, [], ◌∷◌, Option, Some, None, refl, sym, ap, ◌∙◌}
 use Rattle.std.specs.Prelude.{Result, Ok, Err}
 use Rattle.county_codes.specs.declared.county.County.{County}
 use Rattle.field_lines.specs.Cut.{Line, cut}

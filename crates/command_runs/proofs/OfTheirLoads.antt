@@ -22,7 +22,7 @@ use Rattle.command_words.specs.declared.words.ShareWords.{ShareWords}
 use Rattle.command_words.specs.declared.words.PieceWords.{PieceWords}
 use Rattle.command_words.specs.declared.words.CommandWords.{CommandWords}
 use Rattle.command_words.specs.declared.words.CommandWords.TheVariants.{Size, Judge, Solve, Check, Audit, List as ListAll, Share, Piece}
-use Rattle.shelves.specs.Files.{File, Files}
+use Rattle.shelves.specs.Files.{NamedFile, Files}
 use Rattle.shelves.specs.History.{Event, History}
 use Rattle.shelves.specs.History.Event.{Stored}
 use Rattle.program_answers.specs.declared.refusal.InputFile.TheVariants as input
@@ -38,7 +38,7 @@ use Rattle.command_runs.specs.JudgeWithCertificate.{certificate_of}
 use Rattle.command_runs.specs.JudgeCourse.{size_course, IsJudged, judge_course, IsAudited, audit_course}
 use Rattle.command_runs.specs.SolveCourse.{IsSolved, solve_course, files_to_store}
 use Rattle.command_runs.specs.CheckCourse.{IsChecked, check_course}
-use Rattle.command_runs.specs.ListCourse.{IsListed, list_course, listed_file}
+use Rattle.command_runs.specs.ListCourse.{IsListAnswer, list_course, listed_file}
 use Rattle.grouping_problem.specs.ProblemValue.{codes_of, problem_of}
 use Rattle.proof_trees.specs.Round as rounds
 use Rattle.board_report.specs.Shared.{IsShared}
@@ -50,13 +50,13 @@ use Rattle.record_report.specs.RecordFiles.{record_name_of}
 use Rattle.command_runs.specs.Course.{Course, EndsIn}
 use Rattle.command_runs.specs.Storing.{EndsStoring, named_file, store_steps}
 use Rattle.command_runs.specs.Recording.{RecordEnds}
-use Rattle.command_runs.specs.Run.{CommandEnds, CommandRun, IsRunAnswer, RunsWithRecord, RunsAsAsked}
+use Rattle.command_runs.specs.Run.{CommandEnds, CommandRun, IsRunAnswer, RunsAsAsked}
 use Rattle.command_runs.specs.Loads.{AnsweredBy, RunsAreOfTheirLoads}
 use Rattle.command_runs.specs.Told.{IsTaken}
 use Rattle.command_runs.proofs.Lifting.{Extends, extends_same, extends_twice, answered_split, Lifts, lifts_load, lifts_load_pair, lifts_text, lifts_texts, lifts_call, lifts_value, lifts_bind, lifts_optional, ends_lift}
 
 -- files that are stored add events
-stores_extend : (list : List File) (before after : History) (stored : List File) (refusal : Option Answered) → store_steps list before after stored refusal → Extends before after
+stores_extend : (list : List NamedFile) (before after : History) (stored : List NamedFile) (refusal : Option Answered) → store_steps list before after stored refusal → Extends before after
 stores_extend [] before after stored refusal h = extends_same before after h.0
 stores_extend (f ∷ fs) before after stored refusal (inl h) = (_, h.logged.1)
 stores_extend (f ∷ fs) before after stored refusal (inr h) =
@@ -64,7 +64,7 @@ stores_extend (f ∷ fs) before after stored refusal (inr h) =
     (_, extends_twice before h.0 after (_, h.2.1) more)
 
 -- a record that is stored adds its event
-pub record_extends : (words : List (List ℕ)) (command : CommandWords) (name : List ℕ) (before between after : History) (last : List File) (said a : Answered)
+pub record_extends : (words : List (List ℕ)) (command : CommandWords) (name : List ℕ) (before between after : History) (last : List NamedFile) (said a : Answered)
     → RecordEnds words command name before between after last said a → Extends between after
 record_extends words command name before between after last said a (inl h) = extends_same between after h.1.still
 record_extends words command name before between after last said a (inr (is, inl more)) = extends_same between after more.still
@@ -138,7 +138,7 @@ module _ (given : Option Files) (files : Files) where
 
   list_lifts : (words : ListWords) → Lifts given files (list_course given words) (list_course (Some files) words)
   list_lifts words = lifts_bind given files (problem_lifts words.check.problem) (λ v. lifts_bind given files (lifts_load given files words.check.certificate.now) (λ text.
-      lifts_value given files (IsListed v words.check.budget (option_map (λ w. w.number) words.stored) text)))
+      lifts_value given files (IsListAnswer v words.check.budget (option_map (λ w. w.number) words.stored) text)))
 
   events_lift : (language : rounds.Language) (counties : ℕ) (name : List ℕ) → Lifts given files (events_of given language counties name) (events_of (Some files) language counties name)
   events_lift language counties name = lifts_bind given files (lifts_load given files name) (λ text. lifts_call given files events_answer (AreEvents language counties text))
@@ -160,15 +160,15 @@ module _ (given : Option Files) (files : Files) where
       lifts_bind given files (lifts_call given files board_answer (AnswersOnBoard v g words.board.round piece_budget (λ round. IsAnswered (problem_of v) (depth_of words.board.round) round events words.number))) (λ piece.
       lifts_value given files (λ a. a ≡ piece_said words.round words.number piece)))))
 
-  storing_ends : {S : Type 0} (steps told : Course S) (files_of : S → List File) (answer : S → Answered) → Lifts given files steps told
-      → (before after : History) (stored : List File) (a : Answered) → EndsStoring steps files_of answer before after stored a → AnsweredBy files before after
+  storing_ends : {S : Type 0} (steps told : Course S) (files_of : S → List NamedFile) (answer : S → Answered) → Lifts given files steps told
+      → (before after : History) (stored : List NamedFile) (a : Answered) → EndsStoring steps files_of answer before after stored a → AnsweredBy files before after
       → EndsStoring told files_of answer before after stored a
   storing_ends steps told files_of answer lift before after stored a (inl h) by = inl (lift.lifts before after (Err a) h.0 by, h.1)
   storing_ends steps told files_of answer lift before after stored a (inr h) by =
       let parts = answered_split given files before h.1 after (lift.extends before h.1 (Ok h.0) h.3) (stores_extend _ h.1 after stored h.2 h.4) by in
       inr (h.0, h.1, h.2, lift.lifts before h.1 (Ok h.0) h.3 parts.0, h.4, h.5)
 
-  command_ends : (command : CommandWords) (before after : History) (stored : List File) (a : Answered) → CommandEnds given command before after stored a → AnsweredBy files before after
+  command_ends : (command : CommandWords) (before after : History) (stored : List NamedFile) (a : Answered) → CommandEnds given command before after stored a → AnsweredBy files before after
       → CommandEnds (Some files) command before after stored a
   command_ends (Size words) before after stored a h by = (ends_lift given files (size_lifts words) before after a h.0 by, h.1)
   command_ends (Judge words) before after stored a h by = storing_ends _ _ (λ (r : Reported). named_file words.table r.table) (λ r. r.answer) (judge_lifts words) before after stored a h by
@@ -184,15 +184,15 @@ module _ (given : Option Files) (files : Files) where
   quiet_extends steps told lift before after a (inl h) = lift.extends before after (Ok a) h
   quiet_extends steps told lift before after a (inr h) = lift.extends before after (Err a) h
 
-  storing_extends : {S : Type 0} (steps told : Course S) (files_of : S → List File) (answer : S → Answered) → Lifts given files steps told
-      → (before after : History) (stored : List File) (a : Answered) → EndsStoring steps files_of answer before after stored a → Extends before after
+  storing_extends : {S : Type 0} (steps told : Course S) (files_of : S → List NamedFile) (answer : S → Answered) → Lifts given files steps told
+      → (before after : History) (stored : List NamedFile) (a : Answered) → EndsStoring steps files_of answer before after stored a → Extends before after
   storing_extends steps told files_of answer lift before after stored a (inl h) = lift.extends before after (Err a) h.0
   storing_extends steps told files_of answer lift before after stored a (inr h) =
       let read = lift.extends before h.1 (Ok h.0) h.3 in
       let put = stores_extend (files_of h.0) h.1 after stored h.2 h.4 in
       (read.0 ++ put.0, extends_twice before h.1 after read put)
 
-  command_extends : (command : CommandWords) (before after : History) (stored : List File) (a : Answered) → CommandEnds given command before after stored a → Extends before after
+  command_extends : (command : CommandWords) (before after : History) (stored : List NamedFile) (a : Answered) → CommandEnds given command before after stored a → Extends before after
   command_extends (Size words) before after stored a h = quiet_extends _ _ (size_lifts words) before after a h.0
   command_extends (Judge words) before after stored a h = storing_extends _ _ (λ r. named_file words.table r.table) (λ r. r.answer) (judge_lifts words) before after stored a h
   command_extends (Solve words) before after stored a h = storing_extends _ _ (files_to_store words) (λ s. s.answer) (solve_lifts words) before after stored a h
@@ -202,13 +202,13 @@ module _ (given : Option Files) (files : Files) where
   command_extends (Share words) before after stored a h = storing_extends _ _ (joined_file words) share_answer (share_lifts words) before after stored a h
   command_extends (Piece words) before after stored a h = quiet_extends _ _ (piece_lifts words) before after a h.0
 
-  command_run : (command : CommandWords) (before after : History) (stored : List File) (a : Answered) → CommandRun given command before after stored a → AnsweredBy files before after
+  command_run : (command : CommandWords) (before after : History) (stored : List NamedFile) (a : Answered) → CommandRun given command before after stored a → AnsweredBy files before after
       → CommandRun (Some files) command before after stored a
   command_run command before after stored a (inl none) by = inl none
   command_run command before after stored a (inr ends) by = inr (command_ends command before after stored a ends by)
 
   -- a run with its record
-  own_run : (words : List (List ℕ)) (command : CommandWords) (name : List ℕ) (before between after : History) (own last : List File) (said a : Answered)
+  own_run : (words : List (List ℕ)) (command : CommandWords) (name : List ℕ) (before between after : History) (own last : List NamedFile) (said a : Answered)
       → CommandRun given command before between own said → RecordEnds words command name before between after last said a → AnsweredBy files before after
       → CommandRun (Some files) command before between own said
   own_run words command name before between after own last said a (inl none) end by = inl none
@@ -216,7 +216,7 @@ module _ (given : Option Files) (files : Files) where
       let parts = answered_split given files before between after (command_extends command before between own said ends) (record_extends words command name before between after last said a end) by in
       inr (command_ends command before between own said ends parts.0)
 
-  pub as_asked : (words : List (List ℕ)) (command : CommandWords) (name : Option (List ℕ)) (before after : History) (stored : List File) (a : Answered)
+  pub as_asked : (words : List (List ℕ)) (command : CommandWords) (name : Option (List ℕ)) (before after : History) (stored : List NamedFile) (a : Answered)
       → RunsAsAsked given words command name before after stored a → AnsweredBy files before after → RunsAsAsked (Some files) words command name before after stored a
   as_asked words command None before after stored a run by = command_run command before after stored a run by
   as_asked words command (Some name) before after stored a r by = record {
@@ -240,29 +240,29 @@ module _ (given : Option Files) (files : Files) where
             ∙ ap (λ (events : List Event). before.events ++ events) (sym (append_assoc first.0 k.0 (event ∷ k.1))),
       )
 
-  none_holds : (stored : List File) (f : File) → stored ≡ [] → Contains stored f → ⊥
-  none_holds stored f none there = contains_nil f (subst (λ (list : List File). Contains list f) none there)
+  none_holds : (stored : List NamedFile) (f : NamedFile) → stored ≡ [] → Contains stored f → ⊥
+  none_holds stored f none there = contains_nil f (subst (λ (list : List NamedFile). Contains list f) none there)
 
-  stores_taken : (list : List File) (before after : History) (stored : List File) (refusal : Option Answered) → store_steps list before after stored refusal
-      → (f : File) → Contains stored f → IsTaken before after f.name f.bytes
+  stores_taken : (list : List NamedFile) (before after : History) (stored : List NamedFile) (refusal : Option Answered) → store_steps list before after stored refusal
+      → (f : NamedFile) → Contains stored f → IsTaken before after f.name f.bytes
   stores_taken [] before after stored refusal h f there = absurd (none_holds stored f h.1 there)
   stores_taken (g ∷ gs) before after stored refusal (inl h) f there = absurd (none_holds stored f h.none_stored there)
   stores_taken (g ∷ gs) before after stored refusal (inr h) f there =
-      by_place (λ later. stores_taken gs h.0 after h.1 refusal h.4 f later) (contains_cases g h.1 f (subst (λ (list : List File). Contains list f) h.3 there))
+      by_place (λ later. stores_taken gs h.0 after h.1 refusal h.4 f later) (contains_cases g h.1 f (subst (λ (list : List NamedFile). Contains list f) h.3 there))
     where
       by_place : (Contains h.1 f → IsTaken h.0 after f.name f.bytes) → (g ≡ f) ⊎ Contains h.1 f → IsTaken before after f.name f.bytes
       by_place rest (inl same) =
           let more = stores_extend gs h.0 after h.1 refusal h.4 in
-          subst (λ (x : File). IsTaken before after x.name x.bytes) same ([], more.0, extends_twice before h.0 after (_, h.2.1) more)
+          subst (λ (x : NamedFile). IsTaken before after x.name x.bytes) same ([], more.0, extends_twice before h.0 after (_, h.2.1) more)
       by_place rest (inr later) = taken_later before h.0 after f.name f.bytes (_, h.2.1) (rest later)
 
-  storing_taken : {S : Type 0} (steps told : Course S) (files_of : S → List File) (answer : S → Answered) → Lifts given files steps told
-      → (before after : History) (stored : List File) (a : Answered) → EndsStoring steps files_of answer before after stored a → (f : File) → Contains stored f → IsTaken before after f.name f.bytes
+  storing_taken : {S : Type 0} (steps told : Course S) (files_of : S → List NamedFile) (answer : S → Answered) → Lifts given files steps told
+      → (before after : History) (stored : List NamedFile) (a : Answered) → EndsStoring steps files_of answer before after stored a → (f : NamedFile) → Contains stored f → IsTaken before after f.name f.bytes
   storing_taken steps told files_of answer lift before after stored a (inl h) f there = absurd (none_holds stored f h.1 there)
   storing_taken steps told files_of answer lift before after stored a (inr h) f there =
       taken_later before h.1 after f.name f.bytes (lift.extends before h.1 (Ok h.0) h.3) (stores_taken (files_of h.0) h.1 after stored h.2 h.4 f there)
 
-  command_taken : (command : CommandWords) (before after : History) (stored : List File) (a : Answered) → CommandEnds given command before after stored a → (f : File) → Contains stored f
+  command_taken : (command : CommandWords) (before after : History) (stored : List NamedFile) (a : Answered) → CommandEnds given command before after stored a → (f : NamedFile) → Contains stored f
       → IsTaken before after f.name f.bytes
   command_taken (Size words) before after stored a h f there = absurd (none_holds stored f h.1 there)
   command_taken (Judge words) before after stored a h f there = storing_taken _ _ (λ (r : Reported). named_file words.table r.table) (λ r. r.answer) (judge_lifts words) before after stored a h f there
@@ -273,12 +273,12 @@ module _ (given : Option Files) (files : Files) where
   command_taken (Share words) before after stored a h f there = storing_taken _ _ (joined_file words) share_answer (share_lifts words) before after stored a h f there
   command_taken (Piece words) before after stored a h f there = absurd (none_holds stored f h.1 there)
 
-  pub run_taken : (command : CommandWords) (before after : History) (stored : List File) (a : Answered) → CommandRun given command before after stored a → (f : File) → Contains stored f
+  pub run_taken : (command : CommandWords) (before after : History) (stored : List NamedFile) (a : Answered) → CommandRun given command before after stored a → (f : NamedFile) → Contains stored f
       → IsTaken before after f.name f.bytes
   run_taken command before after stored a (inl none) f there = absurd (none_holds stored f none.1 there)
   run_taken command before after stored a (inr ends) f there = command_taken command before after stored a ends f there
 
-  run_answer : (words : List (List ℕ)) (before after : History) (stored : List File) (a : Answered) → IsRunAnswer given words before after stored a → AnsweredBy files before after
+  run_answer : (words : List (List ℕ)) (before after : History) (stored : List NamedFile) (a : Answered) → IsRunAnswer given words before after stored a → AnsweredBy files before after
       → IsRunAnswer (Some files) words before after stored a
   run_answer words before after stored a (inl none) by = inl none
   run_answer words before after stored a (inr (inl at_words)) by = inr (inl at_words)

@@ -28,7 +28,6 @@ use Rattle.adjacency_reader.specs.Links.{link_list}
 use Rattle.adjacency_reader.specs.Withdrawn.{withdrawn_list}
 use Rattle.adjacency_reader.specs.Adjacent.{AreLinked}
 use Rattle.seat_lines.specs.GroupingLines.{grouping_list}
-use Rattle.assignment_file.specs.declared.fault.AssignmentFault.{AssignmentFault}
 use Rattle.assignment_file.specs.declared.fault.AssignmentKind.{AssignmentKind}
 use Rattle.assignment_file.specs.declared.fault.AssignmentKind.TheVariants as assigned
 use Rattle.assignment_file.specs.Assignments.{assignment_list}
@@ -45,7 +44,8 @@ use Rattle.command_runs.specs.TableCourse.{untabled, tabled_by, named_counties_o
 use Rattle.command_runs.proofs.Texts.{shelf_status, load_pair_cuts, text_cuts, texts_cut}
 use Rattle.command_runs.specs.ProblemCourse.{counties_of, pairs_of, pairs_in, links_of, links_in, withdrawn_of, withdrawn_in, adjacency_of, IsBuilt, problem_over, problem_in, grouping_in, grouping_of}
 
--- the status of a refusal: 4 for a file, a problem or a board, 5 for a shelf or for memory, and 3 for a budget that is too small
+-- the status of a refusal: 4 for a file, a problem or a board, 5 for a shelf or for memory, and 3 for a budget that is
+-- too small
 abbrev pub IsRefusal : Answered → Type 0
 IsRefusal a = (a.status ≡ 4) ⊎ ((a.status ≡ 5) ⊎ (a.status ≡ 3))
 

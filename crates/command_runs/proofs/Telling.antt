@@ -1,9 +1,9 @@
 -- What an answer with status 0 or 1 tells of the files.
-use Rattle.std.proofs.Common.{◌≡◌, ◌≢◌, ◌≤◌, ◌⊎◌, ℕ, List, [], ◌∷◌, ◌++◌, append_assoc, Option, Some, None, inl, inr, refl, sym, ap, subst, ◌∙◌, arith}
-use Rattle.std.specs.Prelude.{Result, Ok, Err, true}
+use Rattle.std.proofs.Common.{◌≡◌, ◌≢◌, ◌≤◌, ℕ, List, [], ◌∷◌, ◌++◌, append_assoc, Option, Some, None, inl, inr, refl, sym, ap, subst, ◌∙◌, arith}
+use Rattle.std.specs.Prelude.{Ok, true}
 use Rattle.std.specs.Borrow.{Bor}
 use Rattle.grouping_problem.specs.ProblemValue.{problem_of}
-use Rattle.certificate_checker.specs.Answered.{IsAnswer, NamesBest, ShowsImpossible}
+use Rattle.certificate_checker.specs.Answered.{IsCheckAnswer, CheckIsRight, ShowsImpossible}
 use Rattle.certificate_checker.specs.declared.verdict.Verdict.{Verdict}
 use Rattle.certificate_checker.specs.declared.verdict.Verdict.TheVariants.{Best, Impossible, No, Budget}
 use Rattle.command_words.specs.declared.words.ProblemWords.{ProblemWords}
@@ -16,8 +16,8 @@ use Rattle.command_words.specs.declared.words.CommandWords.{CommandWords}
 use Rattle.command_words.specs.declared.words.CommandWords.TheVariants.{Size, Judge, Solve, Check, Audit, List as ListAll, Share, Piece}
 use Rattle.command_words.specs.declared.end.WordsEnd.{WordsEnd}
 use Rattle.command_words.specs.declared.end.WordsEnd.TheVariants.{Help, Version, Usage, Memory}
-use Rattle.command_words.specs.Words.{EndsTaken, takes_words}
-use Rattle.shelves.specs.Files.{File, Files}
+use Rattle.command_words.specs.Words.{EndsTaken}
+use Rattle.shelves.specs.Files.{NamedFile, Files}
 use Rattle.shelves.specs.History.{Event, History}
 use Rattle.shelves.specs.History.Event.{Stored}
 use Rattle.program_answers.specs.Answer.{Answered, memory_answer}
@@ -32,8 +32,7 @@ use Rattle.record_report.specs.RecordFiles.{record_name_of}
 use Rattle.command_runs.specs.Storing.{IsStoredAs, named_file, said_after, store_steps}
 use Rattle.command_runs.specs.Recording.{RecordEnds}
 use Rattle.command_runs.specs.Run.{CommandRun, IsEndAnswer, IsRunAnswer, RunsAsAsked}
-use Rattle.command_runs.specs.Loads.{AnsweredBy}
-use Rattle.command_runs.specs.Told.{IsTaken, IsTakenAs, TellsBest, TellsImpossible, TellsJudged, TellsAllBest, TellsFindings, Tells, TellsOfFiles, RunTells}
+use Rattle.command_runs.specs.Told.{IsTaken, IsTakenAs, TellsBest, TellsImpossible, TellsJudged, TellsAllBest, TellsFindings, Tells, RunTells}
 use Rattle.command_runs.proofs.Agrees.{agrees}
 use Rattle.command_runs.proofs.Judgments as judgments
 use Rattle.command_runs.proofs.Lists.{runs}
@@ -59,14 +58,14 @@ no_refusal a low refusal = not_refused a low refusal
 
 module _ (files : Files) where
   -- a table that was stored was taken
-  taken_as : (table : Option (Bor (List ℕ))) (P : List ℕ → Type 0) (command : CommandWords) (before after : History) (stored : List File) (a : Answered)
+  taken_as : (table : Option (Bor (List ℕ))) (P : List ℕ → Type 0) (command : CommandWords) (before after : History) (stored : List NamedFile) (a : Answered)
       → CommandRun (Some files) command before after stored a → IsStoredAs table P stored → IsTakenAs table P before after
   taken_as None P command before after stored a run h = tt
   taken_as (Some name) P command before after stored a run h =
       (h.0, h.1, run_taken (Some files) files command before after stored a run (record { name = name.now; bytes = h.0 }) h.2)
 
   -- ---- solve
-  best_told : (words : SolveWords) (before after : History) (stored : List File) (a : Answered) → CommandRun (Some files) (Solve words) before after stored a → ShowsBest files words stored a
+  best_told : (words : SolveWords) (before after : History) (stored : List NamedFile) (a : Answered) → CommandRun (Some files) (Solve words) before after stored a → ShowsBest files words stored a
       → TellsBest files words.problem words.table before after a.text
   best_told words before after stored a run s = record {
     v = s.v;
@@ -77,11 +76,11 @@ module _ (files : Files) where
     stored = taken_as words.table (IsTableOfFiles files words.problem s.v s.grouping.groups.items) (Solve words) before after stored a run s.table;
   }
 
-  none_told : (words : SolveWords) (stored : List File) (a : Answered) → SolvesNone files words stored a → TellsImpossible files words.problem a.text
+  none_told : (words : SolveWords) (stored : List NamedFile) (a : Answered) → SolvesNone files words stored a → TellsImpossible files words.problem a.text
   none_told words stored a s = record { v = s.v; problem = s.problem; impossible = s.impossible; report = text_is a _ s.report }
 
   -- ---- list
-  all_told : (words : ListWords) (stored : List File) (a : Answered) → ShowsAllBest files words stored a → TellsAllBest files words a.text
+  all_told : (words : ListWords) (stored : List NamedFile) (a : Answered) → ShowsAllBest files words stored a → TellsAllBest files words a.text
   all_told words stored a s = record {
     v = s.v;
     problem = s.problem;
@@ -92,13 +91,13 @@ module _ (files : Files) where
   }
 
   -- ---- check
-  module _ (words : CheckWords) (before after : History) (stored : List File) (a : Answered) (run : CommandRun (Some files) (Check words) before after stored a)
+  module _ (words : CheckWords) (before after : History) (stored : List NamedFile) (a : Answered) (run : CommandRun (Some files) (Check words) before after stored a)
       (t : Tabled) (reads : ReadsTabled files words.check.problem words.table t) (text : List ℕ) (held : files words.check.certificate.now ≡ Some text)
       (r : Reported) (all : stored ≡ named_file words.table r.table) where
     problem : IsProblemOfFiles files words.check.problem t.problem
     problem = problem_of_files files words.check.problem t.problem reads.reads
 
-    verdict_told : (verdict : Verdict) → IsAnswer (problem_of t.problem) text words.check.budget verdict → NamesBest (problem_of t.problem) verdict → ShowsImpossible (problem_of t.problem) verdict
+    verdict_told : (verdict : Verdict) → IsCheckAnswer (problem_of t.problem) text words.check.budget verdict → CheckIsRight (problem_of t.problem) verdict → ShowsImpossible (problem_of t.problem) verdict
         → a ≡ verdict_said t.problem verdict → r.table ≡ verdict_table t verdict → Tells files (Check words) before after a
     verdict_told (Best g) is best none said table = (
       (λ zero. record {
@@ -138,7 +137,7 @@ module _ (files : Files) where
   check_refuses words = bind_refuses _ _ (tabled_refuses (Some files) words.check.problem words.table) (λ t.
       bind_refuses _ _ (text_refuses (Some files) words.check.certificate.now) (λ text. value_refuses (IsChecked t words.check.budget text)))
 
-  check_told : (words : CheckWords) (before after : History) (stored : List File) (a : Answered) → CommandRun (Some files) (Check words) before after stored a
+  check_told : (words : CheckWords) (before after : History) (stored : List NamedFile) (a : Answered) → CommandRun (Some files) (Check words) before after stored a
       → HasEnded (check_course (Some files) words) (λ r. named_file words.table r.table) (λ r. r.answer) before stored a → Tells files (Check words) before after a
   check_told words before after stored a run h =
       let p = went _ _ before h.between h.s h.given in
@@ -149,7 +148,7 @@ module _ (files : Files) where
       c.verdict c.is c.best c.impossible (h.said ∙ ap (λ (x : Reported). x.answer) c.said) (ap (λ (x : Reported). x.table) c.said)
 
   -- ---- judge
-  judge_told : (words : JudgeWords) (before after : History) (stored : List File) (a : Answered) → CommandRun (Some files) (Judge words) before after stored a → ShowsJudged files words stored a
+  judge_told : (words : JudgeWords) (before after : History) (stored : List NamedFile) (a : Answered) → CommandRun (Some files) (Judge words) before after stored a → ShowsJudged files words stored a
       → TellsJudged files words before after a
   judge_told words before after stored a run s = record {
     v = s.v;
@@ -189,7 +188,7 @@ module _ (files : Files) where
       }
 
   -- ---- a command
-  command_tells : (command : CommandWords) (before after : History) (stored : List File) (a : Answered) → CommandRun (Some files) command before after stored a → a.status ≤ 1
+  command_tells : (command : CommandWords) (before after : History) (stored : List NamedFile) (a : Answered) → CommandRun (Some files) command before after stored a → a.status ≤ 1
       → Tells files command before after a
   command_tells (Solve words) before after stored a run low = (
     (λ zero. best_told words before after stored a run (agrees.best files words before after stored a run zero)),
@@ -254,20 +253,20 @@ module _ (files : Files) where
   tells_on (Share words) before between after a t more = tt
   tells_on (Piece words) before between after a t more = tt
 
-  own_tells : (command : CommandWords) (before between after : History) (own : List File) (said a : Answered) → CommandRun (Some files) command before between own said → Extends between after
+  own_tells : (command : CommandWords) (before between after : History) (own : List NamedFile) (said a : Answered) → CommandRun (Some files) command before between own said → Extends between after
       → a ≡ said → a.status ≤ 1 → Tells files command before after a
   own_tells command before between after own said a run more is low =
       let same : a.status ≡ said.status = same_status a said is in
       subst (Tells files command before after) (sym is) (tells_on command before between after said (command_tells command before between own said run (omega arith)) more)
 
-  unrefused_tells : (command : CommandWords) (before between after : History) (own last list : List File) (said a : Answered) (refusal : Option Answered)
+  unrefused_tells : (command : CommandWords) (before between after : History) (own last list : List NamedFile) (said a : Answered) (refusal : Option Answered)
       → CommandRun (Some files) command before between own said → Extends between after → store_steps list between after last refusal → a ≡ said_after refusal said → a.status ≤ 1
       → Tells files command before after a
   unrefused_tells command before between after own last list said a None run more steps is low = own_tells command before between after own said a run more is low
   unrefused_tells command before between after own last list said a (Some refused) run more steps is low =
       absurd (no_refusal a low (inr (inl (same_status a refused is ∙ refusal_status list between after last refused steps))))
 
-  recorded_tells : (words : List (List ℕ)) (command : CommandWords) (name : List ℕ) (before between after : History) (own last : List File) (said a : Answered)
+  recorded_tells : (words : List (List ℕ)) (command : CommandWords) (name : List ℕ) (before between after : History) (own last : List NamedFile) (said a : Answered)
       → CommandRun (Some files) command before between own said → RecordEnds words command name before between after last said a → Extends between after → a.status ≤ 1
       → Tells files command before after a
   recorded_tells words command name before between after own last said a run (inl h) more low = own_tells command before between after own said a run more h.1.answer low
@@ -276,7 +275,7 @@ module _ (files : Files) where
   recorded_tells words command name before between after own last said a run (inr (asked, inr s)) more low =
       unrefused_tells command before between after own last (record { name = name; bytes = s.text } ∷ []) said a s.refusal run more s.steps s.answer low
 
-  asked_tells : (words : List (List ℕ)) (command : CommandWords) (name : Option (List ℕ)) (before after : History) (stored : List File) (a : Answered)
+  asked_tells : (words : List (List ℕ)) (command : CommandWords) (name : Option (List ℕ)) (before after : History) (stored : List NamedFile) (a : Answered)
       → RunsAsAsked (Some files) words command name before after stored a → a.status ≤ 1 → Tells files command before after a
   asked_tells words command None before after stored a run low = command_tells command before after stored a run low
   asked_tells words command (Some name) before after stored a r low =
@@ -291,7 +290,7 @@ usage_status (Version text) a answer words (inr lack) low = absurd lack.1
 usage_status (Usage text) a answer words taken low = let two : a.status ≡ 2 = same_status a _ answer in omega arith
 usage_status Memory a answer words taken low = let five : a.status ≡ 5 = same_status a memory_answer answer in omega arith
 
-pub run_tells : (given : Option Files) (words : List (List ℕ)) (before after : History) (stored : List File) (a : Answered) → IsRunAnswer given words before after stored a
+pub run_tells : (given : Option Files) (words : List (List ℕ)) (before after : History) (stored : List NamedFile) (a : Answered) → IsRunAnswer given words before after stored a
     → RunTells words before after a
 run_tells given words before after stored a (inl none) taken low = absurd (no_refusal a low (inr (inl (same_status a memory_answer none.0))))
 run_tells given words before after stored a (inr (inl at_words)) taken low =

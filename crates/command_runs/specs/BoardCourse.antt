@@ -52,7 +52,8 @@ events_of files language counties name = load_step files name >>= events_in lang
 abbrev pub named_events_of : Option Files → rounds.Language → ℕ → Option (Bor (List ℕ)) → Course (List Event)
 named_events_of files language counties name = optional_step [] (events_of files language counties) name
 
--- What a board answers whose target is the grouping and whose first round is that of the words, or why there is no such board.
+-- What a board answers whose target is the grouping and whose first round is that of the words, or why there is no such
+-- board.
 abbrev pub AnswersOnBoard : {X : Type 0} → ProblemValue → Grouping → RoundWords → ℕ → (rounds.Round → X → Type 0) → Result X BoardFault → Type 0
 AnswersOnBoard v g words budget P (Ok x) = (round : rounds.Round) × IsFirstRound (problem_of v) g (limit_of g words) (language_of words) round × P round x
 AnswersOnBoard v g words budget P (Err fault) =

@@ -5,9 +5,9 @@ use Rattle.grouping_report.specs.Outcomes.{outcome_text}
 use Rattle.grouping_report.specs.declared.outcome.Outcome.TheVariants as outcome
 use Rattle.certificate_checker.specs.declared.verdict.Verdict.{Verdict}
 use Rattle.certificate_checker.specs.declared.verdict.Verdict.TheVariants.{Best, Impossible, No, Budget}
-use Rattle.certificate_checker.specs.Answered.{IsAnswer, NamesBest, ShowsImpossible}
+use Rattle.certificate_checker.specs.Answered.{IsCheckAnswer, CheckIsRight, ShowsImpossible}
 use Rattle.command_words.specs.declared.words.CheckWords.{CheckWords}
-use Rattle.shelves.specs.Files.{File, Files}
+use Rattle.shelves.specs.Files.{NamedFile, Files}
 use Rattle.shelves.specs.History.{History}
 use Rattle.program_answers.specs.Answer.{Answered, success, budget_answer}
 use Rattle.program_answers.specs.CheckLines.{no_answer}
@@ -16,8 +16,8 @@ use Rattle.command_runs.specs.Reading.{text_of}
 use Rattle.command_runs.specs.TableCourse.{Tabled, Reported, tabled_problem_in, table_of}
 use Rattle.command_runs.specs.Storing.{EndsStoring, named_file}
 
--- A verdict, as it is said: the report of the grouping that is best, with status 0; that none is lawful, or the first fault with its
--- line, with status 1; or that the budget is too small.
+-- A verdict, as it is said: the report of the grouping that is best, with status 0; that none is lawful, or the first
+-- fault with its line, with status 1; or that the budget is too small.
 abbrev pub verdict_said : ProblemValue → Verdict → Answered
 verdict_said v (Best g) = success (outcome_text v (outcome.Best g))
 verdict_said v Impossible = record { text = outcome_text v outcome.Impossible; status = 1 }
@@ -34,8 +34,8 @@ verdict_table t Budget = None
 -- what `check` says of a text is the verdict of a checker with such a budget
 pub record IsChecked (t : Tabled) (budget : ℕ) (text : List ℕ) (r : Reported) : Type 0 where
   pub verdict : Verdict
-  pub is : IsAnswer (problem_of t.problem) text budget verdict
-  pub best : NamesBest (problem_of t.problem) verdict
+  pub is : IsCheckAnswer (problem_of t.problem) text budget verdict
+  pub best : CheckIsRight (problem_of t.problem) verdict
   pub impossible : ShowsImpossible (problem_of t.problem) verdict
   pub said : r ≡ record { answer = verdict_said t.problem verdict; table = verdict_table t verdict }
 
@@ -50,6 +50,7 @@ abbrev pub check_course : Option Files → CheckWords → Course Reported
 check_course files words =
     tabled_problem_in files words.check.problem words.table >>= λ t. text_of files words.check.certificate.now >>= λ text. value_step (IsChecked t words.check.budget text)
 
--- `check` ends: at a fault that it met before anything was stored, or with its table stored and its answer, unless the table was refused
-abbrev pub CheckEnds : Option Files → CheckWords → History → History → List File → Answered → Type 0
+-- `check` ends: at a fault that it met before anything was stored, or with its table stored and its answer, unless the
+-- table was refused
+abbrev pub CheckEnds : Option Files → CheckWords → History → History → List NamedFile → Answered → Type 0
 CheckEnds files words = EndsStoring (check_course files words) (λ r. named_file words.table r.table) (λ r. r.answer)

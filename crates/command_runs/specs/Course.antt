@@ -8,8 +8,8 @@ use Rattle.shelves.specs.History.{History, HasLoaded}
 use Rattle.program_answers.specs.Answer.{Answered}
 use Rattle.program_answers.specs.Refusals.{shelf_answer}
 
--- what steps come to: a value, or the answer to the first fault met, where the shelf had this history before them and this one after
--- them
+-- what steps come to: a value, or the answer to the first fault met, where the shelf had this history before them and
+-- this one after them
 abbrev pub Course : Type 0 → Type 1
 Course X = History → History → Result X Answered → Type 0
 
@@ -30,8 +30,8 @@ infixl 10 ◌>>=◌
 abbrev pub ◌>>=◌ : {X Y : Type 0} → Course X → (X → Course Y) → Course Y
 ◌>>=◌ first next before after end = Stops first before after end ⊎ GoesOn first next before after end
 
--- A file is loaded, and its name and what the load answered are the last of the history: its bytes, which are no more than a shelf may
--- give, or the answer to what the shelf says of its name.
+-- A file is loaded, and its name and what the load answered are the last of the history: its bytes, which are no more
+-- than a shelf may give, or the answer to what the shelf says of its name.
 abbrev pub load_step : Option Files → List ℕ → Course (List ℕ)
 load_step files name before after (Ok bytes) =
     IsLoad {X = List ℕ} (λ b. b) files before.failures name (Ok bytes) × HasLoaded {X = List ℕ} (λ b. b) before after name (Ok bytes) × (length bytes ≤ 1073741824)

@@ -66,8 +66,8 @@ pub record AreAdjacentByFiles (files : Files) (words : ProblemWords) (listed : L
   pub links_are : IsReadAsIfNamed link_list files words.links links
   pub linked : AreLinked named links pairs
 
--- The problem of the files: its counties, its adjacent pairs and its withdrawn sets are those of the files' bytes, and its chamber and its
--- allowance are those of the words.
+-- The problem of the files: its counties, its adjacent pairs and its withdrawn sets are those of the files' bytes, and
+-- its chamber and its allowance are those of the words.
 pub record IsProblemOfFiles (files : Files) (words : ProblemWords) (v : ProblemValue) : Type 0 where
   pub counties : List County
   pub counties_are : AreCountiesOfFiles files words.common counties

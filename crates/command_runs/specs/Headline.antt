@@ -11,7 +11,7 @@ use Rattle.command_words.specs.declared.words.ProblemWords.{ProblemWords}
 use Rattle.command_words.specs.declared.words.SolveWords.{SolveWords}
 use Rattle.command_words.specs.declared.words.CheckWords.{CheckWords}
 use Rattle.command_words.specs.declared.words.CommandWords.TheVariants.{Solve, Check}
-use Rattle.shelves.specs.Files.{File, Files}
+use Rattle.shelves.specs.Files.{NamedFile, Files}
 use Rattle.shelves.specs.History.{History}
 use Rattle.program_answers.specs.Answer.{Answered, success, budget_answer}
 use Rattle.program_answers.specs.Refusals.{named_answer}
@@ -29,8 +29,8 @@ HoldsSameIfNamed files others None None = Unit {0}
 HoldsSameIfNamed files others (Some name) (Some other) = HoldsSame files others name other
 HoldsSameIfNamed files others _ _ = ⊥
 
--- Two problems are told by the same bytes: the same chamber, allowance and state, and the same bytes in the files of the counties, of
--- adjacency, of links and of withdrawn sets, whatever their names.
+-- Two problems are told by the same bytes: the same chamber, allowance and state, and the same bytes in the files of
+-- the counties, of adjacency, of links and of withdrawn sets, whatever their names.
 pub record HasSameProblem (files others : Files) (words other : ProblemWords) : Type 0 where
   pub chamber : words.common.chamber ≡ other.common.chamber
   pub window : words.common.window ≡ other.common.window
@@ -41,8 +41,8 @@ pub record HasSameProblem (files others : Files) (words other : ProblemWords) : 
   pub links : HoldsSameIfNamed files others words.links other.links
   pub withdrawn : HoldsSameIfNamed files others words.withdrawn other.withdrawn
 
--- The program refused a run of a check for want of something: its budget was too small, a growth was refused, or a file could not be
--- had (the status is then 5).
+-- The program refused a run of a check for want of something: its budget was too small, a growth was refused, or a file
+-- could not be had (the status is then 5).
 abbrev pub IsCutOff : Answered → Type 0
 IsCutOff a = (a ≡ budget_answer) ⊎ (a.status ≡ 5)
 
@@ -51,23 +51,23 @@ abbrev pub IsUnnamed : Option (Bor (List ℕ)) → Answered → Type 0
 IsUnnamed None a = ⊥
 IsUnnamed (Some table) a = (line : ℕ) × (a ≡ named_answer (BadName line))
 
--- Every check of this text with the same problem gives this answer, unless it was cut off. If a check is asked for a table, it may also end
--- at a NAME that isn't UTF-8.
+-- Every check of this text with the same problem gives this answer, unless it was cut off. If a check is asked for a
+-- table, it may also end at a NAME that isn't UTF-8.
 abbrev pub ChecksAs : Files → ProblemWords → List ℕ → Answered → Type 0
 ChecksAs files words text a =
-    (others : Files) (check : CheckWords) (before after : History) (stored : List File) (b : Answered)
+    (others : Files) (check : CheckWords) (before after : History) (stored : List NamedFile) (b : Answered)
     → HasSameProblem files others words check.check.problem → others check.check.certificate.now ≡ Some text
     → CommandRun (Some others) (Check check) before after stored b → (b ≡ a) ⊎ (IsCutOff b ⊎ IsUnnamed check.table b)
 
 -- where a certificate is named, it was stored first, and every check of it gives the same answer
-abbrev pub IsStoredProof : Files → SolveWords → List File → Answered → Type 0
+abbrev pub IsStoredProof : Files → SolveWords → List NamedFile → Answered → Type 0
 IsStoredProof files words stored a =
     (name : Bor (List ℕ)) → words.certificate ≡ Some name
-    → (text : List ℕ) × (more : List File) × (stored ≡ record { name = name.now; bytes = text } ∷ more) × ChecksAs files words.problem text a
+    → (text : List ℕ) × (more : List NamedFile) × (stored ≡ record { name = name.now; bytes = text } ∷ more) × ChecksAs files words.problem text a
 
--- What a run of `solve` that ends with status 0 shows: its report is that of a grouping which is best for the problem of the files, and
--- its certificate says so to whoever checks it. If a table is named, that of the grouping was stored.
-pub record ShowsBest (files : Files) (words : SolveWords) (stored : List File) (a : Answered) : Type 0 where
+-- What a run of `solve` that ends with status 0 shows: its report is that of a grouping which is best for the problem
+-- of the files, and its certificate says so to whoever checks it. If a table is named, that of the grouping was stored.
+pub record ShowsBest (files : Files) (words : SolveWords) (stored : List NamedFile) (a : Answered) : Type 0 where
   pub v : ProblemValue
   pub problem : IsProblemOfFiles files words.problem v
   pub grouping : Grouping
@@ -77,7 +77,7 @@ pub record ShowsBest (files : Files) (words : SolveWords) (stored : List File) (
   pub table : IsStoredAs words.table (IsTableOfFiles files words.problem v grouping.groups.items) stored
 
 -- and one that ends with status 1: no grouping is lawful
-pub record ShowsImpossible (files : Files) (words : SolveWords) (stored : List File) (a : Answered) : Type 0 where
+pub record ShowsImpossible (files : Files) (words : SolveWords) (stored : List NamedFile) (a : Answered) : Type 0 where
   pub v : ProblemValue
   pub problem : IsProblemOfFiles files words.problem v
   pub impossible : IsImpossible (problem_of v)
@@ -86,7 +86,7 @@ pub record ShowsImpossible (files : Files) (words : SolveWords) (stored : List F
 
 -- What runs of `solve` and of `check` over told files promise together.
 pub record RunsAgree : Type 0 where
-  pub best : (files : Files) (words : SolveWords) (before after : History) (stored : List File) (a : Answered)
+  pub best : (files : Files) (words : SolveWords) (before after : History) (stored : List NamedFile) (a : Answered)
       → CommandRun (Some files) (Solve words) before after stored a → a.status ≡ 0 → ShowsBest files words stored a
-  pub impossible : (files : Files) (words : SolveWords) (before after : History) (stored : List File) (a : Answered)
+  pub impossible : (files : Files) (words : SolveWords) (before after : History) (stored : List NamedFile) (a : Answered)
       → CommandRun (Some files) (Solve words) before after stored a → a.status ≡ 1 → ShowsImpossible files words stored a

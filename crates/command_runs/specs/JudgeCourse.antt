@@ -13,7 +13,7 @@ use Rattle.baf_auditor.specs.declared.finding.Finding.{Finding}
 use Rattle.command_words.specs.declared.words.CommonWords.{CommonWords}
 use Rattle.command_words.specs.declared.words.JudgeWords.{JudgeWords}
 use Rattle.command_words.specs.declared.words.AuditWords.{AuditWords}
-use Rattle.shelves.specs.Files.{File, Files}
+use Rattle.shelves.specs.Files.{NamedFile, Files}
 use Rattle.shelves.specs.History.{History}
 use Rattle.program_answers.specs.Answer.{Answered, success}
 use Rattle.program_answers.specs.Refusals.{verdict_answer}
@@ -45,13 +45,15 @@ IsJudged t g budget text (Err fault) = IsFault (problem_of t.problem) g fault
 abbrev pub judge_step : Tabled → Grouping → ℕ → Option (List ℕ) → Course Reported
 judge_step t g budget text = call_step verdict_answer (IsJudged t g budget text)
 
--- `judge`: the problem is built before the grouping is loaded and read, and then the certificate is loaded, where one is named
+-- `judge`: the problem is built before the grouping is loaded and read, and then the certificate is loaded, where one
+-- is named
 abbrev pub judge_course : Option Files → JudgeWords → Course Reported
 judge_course files words =
     tabled_problem_in files words.problem words.table >>= λ t. grouping_of files words.grouping.now >>= λ g. certificate_of files words.certificate >>= judge_step t g words.budget
 
--- `judge` ends: at a fault that it met before anything was stored, or with its table stored and its answer, unless the table was refused
-abbrev pub JudgeEnds : Option Files → JudgeWords → History → History → List File → Answered → Type 0
+-- `judge` ends: at a fault that it met before anything was stored, or with its table stored and its answer, unless the
+-- table was refused
+abbrev pub JudgeEnds : Option Files → JudgeWords → History → History → List NamedFile → Answered → Type 0
 JudgeEnds files words = EndsStoring (judge_course files words) (λ r. named_file words.table r.table) (λ r. r.answer)
 
 -- the exit status of an audit: 0 where nothing is found, else 1

@@ -5,7 +5,7 @@ use Rattle.grouping_laws.specs.Grouping.{Grouping, Lawful, IsBest}
 use Rattle.seat_lines.specs.GroupingLines.{grouping_list}
 use Rattle.command_words.specs.declared.words.JudgeWords.{JudgeWords}
 use Rattle.command_words.specs.declared.words.CommandWords.TheVariants.{Judge}
-use Rattle.shelves.specs.Files.{File, Files}
+use Rattle.shelves.specs.Files.{NamedFile, Files}
 use Rattle.shelves.specs.History.{History}
 use Rattle.program_answers.specs.Answer.{Answered}
 use Rattle.command_runs.specs.FilesProblem.{IsProblemOfFiles, IsTableOfFiles}
@@ -13,9 +13,10 @@ use Rattle.command_runs.specs.Storing.{IsStoredAs}
 use Rattle.command_runs.specs.JudgeWithCertificate.{lawful_answer, best_answer}
 use Rattle.command_runs.specs.Run.{CommandRun}
 
--- What a run of `judge` that ends with status 0 shows: the grouping of its file is lawful for the problem of the files. The report calls it
--- lawful, or it calls it best, and then no lawful grouping is better. If a table is named, that of the grouping was stored.
-pub record ShowsJudged (files : Files) (words : JudgeWords) (stored : List File) (a : Answered) : Type 0 where
+-- What a run of `judge` that ends with status 0 shows: the grouping of its file is lawful for the problem of the files.
+-- The report calls it lawful, or it calls it best, and then no lawful grouping is better. If a table is named, that of
+-- the grouping was stored.
+pub record ShowsJudged (files : Files) (words : JudgeWords) (stored : List NamedFile) (a : Answered) : Type 0 where
   pub v : ProblemValue
   pub problem : IsProblemOfFiles files words.problem v
   pub text : List ℕ
@@ -29,5 +30,5 @@ pub record ShowsJudged (files : Files) (words : JudgeWords) (stored : List File)
 -- what runs of `judge` over told files promise
 abbrev pub RunsJudge : Type 0
 RunsJudge =
-    (files : Files) (words : JudgeWords) (before after : History) (stored : List File) (a : Answered)
+    (files : Files) (words : JudgeWords) (before after : History) (stored : List NamedFile) (a : Answered)
     → CommandRun (Some files) (Judge words) before after stored a → a.status ≡ 0 → ShowsJudged files words stored a

@@ -6,7 +6,7 @@ use Rattle.grouping_laws.specs.Grouping.{Grouping, IsBest, counts, sets_of}
 use Rattle.grouping_report.specs.Report.{report_text}
 use Rattle.certificate_checker.specs.declared.verdict.Verdict.{Verdict}
 use Rattle.certificate_checker.specs.declared.verdict.Verdict.TheVariants.{Best}
-use Rattle.certificate_checker.specs.Answered.{IsAnswer}
+use Rattle.certificate_checker.specs.Answered.{IsCheckAnswer}
 use Rattle.shelves.specs.Files.{Files}
 use Rattle.program_answers.specs.Answer.{Answered, success}
 use Rattle.command_runs.specs.Course.{Course, ◌>>=◌, load_step, optional_step, value_step}
@@ -27,14 +27,16 @@ lawful_answer v g = success (report_text v (codes "lawful") g)
 abbrev pub best_answer : ProblemValue → Grouping → Answered
 best_answer v g = success (report_text v (codes "best") g)
 
--- what is said of a lawful grouping beside a verdict: that it is best exactly where the verdict names a best grouping with the same counts
+-- what is said of a lawful grouping beside a verdict: that it is best exactly where the verdict names a best grouping
+-- with the same counts
 abbrev pub SaysBeside : ProblemValue → Grouping → Verdict → Answered → Type 0
 SaysBeside v g verdict a = (NamesSameCounts g verdict × (a ≡ best_answer v g)) ⊎ ((¬ NamesSameCounts g verdict) × (a ≡ lawful_answer v g))
 
--- What is said of a lawful grouping by a text: what a checker's verdict with such a budget makes of it. If the grouping is called best, it is.
+-- What is said of a lawful grouping by a text: what a checker's verdict with such a budget makes of it. If the grouping
+-- is called best, it is.
 pub record IsSaidBy (v : ProblemValue) (g : Grouping) (budget : ℕ) (text : List ℕ) (a : Answered) : Type 0 where
   pub verdict : Verdict
-  pub is : IsAnswer (problem_of v) text budget verdict
+  pub is : IsCheckAnswer (problem_of v) text budget verdict
   pub said : SaysBeside v g verdict a
   pub best : a ≡ best_answer v g → IsBest (problem_of v) g
 

@@ -1,4 +1,5 @@
--- The steps of `list`: the problem is built, the certificate is loaded, all best groupings are listed by it, and one of them may be stored.
+-- The steps of `list`: the problem is built, the certificate is loaded, all best groupings are listed by it, and one of
+-- them may be stored.
 use Rattle.std.specs.Prelude.{◌≡◌, ℕ, zero, suc, List, ◌++◌, Option, Some, None, codes, decimal, map, option_map, slice_get}
 use Rattle.grouping_problem.specs.ProblemValue.{ProblemValue, problem_of}
 use Rattle.grouping_laws.specs.Grouping.{Grouping}
@@ -13,7 +14,7 @@ use Rattle.best_groupings.specs.Answered.{IsListing, ListsAllBest}
 use Rattle.best_groupings.specs.Walking.{groups_in}
 use Rattle.list_report.specs.Listing.{listing_text}
 use Rattle.command_words.specs.declared.words.ListWords.{ListWords}
-use Rattle.shelves.specs.Files.{File, Files}
+use Rattle.shelves.specs.Files.{NamedFile, Files}
 use Rattle.shelves.specs.History.{History}
 use Rattle.program_answers.specs.Answer.{Answered, success, budget_answer}
 use Rattle.program_answers.specs.CheckLines.{no_answer}
@@ -62,7 +63,8 @@ listed_all v groupings (Some number) = listed_with v groupings (numbered groupin
 abbrev pub said_alone : Answered → Listed
 said_alone a = record { answer = a; grouping = None }
 
--- What is said of a listing: all best groupings, with status 0; that the certificate doesn't show them, with status 3; else what `check` says.
+-- What is said of a listing: all best groupings, with status 0; that the certificate doesn't show them, with status 3;
+-- else what `check` says.
 abbrev pub listing_said : ProblemValue → Option ℕ → Listing → Listed
 listing_said v number (All list) = listed_all v (map groups_in list.items) number
 listing_said v number (Open gap line) = said_alone (open_answer gap line)
@@ -71,7 +73,7 @@ listing_said v number (No fault line) = said_alone (no_answer fault line)
 listing_said v number Budget = said_alone budget_answer
 
 -- what `list` says of a text is the listing that it gives with such a budget
-pub record IsListed (v : ProblemValue) (budget : ℕ) (number : Option ℕ) (text : List ℕ) (s : Listed) : Type 0 where
+pub record IsListAnswer (v : ProblemValue) (budget : ℕ) (number : Option ℕ) (text : List ℕ) (s : Listed) : Type 0 where
   pub listing : Listing
   pub is : IsListing (problem_of v) text budget listing
   pub all : ListsAllBest (problem_of v) listing
@@ -81,12 +83,13 @@ pub record IsListed (v : ProblemValue) (budget : ℕ) (number : Option ℕ) (tex
 abbrev pub list_course : Option Files → ListWords → Course Listed
 list_course files words =
     problem_in files words.check.problem >>= λ v. load_step files words.check.certificate.now >>= λ text.
-    value_step (IsListed v words.check.budget (option_map (λ w. w.number) words.stored) text)
+    value_step (IsListAnswer v words.check.budget (option_map (λ w. w.number) words.stored) text)
 
 -- the file that is stored: the grouping of the number, where the words give it
-abbrev pub listed_file : ListWords → Listed → List File
+abbrev pub listed_file : ListWords → Listed → List NamedFile
 listed_file words s = named_file (option_map (λ w. w.out) words.stored) s.grouping
 
--- `list` ends: at a fault that it met before anything was stored, or with its file stored and its answer, unless the file was refused
-abbrev pub ListEnds : Option Files → ListWords → History → History → List File → Answered → Type 0
+-- `list` ends: at a fault that it met before anything was stored, or with its file stored and its answer, unless the
+-- file was refused
+abbrev pub ListEnds : Option Files → ListWords → History → History → List NamedFile → Answered → Type 0
 ListEnds files words = EndsStoring (list_course files words) (listed_file words) (λ s. s.answer)

@@ -11,7 +11,7 @@ use Rattle.command_words.specs.declared.words.ListWords.{ListWords}
 use Rattle.command_words.specs.declared.words.SolveWords.{SolveWords}
 use Rattle.command_words.specs.declared.words.StoredWords.{StoredWords}
 use Rattle.command_words.specs.declared.words.CommandWords.TheVariants.{Solve, List as ListAll}
-use Rattle.shelves.specs.Files.{File, Files}
+use Rattle.shelves.specs.Files.{NamedFile, Files}
 use Rattle.shelves.specs.History.{History}
 use Rattle.program_answers.specs.Answer.{Answered, success}
 use Rattle.command_runs.specs.FilesProblem.{IsProblemOfFiles}
@@ -20,13 +20,14 @@ use Rattle.command_runs.specs.Run.{CommandRun}
 use Rattle.command_runs.specs.Headline.{HasSameProblem, IsCutOff}
 
 -- the grouping of the number was stored, where the words give it, and nothing else
-abbrev pub IsStoredGrouping : List Grouping → Option StoredWords → List File → Type 0
+abbrev pub IsStoredGrouping : List Grouping → Option StoredWords → List NamedFile → Type 0
 IsStoredGrouping groupings None stored = stored ≡ []
 IsStoredGrouping groupings (Some words) stored =
     (g : Grouping) × (numbered groupings words.number ≡ Some g) × (stored ≡ record { name = words.out.now; bytes = grouping_text g } ∷ [])
 
--- What a run of `list` that ends with status 0 shows: its text is the listing of all best groupings of the problem of the files, in order.
-pub record ShowsAllBest (files : Files) (words : ListWords) (stored : List File) (a : Answered) : Type 0 where
+-- What a run of `list` that ends with status 0 shows: its text is the listing of all best groupings of the problem of
+-- the files, in order.
+pub record ShowsAllBest (files : Files) (words : ListWords) (stored : List NamedFile) (a : Answered) : Type 0 where
   pub v : ProblemValue
   pub problem : IsProblemOfFiles files words.check.problem v
   pub groupings : List Grouping
@@ -42,19 +43,19 @@ IsListedOrCut a = (a.status ≡ 0) ⊎ ((a ≡ no_such_grouping) ⊎ IsCutOff a)
 -- every list by this text with the same problem lists all best groupings, unless it was cut off
 abbrev pub ListsAll : Files → SolveWords → List ℕ → Type 0
 ListsAll files words text =
-    (others : Files) (list : ListWords) (before after : History) (stored : List File) (b : Answered)
+    (others : Files) (list : ListWords) (before after : History) (stored : List NamedFile) (b : Answered)
     → HasSameProblem files others words.problem list.check.problem → others list.check.certificate.now ≡ Some text
     → CommandRun (Some others) (ListAll list) before after stored b → IsListedOrCut b
 
 -- where a certificate is named, it was stored first, and every list by it lists all best groupings
-abbrev pub IsStoredList : Files → SolveWords → List File → Type 0
+abbrev pub IsStoredList : Files → SolveWords → List NamedFile → Type 0
 IsStoredList files words stored =
     (name : Bor (List ℕ)) → words.certificate ≡ Some name
-    → (text : List ℕ) × (more : List File) × (stored ≡ record { name = name.now; bytes = text } ∷ more) × ListsAll files words text
+    → (text : List ℕ) × (more : List NamedFile) × (stored ≡ record { name = name.now; bytes = text } ∷ more) × ListsAll files words text
 
 -- What runs of `list` over told files promise, and runs of `list` and of `solve` together.
 pub record RunsList : Type 0 where
-  pub all : (files : Files) (words : ListWords) (before after : History) (stored : List File) (a : Answered)
+  pub all : (files : Files) (words : ListWords) (before after : History) (stored : List NamedFile) (a : Answered)
       → CommandRun (Some files) (ListAll words) before after stored a → a.status ≡ 0 → ShowsAllBest files words stored a
-  pub solved : (files : Files) (words : SolveWords) (before after : History) (stored : List File) (a : Answered)
+  pub solved : (files : Files) (words : SolveWords) (before after : History) (stored : List NamedFile) (a : Answered)
       → CommandRun (Some files) (Solve words) before after stored a → a.status ≡ 0 → IsStoredList files words stored

@@ -1,5 +1,5 @@
--- The steps of `piece`: the problem is built, the grouping and the events are read, a board takes the events, and a desk proves one of the
--- pieces that wait.
+-- The steps of `piece`: the problem is built, the grouping and the events are read, a board takes the events, and a
+-- desk proves one of the pieces that wait.
 use Rattle.std.specs.Prelude.{◌≡◌, ℕ, List, length, Option, Some, None, codes}
 use Rattle.grouping_laws.specs.Grouping.{Grouping}
 use Rattle.grouping_problem.specs.ProblemValue.{ProblemValue, problem_of}

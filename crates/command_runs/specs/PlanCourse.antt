@@ -14,7 +14,8 @@ use Rattle.command_runs.specs.Course.{Course, ◌>>=◌, load_step, call_step}
 abbrev pub blocks_in : ℕ → List ℕ → List ℕ → Course (List Block)
 blocks_in state geo segment = call_step pl94_answer (λ blocks. block_list geo segment state ≡ blocks)
 
--- The census blocks of the state: those that the whole texts of the geographic header and of segment 1 give, which are had anew.
+-- The census blocks of the state: those that the whole texts of the geographic header and of segment 1 give, which are
+-- had anew.
 abbrev pub blocks_of : Option Files → CommonWords → Course (List Block)
 blocks_of files words = texts_of files words.geo.now words.segment.now >>= λ texts. blocks_in words.state texts.0 texts.1
 

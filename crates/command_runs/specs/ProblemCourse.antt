@@ -73,8 +73,8 @@ IsBuilt counties pairs withdrawn chamber window (Err fault) = problem_fault coun
 abbrev pub build_step : ℕ → Window → List County → List (ℕ × ℕ) → List county.Withdrawn → Course ProblemValue
 build_step chamber window counties pairs withdrawn = call_step problem_answer (IsBuilt counties pairs withdrawn chamber window)
 
--- The problem of these counties: its other files are had and read one after the other, adjacency first, then links and withdrawn sets, and
--- then it is built.
+-- The problem of these counties: its other files are had and read one after the other, adjacency first, then links and
+-- withdrawn sets, and then it is built.
 abbrev pub problem_over : Option Files → ProblemWords → List County → Course ProblemValue
 problem_over files words counties =
     adjacency_of files (codes_of counties) words >>= λ pairs. withdrawn_of files words.withdrawn >>= build_step words.common.chamber words.common.window counties pairs

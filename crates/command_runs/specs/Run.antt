@@ -5,7 +5,7 @@ use Rattle.command_words.specs.declared.words.CommandWords.{CommandWords}
 use Rattle.command_words.specs.declared.words.CommandWords.TheVariants.{Size, Judge, Solve, Check, Audit, List as ListAll, Share, Piece}
 use Rattle.command_words.specs.declared.end.WordsEnd.{WordsEnd}
 use Rattle.command_words.specs.declared.end.WordsEnd.TheVariants.{Help, Version, Usage, Memory}
-use Rattle.shelves.specs.Files.{File, Files}
+use Rattle.shelves.specs.Files.{NamedFile, Files}
 use Rattle.shelves.specs.History.{History}
 use Rattle.program_answers.specs.Answer.{Answered, memory_answer}
 use Rattle.command_runs.specs.Course.{EndsIn}
@@ -18,9 +18,9 @@ use Rattle.command_runs.specs.PieceCourse.{piece_course}
 use Rattle.record_report.specs.RecordFiles.{record_name_of}
 use Rattle.command_runs.specs.Recording.{RecordEnds}
 
--- A command ends with its answer, over a shelf of these histories before and after it, with these files stored: only `judge`, `solve`, `check`,
--- `list` and `share` store any.
-abbrev pub CommandEnds : Option Files → CommandWords → History → History → List File → Answered → Type 0
+-- A command ends with its answer, over a shelf of these histories before and after it, with these files stored: only
+-- `judge`, `solve`, `check`, `list` and `share` store any.
+abbrev pub CommandEnds : Option Files → CommandWords → History → History → List NamedFile → Answered → Type 0
 CommandEnds files (Size words) before after stored a = EndsIn (size_course files words) before after a × (stored ≡ [])
 CommandEnds files (Judge words) before after stored a = JudgeEnds files words before after stored a
 CommandEnds files (Solve words) before after stored a = SolveEnds files words before after stored a
@@ -31,25 +31,26 @@ CommandEnds files (Share words) before after stored a = ShareEnds files words be
 CommandEnds files (Piece words) before after stored a = EndsIn (piece_course files words) before after a × (stored ≡ [])
 
 -- nothing was stored, since a growth was refused
-abbrev pub IsOutOfMemory : List File → Answered → Type 0
+abbrev pub IsOutOfMemory : List NamedFile → Answered → Type 0
 IsOutOfMemory stored a = (a ≡ memory_answer) × (stored ≡ [])
 
 -- a run of a command; a growth may be refused in any
-abbrev pub CommandRun : Option Files → CommandWords → History → History → List File → Answered → Type 0
+abbrev pub CommandRun : Option Files → CommandWords → History → History → List NamedFile → Answered → Type 0
 CommandRun files command before after stored a = IsOutOfMemory stored a ⊎ CommandEnds files command before after stored a
 
--- a run of a command whose words name a file for its record: the command's own files are stored first, and the record is the last
-pub record RunsWithRecord (files : Option Files) (words : List (List ℕ)) (command : CommandWords) (name : List ℕ) (before after : History) (stored : List File) (a : Answered) : Type 0 where
+-- a run of a command whose words name a file for its record: the command's own files are stored first, and the record
+-- is the last
+pub record RunsWithRecord (files : Option Files) (words : List (List ℕ)) (command : CommandWords) (name : List ℕ) (before after : History) (stored : List NamedFile) (a : Answered) : Type 0 where
   pub said : Answered
   pub between : History
-  pub own : List File
-  pub last : List File
+  pub own : List NamedFile
+  pub last : List NamedFile
   pub run : CommandRun files command before between own said
   pub end : RecordEnds words command name before between after last said a
   pub all : stored ≡ own ++ last
 
 -- a run of a command, with its record if the words name a file for it
-abbrev pub RunsAsAsked : Option Files → List (List ℕ) → CommandWords → Option (List ℕ) → History → History → List File → Answered → Type 0
+abbrev pub RunsAsAsked : Option Files → List (List ℕ) → CommandWords → Option (List ℕ) → History → History → List NamedFile → Answered → Type 0
 RunsAsAsked files words command None before after stored a = CommandRun files command before after stored a
 RunsAsAsked files words command (Some name) before after stored a = RunsWithRecord files words command name before after stored a
 
@@ -61,7 +62,7 @@ IsEndAnswer (Usage text) a = a ≡ record { text = string_bytes text; status = 2
 IsEndAnswer Memory a = a ≡ memory_answer
 
 -- the words end before any command, and nothing is loaded or stored
-pub record EndsAtWords (words : List (List ℕ)) (before after : History) (stored : List File) (a : Answered) : Type 0 where
+pub record EndsAtWords (words : List (List ℕ)) (before after : History) (stored : List NamedFile) (a : Answered) : Type 0 where
   pub end : WordsEnd
   pub by : EndsFor words end
   pub taken : takes_words words ≡ true → EndsTaken words end
@@ -70,16 +71,16 @@ pub record EndsAtWords (words : List (List ℕ)) (before after : History) (store
   pub none_loaded : after ≡ before
 
 -- the words mean a command, which is run
-pub record RunsCommand (files : Option Files) (words : List (List ℕ)) (before after : History) (stored : List File) (a : Answered) : Type 0 where
+pub record RunsCommand (files : Option Files) (words : List (List ℕ)) (before after : History) (stored : List NamedFile) (a : Answered) : Type 0 where
   pub command : CommandWords
   pub meant : Means words command
   pub taken : faults_of words ≡ []
   pub run : RunsAsAsked files words command (record_name_of command) before after stored a
 
--- The answer to words, and the files that were stored: that of the command that they mean, or the end that they come to. Words that clap
--- takes mean a command, so they end neither in help, nor in the version, nor in usage; but words that give an option without its
--- partner end in usage. A growth may be refused before anything is stored.
-abbrev pub IsRunAnswer : Option Files → List (List ℕ) → History → History → List File → Answered → Type 0
+-- The answer to words, and the files that were stored: that of the command that they mean, or the end that they come
+-- to. Words that clap takes mean a command, so they end neither in help, nor in the version, nor in usage; but words
+-- that give an option without its partner end in usage. A growth may be refused before anything is stored.
+abbrev pub IsRunAnswer : Option Files → List (List ℕ) → History → History → List NamedFile → Answered → Type 0
 IsRunAnswer files words before after stored a =
     IsOutOfMemory stored a ⊎ (EndsAtWords words before after stored a ⊎ RunsCommand files words before after stored a)
 

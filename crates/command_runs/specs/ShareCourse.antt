@@ -1,5 +1,5 @@
--- The steps of `share`: the problem is built, the grouping and the events are read, a board takes the events, and the certificate that it
--- joins is stored.
+-- The steps of `share`: the problem is built, the grouping and the events are read, a board takes the events, and the
+-- certificate that it joins is stored.
 use Rattle.std.specs.Prelude.{ℕ, zero, suc, List, length, Option, option_map}
 use Rattle.grouping_laws.specs.Grouping.{Grouping}
 use Rattle.grouping_problem.specs.ProblemValue.{ProblemValue, problem_of}
@@ -7,7 +7,7 @@ use Rattle.shared_proofs.specs.Content.{Event}
 use Rattle.board_report.specs.Shared.{IsShared}
 use Rattle.board_report.specs.declared.shared.Shared.{Shared}
 use Rattle.command_words.specs.declared.words.ShareWords.{ShareWords}
-use Rattle.shelves.specs.Files.{File, Files}
+use Rattle.shelves.specs.Files.{NamedFile, Files}
 use Rattle.shelves.specs.History.{History}
 use Rattle.program_answers.specs.Answer.{Answered}
 use Rattle.program_answers.specs.Refusals.{board_answer}
@@ -37,9 +37,10 @@ share_course files words =
     events_of files (language_of words.board.round) (length v.counties) words.events.now >>= share_step v g words
 
 -- the file that is stored: the certificate that was joined
-abbrev pub joined_file : ShareWords → Shared → List File
+abbrev pub joined_file : ShareWords → Shared → List NamedFile
 joined_file words s = named_file words.certificate (option_map (λ t. t.items) s.certificate)
 
--- `share` ends: at a fault that it met before anything was stored, or with its file stored and its answer, unless the file was refused
-abbrev pub ShareEnds : Option Files → ShareWords → History → History → List File → Answered → Type 0
+-- `share` ends: at a fault that it met before anything was stored, or with its file stored and its answer, unless the
+-- file was refused
+abbrev pub ShareEnds : Option Files → ShareWords → History → History → List NamedFile → Answered → Type 0
 ShareEnds files words = EndsStoring (share_course files words) (joined_file words) share_answer

@@ -6,7 +6,7 @@ use Rattle.grouping_laws.specs.Grouping.{Grouping, IsBest}
 use Rattle.grouping_report.specs.Report.{report_text}
 use Rattle.command_words.specs.declared.words.ShareWords.{ShareWords}
 use Rattle.command_words.specs.declared.words.CommandWords.TheVariants.{Share}
-use Rattle.shelves.specs.Files.{File, Files}
+use Rattle.shelves.specs.Files.{NamedFile, Files}
 use Rattle.shelves.specs.History.{History}
 use Rattle.program_answers.specs.Answer.{Answered, success}
 use Rattle.command_runs.specs.FilesProblem.{IsProblemOfFiles}
@@ -18,24 +18,24 @@ abbrev pub best_said : ProblemValue → Grouping → Answered
 best_said v g = success (report_text v (codes "best") g)
 
 -- where a certificate is named, it was stored and nothing else, and every check of it says that the grouping is best
-abbrev pub IsStoredTogether : Files → ShareWords → List File → ProblemValue → Grouping → Type 0
+abbrev pub IsStoredTogether : Files → ShareWords → List NamedFile → ProblemValue → Grouping → Type 0
 IsStoredTogether files words stored v g =
     (name : Bor (List ℕ)) → words.certificate ≡ Some name
     → (text : List ℕ) × (stored ≡ record { name = name.now; bytes = text } ∷ []) × ChecksAs files words.board.problem text (best_said v g)
 
--- What a run of `share` that ends with status 0 shows: the target of its board is best for the problem of the files, and the certificate
--- that was joined says so to whoever checks it.
-pub record ShowsJoined (files : Files) (words : ShareWords) (stored : List File) : Type 0 where
+-- What a run of `share` that ends with status 0 shows: the target of its board is best for the problem of the files,
+-- and the certificate that was joined says so to whoever checks it.
+pub record ShowsJoined (files : Files) (words : ShareWords) (stored : List NamedFile) : Type 0 where
   pub v : ProblemValue
   pub problem : IsProblemOfFiles files words.board.problem v
   pub target : Grouping
   pub best : IsBest (problem_of v) target
   pub proof : IsStoredTogether files words stored v target
 
--- What runs of `share` over told files promise, whatever events their files hold: one that ends with status 0 has joined, and no other
--- stores anything.
+-- What runs of `share` over told files promise, whatever events their files hold: one that ends with status 0 has
+-- joined, and no other stores anything.
 pub record RunsShare : Type 0 where
-  pub joined : (files : Files) (words : ShareWords) (before after : History) (stored : List File) (a : Answered)
+  pub joined : (files : Files) (words : ShareWords) (before after : History) (stored : List NamedFile) (a : Answered)
       → CommandRun (Some files) (Share words) before after stored a → a.status ≡ 0 → ShowsJoined files words stored
-  pub unstored : (files : Files) (words : ShareWords) (before after : History) (stored : List File) (a : Answered)
+  pub unstored : (files : Files) (words : ShareWords) (before after : History) (stored : List NamedFile) (a : Answered)
       → CommandRun (Some files) (Share words) before after stored a → a.status ≢ 0 → stored ≡ []

@@ -1,4 +1,5 @@
--- The steps of `solve`: the problem is built, a desk looks for its best grouping, and what it found is stored and reported.
+-- The steps of `solve`: the problem is built, a desk looks for its best grouping, and what it found is stored and
+-- reported.
 use Rattle.std.specs.Prelude.{◌≡◌, ℕ, List, ◌++◌, Option, Some, None}
 use Rattle.grouping_problem.specs.ProblemValue.{problem_of}
 use Rattle.grouping_report.specs.Outcomes.{outcome_text}
@@ -8,9 +9,9 @@ use Rattle.certificate_text.specs.Trees.{certificate_of}
 use Rattle.certificate_text.specs.Spelled.{IsSpelling}
 use Rattle.branch_bound.specs.declared.answer.Answer as desk
 use Rattle.branch_bound.specs.declared.answer.Answer.TheVariants.{Best, Impossible, Open}
-use Rattle.branch_bound.specs.Answered.{IsAnswer, NamesBest, HasCompleteTree, SaysWhether}
+use Rattle.branch_bound.specs.Answered.{IsSolveAnswer, SolveIsRight, HasCompleteTree, SaysWhether}
 use Rattle.command_words.specs.declared.words.SolveWords.{SolveWords}
-use Rattle.shelves.specs.Files.{File, Files}
+use Rattle.shelves.specs.Files.{NamedFile, Files}
 use Rattle.shelves.specs.History.{History}
 use Rattle.program_answers.specs.Answer.{Answered, success}
 use Rattle.command_runs.specs.Course.{Course, ◌>>=◌, value_step}
@@ -24,8 +25,8 @@ pub record Solved : Type 0 where
   pub grouping : Option (List ℕ)
   pub table : Option (List ℕ)
 
--- What a desk answers, as it is said: the report, with status 0 where it is best, 1 where none is lawful and 3 where it is open; the text
--- of the certificate; and the lines of the grouping and its table, where there is one.
+-- What a desk answers, as it is said: the report, with status 0 where it is best, 1 where none is lawful and 3 where it
+-- is open; the text of the certificate; and the lines of the grouping and its table, where there is one.
 abbrev pub Says : Tabled → desk.Answer → Solved → Type 0
 Says t (Best g c) s = (text : List ℕ) × IsSpelling text (certificate_of c)
     × (s ≡ record { answer = success (outcome_text t.problem (outcome.Best g)); certificate = Some text; grouping = Some (grouping_text g.groups.items); table = table_of t g.groups.items })
@@ -38,8 +39,8 @@ Says t (Open (Some g) steps) s =
 -- what `solve` says of a problem is what a desk answers with so many steps
 pub record IsSolved (t : Tabled) (limit : ℕ) (s : Solved) : Type 0 where
   pub found : desk.Answer
-  pub is : IsAnswer (problem_of t.problem) limit found
-  pub best : NamesBest (problem_of t.problem) found
+  pub is : IsSolveAnswer (problem_of t.problem) limit found
+  pub best : SolveIsRight (problem_of t.problem) found
   pub complete : HasCompleteTree (problem_of t.problem) found
   pub whether : SaysWhether (problem_of t.problem) limit found
   pub said : Says t found s
@@ -49,9 +50,10 @@ abbrev pub solve_course : Option Files → SolveWords → Course Solved
 solve_course files words = tabled_problem_in files words.problem words.table >>= λ t. value_step (IsSolved t words.steps)
 
 -- the files that are stored: the certificate first, then the grouping, then the table
-abbrev pub files_to_store : SolveWords → Solved → List File
+abbrev pub files_to_store : SolveWords → Solved → List NamedFile
 files_to_store words s = named_file words.certificate s.certificate ++ (named_file words.out s.grouping ++ named_file words.table s.table)
 
--- `solve` ends: at a fault that it met before anything was stored, or with its files stored and its answer, unless a file was refused
-abbrev pub SolveEnds : Option Files → SolveWords → History → History → List File → Answered → Type 0
+-- `solve` ends: at a fault that it met before anything was stored, or with its files stored and its answer, unless a
+-- file was refused
+abbrev pub SolveEnds : Option Files → SolveWords → History → History → List NamedFile → Answered → Type 0
 SolveEnds files words = EndsStoring (solve_course files words) (files_to_store words) (λ s. s.answer)

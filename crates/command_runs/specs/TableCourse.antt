@@ -18,7 +18,8 @@ use Rattle.command_runs.specs.ProblemCourse.{problem_over, problem_in}
 abbrev pub named_counties_in : ℕ → List ℕ → List ℕ → Course (List CountyName)
 named_counties_in state geo segment = call_step named_answer (λ counties. named_list geo segment state ≡ counties)
 
--- The counties of the state with their names: the geographic header is loaded, and then segment 1, and then both are read.
+-- The counties of the state with their names: the geographic header is loaded, and then segment 1, and then both are
+-- read.
 abbrev pub named_counties_of : Option Files → CommonWords → Course (List CountyName)
 named_counties_of files words = load_pair files words.geo.now words.segment.now >>= λ texts. named_counties_in words.state texts.0 texts.1
 
@@ -43,7 +44,8 @@ named_problem_over files words named = problem_over files words (without_names n
 abbrev pub named_problem_in : Option Files → ProblemWords → Course Tabled
 named_problem_in files words = named_counties_of files words.common >>= λ named. named_problem_over files words named
 
--- The problem, where a table may be asked for: its file is then named. The counties are read with their names exactly if a table is asked for.
+-- The problem, where a table may be asked for: its file is then named. The counties are read with their names exactly
+-- if a table is asked for.
 abbrev pub tabled_problem_in : Option Files → ProblemWords → Option (Bor (List ℕ)) → Course Tabled
 tabled_problem_in files words None = problem_in files words >>= λ v. value_step (λ t. t ≡ untabled v)
 tabled_problem_in files words (Some table) = named_problem_in files words

@@ -12,7 +12,7 @@ use Rattle.pl94_counties.specs.declared.blocks.Block.{Block}
 use Rattle.assignment_file.specs.declared.assignments.Assignment.{Assignment}
 use Rattle.baf_auditor.specs.Findings.{AreFindings}
 use Rattle.baf_auditor.specs.declared.finding.Finding.{Finding}
-use Rattle.certificate_checker.specs.Answered.{IsAnswer}
+use Rattle.certificate_checker.specs.Answered.{IsCheckAnswer}
 use Rattle.complete_lists.specs.AllBest.{AreAllBest}
 use Rattle.best_groupings.specs.InOrder.{AreInOrder}
 use Rattle.list_report.specs.Listing.{listing_text}
@@ -45,7 +45,8 @@ abbrev pub IsTakenAs : Option (Bor (List ℕ)) → (List ℕ → Type 0) → His
 IsTakenAs None P before after = ⊤
 IsTakenAs (Some name) P before after = (text : List ℕ) × P text × IsTaken before after name.now text
 
--- The text is the report of a grouping that is best for the problem of the files. If a table is named, that of the grouping was stored.
+-- The text is the report of a grouping that is best for the problem of the files. If a table is named, that of the
+-- grouping was stored.
 pub record TellsBest (files : Files) (words : ProblemWords) (table : Option (Bor (List ℕ))) (before after : History) (text : List ℕ) : Type 0 where
   pub v : ProblemValue
   pub problem : IsProblemOfFiles files words v
@@ -69,11 +70,11 @@ pub record TellsFault (files : Files) (words : CertificateWords) (text : List �
   pub certificate_is : files words.certificate.now ≡ Some certificate
   pub fault : CheckFault
   pub line : ℕ
-  pub verdict : IsAnswer (problem_of v) certificate words.budget (No fault line)
+  pub verdict : IsCheckAnswer (problem_of v) certificate words.budget (No fault line)
   pub report : text ≡ (no_answer fault line).text
 
--- The answer is the report of the grouping of a file, which is lawful for the problem of the files. If the report calls the grouping best, no
--- lawful grouping is better. If a table is named, that of the grouping was stored.
+-- The answer is the report of the grouping of a file, which is lawful for the problem of the files. If the report calls
+-- the grouping best, no lawful grouping is better. If a table is named, that of the grouping was stored.
 pub record TellsJudged (files : Files) (words : JudgeWords) (before after : History) (a : Answered) : Type 0 where
   pub v : ProblemValue
   pub problem : IsProblemOfFiles files words.problem v
@@ -106,8 +107,9 @@ pub record TellsFindings (files : Files) (words : AuditWords) (a : Answered) : T
   pub findings_are : AreFindings v grouping blocks assignments findings
   pub report : a ≡ record { text = findings_text findings; status = findings_status findings }
 
--- What an answer with status 0 or 1 tells of the files. `solve` and `check` tell that a grouping is best or that none is lawful, and `check`
--- tells besides that a certificate is at fault. `judge` tells that a grouping is lawful, or best, `list` which groupings are best, `audit` the findings.
+-- What an answer with status 0 or 1 tells of the files. `solve` and `check` tell that a grouping is best or that none
+-- is lawful, and `check` tells besides that a certificate is at fault. `judge` tells that a grouping is lawful, or
+-- best, `list` which groupings are best, `audit` the findings.
 abbrev pub Tells : Files → CommandWords → History → History → Answered → Type 0
 Tells files (Solve words) before after a = ((a.status ≡ 0) → TellsBest files words.problem words.table before after a.text) × ((a.status ≡ 1) → TellsImpossible files words.problem a.text)
 Tells files (Check words) before after a =

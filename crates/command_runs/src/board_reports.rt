@@ -17,7 +17,7 @@ use branch_bound::Piece;
 use command_words::{PieceWords, RoundWords};
 use county_codes::{Group, Grouping};
 use grouping_problem::Problem;
-use program_answers::Answer;
+use program_answers::RunAnswer;
 use proof_trees::Language;
 use share_board::{BoardFault, Event};
 use std::alloc::{AllocError, Global};
@@ -37,7 +37,7 @@ pub enum PieceEnd {
 #[derive(Drop)]
 pub struct PieceSaid {
     /// The text of the piece, with status 0, or 3 where the steps ran out; or that no such piece waits, with status 4.
-    pub answer: Answer,
+    pub answer: RunAnswer,
     /// How the piece ended.
     pub end: PieceEnd,
 }
@@ -81,7 +81,8 @@ fn shape_for(words: RoundWords, grouping: &Grouping) -> BoardShape
     }
 }
 
-/// What a board comes to that takes the events in turn: its target is the grouping, and its first round is that of the words.
+/// What a board comes to that takes the events in turn: its target is the grouping, and its first round is that of the
+/// words.
 ///
 /// # Errors
 ///
@@ -137,7 +138,7 @@ fn say_piece(
     let language = language_for(words.board.round);
     let text = piece_text(alloc, piece, words.round, words.number, language, counties)?;
     Ok(PieceSaid {
-        answer: Answer {
+        answer: RunAnswer {
             text,
             status: status_of(piece),
         },
@@ -150,7 +151,7 @@ fn say_none(alloc: Global) -> Result<PieceSaid, AllocError>
     ensures { IfOk result (λ s. answer_of s.answer ≡ no_such_piece) }
 {
     Ok(PieceSaid {
-        answer: Answer::new(alloc, b"no such piece\n", 4)?,
+        answer: RunAnswer::new(alloc, b"no such piece\n", 4)?,
         end: PieceEnd::NoSuchPiece,
     })
 }
@@ -172,8 +173,8 @@ fn say_answer(
     }
 }
 
-/// What a desk answers of a piece with at most so many steps, on a board that takes the events in turn: its target is the grouping, and
-/// its first round is that of the words.
+/// What a desk answers of a piece with at most so many steps, on a board that takes the events in turn: its target is
+/// the grouping, and its first round is that of the words.
 ///
 /// # Errors
 ///

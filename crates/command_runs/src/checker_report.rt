@@ -2,7 +2,7 @@
 
 ghost use Rattle.std.specs.Prelude.{◌≡◌, false, None, IfOk};
 ghost use Rattle.grouping_problem.specs.ProblemValue.{problem_of};
-ghost use Rattle.certificate_checker.specs.Answered.{NamesBest};
+ghost use Rattle.certificate_checker.specs.Answered.{CheckIsRight};
 ghost use Rattle.certificate_checker.specs.declared.verdict.Verdict.TheVariants as verdict;
 ghost use Rattle.program_answers.specs.Answers.{answer_of};
 ghost use Rattle.command_runs.specs.CheckCourse.{IsChecked, ChecksGiven, verdict_said, verdict_table};
@@ -13,21 +13,22 @@ use certificate_checker::{CheckFault, CheckStop, Verdict, check, check_from};
 use county_codes::Grouping;
 use field_lines::Source;
 use grouping_report::{Outcome, report};
-use program_answers::{Answer, budget_answer, no_answer};
+use program_answers::{RunAnswer, budget_answer, no_answer};
 use std::alloc::{AllocError, Global};
 
 /// What `check` says, and the fault of a text that is no certificate.
 #[derive(Drop)]
 pub struct Checked {
-    /// The report with status 0 or 1, or the line that stands in its place, with status 1 or 3, and the table of a grouping that is
-    /// best.
+    /// The report with status 0 or 1, or the line that stands in its place, with status 1 or 3, and the table of a
+    /// grouping that is best.
     pub reported: Reported,
-    /// The first fault of a text that is no certificate, and its line, which counts from 1; none at every other verdict.
+    /// The first fault of a text that is no certificate, and its line, which counts from 1; none at every other
+    /// verdict.
     pub fault: Option<(CheckFault, u64)>,
 }
 
 /// What is said without a table, and the fault of a text that is refuted.
-fn without_table(answer: Answer, fault: Option<(CheckFault, u64)>) -> Checked
+fn without_table(answer: RunAnswer, fault: Option<(CheckFault, u64)>) -> Checked
     ensures { reported_of result.reported ≡ record { answer = answer_of answer; table = None } }
 {
     Checked {
@@ -41,14 +42,14 @@ fn without_table(answer: Answer, fault: Option<(CheckFault, u64)>) -> Checked
 
 /// What is said of a grouping that is best, with its table.
 fn say_best(alloc: Global, tabled: &Tabled, grouping: Grouping) -> Result<Checked, AllocError>
-    requires { NamesBest (problem_of tabled.now.problem) (verdict.Best grouping) }
+    requires { CheckIsRight (problem_of tabled.now.problem) (verdict.Best grouping) }
     ensures { IfOk result (λ c. reported_of c.reported ≡ record { answer = verdict_said tabled.now.problem (verdict.Best grouping); table = verdict_table (tabled_of tabled.now) (verdict.Best grouping) }) }
 {
     let table = table_of(alloc, tabled, &grouping)?;
     let text = report(alloc, &tabled.problem, &Outcome::Best(grouping))?;
     Ok(Checked {
         reported: Reported {
-            answer: Answer { text, status: 0 },
+            answer: RunAnswer { text, status: 0 },
             table,
         },
         fault: None,
@@ -57,14 +58,14 @@ fn say_best(alloc: Global, tabled: &Tabled, grouping: Grouping) -> Result<Checke
 
 /// What is said of a verdict.
 fn say(alloc: Global, tabled: &Tabled, verdict: Verdict) -> Result<Checked, AllocError>
-    requires { NamesBest (problem_of tabled.now.problem) verdict }
+    requires { CheckIsRight (problem_of tabled.now.problem) verdict }
     ensures { IfOk result (λ c. reported_of c.reported ≡ record { answer = verdict_said tabled.now.problem verdict; table = verdict_table (tabled_of tabled.now) verdict }) }
 {
     match verdict {
         Verdict::Best(grouping) => say_best(alloc, tabled, grouping),
         Verdict::Impossible => {
             let text = report(alloc, &tabled.problem, &Outcome::Impossible)?;
-            Ok(without_table(Answer { text, status: 1 }, None))
+            Ok(without_table(RunAnswer { text, status: 1 }, None))
         }
         Verdict::No(fault, line) => {
             let answer = no_answer(alloc, fault, line)?;
@@ -74,7 +75,8 @@ fn say(alloc: Global, tabled: &Tabled, verdict: Verdict) -> Result<Checked, Allo
     }
 }
 
-/// What `check` says of a text: the verdict of a checker with such a budget, told as a report or as the line that stands in its place.
+/// What `check` says of a text: the verdict of a checker with such a budget, told as a report or as the line that
+/// stands in its place.
 ///
 /// # Errors
 ///

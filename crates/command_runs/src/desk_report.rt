@@ -9,7 +9,7 @@ ghost use Rattle.grouping_report.specs.Outcomes.{NamesLawful};
 ghost use Rattle.grouping_report.specs.declared.outcome.Outcome.TheVariants as outcome;
 ghost use Rattle.certificate_text.specs.Trees.{certificate_of};
 ghost use Rattle.certificate_text.specs.Spelled.{IsSpelling};
-ghost use Rattle.branch_bound.specs.Answered.{IsAnswer, NamesBest};
+ghost use Rattle.branch_bound.specs.Answered.{IsSolveAnswer, SolveIsRight};
 ghost use Rattle.branch_bound.specs.declared.answer.Answer.TheVariants as desk;
 ghost use Rattle.command_runs.specs.SolveCourse.{Says, IsSolved};
 ghost use Rattle.command_runs.specs.TableCourse.{table_of as table_text_of};
@@ -20,14 +20,14 @@ use branch_bound::{Answer as DeskAnswer, Watcher, solve_watched};
 use certificate_text::{Certificate, WriteFault, write};
 use county_codes::Grouping;
 use grouping_report::{Outcome, grouping_text, report};
-use program_answers::Answer;
+use program_answers::RunAnswer;
 use std::alloc::{AllocError, Global};
 
 /// What `solve` says, and the texts for its files.
 #[derive(Drop)]
 pub struct Solved {
     /// The report, with status 0 where a grouping is best, 1 where none is lawful and 3 where the steps ran out.
-    pub answer: Answer,
+    pub answer: RunAnswer,
     /// The text of the certificate; none where the steps ran out.
     pub certificate: Option<Vec<u8>>,
     /// The lines of the grouping that is best, or that was found when the steps ran out.
@@ -64,7 +64,7 @@ fn say_best(
     let table = table_of(alloc, tabled, &grouping)?;
     let text = report(alloc, &tabled.problem, &Outcome::Best(grouping))?;
     Ok(Solved {
-        answer: Answer { text, status: 0 },
+        answer: RunAnswer { text, status: 0 },
         certificate: Some(lines),
         grouping: Some(groups),
         table,
@@ -83,7 +83,7 @@ fn say_impossible(
     let lines = certificate_lines(alloc, &certificate)?;
     let text = report(alloc, &tabled.problem, &Outcome::Impossible)?;
     Ok(Solved {
-        answer: Answer { text, status: 1 },
+        answer: RunAnswer { text, status: 1 },
         certificate: Some(lines),
         grouping: None,
         table: None,
@@ -128,7 +128,7 @@ fn say_open(
     let table = table_of_found(alloc, tabled, &found)?;
     let text = report(alloc, &tabled.problem, &Outcome::Open(found, steps))?;
     Ok(Solved {
-        answer: Answer { text, status: 3 },
+        answer: RunAnswer { text, status: 3 },
         certificate: None,
         grouping: groups,
         table,
@@ -137,8 +137,8 @@ fn say_open(
 
 /// What is said of the answer of a desk.
 fn say(alloc: Global, tabled: &Tabled, found: DeskAnswer) -> Result<Solved, AllocError>
-    requires answer { (limit : ℕ) × IsAnswer (problem_of tabled.now.problem) limit found }
-    requires best { NamesBest (problem_of tabled.now.problem) found }
+    requires answer { (limit : ℕ) × IsSolveAnswer (problem_of tabled.now.problem) limit found }
+    requires best { SolveIsRight (problem_of tabled.now.problem) found }
     ensures { IfOk result (λ s. Says (tabled_of tabled.now) found (solved_of s)) }
 {
     match found {
@@ -148,8 +148,9 @@ fn say(alloc: Global, tabled: &Tabled, found: DeskAnswer) -> Result<Solved, Allo
     }
 }
 
-/// What `solve` says of a problem: a desk answers with at most so many steps, and its answer is told as a report, with the
-/// texts of its certificate, of its grouping and of its table. The watcher is told how far the search is, and changes nothing of what is said.
+/// What `solve` says of a problem: a desk answers with at most so many steps, and its answer is told as a report, with
+/// the texts of its certificate, of its grouping and of its table. The watcher is told how far the search is, and
+/// changes nothing of what is said.
 ///
 /// # Errors
 ///

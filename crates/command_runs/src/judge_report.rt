@@ -4,7 +4,7 @@ ghost use Rattle.std.specs.Prelude.{◌≡◌, ℕ, IfOk, option_map};
 ghost use Rattle.grouping_problem.specs.ProblemValue.{problem_of};
 ghost use Rattle.grouping_laws.specs.Grouping.{Lawful, counts, sets_of};
 ghost use Rattle.grouping_judge.specs.CountList.{count_at};
-ghost use Rattle.certificate_checker.specs.Answered.{NamesBest};
+ghost use Rattle.certificate_checker.specs.Answered.{CheckIsRight};
 ghost use Rattle.program_answers.specs.Answers.{answer_of};
 ghost use Rattle.command_runs.specs.JudgeWithCertificate.{IsSaidBy, IsSaidOf, NamesSameCounts, SaysBeside, best_answer, lawful_answer};
 ghost use Rattle.command_runs.specs.JudgeCourse.{HasTable};
@@ -16,11 +16,12 @@ use county_codes::Grouping;
 use grouping_judge::{Counts, compare, judge};
 use grouping_problem::Problem;
 use grouping_report::{Outcome, report};
-use program_answers::Answer;
+use program_answers::RunAnswer;
 use std::alloc::{AllocError, Global};
 use std::cmp::Ordering;
 
-/// Why a certificate doesn't show that a lawful grouping is best, for whoever explains it to a person; no clause speaks of it.
+/// Why a certificate doesn't show that a lawful grouping is best, for whoever explains it to a person; no clause speaks
+/// of it.
 #[derive(Drop)]
 pub enum Unshown {
     /// The text is no certificate: its first fault, and the line, which counts from 1.
@@ -29,7 +30,8 @@ pub enum Unshown {
     Impossible,
     /// The budget was too small.
     Budget,
-    /// The certificate's grouping is best, and has greater counts: those of the grouping that is judged, and then those.
+    /// The certificate's grouping is best, and has greater counts: those of the grouping that is judged, and then
+    /// those.
     Lesser(Counts, Counts),
 }
 
@@ -50,7 +52,7 @@ fn lawful_report(alloc: Global, tabled: &Tabled, grouping: Grouping) -> Result<R
 {
     let table = table_of(alloc, tabled, &grouping)?;
     let text = report(alloc, &tabled.problem, &Outcome::Lawful(grouping))?;
-    let answer = Answer { text, status: 0 };
+    let answer = RunAnswer { text, status: 0 };
     Ok(Reported { answer, table })
 }
 
@@ -62,7 +64,7 @@ fn best_report(alloc: Global, tabled: &Tabled, grouping: Grouping) -> Result<Rep
 {
     let table = table_of(alloc, tabled, &grouping)?;
     let text = report(alloc, &tabled.problem, &Outcome::Best(grouping))?;
-    let answer = Answer { text, status: 0 };
+    let answer = RunAnswer { text, status: 0 };
     Ok(Reported { answer, table })
 }
 
@@ -92,7 +94,8 @@ fn counts_of(alloc: Global, problem: &Problem, grouping: &Grouping) -> Result<Co
     }
 }
 
-/// What is said of a lawful grouping, where the target of a certificate is best: if both have the same counts, that it is best.
+/// What is said of a lawful grouping, where the target of a certificate is best: if both have the same counts, that it
+/// is best.
 fn say_beside_best(
     alloc: Global,
     tabled: &Tabled,
@@ -102,7 +105,7 @@ fn say_beside_best(
 ) -> Result<Judged, AllocError>
     requires lawful { Lawful (problem_of tabled.now.problem) grouping.groups.items }
     requires own { (size : ℕ) → count_at own size ≡ counts (sets_of grouping.groups.items) size }
-    requires best { NamesBest (problem_of tabled.now.problem) (Verdict.Best target) }
+    requires best { CheckIsRight (problem_of tabled.now.problem) (Verdict.Best target) }
     ensures said { IfOk result (λ j. SaysBeside tabled.now.problem grouping.groups.items (Verdict.Best target) (answer_of j.reported.answer)) }
     ensures table { IfOk result (λ j. HasTable (tabled_of tabled.now) grouping.groups.items (reported_of j.reported)) }
 {
@@ -126,7 +129,7 @@ fn say_beside(
 ) -> Result<Judged, AllocError>
     requires lawful { Lawful (problem_of tabled.now.problem) grouping.groups.items }
     requires own { (size : ℕ) → count_at own size ≡ counts (sets_of grouping.groups.items) size }
-    requires best { NamesBest (problem_of tabled.now.problem) verdict }
+    requires best { CheckIsRight (problem_of tabled.now.problem) verdict }
     ensures said { IfOk result (λ j. SaysBeside tabled.now.problem grouping.groups.items verdict (answer_of j.reported.answer)) }
     ensures table { IfOk result (λ j. HasTable (tabled_of tabled.now) grouping.groups.items (reported_of j.reported)) }
 {
@@ -159,8 +162,8 @@ fn say_by(
     say_beside(alloc, tabled, grouping, own, verdict)
 }
 
-/// What `judge` says of a lawful grouping with these counts: that it is lawful; or that it is best, where a certificate shows it. The
-/// certificate's checker has a budget.
+/// What `judge` says of a lawful grouping with these counts: that it is lawful; or that it is best, where a certificate
+/// shows it. The certificate's checker has a budget.
 ///
 /// # Errors
 ///

@@ -1,9 +1,11 @@
-//! What a run of the program comes to: the steps of each command from its files to its answer and to the files that it stores.
+//! What a run of the program comes to: the steps of each command from its files to its answer and to the files that it
+//! stores.
 //!
-//! The definitions stand in `specs/`: `Course` (steps up to the first fault), `ProblemCourse`, `TableCourse` and `PlanCourse` (from files to
-//! values), `JudgeCourse`, `JudgeWithCertificate`, `SolveCourse`, `CheckCourse`, `ListCourse`, `BoardCourse`, `ShareCourse` and `PieceCourse` (the
-//! commands), `Storing` (files that are stored), `Run`, `Loads` (runs over files that aren't told), `Headline` (what runs of `solve` and
-//! `check` promise together), `ListHeadline`, `ShareHeadline` and `JudgeHeadline` (what runs of `list`, of `share` and of `judge` do).
+//! The definitions stand in `specs/`: `Course` (steps up to the first fault), `ProblemCourse`, `TableCourse` and
+//! `PlanCourse` (from files to values), `JudgeCourse`, `JudgeWithCertificate`, `SolveCourse`, `CheckCourse`,
+//! `ListCourse`, `BoardCourse`, `ShareCourse` and `PieceCourse` (the commands), `Storing` (files that are stored),
+//! `Run`, `Loads` (runs over files that aren't told), `Headline` (what runs of `solve` and `check` promise together),
+//! `ListHeadline`, `ShareHeadline` and `JudgeHeadline` (what runs of `list`, of `share` and of `judge` do).
 #![tactic(auto)]
 
 mod board_reports;

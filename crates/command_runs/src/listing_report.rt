@@ -5,7 +5,7 @@ ghost use Rattle.grouping_problem.specs.ProblemValue.{problem_of};
 ghost use Rattle.best_groupings.specs.Answered.{IsListing, ListsAllBest};
 ghost use Rattle.best_groupings.specs.Walking.{groups_in};
 ghost use Rattle.program_answers.specs.Answers.{answer_of};
-ghost use Rattle.command_runs.specs.ListCourse.{IsListed, gap_word, open_line, open_answer as answer_of_gap, numbered as numbered_in, listed_all, listed_with, listing_said, said_alone};
+ghost use Rattle.command_runs.specs.ListCourse.{IsListAnswer, gap_word, open_line, open_answer as answer_of_gap, numbered as numbered_in, listed_all, listed_with, listing_said, said_alone};
 ghost use Rattle.command_runs.specs.Texts.{listed_of};
 
 use best_groupings::{Gap, Listing, all_best};
@@ -14,7 +14,7 @@ use county_codes::Grouping;
 use grouping_problem::Problem;
 use grouping_report::{Outcome, grouping_text, push_number, report};
 use list_report::listing;
-use program_answers::{Answer, budget_answer, no_answer};
+use program_answers::{RunAnswer, budget_answer, no_answer};
 use std::alloc::{AllocError, Global};
 
 /// How a list ended, for whoever explains it to a person; no clause speaks of it.
@@ -38,7 +38,7 @@ pub enum ListEnd {
 #[derive(Drop)]
 pub struct Listed {
     /// The listing, with status 0, or the line that stands in its place, with status 1, 3 or 4.
-    pub answer: Answer,
+    pub answer: RunAnswer,
     /// The lines of the grouping that is to be stored, where the words give its number.
     pub grouping: Option<Vec<u8>>,
     /// How the list ended.
@@ -46,7 +46,7 @@ pub struct Listed {
 }
 
 /// An answer, and no file.
-fn alone(answer: Answer, end: ListEnd) -> Listed
+fn alone(answer: RunAnswer, end: ListEnd) -> Listed
     ensures { listed_of result ≡ said_alone (answer_of answer) }
 {
     Listed {
@@ -78,12 +78,13 @@ fn open_text(alloc: Global, gap: Gap, line: u64) -> Result<Vec<u8>, AllocError>
     Ok(out)
 }
 
-/// That the certificate doesn't show which other groupings are best: the first leaf at which it doesn't, and the leaf's line.
-fn open_answer(alloc: Global, gap: Gap, line: u64) -> Result<Answer, AllocError>
+/// That the certificate doesn't show which other groupings are best: the first leaf at which it doesn't, and the leaf's
+/// line.
+fn open_answer(alloc: Global, gap: Gap, line: u64) -> Result<RunAnswer, AllocError>
     ensures { IfOk result (λ a. answer_of a ≡ answer_of_gap gap line) }
 {
     let text = open_text(alloc, gap, line)?;
-    Ok(Answer { text, status: 3 })
+    Ok(RunAnswer { text, status: 3 })
 }
 
 /// The grouping of a number, which counts from 1.
@@ -109,7 +110,7 @@ fn say_with(
     let lines = grouping_text(alloc, grouping)?;
     let text = listing(alloc, problem, groupings)?;
     Ok(Listed {
-        answer: Answer { text, status: 0 },
+        answer: RunAnswer { text, status: 0 },
         grouping: Some(lines),
         end: ListEnd::All,
     })
@@ -127,7 +128,7 @@ fn say_all(
 {
     match number {
         None => Ok(alone(
-            Answer {
+            RunAnswer {
                 text: listing(alloc, problem, groupings)?,
                 status: 0,
             },
@@ -135,7 +136,7 @@ fn say_all(
         )),
         Some(number) => match numbered(groupings, number) {
             None => Ok(alone(
-                Answer::new(alloc, b"no such grouping\n", 4)?,
+                RunAnswer::new(alloc, b"no such grouping\n", 4)?,
                 ListEnd::NoSuchGrouping(groupings.len()),
             )),
             Some(grouping) => say_with(alloc, problem, groupings, grouping),
@@ -162,7 +163,7 @@ fn say(
         }
         Listing::Impossible => {
             let text = report(alloc, problem, &Outcome::Impossible)?;
-            Ok(alone(Answer { text, status: 1 }, ListEnd::Impossible))
+            Ok(alone(RunAnswer { text, status: 1 }, ListEnd::Impossible))
         }
         Listing::No(fault, line) => {
             let answer = no_answer(alloc, fault, line)?;
@@ -172,8 +173,9 @@ fn say(
     }
 }
 
-/// What `list` says of a text: all best groupings, as the text of a certificate shows them, or the line that stands in the place of the
-/// listing. Where a number is given, the grouping of the number is to be stored, from 1 in the order of the list.
+/// What `list` says of a text: all best groupings, as the text of a certificate shows them, or the line that stands in
+/// the place of the listing. Where a number is given, the grouping of the number is to be stored, from 1 in the order
+/// of the list.
 ///
 /// # Errors
 ///
@@ -185,7 +187,7 @@ pub fn list_and_say(
     budget: u64,
     number: Option<u32>,
 ) -> Result<Listed, AllocError>
-    ensures { IfOk result (λ s. IsListed problem.now budget number text.now (listed_of s)) }
+    ensures { IfOk result (λ s. IsListAnswer problem.now budget number text.now (listed_of s)) }
 {
     let found = all_best(alloc, problem, text, budget)?;
     say(alloc, problem, number, found)

@@ -8,7 +8,7 @@ use county_codes::Grouping;
 use county_table::county_table;
 use grouping_problem::Problem;
 use pl94_counties::NamedCounty;
-use program_answers::Answer;
+use program_answers::RunAnswer;
 use std::alloc::{AllocError, Global};
 
 /// A problem, and all listed counties with their names if a table is asked for.
@@ -24,7 +24,7 @@ pub struct Tabled {
 #[derive(Drop)]
 pub struct Reported {
     /// The report or the line that stands in its place, with its status.
-    pub answer: Answer,
+    pub answer: RunAnswer,
     /// The table of the grouping that is reported; none if there is none, or no table is asked for.
     pub table: Option<Vec<u8>>,
 }

@@ -9,7 +9,7 @@ use Rattle.verdicts.specs.Fault.{Fault}
 use Rattle.verdicts.specs.Verdict as said
 use Rattle.text_verdicts.specs.TextVerdict.{IsTextVerdict}
 use Rattle.text_verdicts.proofs.Verdicts.{certified, one, apart}
-use Rattle.certificate_checker.specs.Answered.{IsAnswer, IsRefusal}
+use Rattle.certificate_checker.specs.Answered.{IsCheckAnswer, IsRefusal}
 use Rattle.certificate_checker.specs.declared.fault.CheckFault.{CheckFault}
 use Rattle.certificate_checker.specs.declared.verdict.Verdict.{Verdict}
 use Rattle.certificate_checker.specs.declared.verdict.Verdict.TheVariants.{Best, Impossible, No, Budget}
@@ -29,7 +29,7 @@ module _ (p : Problem) (text : List ℕ) (c : Certificate) (spelling : IsSpellin
   unrefused target fault line same (inl h) = apart p text h.0 (said.shown c.round.target) h.2 (certified p text c spelling is)
   unrefused target fault line same (inr h) = no_fault target h.0 line (only target (said.No h.0 line) same h.2)
 
-  says_best : (g : Grouping) (budget : ℕ) (verdict : Verdict) → c.round.target ≡ Some g → IsAnswer p text budget verdict → SaysBest g verdict
+  says_best : (g : Grouping) (budget : ℕ) (verdict : Verdict) → c.round.target ≡ Some g → IsCheckAnswer p text budget verdict → SaysBest g verdict
   says_best g budget (Best target) same a =
       let e : said.Best target.groups.items ≡ said.Best g = only (Some g) (said.Best target.groups.items) same a in
       cc
@@ -39,7 +39,7 @@ module _ (p : Problem) (text : List ℕ) (c : Certificate) (spelling : IsSpellin
   says_best g budget (No fault line) same a = unrefused (Some g) fault line same a
   says_best g budget Budget same a = tt
 
-  says_impossible : (budget : ℕ) (verdict : Verdict) → c.round.target ≡ None → IsAnswer p text budget verdict → SaysImpossible verdict
+  says_impossible : (budget : ℕ) (verdict : Verdict) → c.round.target ≡ None → IsCheckAnswer p text budget verdict → SaysImpossible verdict
   says_impossible budget (Best target) same a =
       let e : said.Best target.groups.items ≡ said.Impossible = only None (said.Best target.groups.items) same a in
       cc

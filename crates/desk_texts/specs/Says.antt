@@ -5,7 +5,7 @@ use Rattle.grouping_laws.specs.Grouping.{Grouping}
 use Rattle.proof_trees.specs.Certificate.{IsCertificate}
 use Rattle.certificate_text.specs.Trees.{Certificate}
 use Rattle.certificate_text.specs.Spelled.{IsSpelling}
-use Rattle.certificate_checker.specs.Answered.{IsAnswer}
+use Rattle.certificate_checker.specs.Answered.{IsCheckAnswer}
 use Rattle.certificate_checker.specs.declared.verdict.Verdict.{Verdict}
 use Rattle.certificate_checker.specs.declared.verdict.Verdict.TheVariants.{Best, Impossible, No, Budget}
 
@@ -26,6 +26,6 @@ SaysImpossible Budget = ⊤
 -- What the checker answers to the text of a certificate: what the certificate shows, or that the budget is too small.
 pub record CheckerAgrees : Type 0 where
   -- if the certificate has a target, the answer is that the target is best
-  pub best : (p : Problem) (text : List ℕ) (c : Certificate) (g : Grouping) (budget : ℕ) (verdict : Verdict) → IsSpelling text c → IsCertificate p c.round c.tree → c.round.target ≡ Some g → IsAnswer p text budget verdict → SaysBest g verdict
+  pub best : (p : Problem) (text : List ℕ) (c : Certificate) (g : Grouping) (budget : ℕ) (verdict : Verdict) → IsSpelling text c → IsCertificate p c.round c.tree → c.round.target ≡ Some g → IsCheckAnswer p text budget verdict → SaysBest g verdict
   -- if the certificate has no target, the answer is that no grouping is lawful
-  pub impossible : (p : Problem) (text : List ℕ) (c : Certificate) (budget : ℕ) (verdict : Verdict) → IsSpelling text c → IsCertificate p c.round c.tree → c.round.target ≡ None → IsAnswer p text budget verdict → SaysImpossible verdict
+  pub impossible : (p : Problem) (text : List ℕ) (c : Certificate) (budget : ℕ) (verdict : Verdict) → IsSpelling text c → IsCertificate p c.round c.tree → c.round.target ≡ None → IsCheckAnswer p text budget verdict → SaysImpossible verdict

@@ -174,8 +174,8 @@ fn warn(
     warn_of_older_files(rt, out, command, end)
 }
 
-/// What a person is told of a run that has ended, in whole lines that each begin with `countygroups: `; nothing of one that went well.
-/// Where a store failed after a search, the report of the search follows as it is.
+/// What a person is told of a run that has ended, in whole lines that each begin with `countygroups: `; nothing of one
+/// that went well. Where a store failed after a search, the report of the search follows as it is.
 ///
 /// # Errors
 ///

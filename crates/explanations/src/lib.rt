@@ -1,5 +1,5 @@
-//! What a person is told on standard error, before a run and once it has ended: what is wrong, where it stands, and what helps. It is
-//! no part of an answer, and no promise but that it is composed safely and returns speaks of it.
+//! What a person is told on standard error, before a run and once it has ended: what is wrong, where it stands, and
+//! what helps. It is no part of an answer, and no promise but that it is composed safely and returns speaks of it.
 #![tactic(auto)]
 
 mod again;

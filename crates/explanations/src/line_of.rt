@@ -9,15 +9,16 @@ pub(crate) fn whole_line(text: &[u8], number: u64) -> Option<&[u8]> {
     Fields::new(text, b'\n').nth(before)
 }
 
-/// The line of a number as a cut text has it: without a byte order mark at the front of the text, and without a CR at its end.
+/// The line of a number as a cut text has it: without a byte order mark at the front of the text, and without a CR at
+/// its end.
 pub(crate) fn cut_line(text: &[u8], number: u64) -> Option<&[u8]> {
     let text = text.strip_prefix(b"\xef\xbb\xbf").unwrap_or(text);
     let line = whole_line(text, number)?;
     Some(line.strip_suffix(b"\r").unwrap_or(line))
 }
 
-/// The option of the census file that a text begins like: of the geographic header, whose GEOID has `US` behind seven characters, or of
-/// segment 1, whose CIFSN is `01` and whose LOGRECNO has seven.
+/// The option of the census file that a text begins like: of the geographic header, whose GEOID has `US` behind seven
+/// characters, or of segment 1, whose CIFSN is `01` and whose LOGRECNO has seven.
 pub(crate) fn looks_like(text: &[u8]) -> Option<FileOption> {
     let line = cut_line(text, 1)?;
     match (

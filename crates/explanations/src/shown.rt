@@ -17,11 +17,20 @@ pub(crate) fn start_of(bytes: &[u8]) -> Shown<'_> {
     Shown { bytes, most: MOST }
 }
 
-/// A whole name.
-pub(crate) fn name_of(name: &str) -> Shown<'_> {
+/// A whole text.
+pub(crate) fn whole(text: &str) -> Shown<'_> {
     Shown {
-        bytes: name.as_bytes(),
+        bytes: text.as_bytes(),
         most: usize::MAX,
+    }
+}
+
+/// A whole name. An empty name is shown as two quotes.
+pub(crate) fn name_of(name: &str) -> Shown<'_> {
+    if name.is_empty() {
+        whole("''")
+    } else {
+        whole(name)
     }
 }
 

@@ -1,5 +1,5 @@
-//! Whether the counties that were read are all of the state's: the geographic header has a line of the state itself, and segment 1 its
-//! people.
+//! Whether the counties that were read are all of the state's: the geographic header has a line of the state itself,
+//! and segment 1 its people.
 
 use crate::again::is_plain;
 use crate::options::common_of;

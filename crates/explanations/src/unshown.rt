@@ -15,8 +15,8 @@ const NO_PROOF: &str =
 const SMALL_BUDGET: &str =
     "countygroups: the grouping is lawful; the steps of --budget ran out before the certificate was checked: give a greater number\n";
 
-/// The first size, in counties, of which two groupings have different numbers of groups. The second has the longest group of a size that
-/// the first lacks.
+/// The first size, in counties, of which two groupings have different numbers of groups. The second has the longest
+/// group of a size that the first lacks.
 fn first_difference(own: &Counts, best: &Counts) -> Option<u16> {
     for size in 1..=best.longest() {
         if own.of(size) != best.of(size) {

@@ -1,6 +1,6 @@
 //! Words that are no command: what `clap` says of them.
 
-use crate::shown::name_of;
+use crate::shown::whole;
 use std::alloc::AllocError;
 use std::fmt::Write;
 
@@ -20,13 +20,13 @@ fn command_named<'a>(words: &[&'a str], text: &'a str) -> &'a str {
 fn push_error(out: &mut String, text: &str) -> Result<(), AllocError> {
     let (error, rest) = text.split_once("\n\n").unwrap_or((text, ""));
     for line in error.lines() {
-        let line = name_of(line);
+        let line = whole(line);
         writeln!(out, "countygroups: {line}")?;
     }
     match rest.strip_prefix("  tip: ") {
         Some(rest) => {
             let (tip, _) = rest.split_once('\n').unwrap_or((rest, ""));
-            let tip = name_of(tip);
+            let tip = whole(tip);
             writeln!(out, "countygroups: tip: {tip}")
         }
         None => Ok(()),

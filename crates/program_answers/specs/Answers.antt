@@ -1,12 +1,12 @@
 -- Answers and refusals of the code as those of the definitions.
 use Rattle.std.specs.Prelude.{◌≡◌, ⊤, Result, Ok, Err}
-use Rattle.program_answers.specs.declared.answer.Answer.{Answer}
+use Rattle.program_answers.specs.declared.answer.RunAnswer.{RunAnswer}
 use Rattle.program_answers.specs.declared.answer.Refusal.{Refusal}
 use Rattle.program_answers.specs.declared.answer.Refusal.TheVariants.{Shown, Memory}
 use Rattle.program_answers.specs.Answer.{Answered, memory_answer}
 
 -- the answer's text and status
-abbrev pub answer_of : Answer → Answered
+abbrev pub answer_of : RunAnswer → Answered
 answer_of a = record { text = a.text.items; status = a.status }
 
 -- a refusal shows this answer, unless memory was refused
@@ -30,7 +30,7 @@ Comes view (Ok value) R = R (Ok (view value))
 Comes view (Err refusal) R = Meets refusal (λ a. R (Err a))
 
 -- the answer that a call came to: what was refused shows its own, and memory the program's line for it
-abbrev pub said_by : Result Answer Refusal → Answered
+abbrev pub said_by : Result RunAnswer Refusal → Answered
 said_by (Ok a) = answer_of a
 said_by (Err (Shown a)) = answer_of a
 said_by (Err Memory) = memory_answer

@@ -8,14 +8,14 @@ use std::alloc::{AllocError, Global};
 
 /// What the program writes at its end, and its exit status.
 #[derive(Drop)]
-pub struct Answer {
+pub struct RunAnswer {
     /// The bytes that are written.
     pub text: Vec<u8>,
     /// The exit status, 0 to 255.
     pub status: u8,
 }
 
-impl Answer {
+impl RunAnswer {
     /// The answer of a text.
     ///
     /// # Errors
@@ -24,7 +24,7 @@ impl Answer {
     pub fn new(alloc: Global, text: &[u8], status: u8) -> Result<Self, AllocError>
         ensures { IfOk result (λ a. answer_of a ≡ record { text = text.now; status = status }) }
     {
-        Ok(Answer {
+        Ok(RunAnswer {
             text: Vec::from_slice(alloc, text)?,
             status,
         })
@@ -35,7 +35,7 @@ impl Answer {
 #[derive(Drop)]
 pub enum Refusal {
     /// A fault was met, and this is the answer to it, in place of the command's own.
-    Shown(Answer),
+    Shown(RunAnswer),
     /// Memory was refused: the answer is `MEMORY`, with exit status 5.
     Memory,
 }
@@ -46,7 +46,7 @@ impl Refusal {
         ensures { MatchResult text (λ v. Refuses (record { text = v.items; status = status }) result) (λ _. result ≡ Memory) }
     {
         match text {
-            Ok(text) => Refusal::Shown(Answer { text, status }),
+            Ok(text) => Refusal::Shown(RunAnswer { text, status }),
             Err(AllocError) => Refusal::Memory,
         }
     }

@@ -5,7 +5,7 @@ ghost use Rattle.program_answers.specs.Answer.{budget_answer as answer_of_budget
 ghost use Rattle.program_answers.specs.Answers.{answer_of};
 ghost use Rattle.program_answers.specs.CheckLines.{text_kind_word, grouping_kind_word, check_words, no_line, no_answer as answer_of_no};
 
-use crate::answer::Answer;
+use crate::answer::RunAnswer;
 use crate::refusal::push_word;
 use certificate_checker::CheckFault;
 use certificate_lines::TextKind;
@@ -97,11 +97,11 @@ fn no_text(alloc: Global, fault: CheckFault, line: u64) -> Result<Vec<u8>, Alloc
 /// # Errors
 ///
 /// `AllocError` where memory was refused.
-pub fn no_answer(alloc: Global, fault: CheckFault, line: u64) -> Result<Answer, AllocError>
+pub fn no_answer(alloc: Global, fault: CheckFault, line: u64) -> Result<RunAnswer, AllocError>
     ensures { IfOk result (λ a. answer_of a ≡ answer_of_no fault line) }
 {
     let text = no_text(alloc, fault, line)?;
-    Ok(Answer { text, status: 1 })
+    Ok(RunAnswer { text, status: 1 })
 }
 
 /// The answer where the budget of a check was too small: `budget`, with exit status 3.
@@ -109,8 +109,8 @@ pub fn no_answer(alloc: Global, fault: CheckFault, line: u64) -> Result<Answer, 
 /// # Errors
 ///
 /// `AllocError` where memory was refused.
-pub fn budget_answer(alloc: Global) -> Result<Answer, AllocError>
+pub fn budget_answer(alloc: Global) -> Result<RunAnswer, AllocError>
     ensures { IfOk result (λ a. answer_of a ≡ answer_of_budget) }
 {
-    Answer::new(alloc, b"budget\n", 3)
+    RunAnswer::new(alloc, b"budget\n", 3)
 }

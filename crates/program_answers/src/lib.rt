@@ -11,7 +11,7 @@ mod board_refusal;
 mod check_lines;
 mod refusal;
 
-pub use answer::{Answer, Refusal};
+pub use answer::{Refusal, RunAnswer};
 pub use board_refusal::{refuse_board, refuse_events};
 pub use check_lines::{budget_answer, no_answer};
 pub use refusal::{

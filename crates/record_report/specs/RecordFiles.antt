@@ -6,7 +6,6 @@ use Rattle.std.specs.Borrow.{Bor}
 use Rattle.std.specs.Str.{bytes_eq}
 use Rattle.command_words.specs.declared.words.CommonWords.{CommonWords}
 use Rattle.command_words.specs.declared.words.ProblemWords.{ProblemWords}
-use Rattle.command_words.specs.declared.words.CertificateWords.{CertificateWords}
 use Rattle.command_words.specs.declared.words.BoardWords.{BoardWords}
 use Rattle.command_words.specs.declared.words.StoredWords.{StoredWords}
 use Rattle.command_words.specs.declared.words.CommandWords.{CommandWords}
@@ -21,36 +20,36 @@ use Rattle.shelves.specs.declared.sums.EventKind.TheVariants.{Whole, Part, Taken
 use Rattle.shelves.specs.Sums.{SumOfEvent}
 
 -- a file that a command reads: which one it is, and its name
-pub record NamedFile : Type 0 where
+pub record FileToRead : Type 0 where
   pub file : ReadFile
   pub name : List ℕ
 
-abbrev pub named : ReadFile → List ℕ → NamedFile
+abbrev pub named : ReadFile → List ℕ → FileToRead
 named file name = record { file = file; name = name }
 
 -- a file that is read if the words name it
-abbrev pub if_named : ReadFile → Option (Bor (List ℕ)) → List NamedFile
+abbrev pub if_named : ReadFile → Option (Bor (List ℕ)) → List FileToRead
 if_named file None = []
 if_named file (Some name) = named file name.now ∷ []
 
 -- the two census files
-abbrev pub census_files : CommonWords → List NamedFile
+abbrev pub census_files : CommonWords → List FileToRead
 census_files w = named files.Geo w.geo.now ∷ named files.Segment1 w.segment.now ∷ []
 
 -- the files of a problem
-abbrev pub problem_files : ProblemWords → List NamedFile
+abbrev pub problem_files : ProblemWords → List FileToRead
 problem_files w = census_files w.common ++ (named files.Adjacency w.adjacency.now ∷ (if_named files.Links w.links ++ if_named files.Withdrawn w.withdrawn))
 
 -- the files of a problem, and another one
-abbrev pub problem_and : ProblemWords → ReadFile → List ℕ → List NamedFile
+abbrev pub problem_and : ProblemWords → ReadFile → List ℕ → List FileToRead
 problem_and w file name = problem_files w ++ named file name ∷ []
 
 -- the files of a board
-abbrev pub board_files : BoardWords → List NamedFile
+abbrev pub board_files : BoardWords → List FileToRead
 board_files w = problem_and w.problem files.Grouping w.grouping.now
 
 -- the files that a command reads, in the order in which it opens each of them for the first time
-abbrev pub files_to_read : CommandWords → List NamedFile
+abbrev pub files_to_read : CommandWords → List FileToRead
 files_to_read (Size w) = census_files w
 files_to_read (Judge w) = problem_and w.problem files.Grouping w.grouping.now ++ if_named files.Certificate w.certificate
 files_to_read (Solve w) = problem_files w.problem
@@ -83,11 +82,11 @@ pub record ReadValue : Type 0 where
   pub name : List ℕ
   pub left : Bool
 
-abbrev pub read_value : NamedFile → SumOfEvent → ReadValue
+abbrev pub read_value : FileToRead → SumOfEvent → ReadValue
 read_value f s = record { file = f.file; sum = s.sum; name = f.name; left = went Part s.kind }
 
 -- each file that was read, with the sum of its reading
-abbrev pub files_read : List NamedFile → List SumOfEvent → List ReadValue
+abbrev pub files_read : List FileToRead → List SumOfEvent → List ReadValue
 files_read named_files sums = filter_map (λ f. option_map (read_value f) (reading_of sums f.name)) named_files
 
 -- an option whose file is stored if the words name it
@@ -104,8 +103,8 @@ if_listed (Some w) = options.Out ∷ []
 abbrev pub at_status : ℕ → ℕ → List StoreOption → List StoreOption
 at_status want status list = if status == want then list else []
 
--- The options whose files a command stores, in order, where it ends with this status: the certificate of a proof, and the grouping and
--- the table where there is a grouping.
+-- The options whose files a command stores, in order, where it ends with this status: the certificate of a proof, and
+-- the grouping and the table where there is a grouping.
 abbrev pub options_to_store : CommandWords → ℕ → List StoreOption
 options_to_store (Judge w) status = at_status 0 status (if_given options.Table w.table)
 options_to_store (Solve w) status =

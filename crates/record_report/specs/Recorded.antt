@@ -19,8 +19,8 @@ read_line_of r = record { file = r.file; sum = r.sum; name = string_bytes r.name
 abbrev pub stored_line_of : FileStored → StoredValue
 stored_line_of s = record { option = s.option; sum = s.sum; name = string_bytes s.name }
 
--- What a record says of a run: the version of the program, the words, the files that the command read and stored, by the sums of the
--- run's events, the status, and the answer.
+-- What a record says of a run: the version of the program, the words, the files that the command read and stored, by
+-- the sums of the run's events, the status, and the answer.
 pub record SaysOfRun (words : List (List ℕ)) (command : CommandWords) (sums : List SumOfEvent) (status : ℕ) (text : List ℕ) (run : Run) : Type 0 where
   pub version : string_bytes run.version ≡ program_version
   pub words_are : map string_bytes run.words.items ≡ words

@@ -62,8 +62,8 @@ fn run_of(
     })
 }
 
-/// The record of a run: the version of the program, the words, the files that the command read and stored with the sums of their
-/// bytes, the status, and the answer. The sums are those of the events of the run's shelf, in order.
+/// The record of a run: the version of the program, the words, the files that the command read and stored with the sums
+/// of their bytes, the status, and the answer. The sums are those of the events of the run's shelf, in order.
 ///
 /// # Errors
 ///

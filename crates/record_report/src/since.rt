@@ -32,8 +32,9 @@ fn sums_since<H: Shelf>(shelf: &H, first: u64) -> Option<&[EventSum]>
     }
 }
 
-/// The record of a run that ends with this status and this text, before whose first event the shelf had so many. The shelf has kept the
-/// sums of its events since then. None if a growth was refused, or if the shelf doesn't have a sum of each event.
+/// The record of a run that ends with this status and this text, before whose first event the shelf had so many. The
+/// shelf has kept the sums of its events since then. None if a growth was refused, or if the shelf doesn't have a sum
+/// of each event.
 pub fn record_since<H: Shelf>(
     alloc: Global,
     words: &[&str],

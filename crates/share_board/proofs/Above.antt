@@ -6,7 +6,8 @@ use Rattle.shared_proofs.specs.Skeleton.{Skeleton, waits, proved, split, Parts, 
 use Rattle.share_board.specs.declared.piece.Fate.{Fate}
 use Rattle.share_board.specs.Held.{Shows, ShowsAbove, PartsShowAbove}
 
--- What is so of each skeleton in the list that has the number, and is so of a branch where it is so of one of its parts, is so of the whole.
+-- What is so of each skeleton in the list that has the number, and is so of a branch where it is so of one of its
+-- parts, is so of the whole.
 module _ (fates : List Fate) (n : ℕ) (P : Skeleton → Type 0) (Ps : Parts → Type 0)
     (up : (county : ℕ) (limit : Option ℕ) (parts : Parts) (raised : Skeleton) → Ps parts ⊎ P raised → P (split None county limit parts raised))
     (up_part : (codes : List ℕ) (skeleton : Skeleton) (others : Parts) → P skeleton ⊎ Ps others → Ps (part codes skeleton others))

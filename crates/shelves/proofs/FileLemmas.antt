@@ -5,25 +5,25 @@ use Rattle.std.specs.Str.{bytes_eq}
 use Rattle.std.specs.Option.{option_or}
 use Rattle.std.proofs.lemmas.Slice.Eq.{bytes_eq-Decides}
 use Rattle.std.proofs.Common.{sym, ◌∙◌, Some, if◌then◌else◌}
-use Rattle.shelves.specs.Files.{File, held, with_file, with_bytes}
+use Rattle.shelves.specs.Files.{NamedFile, held, with_file, with_bytes}
 
 module _ (name bytes : List ℕ) where
   -- past a file of another name
-  pub passed : (files : List File) (i : ℕ) (e : File) → i < length files → bytes_eq (get_or files i e).name name ≡ false
+  pub passed : (files : List NamedFile) (i : ℕ) (e : NamedFile) → i < length files → bytes_eq (get_or files i e).name name ≡ false
       → take i files ++ with_file (drop i files) name bytes ≡ take (suc i) files ++ with_file (drop (suc i) files) name bytes
   passed [] i e lt other = absurd (omega (arith, lt))
   passed (f ∷ fs) zero e lt other = rw other refl
-  passed (f ∷ fs) (suc i) e lt other = ap (λ (l : List File). f ∷ l) (passed fs i e (omega arith) other)
+  passed (f ∷ fs) (suc i) e lt other = ap (λ (l : List NamedFile). f ∷ l) (passed fs i e (omega arith) other)
 
   -- at the first file of the name
-  pub found : (files : List File) (i : ℕ) (e : File) → i < length files → bytes_eq (get_or files i e).name name ≡ true
+  pub found : (files : List NamedFile) (i : ℕ) (e : NamedFile) → i < length files → bytes_eq (get_or files i e).name name ≡ true
       → take i files ++ with_file (drop i files) name bytes ≡ slice_set files i (record { name = name; bytes = bytes })
   found [] i e lt same = absurd (omega (arith, lt))
   found (f ∷ fs) zero e lt same = rw same refl
-  found (f ∷ fs) (suc i) e lt same = ap (λ (l : List File). f ∷ l) (found fs i e (omega arith) same)
+  found (f ∷ fs) (suc i) e lt same = ap (λ (l : List NamedFile). f ∷ l) (found fs i e (omega arith) same)
 
 -- what stands under each name then
-pub held-with_file : (files : List File) (name bytes other : List ℕ) → held (with_file files name bytes) other ≡ with_bytes (held files) name bytes other
+pub held-with_file : (files : List NamedFile) (name bytes other : List ℕ) → held (with_file files name bytes) other ≡ with_bytes (held files) name bytes other
 held-with_file [] name bytes other = go (bytes_eq name other)
   where
     go : (b : Bool) → option_or (if b then Some bytes else None) None ≡ (if b then Some bytes else None)

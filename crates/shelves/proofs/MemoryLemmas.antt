@@ -5,12 +5,12 @@ use Rattle.std.specs.Option.{option_or}
 use Rattle.std.specs.Str.{bytes_eq}
 use Rattle.std.proofs.lemmas.List.{get_or-map, length-map, map-set}
 use Rattle.shelves.specs.declared.memory.MemoryFile.{MemoryFile}
-use Rattle.shelves.specs.Files.{File, Files, held, with_file, with_bytes}
+use Rattle.shelves.specs.Files.{NamedFile, Files, held, with_file, with_bytes}
 use Rattle.shelves.specs.Memory.{files_of, HasPlace}
 use Rattle.shelves.proofs.FileLemmas.{passed, found, held-with_file}
 use mathlib.Core.Path.{fun_ext}
 
-abbrev file_of : MemoryFile → File
+abbrev file_of : MemoryFile → NamedFile
 file_of f = record { name = string_bytes f.name; bytes = f.bytes.items }
 
 module _ (files : List MemoryFile) (i : ℕ) (f : MemoryFile) (name : List ℕ) (lt : i < length files) (is : f ≡ get_or files i f) where
@@ -40,7 +40,7 @@ pub behind : (bytes : List ℕ) (at count : ℕ) → drop at bytes ≡ take coun
 behind bytes at count = sym (take-append-drop count (drop at bytes)) ∙ ap (λ (l : List ℕ). take count (drop at bytes) ++ l) (drop-drop count at bytes)
 
 -- what a shelf in memory tells after a file was stored
-pub told_after : (stored files new : List File) (name bytes : List ℕ) → new ≡ with_file stored name bytes
+pub told_after : (stored files new : List NamedFile) (name bytes : List ℕ) → new ≡ with_file stored name bytes
     → (λ n. option_or (held new n) (held files n)) ≡ with_bytes (λ n. option_or (held stored n) (held files n)) name bytes
 told_after stored files new name bytes is = fun_ext (λ n. rw (is, held-with_file stored name bytes n) (go (bytes_eq name n) (held stored n) (held files n)))
   where
@@ -49,7 +49,7 @@ told_after stored files new name bytes is = fun_ext (λ n. rw (is, held-with_fil
     go false x y = refl
 
 -- what a call put on a shelf in memory, as the shelf tells it
-pub told_put : {E : Type 0} (r : Result (Unit {0}) E) (stored files new same : List File) (name bytes : List ℕ) → same ≡ files → OnOk r (new ≡ with_file stored name bytes)
+pub told_put : {E : Type 0} (r : Result (Unit {0}) E) (stored files new same : List NamedFile) (name bytes : List ℕ) → same ≡ files → OnOk r (new ≡ with_file stored name bytes)
     → OnOk r (Some (λ n. option_or (held new n) (held same n)) ≡ Some (with_bytes (λ n. option_or (held stored n) (held files n)) name bytes))
 told_put (Ok x) stored files new same name bytes kept put = rw kept (ap (λ (f : Files). Some f) (told_after stored files new name bytes put))
 told_put (Err e) stored files new same name bytes kept put = tt

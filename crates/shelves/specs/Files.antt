@@ -4,7 +4,7 @@ use Rattle.std.specs.Option.{option_or}
 use Rattle.std.specs.Str.{bytes_eq}
 
 -- a file: its name and its bytes
-pub record File : Type 0 where
+pub record NamedFile : Type 0 where
   pub name : List ℕ
   pub bytes : List ℕ
 
@@ -13,16 +13,16 @@ abbrev pub Files : Type 0
 Files = List ℕ → Option (List ℕ)
 
 -- the bytes of a file of that name
-abbrev pub bytes_of : File → List ℕ → Option (List ℕ)
+abbrev pub bytes_of : NamedFile → List ℕ → Option (List ℕ)
 bytes_of f name = if bytes_eq f.name name then Some f.bytes else None
 
 -- the bytes of the first file of each name
-abbrev pub held : List File → Files
+abbrev pub held : List NamedFile → Files
 held [] name = None
 held (f ∷ fs) name = option_or (bytes_of f name) (held fs name)
 
 -- the files with one of that name: in the place of the file that had it, else last
-abbrev pub with_file : List File → List ℕ → List ℕ → List File
+abbrev pub with_file : List NamedFile → List ℕ → List ℕ → List NamedFile
 with_file [] name bytes = record { name = name; bytes = bytes } ∷ []
 with_file (f ∷ fs) name bytes =
     if bytes_eq f.name name then record { name = name; bytes = bytes } ∷ fs else f ∷ with_file fs name bytes
@@ -32,11 +32,11 @@ abbrev pub with_bytes : Files → List ℕ → List ℕ → Files
 with_bytes files name bytes other = if bytes_eq name other then Some bytes else files other
 
 -- the files with others put in turn
-abbrev pub with_files : List File → List File → List File
+abbrev pub with_files : List NamedFile → List NamedFile → List NamedFile
 with_files files [] = files
 with_files files (f ∷ fs) = with_files (with_file files f.name f.bytes) fs
 
 -- the files under their names, with others put in turn
-abbrev pub with_all : Files → List File → Files
+abbrev pub with_all : Files → List NamedFile → Files
 with_all files [] = files
 with_all files (f ∷ fs) = with_all (with_bytes files f.name f.bytes) fs

@@ -3,7 +3,7 @@ use Rattle.std.specs.Prelude.{◌≡◌, ◌<◌, ◌++◌, ◌∷◌, [], ℕ, 
 use Rattle.std.specs.Option.{option_map}
 use Rattle.std.specs.Borrow.{Bor}
 use Rattle.shelves.specs.declared.memory.MemoryFile.{MemoryFile}
-use Rattle.shelves.specs.Files.{File, with_file}
+use Rattle.shelves.specs.Files.{NamedFile, with_file}
 use Rattle.shelves.specs.declared.shelf.ReadEnd.{ReadEnd}
 use Rattle.shelves.specs.declared.shelf.ReadEnd.TheVariants.{Whole, Part}
 use Rattle.shelves.specs.declared.shelf.ShelfFault.{ShelfFault}
@@ -11,8 +11,8 @@ use Rattle.shelves.specs.History.{Event}
 
 -- the files that the shelf began with, those that were stored, and what was loaded, read and stored
 pub record MemoryValue : Type 0 where
-  pub files : List File
-  pub stored : List File
+  pub files : List NamedFile
+  pub stored : List NamedFile
   pub events : List Event
 
 -- a reader of a file in memory: the bytes of the file, those that were given, and how many these are
@@ -22,7 +22,7 @@ pub record ReaderValue : Type 0 where
   pub at : ℕ
 
 -- files with their names and bytes
-abbrev pub files_of : List MemoryFile → List File
+abbrev pub files_of : List MemoryFile → List NamedFile
 files_of files = map (λ f. record { name = string_bytes f.name; bytes = f.bytes.items }) files
 
 -- the bytes of a file that was found
@@ -30,7 +30,7 @@ abbrev pub bytes_in : Option (Bor MemoryFile) → Option (List ℕ)
 bytes_in found = option_map (λ f. f.now.bytes.items) found
 
 -- the place of the first file of that name, where a file put under it goes; without one it goes last
-abbrev pub HasPlace : List File → List ℕ → Option ℕ → Type 0
+abbrev pub HasPlace : List NamedFile → List ℕ → Option ℕ → Type 0
 HasPlace files name (Some i) = (i < length files) × ((bytes : List ℕ) → with_file files name bytes ≡ slice_set files i (record { name = name; bytes = bytes }))
 HasPlace files name None = (bytes : List ℕ) → with_file files name bytes ≡ files ++ record { name = name; bytes = bytes } ∷ []
 

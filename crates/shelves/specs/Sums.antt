@@ -11,7 +11,8 @@ use Rattle.shelves.specs.declared.sums.EventSum.{EventSum}
 use Rattle.shelves.specs.History.{Event}
 use Rattle.shelves.specs.History.Event.{Loaded, Read, Stored}
 
--- what is kept of an event: how it went, the name of the file, and the sum of the bytes that the shelf gave or was given
+-- what is kept of an event: how it went, the name of the file, and the sum of the bytes that the shelf gave or was
+-- given
 pub record SumOfEvent : Type 0 where
   pub kind : EventKind
   pub name : List ℕ

@@ -37,8 +37,8 @@ fn end_after(count: usize) -> ReadEnd
 }
 
 impl<F: Read> FileReader<F> {
-    /// A reader of what is left in a file. It has given nothing, and hasn't failed. If a sum is asked for, it sums what it
-    /// gives.
+    /// A reader of what is left in a file. It has given nothing, and hasn't failed. If a sum is asked for, it sums what
+    /// it gives.
     pub(crate) fn new(file: F, is_summed: bool) -> Self
         ensures given { ⟦<FileReader<F> as Source>⟧.given result ≡ [] }
         ensures failed { ⟦<FileReader<F> as Source>⟧.is_failed result ≡ false }

@@ -1,7 +1,7 @@
 //! Shelves: named files that are loaded, opened and stored.
 
 ghost use Rattle.std.specs.Prelude.{◌≡◌, ℕ, ◌-◌, ◌^◌, ◌<◌, ◌≤◌, false, List, [], Option, IfOk, IfSome, OnOk, OnErr, length, min, option_map, vec_len};
-ghost use Rattle.shelves.specs.Files.{File, Files, with_file, with_bytes};
+ghost use Rattle.shelves.specs.Files.{NamedFile, Files, with_file, with_bytes};
 ghost use Rattle.shelves.specs.Shelf.{IsLoad, Opens, IsRead, IsStore};
 ghost use Rattle.shelves.specs.History.{History, HasLoaded, HasOpened, HasRead, HasPut};
 ghost use Rattle.shelves.specs.Sums.{AreOfLast};
@@ -58,7 +58,7 @@ pub trait Shelf {
     ghost contents: { Self → Option Files };
 
     /// The files that were stored, in order of storing, each name once, where the shelf tells them.
-    ghost stored: { Self → Option (List File) };
+    ghost stored: { Self → Option (List NamedFile) };
 
     /// How often the device has failed, and what was loaded, read and stored so far.
     ghost history: { Self → History };
@@ -138,8 +138,8 @@ pub trait Shelf {
     fn events(&self) -> u64
         ensures { result ≡ min (length (history self.now).events) (2 ^ 64 - 1) };
 
-    /// The sums of the last events of the history, one for each event since the shelf keeps sums. None if the shelf keeps none, or
-    /// if a growth was refused for one of them.
+    /// The sums of the last events of the history, one for each event since the shelf keeps sums. None if the shelf
+    /// keeps none, or if a growth was refused for one of them.
     fn sums(&self) -> Option<&[EventSum]>
         ensures { IfSome result (λ sums. AreOfLast (history self.now).events sums.now) };
 }

@@ -179,8 +179,8 @@ impl EventSums {
         }
     }
 
-    /// Puts a reader at the end that is given back: the file's name, what it gave with its sum, and what the call answers. If sums are
-    /// kept and this sum is missing, they are kept no more.
+    /// Puts a reader at the end that is given back: the file's name, what it gave with its sum, and what the call
+    /// answers. If sums are kept and this sum is missing, they are kept no more.
     pub(crate) fn note_read(
         &mut self,
         name: &str,

@@ -72,8 +72,8 @@ fn pulled(
     }
 }
 
-/// Prints what is said of a text where the first pull fails, then where the second does, up to the first pull that isn't
-/// made any more: then it is what is said of the text in memory. What is said again isn't printed again.
+/// Prints what is said of a text where the first pull fails, then where the second does, up to the first pull that
+/// isn't made any more: then it is what is said of the text in memory. What is said again isn't printed again.
 fn show_failing(
     rt: &HostRuntime,
     problem: &Problem,

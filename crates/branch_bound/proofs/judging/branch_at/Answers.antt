@@ -1,6 +1,6 @@
 use Rattle.std.proofs.Common.{subst, All, Contains, ◌≡◌, ℕ, false}
 use Rattle.branch_bound.specs.Searching.{state_in}
-use Rattle.branch_bound.proofs.Verdicts.{no_choice, choice_at}
+use Rattle.branch_bound.proofs.NextMoves.{no_choice, choice_at}
 use Rattle.branch_bound.proofs.judging.branch_at.Goals as goal
 
 pub unreachable-requires : goal.unreachable-requires

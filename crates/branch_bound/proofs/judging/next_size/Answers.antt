@@ -1,7 +1,7 @@
 use Rattle.std.proofs.Common.{arith}
 use Rattle.branch_bound.specs.Searching.{problem_in, round_in, state_in}
 use Rattle.branch_bound.proofs.LeafEnds.{leaf_complete}
-use Rattle.branch_bound.proofs.Verdicts.{none_at}
+use Rattle.branch_bound.proofs.NextMoves.{none_at}
 use Rattle.branch_bound.proofs.Joining.{sorted_as}
 use Rattle.branch_bound.proofs.judging.next_size.Goals as goal
 

@@ -3,7 +3,7 @@ use Rattle.line_verdicts.specs.Placed.{codes_of_sets}
 use Rattle.proof_trees.specs.Fitting.{IsLive}
 use Rattle.known_groups.specs.Known.{AreThose}
 use Rattle.branch_bound.specs.Searching.{problem_in, state_in}
-use Rattle.branch_bound.proofs.Verdicts.{live_at}
+use Rattle.branch_bound.proofs.NextMoves.{live_at}
 use Rattle.branch_bound.proofs.judging.without_dead.Goals as goal
 
 pub returns-in-Ok-clause-at : goal.returns-in-Ok-clause-at

@@ -6,7 +6,7 @@ use Rattle.proof_trees.specs.State.{IsState, raise}
 use Rattle.proof_trees.specs.Groups.{AreGroupsAt}
 use Rattle.proof_trees.proofs.Branches.{branch_keeps_state}
 use Rattle.branch_bound.specs.Searching.{problem_in, round_in, state_in, IsOutcome, IsTaken, AreTakesAt}
-use Rattle.branch_bound.specs.PlainRounds.{IsPlainVerdict}
+use Rattle.branch_bound.specs.PlainRounds.{IsNextPlainMove}
 use Rattle.branch_bound.proofs.Joining.{plain_names, plain_fits}
 use Rattle.branch_bound.proofs.Searches.{better_as, listed, group_there, takes_more, leaf_end, branched, branched_complete, branched_lines, raised_agrees}
 use Rattle.branch_bound.proofs.plain_search.+proving_plain.Goals as goal
@@ -18,7 +18,7 @@ prove_plain-returns-in-Ok-Leaf-clause-outcome g t c =
     let s = state_in ground test c.branching.state in
     let inv = c.branching.invariant in
     leaf_end (problem_in ground) (round_in ground) (state_in ground test c.args.state) s c.branching.branches c.in-Ok-Leaf.leaf inv.whole inv.lines inv.complete
-    (subst (λ z. IsPlainVerdict test ground s z) c.in-Ok-Leaf.field-0-is c.in-Ok-Leaf.ensures.verdict)
+    (subst (λ z. IsNextPlainMove test ground s z) c.in-Ok-Leaf.field-0-is c.in-Ok-Leaf.ensures.next_move)
 
 pub prove_plain-returns-in-Ok-Better-clause-outcome : goal.prove_plain-returns-in-Ok-Better-clause-outcome
 prove_plain-returns-in-Ok-Better-clause-outcome g t c =
@@ -26,7 +26,7 @@ prove_plain-returns-in-Ok-Better-clause-outcome g t c =
     let ground = c.args.ground.now in
     let s = state_in ground test c.branching.state in
     better_as (problem_in ground) (round_in ground) (state_in ground test c.args.state) s c.in-Ok-Better.found c.branching.invariant.agrees
-    (subst (λ z. IsPlainVerdict test ground s z) c.in-Ok-Better.field-0-is c.in-Ok-Better.ensures.verdict)
+    (subst (λ z. IsNextPlainMove test ground s z) c.in-Ok-Better.field-0-is c.in-Ok-Better.ensures.next_move)
 
 pub prove_plain-branching-preserved : goal.prove_plain-branching-preserved
 prove_plain-branching-preserved g t c =
@@ -38,7 +38,7 @@ prove_plain-branching-preserved g t c =
     let first = state_in ground test c.args.state in
     let county = code_at ground.ordered.now.order c.in-Ok-Branch.place in
     let limit = ground.round.now.limit in
-    let v = subst (λ z. IsPlainVerdict test ground s z) c.in-Ok-Branch.field-0-is c.in-Ok-Branch.ensures.verdict in
+    let v = subst (λ z. IsNextPlainMove test ground s z) c.in-Ok-Branch.field-0-is c.in-Ok-Branch.ensures.next_move in
     let inv = c.branching.invariant in
     let e = c.in-Ok-Branch.ensures in
     let f = c.in-Ok-Proved.ensures in

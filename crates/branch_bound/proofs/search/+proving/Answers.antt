@@ -8,7 +8,7 @@ use Rattle.proof_trees.specs.State.{raise}
 use Rattle.proof_trees.specs.Groups.{AreGroupsAt}
 use Rattle.proof_trees.specs.Proving.{Proves}
 use Rattle.complete_lists.specs.Complete.{IsComplete}
-use Rattle.branch_bound.specs.Searching.{problem_in, round_in, state_in, IsOutcome, IsTaken, IsVerdict}
+use Rattle.branch_bound.specs.Searching.{problem_in, round_in, state_in, IsOutcome, IsTaken, IsNextMove}
 use Rattle.branch_bound.proofs.Joining.{wide_names, wide_fits}
 use Rattle.branch_bound.proofs.Positions.{choice_can}
 use Rattle.branch_bound.proofs.Searches.{own, better_as, listed, group_there, takes_more, leaf_end, branched, branched_complete, branched_lines, raised_agrees, choice_size}
@@ -21,7 +21,7 @@ prove-returns-in-Ok-Leaf-clause-outcome g t c =
     let s = state_in ground test c.branching.position.state in
     let inv = c.branching.invariant in
     leaf_end (problem_in ground) (round_in ground) (state_in ground test c.args.position.state) s c.branching.branches c.in-Ok-Leaf.leaf inv.whole inv.lines inv.complete
-    (subst (λ z. IsVerdict test ground s z) c.in-Ok-Leaf.field-0-is c.in-Ok-Leaf.ensures.verdict)
+    (subst (λ z. IsNextMove test ground s z) c.in-Ok-Leaf.field-0-is c.in-Ok-Leaf.ensures.next_move)
 
 pub prove-returns-in-Ok-Better-clause-outcome : goal.prove-returns-in-Ok-Better-clause-outcome
 prove-returns-in-Ok-Better-clause-outcome g t c =
@@ -29,14 +29,14 @@ prove-returns-in-Ok-Better-clause-outcome g t c =
     let ground = c.args.ground.now in
     let s = state_in ground test c.branching.position.state in
     better_as (problem_in ground) (round_in ground) (state_in ground test c.args.position.state) s c.in-Ok-Better.found c.branching.invariant.agrees
-    (subst (λ z. IsVerdict test ground s z) c.in-Ok-Better.field-0-is c.in-Ok-Better.ensures.verdict)
+    (subst (λ z. IsNextMove test ground s z) c.in-Ok-Better.field-0-is c.in-Ok-Better.ensures.next_move)
 
 pub prove-prove_takes-takes-requires : goal.prove-prove_takes-takes-requires
 prove-prove_takes-takes-requires g t c κs within =
     let test = g.C.CountySet.test in
     let ground = c.args.ground.now in
     let s = state_in ground test c.branching.position.state in
-    let v = subst (λ z. IsVerdict test ground s z) c.in-Ok-Branch.field-0-is c.in-Ok-Branch.ensures.verdict in
+    let v = subst (λ z. IsNextMove test ground s z) c.in-Ok-Branch.field-0-is c.in-Ok-Branch.ensures.next_move in
     let e = c.in-Ok-Branch.ensures in
     (omega (arith, e.counted, e.left, e.limit, c.branching.invariant.more, c.branching.invariant.limit), (within.0, (within.1, (c.requires.ground, (own g.row.C.Denot test ground s c.in-Ok-Branch.at v.0, (v.1.below, e.lists))))))
 
@@ -45,7 +45,7 @@ prove-raised_behind-requires-clause-at g t c =
     let test = g.C.CountySet.test in
     let ground = c.args.ground.now in
     let s = state_in ground test c.branching.position.state in
-    let v = subst (λ z. IsVerdict test ground s z) c.in-Ok-Branch.field-0-is c.in-Ok-Branch.ensures.verdict in
+    let v = subst (λ z. IsNextMove test ground s z) c.in-Ok-Branch.field-0-is c.in-Ok-Branch.ensures.next_move in
     own g.row.C.Denot test ground s c.in-Ok-Branch.at v.0
 
 pub prove-raised_behind-requires-clause-choice : goal.prove-raised_behind-requires-clause-choice
@@ -53,7 +53,7 @@ prove-raised_behind-requires-clause-choice g t c =
     let test = g.C.CountySet.test in
     let ground = c.args.ground.now in
     let s = state_in ground test c.branching.position.state in
-    (subst (λ z. IsVerdict test ground s z) c.in-Ok-Branch.field-0-is c.in-Ok-Branch.ensures.verdict).1
+    (subst (λ z. IsNextMove test ground s z) c.in-Ok-Branch.field-0-is c.in-Ok-Branch.ensures.next_move).1
 
 pub prove-branching-smaller : goal.prove-branching-smaller
 prove-branching-smaller g t c =
@@ -69,7 +69,7 @@ prove-branching-preserved g t c =
     let at = c.in-Ok-Branch.at in
     let here = state_in ground test at.state in
     let county = code_at ground.ordered.now.order c.in-Ok-Branch.place in
-    let v = subst (λ z. IsVerdict test ground s z) c.in-Ok-Branch.field-0-is c.in-Ok-Branch.ensures.verdict in
+    let v = subst (λ z. IsNextMove test ground s z) c.in-Ok-Branch.field-0-is c.in-Ok-Branch.ensures.next_move in
     let inv = c.branching.invariant in
     let e = c.in-Ok-Branch.ensures in
     let f = c.prove_takes-takes.ensures in
@@ -101,7 +101,7 @@ prove-returns-in-Ok-Better-raised_behind-clause-outcome g t c =
     let ground = c.args.ground.now in
     let s = state_in ground test c.branching.position.state in
     let here = state_in ground test c.in-Ok-Branch.at.state in
-    let v = subst (λ z. IsVerdict test ground s z) c.in-Ok-Branch.field-0-is c.in-Ok-Branch.ensures.verdict in
+    let v = subst (λ z. IsNextMove test ground s z) c.in-Ok-Branch.field-0-is c.in-Ok-Branch.ensures.next_move in
     let better = c.in-Ok-Better-raised_behind in
     better_as (problem_in ground) (round_in ground) (state_in ground test c.args.position.state) here better.found (λ h a. c.branching.invariant.agrees h (subst (λ z. Agrees z h) v.0.is a)) (better.ensures.better better.found (ap Ok better.field-0-is))
 

@@ -2,7 +2,7 @@ use Rattle.std.proofs.Common.{Ok, Err, IfOk, refl, sym, ◌∙◌, ap, subst}
 use Rattle.grouping_problem.specs.ProblemValue.{problem_of}
 use Rattle.certificate_lines.specs.ItemsLeft.{course_by}
 use Rattle.certificate_checker.specs.Feeding.{FeedValue, stream_of, fed_by, IsFed}
-use Rattle.certificate_checker.specs.Answered.{IsAnswer}
+use Rattle.certificate_checker.specs.Answered.{IsCheckAnswer}
 use Rattle.certificate_checker.proofs.Answering.{AreJudged, best_found, impossible_found, fault_found, budget_found, unspelled_found, text_found}
 use Rattle.certificate_checker.proofs.checking.check_source.Goals as goal
 
@@ -16,7 +16,7 @@ returns-in-Ok-Some g c = record {
         λ text course.
             let p = problem_of c.args.problem.now in
             let start : FeedValue = record { course = course_by (g.S.ItemSource.left c.args.source) (g.S.ItemSource.given c.args.from.now) all; line = 0; limit = c.new.result.limit; used = c.new.result.used } in
-            subst (λ n. IfOk c.verdict_after.result (IsAnswer p text n)) c.new.ensures.limit
+            subst (λ n. IfOk c.verdict_after.result (IsCheckAnswer p text n)) c.new.ensures.limit
             (v.1 p text start course refl
             (subst (λ r. IsFed start (Ok r) (fed_by (stream_of g.S.ItemSource.left g.S.ItemSource.given c.judge_certificate.new.feed c.judge_certificate.new.from) all)) c.in-Ok-Some.field-0-is j.1)
             (best_found p text start.limit c.in-Ok-Some.target
@@ -34,7 +34,7 @@ returns-in-Ok-None g c = record {
         λ text course.
             let p = problem_of c.args.problem.now in
             let start : FeedValue = record { course = course_by (g.S.ItemSource.left c.args.source) (g.S.ItemSource.given c.args.from.now) all; line = 0; limit = c.new.result.limit; used = c.new.result.used } in
-            subst (λ n. IfOk c.verdict_after-in-Ok-None.result (IsAnswer p text n)) c.new.ensures.limit
+            subst (λ n. IfOk c.verdict_after-in-Ok-None.result (IsCheckAnswer p text n)) c.new.ensures.limit
             (v.1 p text start course refl
             (subst (λ r. IsFed start (Ok r) (fed_by (stream_of g.S.ItemSource.left g.S.ItemSource.given c.judge_certificate.new.feed c.judge_certificate.new.from) all)) c.in-Ok-None.field-0-is j.1)
             (impossible_found p text start.limit
@@ -52,7 +52,7 @@ returns-in-Err-Fault g c = record {
         λ text course.
             let p = problem_of c.args.problem.now in
             let start : FeedValue = record { course = course_by (g.S.ItemSource.left c.args.source) (g.S.ItemSource.given c.args.from.now) all; line = 0; limit = c.new.result.limit; used = c.new.result.used } in
-            subst (λ n. IfOk c.verdict_after-in-Err-Fault.result (IsAnswer p text n)) c.new.ensures.limit
+            subst (λ n. IfOk c.verdict_after-in-Err-Fault.result (IsCheckAnswer p text n)) c.new.ensures.limit
             (v.1 p text start course refl
             (subst (λ r. IsFed {X = Unit {0}} start (Err r) (fed_by (stream_of g.S.ItemSource.left g.S.ItemSource.given c.judge_certificate.new.feed c.judge_certificate.new.from) all)) c.in-Err-Fault.field-0-is j.1)
             (fault_found p text start.limit c.in-Err-Fault.fault c.in-Err-Fault.line
@@ -70,7 +70,7 @@ returns-in-Err-Budget g c = record {
         λ text course.
             let p = problem_of c.args.problem.now in
             let start : FeedValue = record { course = course_by (g.S.ItemSource.left c.args.source) (g.S.ItemSource.given c.args.from.now) all; line = 0; limit = c.new.result.limit; used = c.new.result.used } in
-            subst (λ n. IfOk c.verdict_after-in-Err-Budget.result (IsAnswer p text n)) c.new.ensures.limit
+            subst (λ n. IfOk c.verdict_after-in-Err-Budget.result (IsCheckAnswer p text n)) c.new.ensures.limit
             (v.1 p text start course refl
             (subst (λ r. IsFed {X = Unit {0}} start (Err r) (fed_by (stream_of g.S.ItemSource.left g.S.ItemSource.given c.judge_certificate.new.feed c.judge_certificate.new.from) all)) c.in-Err-Budget.field-0-is j.1)
             (budget_found p text start.limit
@@ -88,7 +88,7 @@ returns-in-Err-Unspelled g c = record {
         λ text course.
             let p = problem_of c.args.problem.now in
             let start : FeedValue = record { course = course_by (g.S.ItemSource.left c.args.source) (g.S.ItemSource.given c.args.from.now) all; line = 0; limit = c.new.result.limit; used = c.new.result.used } in
-            subst (λ n. IfOk c.verdict_after-in-Err-Unspelled.result (IsAnswer p text n)) c.new.ensures.limit
+            subst (λ n. IfOk c.verdict_after-in-Err-Unspelled.result (IsCheckAnswer p text n)) c.new.ensures.limit
             (v.1 p text start course refl
             (subst (λ r. IsFed {X = Unit {0}} start (Err r) (fed_by (stream_of g.S.ItemSource.left g.S.ItemSource.given c.judge_certificate.new.feed c.judge_certificate.new.from) all)) c.in-Err-Unspelled.field-0-is j.1)
             (unspelled_found p text start.limit

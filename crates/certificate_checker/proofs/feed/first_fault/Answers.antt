@@ -1,4 +1,4 @@
-use Rattle.std.proofs.Common.{Ok, Err, Result, true, false, Bool, Some, sym, ap, ◌∙◌, subst, arith, ⊎_elim}
+use Rattle.std.proofs.Common.{Ok, Result, Bool, sym, ap, ◌∙◌, subst, arith, ⊎_elim}
 use Rattle.certificate_lines.specs.Courses.{Course}
 use Rattle.certificate_lines.specs.declared.fault.TextFault.{TextFault}
 use Rattle.certificate_checker.specs.Feeding.{Passes}

@@ -1,10 +1,10 @@
-use Rattle.std.proofs.Common.{◌∷◌, All, length, Some, Ok, Err, refl, sym, ◌∙◌, ap, subst, arith}
+use Rattle.std.proofs.Common.{◌∷◌, All, length, Ok, Err, refl, sym, ◌∙◌, ap, subst, arith}
 use Rattle.grouping_problem.specs.ProblemValue.{problem_of}
 use Rattle.proof_trees.specs.RoundValue.{round_of}
 use Rattle.certificate_lines.specs.Items.{taken}
 use Rattle.line_verdicts.specs.Placed.{state_at, codes_of_sets, IsClosable}
 use Rattle.proof_trees.specs.State.{close, raise}
-use Rattle.certificate_checker.specs.Judging.{IsTakeStop, IsListed}
+use Rattle.certificate_checker.specs.Judging.{IsTakeStop, AreTakesListed}
 use Rattle.verdicts.specs.Branches.{IsNext}
 use Rattle.verdicts.specs.Work.{some_takes}
 use Rattle.proof_trees.specs.Tree.{stuck, seats}
@@ -74,7 +74,7 @@ judge_tree-returns-in-Err-judge_takes-clause-judged g t c all sees tree rest mor
     let l = kept_sees g.S.ItemSource.left (g.S.ItemSource.given c.next_opening.new.from) all c.next_opening.new.feed c.listed_groups.new.feed c.in-Ok-listed_groups.ensures.same t.0 in
     let n = c.in-Ok.ensures.fed all l in
     let i = c.branching.invariant.fed all n.0 in
-    branch_off (problem_of c.args.ground.now.ordered.now.problem) (round_of c.args.ground.now.round.now) (state_at c.args.ground.now.ordered.now.order g.C.CountySet.test c.branching.state) c.in-Branch.county c.in-Branch.limit (codes_of_sets c.args.ground.now.ordered.now.order g.C.CountySet.test c.deref.result.now) rest more (fed_by (stream_of g.S.ItemSource.left g.S.ItemSource.given c.args.feed.now c.args.from.now) all) (fed_by (stream_of g.S.ItemSource.left g.S.ItemSource.given c.branching.feed c.branching.from) all) (fed_by (stream_of g.S.ItemSource.left g.S.ItemSource.given c.next_opening.new.feed c.next_opening.new.from) all) (fed_by (stream_of g.S.ItemSource.left g.S.ItemSource.given c.listed_groups.new.feed c.next_opening.new.from) all) (fed_by (stream_of g.S.ItemSource.left g.S.ItemSource.given c.judge_takes.new.feed c.judge_takes.new.from) all) _ c.in-Err-judge_takes.stop (c.branching.invariant.left all n.0 tree rest more readable items) (fed_twice _ _ _ (fed_twice _ _ _ i.1 n.1) (kept_course g.S.ItemSource.left (g.S.ItemSource.given c.next_opening.new.from) all c.next_opening.new.feed c.listed_groups.new.feed c.in-Ok-listed_groups.ensures.same Fed c.in-Ok-listed_groups.ensures.fed)) (subst (λ o. TookLine (fed_by (stream_of g.S.ItemSource.left g.S.ItemSource.given c.branching.feed c.branching.from) all) (Ok (item.Opens o)) (fed_by (stream_of g.S.ItemSource.left g.S.ItemSource.given c.next_opening.new.feed c.next_opening.new.from) all)) c.in-Branch.is (c.in-Ok.ensures.took all l)) (subst (λ z. IsListed (problem_of c.args.ground.now.ordered.now.problem) (round_of c.args.ground.now.round.now) (state_at c.args.ground.now.ordered.now.order g.C.CountySet.test c.branching.state) c.in-Branch.county c.in-Branch.limit (codes_of_sets c.args.ground.now.ordered.now.order g.C.CountySet.test z) (fed_by (stream_of g.S.ItemSource.left g.S.ItemSource.given c.next_opening.new.feed c.next_opening.new.from) all) (fed_by (stream_of g.S.ItemSource.left g.S.ItemSource.given c.listed_groups.new.feed c.next_opening.new.from) all)) (sym c.deref.ensures.value) (kept_course g.S.ItemSource.left (g.S.ItemSource.given c.next_opening.new.from) all c.next_opening.new.feed c.listed_groups.new.feed c.in-Ok-listed_groups.ensures.same (IsListed (problem_of c.args.ground.now.ordered.now.problem) (round_of c.args.ground.now.round.now) (state_at c.args.ground.now.ordered.now.order g.C.CountySet.test c.branching.state) c.in-Branch.county c.in-Branch.limit (codes_of_sets c.args.ground.now.ordered.now.order g.C.CountySet.test c.in-Ok-listed_groups.branching.groups.items)) c.in-Ok-listed_groups.ensures.judged)) (ap (λ s. course_by (g.S.ItemSource.left s) (g.S.ItemSource.given c.next_opening.new.from) all) c.in-Ok-listed_groups.ensures.same) (c.in-Err-judge_takes.ensures.judged all sees)
+    branch_off (problem_of c.args.ground.now.ordered.now.problem) (round_of c.args.ground.now.round.now) (state_at c.args.ground.now.ordered.now.order g.C.CountySet.test c.branching.state) c.in-Branch.county c.in-Branch.limit (codes_of_sets c.args.ground.now.ordered.now.order g.C.CountySet.test c.deref.result.now) rest more (fed_by (stream_of g.S.ItemSource.left g.S.ItemSource.given c.args.feed.now c.args.from.now) all) (fed_by (stream_of g.S.ItemSource.left g.S.ItemSource.given c.branching.feed c.branching.from) all) (fed_by (stream_of g.S.ItemSource.left g.S.ItemSource.given c.next_opening.new.feed c.next_opening.new.from) all) (fed_by (stream_of g.S.ItemSource.left g.S.ItemSource.given c.listed_groups.new.feed c.next_opening.new.from) all) (fed_by (stream_of g.S.ItemSource.left g.S.ItemSource.given c.judge_takes.new.feed c.judge_takes.new.from) all) _ c.in-Err-judge_takes.stop (c.branching.invariant.left all n.0 tree rest more readable items) (fed_twice _ _ _ (fed_twice _ _ _ i.1 n.1) (kept_course g.S.ItemSource.left (g.S.ItemSource.given c.next_opening.new.from) all c.next_opening.new.feed c.listed_groups.new.feed c.in-Ok-listed_groups.ensures.same Fed c.in-Ok-listed_groups.ensures.fed)) (subst (λ o. TookLine (fed_by (stream_of g.S.ItemSource.left g.S.ItemSource.given c.branching.feed c.branching.from) all) (Ok (item.Opens o)) (fed_by (stream_of g.S.ItemSource.left g.S.ItemSource.given c.next_opening.new.feed c.next_opening.new.from) all)) c.in-Branch.is (c.in-Ok.ensures.took all l)) (subst (λ z. AreTakesListed (problem_of c.args.ground.now.ordered.now.problem) (round_of c.args.ground.now.round.now) (state_at c.args.ground.now.ordered.now.order g.C.CountySet.test c.branching.state) c.in-Branch.county c.in-Branch.limit (codes_of_sets c.args.ground.now.ordered.now.order g.C.CountySet.test z) (fed_by (stream_of g.S.ItemSource.left g.S.ItemSource.given c.next_opening.new.feed c.next_opening.new.from) all) (fed_by (stream_of g.S.ItemSource.left g.S.ItemSource.given c.listed_groups.new.feed c.next_opening.new.from) all)) (sym c.deref.ensures.value) (kept_course g.S.ItemSource.left (g.S.ItemSource.given c.next_opening.new.from) all c.next_opening.new.feed c.listed_groups.new.feed c.in-Ok-listed_groups.ensures.same (AreTakesListed (problem_of c.args.ground.now.ordered.now.problem) (round_of c.args.ground.now.round.now) (state_at c.args.ground.now.ordered.now.order g.C.CountySet.test c.branching.state) c.in-Branch.county c.in-Branch.limit (codes_of_sets c.args.ground.now.ordered.now.order g.C.CountySet.test c.in-Ok-listed_groups.branching.groups.items)) c.in-Ok-listed_groups.ensures.judged)) (ap (λ s. course_by (g.S.ItemSource.left s) (g.S.ItemSource.given c.next_opening.new.from) all) c.in-Ok-listed_groups.ensures.same) (c.in-Err-judge_takes.ensures.judged all sees)
 
 pub judge_tree-returns-in-Err-listed_groups-clause-judged : goal.judge_tree-returns-in-Err-listed_groups-clause-judged
 judge_tree-returns-in-Err-listed_groups-clause-judged g t c all sees tree rest more readable items =
@@ -98,7 +98,7 @@ judge_tree-branching-preserved g t c = record {
       let l = kept_sees g.S.ItemSource.left (g.S.ItemSource.given c.next_opening.new.from) all c.next_opening.new.feed c.listed_groups.new.feed c.in-Ok-listed_groups.ensures.same t.0 in
       let n = c.in-Ok.ensures.fed all l in
       let i = c.branching.invariant.fed all n.0 in
-      branch_on (problem_of c.args.ground.now.ordered.now.problem) (round_of c.args.ground.now.round.now) (state_at c.args.ground.now.ordered.now.order g.C.CountySet.test c.branching.state) (state_at c.args.ground.now.ordered.now.order g.C.CountySet.test c.raise_place.new.state) c.in-Branch.county c.in-Branch.limit (codes_of_sets c.args.ground.now.ordered.now.order g.C.CountySet.test c.deref.result.now) rest more (fed_by (stream_of g.S.ItemSource.left g.S.ItemSource.given c.args.feed.now c.args.from.now) all) (fed_by (stream_of g.S.ItemSource.left g.S.ItemSource.given c.branching.feed c.branching.from) all) (fed_by (stream_of g.S.ItemSource.left g.S.ItemSource.given c.next_opening.new.feed c.next_opening.new.from) all) (fed_by (stream_of g.S.ItemSource.left g.S.ItemSource.given c.listed_groups.new.feed c.next_opening.new.from) all) (fed_by (stream_of g.S.ItemSource.left g.S.ItemSource.given c.judge_takes.new.feed c.judge_takes.new.from) all) _ c.in-Ok-judge_takes.field-0 (c.branching.invariant.left all n.0 tree rest more readable items) (subst (λ o. TookLine (fed_by (stream_of g.S.ItemSource.left g.S.ItemSource.given c.branching.feed c.branching.from) all) (Ok (item.Opens o)) (fed_by (stream_of g.S.ItemSource.left g.S.ItemSource.given c.next_opening.new.feed c.next_opening.new.from) all)) c.in-Branch.is (c.in-Ok.ensures.took all l)) (subst (λ z. IsListed (problem_of c.args.ground.now.ordered.now.problem) (round_of c.args.ground.now.round.now) (state_at c.args.ground.now.ordered.now.order g.C.CountySet.test c.branching.state) c.in-Branch.county c.in-Branch.limit (codes_of_sets c.args.ground.now.ordered.now.order g.C.CountySet.test z) (fed_by (stream_of g.S.ItemSource.left g.S.ItemSource.given c.next_opening.new.feed c.next_opening.new.from) all) (fed_by (stream_of g.S.ItemSource.left g.S.ItemSource.given c.listed_groups.new.feed c.next_opening.new.from) all)) (sym c.deref.ensures.value) (kept_course g.S.ItemSource.left (g.S.ItemSource.given c.next_opening.new.from) all c.next_opening.new.feed c.listed_groups.new.feed c.in-Ok-listed_groups.ensures.same (IsListed (problem_of c.args.ground.now.ordered.now.problem) (round_of c.args.ground.now.round.now) (state_at c.args.ground.now.ordered.now.order g.C.CountySet.test c.branching.state) c.in-Branch.county c.in-Branch.limit (codes_of_sets c.args.ground.now.ordered.now.order g.C.CountySet.test c.in-Ok-listed_groups.branching.groups.items)) c.in-Ok-listed_groups.ensures.judged)) (ap (λ s. course_by (g.S.ItemSource.left s) (g.S.ItemSource.given c.next_opening.new.from) all) c.in-Ok-listed_groups.ensures.same)
+      branch_on (problem_of c.args.ground.now.ordered.now.problem) (round_of c.args.ground.now.round.now) (state_at c.args.ground.now.ordered.now.order g.C.CountySet.test c.branching.state) (state_at c.args.ground.now.ordered.now.order g.C.CountySet.test c.raise_place.new.state) c.in-Branch.county c.in-Branch.limit (codes_of_sets c.args.ground.now.ordered.now.order g.C.CountySet.test c.deref.result.now) rest more (fed_by (stream_of g.S.ItemSource.left g.S.ItemSource.given c.args.feed.now c.args.from.now) all) (fed_by (stream_of g.S.ItemSource.left g.S.ItemSource.given c.branching.feed c.branching.from) all) (fed_by (stream_of g.S.ItemSource.left g.S.ItemSource.given c.next_opening.new.feed c.next_opening.new.from) all) (fed_by (stream_of g.S.ItemSource.left g.S.ItemSource.given c.listed_groups.new.feed c.next_opening.new.from) all) (fed_by (stream_of g.S.ItemSource.left g.S.ItemSource.given c.judge_takes.new.feed c.judge_takes.new.from) all) _ c.in-Ok-judge_takes.field-0 (c.branching.invariant.left all n.0 tree rest more readable items) (subst (λ o. TookLine (fed_by (stream_of g.S.ItemSource.left g.S.ItemSource.given c.branching.feed c.branching.from) all) (Ok (item.Opens o)) (fed_by (stream_of g.S.ItemSource.left g.S.ItemSource.given c.next_opening.new.feed c.next_opening.new.from) all)) c.in-Branch.is (c.in-Ok.ensures.took all l)) (subst (λ z. AreTakesListed (problem_of c.args.ground.now.ordered.now.problem) (round_of c.args.ground.now.round.now) (state_at c.args.ground.now.ordered.now.order g.C.CountySet.test c.branching.state) c.in-Branch.county c.in-Branch.limit (codes_of_sets c.args.ground.now.ordered.now.order g.C.CountySet.test z) (fed_by (stream_of g.S.ItemSource.left g.S.ItemSource.given c.next_opening.new.feed c.next_opening.new.from) all) (fed_by (stream_of g.S.ItemSource.left g.S.ItemSource.given c.listed_groups.new.feed c.next_opening.new.from) all)) (sym c.deref.ensures.value) (kept_course g.S.ItemSource.left (g.S.ItemSource.given c.next_opening.new.from) all c.next_opening.new.feed c.listed_groups.new.feed c.in-Ok-listed_groups.ensures.same (AreTakesListed (problem_of c.args.ground.now.ordered.now.problem) (round_of c.args.ground.now.round.now) (state_at c.args.ground.now.ordered.now.order g.C.CountySet.test c.branching.state) c.in-Branch.county c.in-Branch.limit (codes_of_sets c.args.ground.now.ordered.now.order g.C.CountySet.test c.in-Ok-listed_groups.branching.groups.items)) c.in-Ok-listed_groups.ensures.judged)) (ap (λ s. course_by (g.S.ItemSource.left s) (g.S.ItemSource.given c.next_opening.new.from) all) c.in-Ok-listed_groups.ensures.same)
       (c.raise_place.ensures.value ∙ ap (λ z. raise z c.in-Ok-listed_groups.branching.limit (state_at c.args.ground.now.ordered.now.order g.C.CountySet.test c.branching.state)) c.in-Ok-listed_groups.ensures.place.1 ∙ ap (λ z. raise c.in-Branch.county z (state_at c.args.ground.now.ordered.now.order g.C.CountySet.test c.branching.state)) c.in-Ok-listed_groups.ensures.size.0) (c.in-Ok-judge_takes.ensures.judged all sees);
 }
 

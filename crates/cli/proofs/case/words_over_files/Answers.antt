@@ -2,7 +2,7 @@ use Rattle.std.proofs.Common.{◌≡◌, ◌==◌, ◌∙◌, ℕ, List, Some, a
 use Rattle.std.specs.Prelude.{reverse}
 use Rattle.std.specs.List.{slice_split}
 use Rattle.program_answers.specs.Answers.{answer_of}
-use Rattle.shelves.specs.Files.{File}
+use Rattle.shelves.specs.Files.{NamedFile}
 use Rattle.shelves.specs.Memory.{files_of}
 use Rattle.cli.specs.Delivery.{texts}
 use Rattle.cli.specs.CaseRun.{WordsOver}
@@ -16,6 +16,6 @@ returns c =
     let files : c.new-shelf.result.files ≡ reverse (files_of c.args.files.items) = c.new-shelf.ensures.files ∙ (ap files_of c.reverse.ensures.items ∙ files-reverse c.args.files.items) in
     let words : texts c.deref.result.now ≡ slice_split (λ b. b == 32) c.args.line.now = ap texts c.deref.ensures.value ∙ c.in_ok-words.ensures in
     subst (λ (w : List (List ℕ)). WordsOver (reverse (files_of c.args.files.items)) w a) words
-    (subst (λ (f : List File). WordsOver f (texts c.deref.result.now) a) files
+    (subst (λ (f : List NamedFile). WordsOver f (texts c.deref.result.now) a) files
     (words_over c.new-shelf.result.stored c.new-shelf.result.files (files_of c.stored_files.result.now) (texts c.deref.result.now) c.in_ok-answer.answer.text.items c.push_stored.new.out.items c.in_ok-answer.answer.status run.0 c.new-shelf.result.events c.words_answer.new.shelf.events
-    c.new-shelf.ensures.stored c.new-shelf.ensures.events (ap (λ (f : List File). Some f) c.stored_files.ensures ∙ run.1.list) c.in_ok-push_stored.ensures run.2))
+    c.new-shelf.ensures.stored c.new-shelf.ensures.events (ap (λ (f : List NamedFile). Some f) c.stored_files.ensures ∙ run.1.list) c.in_ok-push_stored.ensures run.2))

@@ -1,5 +1,5 @@
 use Rattle.std.proofs.Common.{List, [], refl, sym, subst}
-use Rattle.shelves.specs.Files.{File}
+use Rattle.shelves.specs.Files.{NamedFile}
 use Rattle.command_words.specs.declared.words.CommandWords.{CommandWords}
 use Rattle.command_words.specs.declared.words.CommandWords.TheVariants.{Size, Audit, Piece}
 use Rattle.program_answers.specs.Answers.{said_by}
@@ -19,7 +19,7 @@ returns-in-Size g c =
     let last = g.H.Shelf.stored c.size.new.shelf in
     let before = g.H.Shelf.history c.args.shelf.now in
     let after = g.H.Shelf.history c.size.new.shelf in
-    subst (λ (command : CommandWords). (x : List File) × HasStored files later listed last x × CommandRun files command before after x (said_by c.size.result)) (sym c.in-Size.is) (
+    subst (λ (command : CommandWords). (x : List NamedFile) × HasStored files later listed last x × CommandRun files command before after x (said_by c.size.result)) (sym c.in-Size.is) (
       [],
       none_stored files later listed last c.size.ensures.same c.size.ensures.kept,
       quiet_run files (Size c.in-Size.words) (size_course files c.in-Size.words) before after c.size.result (λ a h. (h, refl)) c.size.ensures.course,
@@ -33,7 +33,7 @@ returns-in-Judge g c =
     let last = g.H.Shelf.stored c.judge.new.shelf in
     let before = g.H.Shelf.history c.args.shelf.now in
     let after = g.H.Shelf.history c.judge.new.shelf in
-    subst (λ (command : CommandWords). (x : List File) × HasStored files later listed last x × CommandRun files command before after x (said_by c.judge.result)) (sym c.in-Judge.is)
+    subst (λ (command : CommandWords). (x : List NamedFile) × HasStored files later listed last x × CommandRun files command before after x (said_by c.judge.result)) (sym c.in-Judge.is)
     c.judge.ensures
 
 pub returns-in-Solve : goal.returns-in-Solve
@@ -44,7 +44,7 @@ returns-in-Solve g c =
     let last = g.H.Shelf.stored c.solve.new.shelf in
     let before = g.H.Shelf.history c.args.shelf.now in
     let after = g.H.Shelf.history c.solve.new.shelf in
-    subst (λ (command : CommandWords). (x : List File) × HasStored files later listed last x × CommandRun files command before after x (said_by c.solve.result)) (sym c.in-Solve.is)
+    subst (λ (command : CommandWords). (x : List NamedFile) × HasStored files later listed last x × CommandRun files command before after x (said_by c.solve.result)) (sym c.in-Solve.is)
     c.solve.ensures
 
 pub returns-in-Check : goal.returns-in-Check
@@ -55,7 +55,7 @@ returns-in-Check g c =
     let last = g.H.Shelf.stored c.check.new.shelf in
     let before = g.H.Shelf.history c.args.shelf.now in
     let after = g.H.Shelf.history c.check.new.shelf in
-    subst (λ (command : CommandWords). (x : List File) × HasStored files later listed last x × CommandRun files command before after x (said_by c.check.result)) (sym c.in-Check.is)
+    subst (λ (command : CommandWords). (x : List NamedFile) × HasStored files later listed last x × CommandRun files command before after x (said_by c.check.result)) (sym c.in-Check.is)
     c.check.ensures
 
 pub returns-in-Audit : goal.returns-in-Audit
@@ -66,7 +66,7 @@ returns-in-Audit g c =
     let last = g.H.Shelf.stored c.audit.new.shelf in
     let before = g.H.Shelf.history c.args.shelf.now in
     let after = g.H.Shelf.history c.audit.new.shelf in
-    subst (λ (command : CommandWords). (x : List File) × HasStored files later listed last x × CommandRun files command before after x (said_by c.audit.result)) (sym c.in-Audit.is) (
+    subst (λ (command : CommandWords). (x : List NamedFile) × HasStored files later listed last x × CommandRun files command before after x (said_by c.audit.result)) (sym c.in-Audit.is) (
       [],
       none_stored files later listed last c.audit.ensures.same c.audit.ensures.kept,
       quiet_run files (Audit c.in-Audit.words) (audit_course files c.in-Audit.words) before after c.audit.result (λ a h. (h, refl)) c.audit.ensures.course,
@@ -80,7 +80,7 @@ returns-in-List g c =
     let last = g.H.Shelf.stored c.list.new.shelf in
     let before = g.H.Shelf.history c.args.shelf.now in
     let after = g.H.Shelf.history c.list.new.shelf in
-    subst (λ (command : CommandWords). (x : List File) × HasStored files later listed last x × CommandRun files command before after x (said_by c.list.result)) (sym c.in-List.is)
+    subst (λ (command : CommandWords). (x : List NamedFile) × HasStored files later listed last x × CommandRun files command before after x (said_by c.list.result)) (sym c.in-List.is)
     c.list.ensures
 
 pub returns-in-Share : goal.returns-in-Share
@@ -91,7 +91,7 @@ returns-in-Share g c =
     let last = g.H.Shelf.stored c.share.new.shelf in
     let before = g.H.Shelf.history c.args.shelf.now in
     let after = g.H.Shelf.history c.share.new.shelf in
-    subst (λ (command : CommandWords). (x : List File) × HasStored files later listed last x × CommandRun files command before after x (said_by c.share.result)) (sym c.in-Share.is)
+    subst (λ (command : CommandWords). (x : List NamedFile) × HasStored files later listed last x × CommandRun files command before after x (said_by c.share.result)) (sym c.in-Share.is)
     c.share.ensures
 
 pub returns-in-Piece : goal.returns-in-Piece
@@ -102,7 +102,7 @@ returns-in-Piece g c =
     let last = g.H.Shelf.stored c.piece.new.shelf in
     let before = g.H.Shelf.history c.args.shelf.now in
     let after = g.H.Shelf.history c.piece.new.shelf in
-    subst (λ (command : CommandWords). (x : List File) × HasStored files later listed last x × CommandRun files command before after x (said_by c.piece.result)) (sym c.in-Piece.is) (
+    subst (λ (command : CommandWords). (x : List NamedFile) × HasStored files later listed last x × CommandRun files command before after x (said_by c.piece.result)) (sym c.in-Piece.is) (
       [],
       none_stored files later listed last c.piece.ensures.same c.piece.ensures.kept,
       quiet_run files (Piece c.in-Piece.words) (piece_course files c.in-Piece.words) before after c.piece.result (λ a h. (h, refl)) c.piece.ensures.course,

@@ -1,7 +1,7 @@
 use Rattle.std.proofs.Common.{ℕ, List, subst, sym}
 use Rattle.std.specs.Prelude.{Result}
 use Rattle.std.specs.declared.alloc.AllocError.{AllocError}
-use Rattle.program_answers.specs.declared.answer.Answer.{Answer}
+use Rattle.program_answers.specs.declared.answer.RunAnswer.{RunAnswer}
 use Rattle.cli.specs.Delivery.{Delivers}
 use Rattle.cli.specs.Ends.{said_of}
 use Rattle.cli.proofs.command.deliver_said.Goals as goal
@@ -11,5 +11,5 @@ returns-in-Ok g c =
     let failed = g.W.Sink.is_failed c.deliver.new.out in
     let before = g.W.Sink.contents c.args.out.now in
     let after = g.W.Sink.contents c.deliver.new.out in
-    subst (λ (said : Result Answer AllocError). Delivers failed before after (said_of said) c.deliver.result) (sym c.in-Ok.is)
+    subst (λ (said : Result RunAnswer AllocError). Delivers failed before after (said_of said) c.deliver.result) (sym c.in-Ok.is)
     (subst (λ (text : List ℕ). Delivers failed before after (record { text = text; status = c.in-Ok.answer.status }) c.deliver.result) c.deref.ensures.value c.deliver.ensures)

@@ -6,14 +6,14 @@ use Rattle.shelves.specs.Files.{Files}
 use Rattle.program_answers.specs.Answers.{Meets}
 use Rattle.command_runs.specs.Course.{Course, ◌>>=◌, load_step, value_step}
 use Rattle.command_runs.specs.ProblemCourse.{problem_in}
-use Rattle.command_runs.specs.ListCourse.{IsListed, Listed}
+use Rattle.command_runs.specs.ListCourse.{IsListAnswer, Listed}
 use Rattle.command_runs.specs.Texts.{listed_of}
 use Rattle.command_runs.proofs.RunLemmas.{came, handed_on, went_on}
 use Rattle.cli.proofs.list.list_files.Goals as goal
 
 -- the list by the certificate of a file, where the problem is known
 with_problem : Option Files → ListWords → ProblemValue → Course Listed
-with_problem files words v = load_step files words.check.certificate.now >>= λ text. value_step (IsListed v words.check.budget (option_map (λ w. w.number) words.stored) text)
+with_problem files words v = load_step files words.check.certificate.now >>= λ text. value_step (IsListAnswer v words.check.budget (option_map (λ w. w.number) words.stored) text)
 
 pub returns-in_err-text-clause-course : goal.returns-in_err-text-clause-course
 unfolding with_problem
@@ -26,7 +26,7 @@ returns-in_err-text-clause-course g c =
     let v = c.in_ok-problem.problem in
     let met = subst (λ (f : Option Files). Meets c.in_err-text.field-0.0 (λ a. load_step f words.check.certificate.now between after (Err a))) c.load_problem.ensures.same c.in_err-text.ensures.course in
     went_on listed_of c.from_residual-in_err-text.result (problem_in files words.check.problem) (with_problem files words) v before between after c.in_ok-problem.ensures.course
-    (handed_on listed_of c.in_err-text.field-0.0 c.from_residual-in_err-text.result (load_step files words.check.certificate.now) (λ text. value_step (IsListed v words.check.budget (option_map (λ w. w.number) words.stored) text)) between after c.from_residual-in_err-text.ensures.1 met)
+    (handed_on listed_of c.in_err-text.field-0.0 c.from_residual-in_err-text.result (load_step files words.check.certificate.now) (λ text. value_step (IsListAnswer v words.check.budget (option_map (λ w. w.number) words.stored) text)) between after c.from_residual-in_err-text.ensures.1 met)
 
 pub returns-clause-course : goal.returns-clause-course
 unfolding with_problem
@@ -43,7 +43,7 @@ returns-clause-course g c =
     let said = listed_of c.in_ok-listed.listed in
     let number = option_map (λ w. w.number) words.stored in
     let loaded = subst (λ (f : Option Files). load_step f name between after (Ok text)) c.load_problem.ensures.same c.in_ok-text.ensures.course in
-    let counted = subst (λ (n : Option ℕ). IsListed v budget n c.deref.result.now said) c.number_in-number.ensures c.in_ok-listed.ensures in
-    let listed = subst (λ (t : List ℕ). IsListed v budget number t said) c.deref.ensures.value counted in
+    let counted = subst (λ (n : Option ℕ). IsListAnswer v budget n c.deref.result.now said) c.number_in-number.ensures c.in_ok-listed.ensures in
+    let listed = subst (λ (t : List ℕ). IsListAnswer v budget number t said) c.deref.ensures.value counted in
     came (problem_in files words.check.problem) (with_problem files words) v before between after (Ok said) c.in_ok-problem.ensures.course
-    (came (load_step files name) (λ t. value_step (IsListed v budget number t)) text between after after (Ok said) loaded (refl, listed))
+    (came (load_step files name) (λ t. value_step (IsListAnswer v budget number t)) text between after after (Ok said) loaded (refl, listed))

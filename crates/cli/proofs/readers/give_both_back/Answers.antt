@@ -1,7 +1,7 @@
 use Rattle.std.proofs.Common.{Option, refl, subst}
 use Rattle.shelves.specs.Files.{Files}
 use Rattle.shelves.specs.Shelf.{IsRead}
-use Rattle.command_runs.specs.Reading.{Given}
+use Rattle.command_runs.specs.Reading.{GivenBack}
 use Rattle.cli.proofs.ReaderLemmas.{both_back}
 use Rattle.cli.proofs.readers.give_both_back.Goals as goal
 
@@ -11,8 +11,8 @@ returns-clause-back g c =
     let before = g.H.Shelf.history c.args.shelf.now in
     let between = g.H.Shelf.history c.give_back-segment_end.new.self in
     let after = g.H.Shelf.history c.give_back-geo_end.new.self in
-    let geo : Given = record { bytes = g.H.Reader.Source.given c.args.readers.0; answer = c.give_back-geo_end.result } in
-    let segment : Given = record { bytes = g.H.Reader.Source.given c.args.readers.1; answer = c.give_back-segment_end.result } in
+    let geo : GivenBack = record { bytes = g.H.Reader.Source.given c.args.readers.0; answer = c.give_back-geo_end.result } in
+    let segment : GivenBack = record { bytes = g.H.Reader.Source.given c.args.readers.1; answer = c.give_back-segment_end.result } in
     let read = subst (λ (known : Option Files). IsRead known c.args.words.geo.now geo.bytes geo.answer) c.give_back-segment_end.ensures.same c.give_back-geo_end.ensures.read in (
       (geo, segment),
       refl,

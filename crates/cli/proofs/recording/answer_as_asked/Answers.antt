@@ -1,7 +1,5 @@
-use Rattle.std.proofs.Common.{◌≡◌, ◌∙◌, List, ℕ, Option, Some, None, ap, subst, sym}
-use Rattle.std.specs.Borrow.{Bor}
-use Rattle.std.specs.Prelude.{option_map}
-use Rattle.shelves.specs.Files.{File}
+use Rattle.std.proofs.Common.{◌≡◌, List, ℕ, Option, Some, None, subst}
+use Rattle.shelves.specs.Files.{NamedFile}
 use Rattle.record_report.specs.RecordFiles.{record_name_of}
 use Rattle.command_runs.specs.Storing.{HasStored}
 use Rattle.command_runs.specs.Run.{RunsAsAsked}
@@ -16,7 +14,7 @@ returns-in-Some g c =
     let listed = g.H.Shelf.stored c.args.shelf.now in
     let last = g.H.Shelf.stored c.answer_with_record.new.shelf in
     let is : Some c.in-Some.name.now ≡ record_name_of c.args.command = c.in-Some.ensures in
-    subst (λ (name : Option (List ℕ)). (stored : List File) × HasStored files later listed last stored
+    subst (λ (name : Option (List ℕ)). (stored : List NamedFile) × HasStored files later listed last stored
     × RunsAsAsked files (texts c.args.words.now) c.args.command name (g.H.Shelf.history c.args.shelf.now) (g.H.Shelf.history c.answer_with_record.new.shelf) stored (said_of c.answer_with_record.result)) is
     c.answer_with_record.ensures
 
@@ -27,6 +25,6 @@ returns-in-None g c =
     let listed = g.H.Shelf.stored c.args.shelf.now in
     let last = g.H.Shelf.stored c.command_answer.new.shelf in
     let is : None ≡ record_name_of c.args.command = c.in-None.ensures in
-    subst (λ (name : Option (List ℕ)). (stored : List File) × HasStored files later listed last stored
+    subst (λ (name : Option (List ℕ)). (stored : List NamedFile) × HasStored files later listed last stored
     × RunsAsAsked files (texts c.args.words.now) c.args.command name (g.H.Shelf.history c.args.shelf.now) (g.H.Shelf.history c.command_answer.new.shelf) stored (said_of c.command_answer.result)) is
     c.command_answer.ensures

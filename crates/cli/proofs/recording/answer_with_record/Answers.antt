@@ -1,4 +1,4 @@
-use Rattle.std.proofs.Common.{◌++◌, ◌≡◌, ◌∙◌, List, [], Option, sym, ap, subst, refl}
+use Rattle.std.proofs.Common.{◌++◌, List, [], Option, sym, subst, refl}
 use Rattle.std.proofs.lemmas.List.{append-nil}
 use Rattle.shelves.specs.Files.{Files}
 use Rattle.shelves.specs.History.{History}
@@ -7,7 +7,6 @@ use Rattle.program_answers.specs.Answers.{answer_of}
 use Rattle.command_runs.specs.Run.{CommandRun}
 use Rattle.command_runs.proofs.StoreLemmas.{stored_after}
 use Rattle.cli.specs.Delivery.{texts}
-use Rattle.cli.specs.Ends.{said_of}
 use Rattle.cli.proofs.RecordLemmas.{unanswered}
 use Rattle.cli.proofs.StoringLemmas.{from_start}
 use Rattle.cli.proofs.recording.answer_with_record.Goals as goal

@@ -1,13 +1,13 @@
 use Rattle.std.proofs.Common.{ℕ, List, [], refl, subst}
 use Rattle.std.proofs.lemmas.List.{append-nil}
 use Rattle.grouping_problem.specs.ProblemValue.{problem_of}
-use Rattle.certificate_checker.specs.Answered.{IsAnswer}
+use Rattle.certificate_checker.specs.Answered.{IsCheckAnswer}
 use Rattle.command_runs.proofs.checker_report.check_from_and_say.Goals as goal
 
 pub returns-in-Ok-say : goal.returns-in-Ok-say
 returns-in-Ok-say g c =
     let bytes = c.in-Ok.ensures.verdict in
-    let of_given = subst (λ (text : List ℕ). IsAnswer (problem_of c.args.tabled.now.problem) text c.args.budget c.in-Ok.verdict) (append-nil bytes.pulled) (bytes.answer [] (λ ended. refl)) in
+    let of_given = subst (λ (text : List ℕ). IsCheckAnswer (problem_of c.args.tabled.now.problem) text c.args.budget c.in-Ok.verdict) (append-nil bytes.pulled) (bytes.answer [] (λ ended. refl)) in
     record {
       given = bytes.pulled;
       is_given = bytes.given;

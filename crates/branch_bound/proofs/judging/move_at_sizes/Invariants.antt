@@ -3,7 +3,7 @@ use Rattle.std.proofs.Common.{length}
 use Rattle.ordered_counties.specs.OrderedValue.{problem_at}
 use Rattle.known_groups.specs.PartLists.{AreListsOf}
 use Rattle.branch_bound.specs.Searching.{state_in, IsAt}
-use Rattle.branch_bound.proofs.judging.judge_sizes.Given as goal
+use Rattle.branch_bound.proofs.judging.move_at_sizes.Given as goal
 
 abbrev pub decreases-loop-position : goal.decreases-loop-position
 decreases-loop-position g l = l.ground.round.now.limit - l.position.size
