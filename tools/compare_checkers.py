@@ -129,9 +129,9 @@ def with_changed_number(line, codes, chance):
 
 
 def mutated(text, chance):
-    """The text with one line changed, and what was done. Most ways keep it the text of some certificate."""
+    """The text with one line changed, and what was done. Most ways keep it the text of some certificate. An empty order gives no code to change to."""
     lines = text.split(b"\n")[:-1]
-    codes, place = lines[1].split(b" ")[1:], chance.randrange(1, len(lines) - 1)
+    codes, place = lines[1].split(b" ")[1:] or [b"37001"], chance.randrange(1, len(lines) - 1)
     like = [it for it in lines if it.split(b" ")[0] == lines[place].split(b" ")[0]]
     way = chance.choice(("number", "number", "number", "number", "like", "like", "leaf", "left out", "doubled", "elsewhere"))
     if way == "number" and re.search(rb"[0-9]", lines[place]):
