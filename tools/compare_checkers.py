@@ -1,7 +1,7 @@
 #!/usr/bin/env python3
 """Compares the second checker, tools/check.py, with the worked cases and with a program.
 
-usage: compare_checkers.py [--all] [--program FILE [--chamber SEATS ..] [--mutations N] [--seed N]] [FOLDER or FILE.case or FILE.words ..]
+usage: compare_checkers.py [--all] [--program FILE [--chamber SEATS ..] [--mutations N] [--seed N] [--states]] [FOLDER or FILE.case or FILE.words ..]
 
 Without --program: each run of `check` among the cases whose wanted answer isn't `budget`. The second checker has to write what the case wants,
 and to end with its status. If the words are no command or ask for help, the text is that of `clap`: then the status alone is compared,
@@ -11,6 +11,8 @@ checker stores no file.
 --all takes the cases of millions of lines too, which take minutes, but for those that bound the memory: the second checker holds a whole text.
 --program FILE makes certificates of North Carolina's two chambers (data/nc2020; --chamber: of these) too. Both checkers check them, and each
 of them with one line changed at random, N times (--mutations, 20 unless said otherwise; --seed, 1).
+--states beside it makes certificates of the chambers of ten states (data/states) too, if the program answers best within its default steps. Both
+checkers check them as they are, and a line has the seconds of processor time of each. The second checker takes minutes for the longest.
 
 Statuses: 0 all agree, 1 some differ, 2 these words can't be run. The last line is `N agree, M differ`.
 """
@@ -24,14 +26,16 @@ import tempfile
 import time
 
 TOP = os.path.dirname(os.path.dirname(os.path.realpath(__file__)))
-sys.path[:0] = [f"{TOP}/cases", f"{TOP}/tools"]
+sys.path[:0] = [f"{TOP}/cases", f"{TOP}/tools", f"{TOP}/bench"]
 import cases  # noqa: E402
 import check  # noqa: E402
 import program_runs  # noqa: E402
+import states  # noqa: E402
 
 # Cases that take long in Python, by their folder or the beginnings of their names.
 LONG = re.compile(r"/huge/|/long/(a_plain_text_of_a_million_marks|a_wide_text_of_a_million_raises)")
-SECONDS = 900
+SECONDS = 3600
+BUDGET = 1_000_000_000
 
 
 class Run:
@@ -154,16 +158,22 @@ def ran(program, words, folder):
     return made.stdout, made.returncode
 
 
+def children_seconds():
+    """The seconds of processor time of all runs so far."""
+    return sum(os.times()[2:4])
+
+
 def both_checkers(program, words, folder):
-    """What differs between both checkers, if anything does. A budget that ran out says nothing."""
+    """What differs between both checkers, if anything does, and the seconds of each. A budget that ran out says nothing."""
+    seconds = [children_seconds()]
     wanted = ran(program, words, folder)
+    seconds.append(children_seconds())
     if wanted == (b"budget\n", 3):
-        return None
+        return None, (seconds[1] - seconds[0], 0)
     found = ran(sys.executable, [f"{TOP}/tools/check.py", *words[1:]], folder)
-    if found == wanted:
-        return None
     text = lambda run: run[0] + b"exit %d\n" % run[1]
-    return cases.first_difference(text(wanted), text(found))
+    why = cases.first_difference(text(wanted), text(found)) if found != wanted else None
+    return why, (seconds[1] - seconds[0], children_seconds() - seconds[1])
 
 
 def compare_chamber(program, chamber, asked, tally):
@@ -174,7 +184,7 @@ def compare_chamber(program, chamber, asked, tally):
         if status != 0:
             program_runs.stop(f"{program} didn't solve chamber {chamber}: status {status}")
         began = time.time()
-        tally.add(f"chamber {chamber}", both_checkers(program, ["check", *common], room))
+        tally.add(f"chamber {chamber}", both_checkers(program, ["check", *common], room)[0])
         print(f"chamber {chamber}: both checkers took {time.time() - began:.0f} seconds", flush=True)
         with open(f"{room}/certificate", "rb") as file:
             whole = file.read()
@@ -182,7 +192,19 @@ def compare_chamber(program, chamber, asked, tally):
             text, what = mutated(whole, random.Random(f"{asked.seed} {chamber} {turn}"))
             with open(f"{room}/certificate", "wb") as file:
                 file.write(text)
-            tally.add(f"chamber {chamber}, seed {asked.seed}, mutation {turn}, {what}", both_checkers(program, ["check", *common], room))
+            tally.add(f"chamber {chamber}, seed {asked.seed}, mutation {turn}, {what}", both_checkers(program, ["check", *common], room)[0])
+
+
+def compare_states(program, tally):
+    """The chambers of the ten states that the program answers best."""
+    for name, chamber, words in states.problems():
+        with tempfile.TemporaryDirectory(prefix="compare-") as room:
+            words = [*words, "--certificate", "certificate"]
+            if name == "North Carolina" or ran(program, ["solve", *words], room)[1] != 0:
+                continue
+            why, seconds = both_checkers(program, ["check", *words, "--budget", str(BUDGET)], room)
+            tally.add(f"{name} {chamber}", why)
+            print("{} {}: the program took {:.2f} seconds, the second checker {:.2f}".format(name, chamber, *seconds), flush=True)
 
 
 def main():
@@ -192,13 +214,18 @@ def main():
     parser.add_argument("--chamber", type=int, action="append")
     parser.add_argument("--mutations", type=int, default=20)
     parser.add_argument("--seed", type=int, default=1)
+    parser.add_argument("--states", action="store_true")
     parser.add_argument("folders", nargs="*")
     asked = parser.parse_args()
+    if asked.states and not asked.program:
+        parser.error("--states needs --program")
     tally = Tally()
     compare_cases([it for it in cases.stems(asked.folders) if asked.all or not LONG.search(os.path.realpath(it))], tally)
     if asked.program:
         for chamber in asked.chamber or (120, 50):
             compare_chamber(os.path.realpath(asked.program), chamber, asked, tally)
+    if asked.states:
+        compare_states(os.path.realpath(asked.program), tally)
     print(f"{tally.agree} agree, {tally.differ} differ")
     return 1 if tally.differ else 0
 
