@@ -452,17 +452,24 @@ def asked_of_second(run, made):
     """The words and files of a check, and what the second checker is to answer, or None if it isn't asked. A list says what a check says up to its
     answer, and a grouping that `judge` calls best has the counts of the check; of a certificate that was stored, only the answer is known."""
     command, certificate, outputs = run.words[0], named_by(run.words, "--certificate"), outputs_of(run.words)
-    if made.status in (2, 5) or b"Usage:" in made.text or made.text == b"budget\n" or certificate is None:
+    is_unread = b"Usage:" in made.text or made.text.startswith((b"budget\n", b"refused case "))
+    if made.status in (2, 5) or is_unread or certificate is None:
         return None
     kept = ["check"]
     for option in ("--geo", "--segment", "--chamber", "--state", "--part", "--of", "--adjacency", "--links", "--withdrawn", "--certificate", "--table"):
         kept += [option, named_by(run.words, option)] if named_by(run.words, option) is not None else []
     if command in ("check", "list") or command == "judge" and b"answer best\n" in made.text:
         return kept, run.files, made.text
-    is_alone = [*outputs.values()].count(certificate) == 1
+    is_alone = [*outputs.values()].count(certificate) == 1 and [word for _, word in named_words(run.words)].count(certificate) == 1
     if command in ("solve", "share") and is_alone and made.files.get(certificate, run.files.get(certificate)) != run.files.get(certificate):
         return kept, {**run.files, certificate: made.files[certificate]}, made.text
     return None
+
+
+def named_words(words):
+    """The options of a run, each with the word that it is given."""
+    spaced = [(one, other) for one, other in zip(words, words[1:]) if one.startswith("--") and "=" not in one]
+    return spaced + [tuple(word.split("=", 1)) for word in words if word.startswith("--") and "=" in word]
 
 
 def agrees(command, text, status, found):
@@ -527,6 +534,12 @@ def tests():
     """What is tested of this script: a name, what is found, and what is wanted."""
     report = "people 400\nchamber 4\nseats left 4\ncounties 4\nanswer best\ncounts 2 1\ngroup 1 seats 1 people 100 counties 37001\n"
     yield "a report", is_of_format("check", report, 0), True
+    yield "options", named_words(["solve", "--geo", "a", "--out=b"]), [("--geo", "a"), ("--out", "b")]
+    over = Given(["solve", "--geo", "g", "--certificate", "g"], {"g": b"x"})
+    yield "a certificate over an input", asked_of_second(over, Made(b"answer best\n", 0, b"", {"g": b"y"})), None
+    beside = Given(["solve", "--geo", "g", "--certificate", "c"], {"g": b"x"})
+    yield "a certificate beside it", asked_of_second(beside, Made(b"answer best\n", 0, b"", {"c": b"y"})) is not None, True
+    yield "a case that is too large", asked_of_second(beside, Made(b"refused case TooLarge line 0\n", 4, b"", {})), None
     yield "a report with a window", is_of_format("check", report.replace("seats left", "window 1 10\nseats left"), 0), True
     yield "a report with another status", is_of_format("check", report, 1), False
     yield "a report of another command", is_of_format("list", report, 0), False
