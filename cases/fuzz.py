@@ -451,7 +451,7 @@ def second_answer(words, files):
 def asked_of_second(run, made):
     """The words and files of a check, and what the second checker is to answer, or None if it isn't asked. A list says what a check says up to its
     answer, and a grouping that `judge` calls best has the counts of the check; of a certificate that was stored, only the answer is known."""
-    command, certificate, outputs = run.words[0], named_by(run.words, "--certificate"), outputs_of(run.words)
+    command, certificate = run.words[0], named_by(run.words, "--certificate")
     is_unread = b"Usage:" in made.text or made.text.startswith((b"budget\n", b"refused case "))
     if made.status in (2, 5) or is_unread or certificate is None:
         return None
@@ -460,7 +460,7 @@ def asked_of_second(run, made):
         kept += [option, named_by(run.words, option)] if named_by(run.words, option) is not None else []
     if command in ("check", "list") or command == "judge" and b"answer best\n" in made.text:
         return kept, run.files, made.text
-    is_alone = [*outputs.values()].count(certificate) == 1 and [word for _, word in named_words(run.words)].count(certificate) == 1
+    is_alone = [word for _, word in named_words(run.words)].count(certificate) == 1
     if command in ("solve", "share") and is_alone and made.files.get(certificate, run.files.get(certificate)) != run.files.get(certificate):
         return kept, {**run.files, certificate: made.files[certificate]}, made.text
     return None
