@@ -2,7 +2,7 @@
 
 ghost use Rattle.std.specs.Prelude.{◌≡◌, ℕ, ◌+◌, ◌≤◌, ◌<◌, List, [], length, All, IfOk, OnOk, IsErrOf, MatchOption, ⊤};
 ghost use Rattle.proof_trees.specs.Leaves.{IsStuck, IsOffSeats};
-ghost use Rattle.fitting_groups.specs.declared.stop.Stop.{Stop};
+ghost use Rattle.county_regions.specs.declared.stop.Stop.{Stop};
 ghost use Rattle.ordered_counties.specs.OrderedValue.{problem_at};
 ghost use Rattle.known_groups.specs.PartLists.{AreListsOf};
 ghost use Rattle.branch_bound.specs.Searching.{problem_in, round_in, state_in, IsGround, IsAt, IsEnd, IsNextMove, IsNextSize};

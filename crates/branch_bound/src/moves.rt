@@ -6,7 +6,7 @@ ghost use Rattle.growing_sets.specs.Listing.{AreBelow};
 ghost use Rattle.proof_trees.specs.State.{empty_state, close, raise};
 ghost use Rattle.proof_trees.specs.Groups.{IsGroupAt, AreGroupsAt};
 ghost use Rattle.proof_trees.specs.Proving.{CanBranch};
-ghost use Rattle.fitting_groups.specs.declared.stop.Stop.{Stop};
+ghost use Rattle.county_regions.specs.declared.stop.Stop.{Stop};
 ghost use Rattle.certificate_lines.specs.Fits.{AreCodes};
 ghost use Rattle.line_verdicts.specs.Placed.{codes_of_set, codes_of_sets};
 ghost use Rattle.branch_bound.specs.Searching.{problem_in, round_in, state_in, IsGround, IsAt};

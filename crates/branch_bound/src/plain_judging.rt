@@ -5,7 +5,7 @@ ghost use Rattle.ordered_counties.specs.OrderedValue.{code_at};
 ghost use Rattle.proof_trees.specs.Fitting.{NoGroupFits};
 ghost use Rattle.proof_trees.specs.Leaves.{IsStuck, IsOffSeats};
 ghost use Rattle.proof_trees.specs.Proving.{CanBranch};
-ghost use Rattle.fitting_groups.specs.declared.stop.Stop.{Stop};
+ghost use Rattle.county_regions.specs.declared.stop.Stop.{Stop};
 ghost use Rattle.branch_bound.specs.Searching.{problem_in, round_in, state_in, IsEnd};
 ghost use Rattle.branch_bound.specs.PlainRounds.{IsPlainGround, IsStateOf, IsNextPlainMove};
 

@@ -6,7 +6,7 @@ ghost use Rattle.certificate_text.specs.declared.tree.Branch.{roll-Branch};
 ghost use Rattle.ordered_counties.specs.OrderedValue.{code_at};
 ghost use Rattle.proof_trees.specs.Groups.{IsGroupAt, AreGroupsAt};
 ghost use Rattle.proof_trees.specs.Proving.{CanBranch};
-ghost use Rattle.fitting_groups.specs.declared.stop.Stop.{Stop};
+ghost use Rattle.county_regions.specs.declared.stop.Stop.{Stop};
 ghost use Rattle.line_verdicts.specs.Placed.{codes_of_set, codes_of_sets, IsClosable};
 ghost use Rattle.branch_bound.specs.Searching.{problem_in, round_in, state_in, IsOutcome, IsTaken, AreTakesAt};
 ghost use Rattle.branch_bound.specs.PlainRounds.{IsPlainGround, IsStateOf};

@@ -10,7 +10,7 @@ ghost use Rattle.known_groups.specs.PartLists.{AreListsOf};
 ghost use Rattle.proof_trees.specs.Fitting.{Fits};
 ghost use Rattle.proof_trees.specs.Groups.{IsGroupAt};
 ghost use Rattle.proof_trees.specs.State.{State as StateValue, close, raise};
-ghost use Rattle.fitting_groups.specs.declared.stop.Stop.{Stop};
+ghost use Rattle.county_regions.specs.declared.stop.Stop.{Stop};
 ghost use Rattle.line_verdicts.specs.Placed.{codes_of_set};
 ghost use Rattle.branch_bound.specs.declared.outcome.Raised.TheVariants as end;
 ghost use Rattle.branch_bound.specs.declared.outcome.Taken.TheVariants as one;

@@ -1,19 +1,11 @@
-//! The set at which a search begins, the places after it, and the most people of one of these.
+//! The places after the one at which a search begins, and the most people of one of these.
 
 ghost use Rattle.std.specs.Prelude.{◌≡◌, ℕ, ◌<◌, ◌≤◌, length, IfOk};
-ghost use Rattle.connected_groups.specs.Search.{problem_at, HasMost, later, only};
+ghost use Rattle.connected_groups.specs.Search.{problem_at, HasMost, later};
 
 use ordered_counties::Ordered;
 use place_sets::CountySet;
 use std::alloc::{AllocError, Global};
-
-/// The set of one place.
-pub(crate) fn only_place<C: CountySet>(alloc: Global, place: u16) -> Result<C, AllocError>
-    requires { place < C.PLACES }
-    ensures { IfOk result (λ s. (x : ℕ) → C.test s x ≡ only place x) }
-{
-    C::empty(alloc)?.with(alloc, place)
-}
 
 /// The places after one.
 pub(crate) fn later_places<C: CountySet>(

@@ -1,3 +1,6 @@
 pub mod RowLemmas
 pub mod Filling
 pub mod PartLists
+pub mod Failing
+pub mod Passed
+pub mod StartFronts

@@ -1,48 +1,19 @@
 //! The closed groups of a state and the connected parts of its rest, sorted.
 
-ghost use Rattle.std.specs.Prelude.{◌≡◌, ◌≢◌, ℕ, ◌≤◌, length, AllPairs, IfOk};
-ghost use Rattle.std.specs.Cmp.Lexicographic.{slice_cmp};
-ghost use Rattle.std.specs.Ordering.{nat_cmp, is_lt};
-ghost use Rattle.std.specs.List.Sorted.{IsPermutation, IsSortedBy};
+ghost use Rattle.std.specs.Prelude.{◌≢◌, ◌≤◌, length, AllPairs, IfOk};
 ghost use Rattle.grouping_laws.specs.GroupsFrom.{IsBefore};
 ghost use Rattle.grouping_problem.specs.ProblemValue.{problem_of};
 ghost use Rattle.ordered_counties.specs.OrderedValue.{problem_at};
 ghost use Rattle.county_regions.specs.Rows.{AreRows};
-ghost use Rattle.growing_sets.specs.Growing.{sort_key};
-ghost use Rattle.growing_sets.specs.Listing.{AreBelow, lists_of};
+ghost use Rattle.growing_sets.specs.Listing.{AreBelow};
 ghost use Rattle.line_verdicts.specs.Placed.{state_at, codes_of_sets, IsPlaced};
 ghost use Rattle.finished_groupings.specs.Finished.{AreFinished};
 
 use county_regions::parts_of;
 use ordered_counties::Ordered;
-use place_sets::{CountySet, by_size_and_places};
+use place_sets::{CountySet, copy_sets, sorted};
 use proof_trees::State;
 use std::alloc::{AllocError, Global};
-
-/// Equal sets.
-fn copy_sets<C: CountySet>(alloc: Global, sets: &[C]) -> Result<Vec<C>, AllocError>
-    ensures { IfOk result (λ v. (n : ℕ) → lists_of n C.test v.items ≡ lists_of n C.test sets.now) }
-{
-    let mut copies = Vec::new(alloc);
-    for set in sets {
-        copies.push(set.copy(alloc)?)?;
-    }
-    Ok(copies)
-}
-
-/// The sets by size, and sets of one size by their lists of places.
-fn sorted<C: CountySet>(sets: Vec<C>) -> Result<Vec<C>, AllocError>
-    ensures same { IfOk result (λ v. IsPermutation sets.items v.items) }
-    ensures sorted { IfOk
-        result
-        (λ v. (n : ℕ)
-        → AreBelow n C.test sets.items
-        → IsSortedBy (λ g h. is_lt (slice_cmp nat_cmp (sort_key g) (sort_key h))) (lists_of n C.test v.items)) }
-{
-    let mut sets = sets;
-    sets.sort_by(|a, b| by_size_and_places(a, b))?;
-    Ok(sets)
-}
 
 /// The closed groups of a state, and behind them the connected parts of its rest.
 fn closed_and_parts<C: CountySet>(

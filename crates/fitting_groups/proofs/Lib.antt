@@ -1,4 +1,3 @@
-pub mod Failing
 pub mod Keeping
 pub mod Deciding
 pub mod Starting
@@ -8,4 +7,3 @@ pub mod SeatWindows
 pub mod Moves
 pub mod RestPeople
 pub mod PeopleRows
-pub mod Passed

@@ -261,15 +261,3 @@ module _ (p : Problem) (n limit : ℕ) (set free : ℕ → Bool) (g : List ℕ) 
 
   pub joins_length : length g ≡ length (places_of n set) + length (places_of n joins)
   joins_length = omega (arith, joins_split (λ z. 1), total_ones g, total_ones (places_of n set), total_ones (places_of n joins))
-
--- the tables serve where fewer places are free
-pub fewer_tables : (language : Language) (p : Problem) (n limit : ℕ) (rest region fewer : ℕ → Bool) (tables : Tables) → ((x : ℕ) → fewer x ≡ true → region x ≡ true) → AreTables language p n limit rest region tables → AreTables language p n limit rest fewer tables
-fewer_tables language p n limit rest region fewer tables within are = record {
-  by_people = record { each = are.by_people.each; once = λ c e. are.by_people.once c (within c e); rising = are.by_people.rising; few = are.by_people.few };
-  windows = are.windows;
-  divided = are.divided;
-}
-
--- and those that a move leaves are fewer
-pub moved_tables : (language : Language) (p : Problem) (n limit : ℕ) (rest set free more less : ℕ → Bool) (place : ℕ) (tables : Tables) → IsMove set free more less place → AreTables language p n limit rest free tables → AreTables language p n limit rest less tables
-moved_tables language p n limit rest set free more less place tables m are = fewer_tables language p n limit rest free less tables (λ x e. (and_parts (free x) (not (x == place)) (sym (m.without x) ∙ e)).0) are

@@ -24,21 +24,6 @@ use Rattle.fitting_groups.specs.Keeping.{Decides, others}
 pub starts_in : (n at : ℕ) (region : ℕ → Bool) → ((x : ℕ) → region x ≡ true → x < n) → region at ≡ true → IsStartIn n at region (only at) (others region at)
 starts_in n at region below there = record { below = below; there = there; set_is = λ x. refl; free_is = λ x. refl }
 
--- the neighbours of the place that are free
-pub front_in : (p : Problem) (n at : ℕ) (region set free row front : ℕ → Bool) → IsStartIn n at region set free → ((y : ℕ) → y < n → row y ≡ p.adjacent at y) → ((x : ℕ) → front x ≡ (row x && free x)) → IsFront p set free front
-front_in p n at region set free row front start a b = record { each = each; all = all }
-  where
-    free_below : (x : ℕ) → free x ≡ true → x < n
-    free_below x e = start.below x (and_parts (region x) (not (x == at)) (sym (start.free_is x) ∙ e)).0
-
-    each : (x : ℕ) → front x ≡ true → IsCandidate p set free x
-    each x e =
-        let q = and_parts (row x) (free x) (sym (b x) ∙ e) in
-        record { is_free = q.1; from = at; from_set = start.set_is at ∙ eq-eqb at at refl; touch = sym (a x (free_below x q.1)) ∙ q.0 }
-
-    all : (x y : ℕ) → set x ≡ true → free y ≡ true → p.adjacent x y ≡ true → front y ≡ true
-    all x y e k t = b y ∙ and_from (row y) (free y) (a y (free_below y k) ∙ (ap (λ z. p.adjacent z y) (sym (eqb-true x at (sym (start.set_is x) ∙ e))) ∙ t)) k
-
 -- the same inside what is open at a limit
 pub starts_open : (n at limit : ℕ) (s : State) (region : ℕ → Bool) → ((x : ℕ) → s.rest x ≡ true → x < n) → ((x : ℕ) → region x ≡ open_to s limit x) → open_to s limit at ≡ true → IsStartIn n at (open_to s limit) (only at) (others region at)
 starts_open n at limit s region below same there = record {

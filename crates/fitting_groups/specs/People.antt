@@ -33,3 +33,11 @@ pub record AreTables (language : Language) (p : Problem) (n limit : ℕ) (rest r
   pub by_people : AreByPeople p n region tables.by_people.items
   pub windows : AreWindows p (people_of p (places_of n rest)) tables.windows.items
   pub divided : IsDivided language p n limit rest tables.rest_people
+
+-- the tables serve where fewer places are free
+pub fewer_tables : (language : Language) (p : Problem) (n limit : ℕ) (rest region fewer : ℕ → Bool) (tables : Tables) → ((x : ℕ) → fewer x ≡ true → region x ≡ true) → AreTables language p n limit rest region tables → AreTables language p n limit rest fewer tables
+fewer_tables language p n limit rest region fewer tables within are = record {
+  by_people = record { each = are.by_people.each; once = λ c e. are.by_people.once c (within c e); rising = are.by_people.rising; few = are.by_people.few };
+  windows = are.windows;
+  divided = are.divided;
+}

@@ -3,17 +3,14 @@
 //! serves.
 #![tactic(auto)]
 
-mod ground;
-mod grow;
+mod kept_sets;
 mod lists;
 mod passing;
 mod people;
 mod reach;
-mod sorting;
-mod stop;
+mod state_test;
 mod tables;
 mod windows;
 
+pub use county_regions::Stop;
 pub use lists::{groups_at, groups_of};
-pub use sorting::sorted;
-pub use stop::Stop;

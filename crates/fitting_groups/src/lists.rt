@@ -4,7 +4,7 @@ ghost use Rattle.std.specs.Prelude.{◌≡◌, ℕ, ◌+◌, true, false, ◌<�
 ghost use Rattle.grouping_laws.specs.Places.{places_below};
 ghost use Rattle.ordered_counties.specs.OrderedValue.{problem_at};
 ghost use Rattle.county_regions.specs.Rows.{AreRows};
-ghost use Rattle.growing_sets.specs.Growing.{only, IsFront};
+ghost use Rattle.growing_sets.specs.Growing.{only};
 ghost use Rattle.growing_sets.specs.Listing.{lists_of, AreBelow, IsListed, HasStepped, OneStepEach};
 ghost use Rattle.proof_trees.specs.Round.{Round};
 ghost use Rattle.proof_trees.specs.State.{open_to};
@@ -12,55 +12,17 @@ ghost use Rattle.proof_trees.specs.StateValue.{state_of};
 ghost use Rattle.proof_trees.specs.Groups.{IsSetAt, AreGroupsAt, IsSetWithin, AreGroupsOf};
 ghost use Rattle.fitting_groups.specs.Keeping.{Decides, others};
 ghost use Rattle.fitting_groups.specs.People.{AreTables};
-ghost use Rattle.fitting_groups.specs.declared.stop.Stop.{Stop};
+ghost use Rattle.county_regions.specs.declared.stop.Stop.{Stop};
 
-use crate::ground::{Ground, Growth};
-use crate::grow::{grow, most_populous};
-use crate::sorting::sorted;
-use crate::stop::Stop;
+use crate::kept_sets::most_populous;
+use crate::state_test::StateTest;
 use crate::tables::{Tables, make_tables};
+use county_regions::{GrowthGround, Stop, grow, start_growth};
 use ordered_counties::{Ordered, Steps};
-use place_sets::CountySet;
+use place_sets::{CountySet, sorted};
 use proof_trees::{Language, State};
 use state_tests::open_places;
 use std::alloc::{AllocError, Global};
-
-/// The set of one place.
-fn only_place<C: CountySet>(alloc: Global, place: u16) -> Result<C, AllocError>
-    requires { place < C.PLACES }
-    ensures { IfOk result (λ s. (x : ℕ) → C.test s x ≡ only place x) }
-{
-    C::empty(alloc)?.with(alloc, place)
-}
-
-/// The growth that begins with the place alone, in the region.
-fn start<C: CountySet>(
-    alloc: Global,
-    ordered: &Ordered,
-    near: &[C],
-    region: C,
-    place: u16,
-) -> Result<Growth<C>, AllocError>
-    requires fits { length ordered.now.order ≤ C.PLACES }
-    requires rows { AreRows C C.test (problem_at ordered.now) (length ordered.now.order) near.now }
-    requires below { (x : ℕ) → C.test region x ≡ true → x < length ordered.now.order }
-    requires there { C.test region place ≡ true }
-    ensures set { IfOk result (λ s. (x : ℕ) → C.test s.set x ≡ only place x) }
-    ensures free { IfOk result (λ s. (x : ℕ) → C.test s.free x ≡ others (C.test region) place x) }
-    ensures front { IfOk result (λ s. IsFront (problem_at ordered.now) (C.test s.set) (C.test s.free) (C.test s.front)) }
-    ensures people { IfOk result (λ s. s.people ≡ (problem_at ordered.now).people place) }
-{
-    let people = u64::from(ordered.people(place));
-    let free = region.without(place);
-    let set = only_place(alloc, place)?;
-    let front = near[usize::from(place)].copy(alloc)?.intersection(&free);
-    Ok(Growth {
-        set,
-        people,
-        front,
-        free,
-    })
-}
 
 /// Puts the connected sets of the region that have the place and at most `limit` places, and are kept, behind the
 /// groups.
@@ -98,17 +60,20 @@ fn search<C: CountySet>(
 {
     let _places = ordered.places();
     let _at_most = ordered.problem().total_people();
-    let growth = start(alloc, ordered, near, region, place)?;
-    let ground = Ground {
+    let free = region.without(place);
+    let growth = start_growth(alloc, ordered, near, place, free)?;
+    let ground = GrowthGround {
         ordered,
         near,
+        limit,
+    };
+    let test = StateTest {
         language,
         state,
-        limit,
         exact,
         tables,
     };
-    grow(alloc, &ground, growth, steps, groups)
+    grow(alloc, &ground, &test, growth, steps, groups)
 }
 
 /// The groups that fit the state, have the county at the place and have at most `limit` counties, each once, by

@@ -13,37 +13,48 @@ ghost use Rattle.proof_trees.specs.Fitting.{Fits};
 ghost use Rattle.fitting_groups.specs.Keeping.{Decides, IsAsked};
 ghost use Rattle.fitting_groups.specs.People.{AreByPeople, AreWindows, IsDivided, AreTables};
 
-use crate::ground::{Ground, Growth};
 use crate::people::first_people;
 use crate::reach::reached;
+use crate::state_test::StateTest;
 use crate::windows::{may_divide, may_suit};
+use county_regions::{Growth, GrowthGround};
 use place_sets::CountySet;
 use state_tests::{people_in, strands};
 use std::alloc::{AllocError, Global};
 
 /// The least number of people of so many places in reach, if sets of one size are asked for; else 0.
-fn fewest_more<C: CountySet>(ground: &Ground<C>, reach: &C, more: u32) -> u64
+fn fewest_more<C: CountySet>(
+    ground: &GrowthGround<C>,
+    test: &StateTest<C>,
+    reach: &C,
+    more: u32,
+) -> u64
     requires fits { length ground.now.ordered.now.order ≤ C.PLACES }
     requires below { (x : ℕ) → C.test reach.now x ≡ true → x < length ground.now.ordered.now.order }
-    requires places { AreByPeople (problem_at ground.now.ordered.now) (length ground.now.ordered.now.order) (C.test reach.now) ground.now.tables.now.by_people.items }
+    requires places { AreByPeople (problem_at ground.now.ordered.now) (length ground.now.ordered.now.order) (C.test reach.now) test.now.tables.now.by_people.items }
     ensures least { (joins : ℕ → Bool)
         → ((x : ℕ) → joins x ≡ true → C.test reach.now x ≡ true)
-        → (ground.now.exact ≡ true → length (places_of (length ground.now.ordered.now.order) joins) ≡ more)
+        → (test.now.exact ≡ true → length (places_of (length ground.now.ordered.now.order) joins) ≡ more)
         → result ≤ people_of (problem_at ground.now.ordered.now) (places_of (length ground.now.ordered.now.order) joins) }
     ensures bound { result ≤ 2 ^ 48 }
 {
-    if !ground.exact {
+    if !test.exact {
         return 0;
     }
-    first_people(&ground.tables.by_people, reach, more)
+    first_people(&test.tables.by_people, reach, more)
 }
 
 /// The greatest number of people of at most so many places in reach: all people in reach but those of the others,
 /// which have the fewest.
-fn most_more<C: CountySet>(ground: &Ground<C>, reach: &C, more: u32) -> u64
+fn most_more<C: CountySet>(
+    ground: &GrowthGround<C>,
+    test: &StateTest<C>,
+    reach: &C,
+    more: u32,
+) -> u64
     requires fits { length ground.now.ordered.now.order ≤ C.PLACES }
     requires below { (x : ℕ) → C.test reach.now x ≡ true → x < length ground.now.ordered.now.order }
-    requires places { AreByPeople (problem_at ground.now.ordered.now) (length ground.now.ordered.now.order) (C.test reach.now) ground.now.tables.now.by_people.items }
+    requires places { AreByPeople (problem_at ground.now.ordered.now) (length ground.now.ordered.now.order) (C.test reach.now) test.now.tables.now.by_people.items }
     ensures greatest { (joins : ℕ → Bool)
         → ((x : ℕ) → joins x ≡ true → C.test reach.now x ≡ true)
         → length (places_of (length ground.now.ordered.now.order) joins) ≤ more
@@ -51,54 +62,64 @@ fn most_more<C: CountySet>(ground: &Ground<C>, reach: &C, more: u32) -> u64
     ensures bound { result ≤ ground.now.ordered.now.problem.total_people }
 {
     let others = reach.size().saturating_sub(more);
-    people_in(ground.ordered, reach) - first_people(&ground.tables.by_people, reach, others)
+    people_in(ground.ordered, reach) - first_people(&test.tables.by_people, reach, others)
 }
 
 /// Whether people from the least to the greatest may suit, and what they leave of the rest too, if that has to.
-fn may_fit<C: CountySet>(ground: &Ground<C>, least: u64, greatest: u64) -> bool
-    requires places { length ground.now.state.now.least.items ≡ length ground.now.ordered.now.order }
-    requires rest { (x : ℕ) → C.test ground.now.state.now.rest x ≡ true → x < length ground.now.ordered.now.order }
-    requires windows { AreWindows (problem_at ground.now.ordered.now) (people_of (problem_at ground.now.ordered.now) (places_of (length ground.now.ordered.now.order) (C.test ground.now.state.now.rest))) ground.now.tables.now.windows.items }
-    requires divided { IsDivided ground.now.language (problem_at ground.now.ordered.now) (length ground.now.ordered.now.order) ground.now.limit (C.test ground.now.state.now.rest) ground.now.tables.now.rest_people }
+fn may_fit<C: CountySet>(
+    ground: &GrowthGround<C>,
+    test: &StateTest<C>,
+    least: u64,
+    greatest: u64,
+) -> bool
+    requires places { length test.now.state.now.least.items ≡ length ground.now.ordered.now.order }
+    requires rest { (x : ℕ) → C.test test.now.state.now.rest x ≡ true → x < length ground.now.ordered.now.order }
+    requires windows { AreWindows (problem_at ground.now.ordered.now) (people_of (problem_at ground.now.ordered.now) (places_of (length ground.now.ordered.now.order) (C.test test.now.state.now.rest))) test.now.tables.now.windows.items }
+    requires divided { IsDivided test.now.language (problem_at ground.now.ordered.now) (length ground.now.ordered.now.order) ground.now.limit (C.test test.now.state.now.rest) test.now.tables.now.rest_people }
     ensures { (g : List ℕ)
         → filter (member g) (places_below (length ground.now.ordered.now.order)) ≡ g
         → length g ≤ ground.now.limit
-        → Fits ground.now.language (problem_at ground.now.ordered.now) (state_of C.test ground.now.state.now) g
+        → Fits test.now.language (problem_at ground.now.ordered.now) (state_of C.test test.now.state.now) g
         → least ≤ people_of (problem_at ground.now.ordered.now) g
         → people_of (problem_at ground.now.ordered.now) g ≤ greatest
         → IsTrue result }
 {
     let _places = ground.ordered.places();
-    match ground.tables.rest_people {
-        None => may_suit(&ground.tables.windows, least, greatest),
-        Some(all) => may_divide(&ground.tables.windows, all, least, greatest),
+    match test.tables.rest_people {
+        None => may_suit(&test.tables.windows, least, greatest),
+        Some(all) => may_divide(&test.tables.windows, all, least, greatest),
     }
 }
 
 /// Whether the people of a set and of places in reach that join it may fit.
-fn may_grow<C: CountySet>(ground: &Ground<C>, growth: &Growth<C>, reach: &C) -> bool
+fn may_grow<C: CountySet>(
+    ground: &GrowthGround<C>,
+    test: &StateTest<C>,
+    growth: &Growth<C>,
+    reach: &C,
+) -> bool
     requires fits { length ground.now.ordered.now.order ≤ C.PLACES }
-    requires places { length ground.now.state.now.least.items ≡ length ground.now.ordered.now.order }
-    requires rest { (x : ℕ) → C.test ground.now.state.now.rest x ≡ true → x < length ground.now.ordered.now.order }
+    requires places { length test.now.state.now.least.items ≡ length ground.now.ordered.now.order }
+    requires rest { (x : ℕ) → C.test test.now.state.now.rest x ≡ true → x < length ground.now.ordered.now.order }
     requires growth { IsGrowth (problem_at ground.now.ordered.now) (length ground.now.ordered.now.order) ground.now.limit (C.test growth.now.set) (C.test growth.now.free) }
     requires people { growth.now.people ≡ people_of (problem_at ground.now.ordered.now) (places_of (length ground.now.ordered.now.order) (C.test growth.now.set)) }
     requires total { people_of (problem_at ground.now.ordered.now) (places_below (length ground.now.ordered.now.order)) ≤ ground.now.ordered.now.problem.total_people }
     requires bound { ground.now.ordered.now.problem.total_people ≤ 2 ^ 40 }
-    requires tables { AreTables ground.now.language (problem_at ground.now.ordered.now) (length ground.now.ordered.now.order) ground.now.limit (C.test ground.now.state.now.rest) (C.test growth.now.free) ground.now.tables.now }
+    requires tables { AreTables test.now.language (problem_at ground.now.ordered.now) (length ground.now.ordered.now.order) ground.now.limit (C.test test.now.state.now.rest) (C.test growth.now.free) test.now.tables.now }
     requires free { (x : ℕ) → C.test reach.now x ≡ true → C.test growth.now.free x ≡ true }
     ensures { (g : List ℕ)
         → IsExtension (problem_at ground.now.ordered.now) (length ground.now.ordered.now.order) ground.now.limit (C.test growth.now.set) (C.test reach.now) g
-        → IsAsked ground.now.exact ground.now.limit g
-        → Fits ground.now.language (problem_at ground.now.ordered.now) (state_of C.test ground.now.state.now) g
+        → IsAsked test.now.exact ground.now.limit g
+        → Fits test.now.language (problem_at ground.now.ordered.now) (state_of C.test test.now.state.now) g
         → IsTrue result }
 {
     let more = u32::from(ground.limit) - growth.set.size();
-    if ground.exact && reach.size() < more {
+    if test.exact && reach.size() < more {
         return false;
     }
-    let least = growth.people + fewest_more(ground, reach, more);
-    let greatest = growth.people + most_more(ground, reach, more);
-    may_fit(ground, least, greatest)
+    let least = growth.people + fewest_more(ground, test, reach, more);
+    let greatest = growth.people + most_more(ground, test, reach, more);
+    may_fit(ground, test, least, greatest)
 }
 
 /// Whether nothing can come of a growth: no places that the set reaches by as many moves as places may join it give it
@@ -106,24 +127,25 @@ fn may_grow<C: CountySet>(ground: &Ground<C>, growth: &Growth<C>, reach: &C) -> 
 /// is not passed over.
 pub(crate) fn is_passed_over<C: CountySet>(
     alloc: Global,
-    ground: &Ground<C>,
+    ground: &GrowthGround<C>,
+    test: &StateTest<C>,
     growth: &Growth<C>,
 ) -> Result<bool, AllocError>
     requires fits { length ground.now.ordered.now.order ≤ C.PLACES }
     requires rows { AreRows C C.test (problem_at ground.now.ordered.now) (length ground.now.ordered.now.order) ground.now.near.now }
-    requires places { length ground.now.state.now.least.items ≡ length ground.now.ordered.now.order }
-    requires rest { (x : ℕ) → C.test ground.now.state.now.rest x ≡ true → x < length ground.now.ordered.now.order }
+    requires places { length test.now.state.now.least.items ≡ length ground.now.ordered.now.order }
+    requires rest { (x : ℕ) → C.test test.now.state.now.rest x ≡ true → x < length ground.now.ordered.now.order }
     requires growth { IsGrowth (problem_at ground.now.ordered.now) (length ground.now.ordered.now.order) ground.now.limit (C.test growth.now.set) (C.test growth.now.free) }
     requires front { IsFront (problem_at ground.now.ordered.now) (C.test growth.now.set) (C.test growth.now.free) (C.test growth.now.front) }
     requires people { growth.now.people ≡ people_of (problem_at ground.now.ordered.now) (places_of (length ground.now.ordered.now.order) (C.test growth.now.set)) }
     requires total { people_of (problem_at ground.now.ordered.now) (places_below (length ground.now.ordered.now.order)) ≤ ground.now.ordered.now.problem.total_people }
     requires bound { ground.now.ordered.now.problem.total_people ≤ 2 ^ 40 }
-    requires tables { AreTables ground.now.language (problem_at ground.now.ordered.now) (length ground.now.ordered.now.order) ground.now.limit (C.test ground.now.state.now.rest) (C.test growth.now.free) ground.now.tables.now }
+    requires tables { AreTables test.now.language (problem_at ground.now.ordered.now) (length ground.now.ordered.now.order) ground.now.limit (C.test test.now.state.now.rest) (C.test growth.now.free) test.now.tables.now }
     ensures { IfOk
         result
         (λ passed. IsTrue passed
         → (keep : List ℕ → Bool)
-        → Decides ground.now.language (problem_at ground.now.ordered.now) (length ground.now.ordered.now.order) ground.now.limit ground.now.exact (state_of C.test ground.now.state.now) keep
+        → Decides test.now.language (problem_at ground.now.ordered.now) (length ground.now.ordered.now.order) ground.now.limit test.now.exact (state_of C.test test.now.state.now) keep
         → AreKept (problem_at ground.now.ordered.now) (length ground.now.ordered.now.order) ground.now.limit keep (C.test growth.now.set) (C.test growth.now.free) []) }
 {
     let more = u32::from(ground.limit) - growth.set.size();
@@ -131,15 +153,15 @@ pub(crate) fn is_passed_over<C: CountySet>(
         return Ok(false);
     }
     let reach = reached(alloc, ground, growth, more)?;
-    if !may_grow(ground, growth, &reach) {
+    if !may_grow(ground, test, growth, &reach) {
         return Ok(true);
     }
     strands(
         alloc,
         ground.ordered,
         ground.near,
-        ground.language,
-        ground.state,
+        test.language,
+        test.state,
         &growth.set,
         &growth.free,
     )

@@ -6,7 +6,7 @@ ghost use Rattle.ordered_counties.specs.OrderedValue.{problem_at};
 ghost use Rattle.county_regions.specs.Rows.{AreRows};
 ghost use Rattle.growing_sets.specs.Growing.{IsGrowth, IsFront, IsExtension};
 
-use crate::ground::{Ground, Growth};
+use county_regions::{Growth, GrowthGround};
 use ordered_counties::Ordered;
 use place_sets::CountySet;
 use std::alloc::{AllocError, Global};
@@ -38,7 +38,7 @@ fn neighbours_of<C: CountySet>(
 /// The free places that are adjacent to the edge and aren't reached yet.
 fn beyond<C: CountySet>(
     alloc: Global,
-    ground: &Ground<C>,
+    ground: &GrowthGround<C>,
     free: &C,
     edge: &C,
     reach: &C,
@@ -63,7 +63,7 @@ fn beyond<C: CountySet>(
 /// The free places that the set reaches by at most so many moves, each to an adjacent free place.
 pub(crate) fn reached<C: CountySet>(
     alloc: Global,
-    ground: &Ground<C>,
+    ground: &GrowthGround<C>,
     growth: &Growth<C>,
     moves: u32,
 ) -> Result<C, AllocError>

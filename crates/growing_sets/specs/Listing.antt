@@ -1,16 +1,8 @@
 -- What a search puts behind the sets that were there, and the steps that it takes.
-use Rattle.std.specs.Prelude.{ℕ, ◌+◌, ◌≡◌, ◌≢◌, ◌<◌, ◌≤◌, Bool, true, List, ◌++◌, map, length, All, AllPairs}
+use Rattle.std.specs.Prelude.{ℕ, ◌+◌, ◌≡◌, ◌≢◌, ◌≤◌, Bool, true, List, ◌++◌, length, All, AllPairs}
 use Rattle.grouping_laws.specs.Problem.{Problem}
-use Rattle.place_lists.specs.PlaceSets.{places_of}
+pub use Rattle.place_lists.specs.PlaceSets.{lists_of, AreBelow}
 use Rattle.growing_sets.specs.Growing.{AreKept, IsExtension}
-
--- the lists of places of sets
-abbrev pub lists_of : {C : Type 0} → ℕ → (C → ℕ → Bool) → List C → List (List ℕ)
-lists_of n test sets = map (λ s. places_of n (test s)) sets
-
--- each set has only places below n
-abbrev pub AreBelow : {C : Type 0} → ℕ → (C → ℕ → Bool) → List C → Type 0
-AreBelow n test sets = All (λ s. (x : ℕ) → test s x ≡ true → x < n) sets
 
 -- no free place has more people than this number
 abbrev pub HasMost : Problem → (ℕ → Bool) → ℕ → Type 0

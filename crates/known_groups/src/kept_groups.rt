@@ -6,7 +6,7 @@ ghost use Rattle.ordered_counties.specs.OrderedValue.{problem_at, code_at};
 ghost use Rattle.county_regions.specs.Rows.{AreRows};
 ghost use Rattle.growing_sets.specs.Listing.{AreBelow};
 ghost use Rattle.proof_trees.specs.Fitting.{IsLive};
-ghost use Rattle.fitting_groups.specs.declared.stop.Stop.{Stop};
+ghost use Rattle.county_regions.specs.declared.stop.Stop.{Stop};
 ghost use Rattle.line_verdicts.specs.Placed.{state_at, codes_of_set, codes_of_sets, IsPlaced};
 ghost use Rattle.known_groups.specs.Known.{AreThose, IsApart, Lacks, Has};
 

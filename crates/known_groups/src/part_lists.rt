@@ -6,7 +6,7 @@ ghost use Rattle.ordered_counties.specs.OrderedValue.{problem_at};
 ghost use Rattle.county_regions.specs.Rows.{AreRows};
 ghost use Rattle.growing_sets.specs.Listing.{AreBelow, lists_of};
 ghost use Rattle.proof_trees.specs.StateValue.{state_of};
-ghost use Rattle.fitting_groups.specs.declared.stop.Stop.{Stop};
+ghost use Rattle.county_regions.specs.declared.stop.Stop.{Stop};
 ghost use Rattle.known_groups.specs.Alone.{alone};
 ghost use Rattle.known_groups.specs.PartLists.{IsPartList, IsListFor, ArePut, AreListsOf};
 

@@ -13,15 +13,15 @@ ghost use Rattle.proof_trees.specs.StateValue.{state_of};
 ghost use Rattle.proof_trees.specs.Fitting.{Fits};
 ghost use Rattle.proof_trees.specs.Leaves.{IsStuck};
 ghost use Rattle.proof_trees.specs.Groups.{AreGroupsOf};
-ghost use Rattle.fitting_groups.specs.declared.stop.Stop.{Stop};
+ghost use Rattle.county_regions.specs.declared.stop.Stop.{Stop};
 ghost use Rattle.line_verdicts.specs.Placed.{state_at, codes_of_sets, IsPlaced};
 ghost use Rattle.known_groups.specs.PartLists.{ArePartGroups, AreNextGroups, AreListsOf};
 
 use crate::part_lists::PartLists;
 use county_regions::parts_of;
-use fitting_groups::{Stop, groups_of, sorted};
+use fitting_groups::{Stop, groups_of};
 use ordered_counties::{Ordered, Steps};
-use place_sets::CountySet;
+use place_sets::{CountySet, sorted};
 use proof_trees::{Round, State};
 use state_tests::open_places;
 use std::alloc::{AllocError, Global};

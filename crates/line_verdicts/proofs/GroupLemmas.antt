@@ -24,8 +24,8 @@ use Rattle.proof_trees.specs.Places.{IsStateAt, in_codes, round_at}
 use Rattle.proof_trees.proofs.Places.{places_serve}
 use Rattle.proof_trees.proofs.PlaceStates.{states_have_codes}
 use Rattle.verdicts.specs.Cost.{AreSoMany}
-use Rattle.fitting_groups.specs.declared.stop.Stop.{Stop}
-use Rattle.fitting_groups.specs.declared.stop.Stop.TheVariants as search
+use Rattle.county_regions.specs.declared.stop.Stop.{Stop}
+use Rattle.county_regions.specs.declared.stop.Stop.TheVariants as search
 use Rattle.line_verdicts.specs.declared.fault.LineStop.{LineStop}
 use Rattle.line_verdicts.specs.declared.fault.LineStop.TheVariants as line
 use Rattle.line_verdicts.specs.LineFaults.{line_stop}

@@ -2,8 +2,8 @@
 use Rattle.std.specs.Prelude.{⊤}
 use Rattle.verdicts.specs.Fault.{Fault}
 use Rattle.verdicts.specs.Fault as fault
-use Rattle.fitting_groups.specs.declared.stop.Stop.{Stop}
-use Rattle.fitting_groups.specs.declared.stop.Stop.TheVariants as search
+use Rattle.county_regions.specs.declared.stop.Stop.{Stop}
+use Rattle.county_regions.specs.declared.stop.Stop.TheVariants as search
 use Rattle.line_verdicts.specs.declared.fault.LineFault.{LineFault}
 use Rattle.line_verdicts.specs.declared.fault.LineFault.TheVariants.{WrongCounty, MissingGroup, StrayGroup, LightGroup, BoundOver, BoundLength, NotStuck, SeatsOpen, BoundWithoutTarget, NoLeaf}
 use Rattle.line_verdicts.specs.declared.fault.LineStop.{LineStop}

@@ -1,27 +1,15 @@
 //! The states of a tree by places: the first one, and those after a group is closed or a county raised.
 
 ghost use Rattle.std.specs.Prelude.{◌≡◌, ℕ, ◌<◌, ◌≤◌, cond, length, get_or, IfOk};
-ghost use Rattle.growing_sets.specs.Listing.{lists_of};
 ghost use Rattle.grouping_problem.specs.ProblemValue.{problem_of};
 ghost use Rattle.ordered_counties.specs.OrderedValue.{code_at};
 ghost use Rattle.proof_trees.specs.State.{empty_state, close, raise};
 ghost use Rattle.line_verdicts.specs.Placed.{state_at, codes_of_set, IsPlaced, IsClosable};
 
 use ordered_counties::Ordered;
-use place_sets::CountySet;
+use place_sets::{CountySet, copy_sets};
 use proof_trees::State;
 use std::alloc::{AllocError, Global};
-
-/// Equal sets.
-fn copy_sets<C: CountySet>(alloc: Global, sets: &[C]) -> Result<Vec<C>, AllocError>
-    ensures { IfOk result (λ v. (n : ℕ) → lists_of n C.test v.items ≡ lists_of n C.test sets.now) }
-{
-    let mut copies = Vec::new(alloc);
-    for set in sets {
-        copies.push(set.copy(alloc)?)?;
-    }
-    Ok(copies)
-}
 
 /// Sets the sizes at a set's places to 0.
 fn clear_sizes<C: CountySet>(least: &mut Vec<u16>, set: &C)

@@ -2,3 +2,4 @@ pub mod Sums
 pub mod PlaceSets
 pub mod PlaceSums
 pub mod SizeOrder
+pub mod SetLists

@@ -1,26 +1,12 @@
 -- The values of states: how a copy, a closing and a beginning stand to the definitions.
-use Rattle.std.proofs.Common.{◌≡◌, ℕ, ◌+◌, ◌≤◌, ◌<◌, Bool, true, false, cond, nat_lt, ◌&&◌, List, [], ◌∷◌, ◌++◌, map, drop, get_or, length, refl, sym, ap, ◌∙◌, arith, ⊎_elim}
+use Rattle.std.proofs.Common.{◌≡◌, ℕ, ◌+◌, ◌≤◌, ◌<◌, Bool, true, false, cond, nat_lt, ◌&&◌, List, [], ◌∷◌, ◌++◌, map, get_or, length, refl, sym, ap, ◌∙◌, arith, ⊎_elim}
 use Rattle.std.proofs.lemmas.Bool.{lt-ltb, ltb-true, ltb-false, cases_lt}
-use Rattle.std.proofs.lemmas.List.{append_assoc, append-nil, drop_more, drop_all, map_push, get_or_past}
+use Rattle.std.proofs.lemmas.List.{map_push, get_or_past}
 use Rattle.grouping_laws.specs.Sets.{member}
 use Rattle.place_lists.specs.PlaceSets.{places_of}
 use Rattle.place_lists.specs.Lists.{places_below}
 use Rattle.place_lists.proofs.Sums.{often_none, often_some}
 use Rattle.place_lists.proofs.PlaceSets.{member-places_of, often_below, often_above}
-
--- one more set is copied
-pub copied_more : {X Y : Type 0} (f : X → Y) (copies more sets : List X) (i : ℕ) (x y : X) → i < length sets → x ≡ get_or sets i x → more ≡ copies ++ y ∷ [] → f y ≡ f x
-    → map f copies ++ map f (drop i sets) ≡ map f sets → map f more ++ map f (drop (i + 1) sets) ≡ map f sets
-copied_more f copies more sets i x y l at push same e =
-    ap (λ z. map f z ++ map f (drop (i + 1) sets)) push
-    ∙ (ap (λ z. z ++ map f (drop (i + 1) sets)) (map_push f copies y)
-    ∙ (append_assoc (map f copies) (f y ∷ []) (map f (drop (i + 1) sets))
-    ∙ (ap (λ z. map f copies ++ z ∷ map f (drop (i + 1) sets)) same
-    ∙ (sym (ap (λ z. map f copies ++ map f z) (drop_more sets i x l ∙ ap (λ z. z ∷ drop (i + 1) sets) (sym at))) ∙ e))))
-
--- all are
-pub copied_all : {X Y : Type 0} (f : X → Y) (copies sets : List X) (i : ℕ) → length sets ≤ i → map f copies ++ map f (drop i sets) ≡ map f sets → map f copies ≡ map f sets
-copied_all f copies sets i l e = sym (append-nil (map f copies)) ∙ (sym (ap (λ z. map f copies ++ map f z) (drop_all i sets l)) ∙ e)
 
 -- the places of a set that has only places below n are its own
 pub own_places : (n : ℕ) (t : ℕ → Bool) → ((x : ℕ) → t x ≡ true → x < n) → (x : ℕ) → member (places_of n t) x ≡ t x

@@ -1,6 +1,6 @@
 //! States by the places of an order: closed groups, the rest, and the least size that each county asks for.
 
-ghost use Rattle.std.specs.Prelude.{◌≡◌, ℕ, ◌<◌, ◌≤◌, true, cond, nat_lt, List, length, map, get_or, IfOk};
+ghost use Rattle.std.specs.Prelude.{◌≡◌, ℕ, ◌<◌, ◌≤◌, true, cond, nat_lt, length, get_or, IfOk};
 ghost use Rattle.grouping_problem.specs.ProblemValue.{problem_of};
 ghost use Rattle.ordered_counties.specs.OrderedValue.{at_places};
 ghost use Rattle.place_lists.specs.PlaceSets.{places_of};
@@ -8,7 +8,7 @@ ghost use Rattle.proof_trees.specs.State.{empty_state, close, raise};
 ghost use Rattle.proof_trees.specs.StateValue.{state_of};
 
 use ordered_counties::Ordered;
-use place_sets::CountySet;
+use place_sets::{CountySet, copy_sets};
 use std::alloc::{AllocError, Global};
 
 /// Where a search or a proof tree stands, by the places of an order: groups that are closed, the other
@@ -49,17 +49,6 @@ fn no_sizes(alloc: Global, places: u16) -> Result<Vec<u16>, AllocError>
         least.push(0)?;
     }
     Ok(least)
-}
-
-/// Equal sets.
-fn copy_sets<C: CountySet>(alloc: Global, sets: &[C]) -> Result<Vec<C>, AllocError>
-    ensures { IfOk result (λ v. (n : ℕ) → map (λ s. places_of n (C.test s)) v.items ≡ map (λ s. places_of n (C.test s)) sets.now) }
-{
-    let mut copies = Vec::new(alloc);
-    for set in sets {
-        copies.push(set.copy(alloc)?)?;
-    }
-    Ok(copies)
 }
 
 /// Sets the numbers of a set's places to 0.

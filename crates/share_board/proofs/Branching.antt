@@ -14,8 +14,8 @@ use Rattle.proof_trees.specs.Groups.{AreGroupsAt}
 use Rattle.proof_trees.specs.Tree.{Tree, leaf, seats, Takes, no_take, take}
 use Rattle.proof_trees.specs.Proving.{NamesLimit, CanBranch}
 use Rattle.line_verdicts.specs.Placed.{state_at, codes_of_set, codes_of_sets, IsPlaced}
-use Rattle.fitting_groups.specs.declared.stop.Stop.{Stop}
-use Rattle.fitting_groups.specs.declared.stop.Stop.TheVariants as search
+use Rattle.county_regions.specs.declared.stop.Stop.{Stop}
+use Rattle.county_regions.specs.declared.stop.Stop.TheVariants as search
 use Rattle.share_board.specs.OpeningStops.{opening_stop}
 use Rattle.share_board.specs.declared.stop.OpeningStop.{OpeningStop}
 use Rattle.share_board.specs.declared.stop.OpeningStop.TheVariants as stop

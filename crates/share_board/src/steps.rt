@@ -3,7 +3,7 @@
 ghost use Rattle.std.specs.Prelude.{◌≡◌, ℕ, ◌*◌, ◌+◌, ◌++◌, ◌∷◌, [], ◌<◌, ◌≤◌, ◌⊎◌, None, length, IfOk, IfErr, OnOk, IsErrOf, MatchOption};
 ghost use Rattle.certificate_text.specs.Trees.{tree_of, list_of_takes};
 ghost use Rattle.certificate_text.specs.declared.tree.Take.{roll-Take};
-ghost use Rattle.fitting_groups.specs.declared.stop.Stop.{Stop};
+ghost use Rattle.county_regions.specs.declared.stop.Stop.{Stop};
 ghost use Rattle.line_verdicts.specs.Placed.{codes_of_set, IsPlaced};
 ghost use Rattle.ordered_counties.specs.OrderedValue.{code_at};
 ghost use Rattle.proof_trees.specs.Round.{Plain};

@@ -13,8 +13,8 @@ use Rattle.proof_trees.specs.Groups.{IsSetAt}
 use Rattle.grouping_laws.specs.Places.{places_below}
 use Rattle.fitting_groups.specs.Keeping.{others}
 use Rattle.fitting_groups.proofs.Deciding.{decided}
-use Rattle.fitting_groups.specs.declared.stop.Stop.TheVariants.{StepLimit}
-use Rattle.fitting_groups.proofs.Failing.{refused_not_stopped, handed_on}
+use Rattle.county_regions.specs.declared.stop.Stop.TheVariants.{StepLimit}
+use Rattle.county_regions.proofs.Failing.{refused_not_stopped, handed_on}
 use Rattle.fitting_groups.proofs.Starting.{starts_open, no_steps, steps_at, kept_groups}
 use Rattle.fitting_groups.proofs.lists.groups_at.Goals as goal
 

@@ -15,10 +15,10 @@ use Rattle.proof_trees.specs.StateValue.{state_of}
 use Rattle.proof_trees.specs.Groups.{IsSetWithin}
 use Rattle.grouping_laws.specs.Places.{places_below}
 use Rattle.fitting_groups.specs.Keeping.{others}
-use Rattle.fitting_groups.proofs.PeopleBounds.{fewer_tables}
+use Rattle.fitting_groups.specs.People.{fewer_tables}
 use Rattle.fitting_groups.proofs.Deciding.{decided}
-use Rattle.fitting_groups.specs.declared.stop.Stop.TheVariants.{StepLimit}
-use Rattle.fitting_groups.proofs.Failing.{refused_not_stopped, handed_on}
+use Rattle.county_regions.specs.declared.stop.Stop.TheVariants.{StepLimit}
+use Rattle.county_regions.proofs.Failing.{refused_not_stopped, handed_on}
 use Rattle.fitting_groups.proofs.Starting.{no_steps}
 use Rattle.fitting_groups.proofs.Sizes.{Begun, IsFound, less_open, found_none, found_more, found_groups, steps_more, steps_within}
 use Rattle.fitting_groups.proofs.lists.groups_of.Goals as goal

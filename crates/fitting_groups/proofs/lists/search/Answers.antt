@@ -12,8 +12,8 @@ use Rattle.growing_sets.proofs.People.{people_only}
 use Rattle.growing_sets.proofs.Listing.{on_ok, stepped_none}
 use Rattle.proof_trees.proofs.RegionGrowthLemmas.{regions_are_grown}
 use Rattle.fitting_groups.specs.Keeping.{others}
-use Rattle.fitting_groups.proofs.PeopleBounds.{fewer_tables}
-use Rattle.fitting_groups.proofs.Failing.{refused_not_stopped}
+use Rattle.fitting_groups.specs.People.{fewer_tables}
+use Rattle.county_regions.proofs.Failing.{refused_not_stopped}
 use Rattle.fitting_groups.proofs.lists.search.Goals as goal
 
 pub grow-requires-clause-growth : goal.grow-requires-clause-growth
@@ -21,8 +21,9 @@ grow-requires-clause-growth g c =
     let test = g.C.CountySet.test in
     let n = length c.args.ordered.now.order in
     let growth = c.in_ok-growth.growth in
+    let freed : (x : ℕ) → test growth.free x ≡ others (test c.args.region) c.args.place x = λ x. ap (λ (z : g.row.C.Denot). test z x) c.in_ok-growth.ensures.free ∙ c.without-free.ensures.places x in
     regions_are_grown.growth (problem_at c.args.ordered.now) n c.args.limit c.args.place (test c.args.region) (test growth.set) (test growth.free) c.requires.some
-    (record { below = c.requires.below; there = c.requires.there; set_is = c.in_ok-growth.ensures.set; free_is = c.in_ok-growth.ensures.free })
+    (record { below = c.requires.below; there = c.requires.there; set_is = c.in_ok-growth.ensures.set; free_is = freed })
 
 pub grow-requires-clause-people : goal.grow-requires-clause-people
 grow-requires-clause-people g c =
@@ -37,10 +38,11 @@ returns-clause-listed g c =
     let p = problem_at c.args.ordered.now in
     let n = length c.args.ordered.now.order in
     let growth = c.in_ok-growth.growth in
+    let freed : (x : ℕ) → test growth.free x ≡ others (test c.args.region) c.args.place x = λ x. ap (λ (z : g.row.C.Denot). test z x) c.in_ok-growth.ensures.free ∙ c.without-free.ensures.places x in
     let old = c.args.groups.now.items in
     let new = c.grow.new.groups.items in
     let set : test growth.set ≡ only c.args.place = fun_ext c.in_ok-growth.ensures.set in
-    let free : test growth.free ≡ others (test c.args.region) c.args.place = fun_ext c.in_ok-growth.ensures.free in
+    let free : test growth.free ≡ others (test c.args.region) c.args.place = fun_ext freed in
     on_ok c.grow.result c.grow.ensures.listed
     (λ found keep d.
     subst (λ (z : ℕ → Bool). IsListed g.row.C.Denot test p n c.args.limit keep z (others (test c.args.region) c.args.place) old new) set
@@ -52,8 +54,9 @@ returns-clause-steps g c =
     let p = problem_at c.args.ordered.now in
     let n = length c.args.ordered.now.order in
     let growth = c.in_ok-growth.growth in
+    let freed : (x : ℕ) → test growth.free x ≡ others (test c.args.region) c.args.place x = λ x. ap (λ (z : g.row.C.Denot). test z x) c.in_ok-growth.ensures.free ∙ c.without-free.ensures.places x in
     let set : test growth.set ≡ only c.args.place = fun_ext c.in_ok-growth.ensures.set in
-    let free : test growth.free ≡ others (test c.args.region) c.args.place = fun_ext c.in_ok-growth.ensures.free in
+    let free : test growth.free ≡ others (test c.args.region) c.args.place = fun_ext freed in
     subst (λ (z : ℕ → Bool). HasStepped p n c.args.limit z (others (test c.args.region) c.args.place) c.args.steps.now.used c.grow.new.steps.used) set
     (subst (λ (z : ℕ → Bool). HasStepped p n c.args.limit (test growth.set) z c.args.steps.now.used c.grow.new.steps.used) free c.grow.ensures.steps)
 
@@ -85,11 +88,15 @@ returns-in_err-growth-clause-steps g c =
 pub grow-requires-clause-front : goal.grow-requires-clause-front
 grow-requires-clause-front g c = c.in_ok-growth.ensures.front
 
-pub grow-requires-clause-tables : goal.grow-requires-clause-tables
-grow-requires-clause-tables g c =
+pub grow-requires-clause-knows : goal.grow-requires-clause-knows
+grow-requires-clause-knows g c =
     let test = g.C.CountySet.test in
     let p = problem_at c.args.ordered.now in
     let n = length c.args.ordered.now.order in
-    let free = test c.in_ok-growth.growth.free in
-    fewer_tables c.args.language p n c.args.limit (test c.args.state.now.rest) (test c.args.region) free c.args.tables.now
-    (λ x e. (and_parts (test c.args.region x) (not (x == c.args.place)) (sym (c.in_ok-growth.ensures.free x) ∙ e)).0) c.requires.tables
+    let growth = c.in_ok-growth.growth in
+    let freed : (x : ℕ) → test growth.free x ≡ others (test c.args.region) c.args.place x = λ x. ap (λ (z : g.row.C.Denot). test z x) c.in_ok-growth.ensures.free ∙ c.without-free.ensures.places x in (
+      c.requires.places,
+      c.requires.rest,
+      fewer_tables c.args.language p n c.args.limit (test c.args.state.now.rest) (test c.args.region) (test growth.free) c.args.tables.now
+          (λ x e. (and_parts (test c.args.region x) (not (x == c.args.place)) (sym (freed x) ∙ e)).0) c.requires.tables,
+    )

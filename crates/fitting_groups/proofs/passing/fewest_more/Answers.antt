@@ -10,7 +10,7 @@ returns-clause-least g c =
     let n = length c.args.ground.now.ordered.now.order in
     let reach = g.C.CountySet.test c.args.reach.now in
     let are : AreByPeople p n reach c.deref.result.now = subst (AreByPeople p n reach) (sym c.deref.ensures.value) c.requires.places in
-    let exact : c.args.ground.now.exact ≡ true = search (rules, c.if-not-ground.false) in
+    let exact : c.args.test.now.exact ≡ true = search (rules, c.if-not-test.false) in
     λ joins within size.
     let least = least_joins p n reach c.deref.result.now are reach (λ x e. e) c.requires.below joins within c.args.more (omega (arith, size exact)) in
     omega (arith, c.first_people.ensures.sum, least)

@@ -8,7 +8,8 @@ pub returns : goal.returns
 returns g c =
     let test = g.C.CountySet.test in
     let ground = c.args.ground.now in
-    none_fits_ok ground.language (problem_at ground.ordered.now) (length ground.ordered.now.order) ground.limit ground.exact (state_of test ground.state.now) (test c.args.growth.now.set) (test c.args.growth.now.free) c.strands.result c.strands.ensures
+    let it = c.args.test.now in
+    none_fits_ok it.language (problem_at ground.ordered.now) (length ground.ordered.now.order) ground.limit it.exact (state_of test it.state.now) (test c.args.growth.now.set) (test c.args.growth.now.free) c.strands.result c.strands.ensures
 
 pub returns-then-not-may_grow : goal.returns-then-not-may_grow
 returns-then-not-may_grow g c =
@@ -16,7 +17,8 @@ returns-then-not-may_grow g c =
     let p = problem_at c.args.ground.now.ordered.now in
     let n = length c.args.ground.now.ordered.now.order in
     let ground = c.args.ground.now in
+    let it = c.args.test.now in
     let growth = c.args.growth.now in
     let none : not c.may_grow.result ≡ true = search rules in
     λ yes keep d.
-    none_grows ground.language p n ground.limit ground.exact (state_of test ground.state.now) keep (test growth.set) (test growth.free) (test c.in_ok-reach.reach) c.may_grow.result d none c.in_ok-reach.ensures.all c.may_grow.ensures
+    none_grows it.language p n ground.limit it.exact (state_of test it.state.now) keep (test growth.set) (test growth.free) (test c.in_ok-reach.reach) c.may_grow.result d none c.in_ok-reach.ensures.all c.may_grow.ensures

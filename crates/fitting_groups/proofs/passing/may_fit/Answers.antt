@@ -10,9 +10,9 @@ pub returns-in-None : goal.returns-in-None
 returns-in-None g c =
     let p = problem_at c.args.ground.now.ordered.now in
     let n = length c.args.ground.now.ordered.now.order in
-    let s = state_of g.C.CountySet.test c.args.ground.now.state.now in
+    let s = state_of g.C.CountySet.test c.args.test.now.state.now in
     λ h order small fits least greatest.
-    let has = group_window p c.places-places.ensures.problem n refl s c.requires.rest h order (fits_rest c.args.ground.now.language p s h fits) c.args.ground.now.language fits c.args.ground.now.tables.now.windows.items c.requires.windows in
+    let has = group_window p c.places-places.ensures.problem n refl s c.requires.rest h order (fits_rest c.args.test.now.language p s h fits) c.args.test.now.language fits c.args.test.now.tables.now.windows.items c.requires.windows in
     c.may_suit.ensures (people_of p h) least greatest (subst (λ (z : List (ℕ × ℕ)). HasWindow z (people_of p h)) (sym c.deref.ensures.value) has)
 
 pub returns-in-Some : goal.returns-in-Some
@@ -20,11 +20,12 @@ returns-in-Some g c =
     let p = problem_at c.args.ground.now.ordered.now in
     let n = length c.args.ground.now.ordered.now.order in
     let ground = c.args.ground.now in
-    let s = state_of g.C.CountySet.test ground.state.now in
-    let d : IsDivided ground.language p n ground.limit s.rest (Some c.in-Some.all) = subst (IsDivided ground.language p n ground.limit s.rest) c.in-Some.is c.requires.divided in
+    let it = c.args.test.now in
+    let s = state_of g.C.CountySet.test it.state.now in
+    let d : IsDivided it.language p n ground.limit s.rest (Some c.in-Some.all) = subst (IsDivided it.language p n ground.limit s.rest) c.in-Some.is c.requires.divided in
     λ h order small fits least greatest.
-    let inside = fits_rest ground.language p s h fits in
-    let has = group_window p c.places-places.ensures.problem n refl s c.requires.rest h order inside ground.language fits ground.tables.now.windows.items c.requires.windows in
-    let left = left_window p c.places-places.ensures.problem n refl s c.requires.rest h order inside ground.language fits ground.tables.now.windows.items c.requires.windows ground.limit c.in-Some.all small d in
+    let inside = fits_rest it.language p s h fits in
+    let has = group_window p c.places-places.ensures.problem n refl s c.requires.rest h order inside it.language fits it.tables.now.windows.items c.requires.windows in
+    let left = left_window p c.places-places.ensures.problem n refl s c.requires.rest h order inside it.language fits it.tables.now.windows.items c.requires.windows ground.limit c.in-Some.all small d in
     c.may_divide.ensures (people_of p h) least greatest (subst (λ (z : List (ℕ × ℕ)). HasWindow z (people_of p h)) (sym c.deref-in-Some.ensures.value) has)
     (subst (λ (z : List (ℕ × ℕ)). HasWindow z (c.in-Some.all - people_of p h)) (sym c.deref-in-Some.ensures.value) left)

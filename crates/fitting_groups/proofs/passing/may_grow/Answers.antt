@@ -18,7 +18,7 @@ returns-then-size-more g c =
     let reach = test c.args.reach.now in
     let below : (x : ℕ) → reach x ≡ true → _ = λ x e. c.requires.growth.free_below x (c.requires.free x e) in
     λ h x asked fits.
-    let size : length h ≡ ground.limit = subst (λ b. IsAsked b ground.limit h) c.if-ground.true asked in
+    let size : length h ≡ ground.limit = subst (λ b. IsAsked b ground.limit h) c.if-test.true asked in
     let few = total_part (λ z. 1) n (joins p n ground.limit set reach h x) reach (joins_free p n ground.limit set reach h x) in
     absurd (omega (
       arith,
@@ -29,7 +29,7 @@ returns-then-size-more g c =
       total_ones (places_of n (joins p n ground.limit set reach h x)),
       c.from.ensures,
       c.size.ensures.count n c.requires.growth.below,
-      c.size-then-ground.ensures.count n below,
+      c.size-then-test.ensures.count n below,
       c.if-size-more.true,
     ))
 

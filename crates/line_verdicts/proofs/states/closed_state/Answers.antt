@@ -31,7 +31,7 @@ returns-clause-value g c =
     let same : c.in_ok-least.least.items ≡ old.least.items = AllZip-map (λ x. x) old.least.items c.in_ok-least.least.items c.in_ok-least.ensures.cases.0 ∙ map-id old.least.items in
     let count : length c.clear_sizes.new.least.items ≡ n = c.clear_sizes.ensures.count ∙ (ap length same ∙ c.requires.placed.places) in
     let closed = closed_lists (λ k (s : g.row.C.Denot). places_of k (test s)) old.closed.items c.in_ok-closed.closed.items c.push.new.self.items c.args.group.now c.in_ok-copy.field-0 (length old.least.items) (length c.clear_sizes.new.least.items) n count c.requires.placed.places
-    (c.in_ok-closed.ensures n ∙ ap (lists_of n test) c.deref.ensures.value) c.in_ok-push.ensures.items (places_same n group (test c.in_ok-copy.field-0) c.in_ok-copy.ensures.places) in
+    (c.in_ok-closed.ensures.places n ∙ ap (lists_of n test) c.deref.ensures.value) c.in_ok-push.ensures.items (places_same n group (test c.in_ok-copy.field-0) c.in_ok-copy.ensures.places) in
     ap (in_codes order)
     (same_state _ (close (places_of n group) t) closed
     (λ x. c.minus-rest.ensures.places x ∙ (ap (λ b. b && not (group x)) (c.in_ok-copy-2.ensures.places x) ∙ ap (λ b. test old.rest x && not b) (sym (own_places n group below x))))
@@ -44,7 +44,7 @@ returns-clause-placed g c =
     let n = length c.args.ordered.now.order in
     let old = c.args.state.now in
     let group = test c.args.group.now in
-    let copied : (m : ℕ) → lists_of m test c.in_ok-closed.closed.items ≡ lists_of m test old.closed.items = λ m. c.in_ok-closed.ensures m ∙ ap (lists_of m test) c.deref.ensures.value in
+    let copied : (m : ℕ) → lists_of m test c.in_ok-closed.closed.items ≡ lists_of m test old.closed.items = λ m. c.in_ok-closed.ensures.places m ∙ ap (lists_of m test) c.deref.ensures.value in
     let same : c.in_ok-least.least.items ≡ old.least.items = AllZip-map (λ x. x) old.least.items c.in_ok-least.least.items c.in_ok-least.ensures.cases.0 ∙ map-id old.least.items in
     let left : (x : ℕ) → test c.minus-rest.result x ≡ (test old.rest x && not (group x)) = λ x. c.minus-rest.ensures.places x ∙ ap (λ b. b && not (group x)) (c.in_ok-copy-2.ensures.places x) in
     record {

@@ -14,7 +14,7 @@ returns-clause-value g c =
     let new : StateHeld g.row.C.Denot = record { closed = c.in_ok-copy_sets.field-0; rest = c.in_ok-copy.field-0; least = c.in_ok-clone.field-0 } in
     let same : c.in_ok-clone.field-0.items ≡ old.least.items = AllZip-map (λ x. x) old.least.items c.in_ok-clone.field-0.items c.in_ok-clone.ensures.cases.0 ∙ map-id old.least.items in
     ap (in_codes c.args.ordered.now.order)
-    (copied_value g.row.C.Denot test old new (λ (n : ℕ). c.in_ok-copy_sets.ensures n ∙ ap (lists_of n test) c.deref.ensures.value) c.in_ok-copy.ensures.places same)
+    (copied_value g.row.C.Denot test old new (λ (n : ℕ). c.in_ok-copy_sets.ensures.places n ∙ ap (lists_of n test) c.deref.ensures.value) c.in_ok-copy.ensures.places same)
 
 pub returns-clause-placed : goal.returns-clause-placed
 returns-clause-placed g c =
@@ -22,4 +22,4 @@ returns-clause-placed g c =
     let old = c.args.state.now in
     let new : StateHeld g.row.C.Denot = record { closed = c.in_ok-copy_sets.field-0; rest = c.in_ok-copy.field-0; least = c.in_ok-clone.field-0 } in
     let same : c.in_ok-clone.field-0.items ≡ old.least.items = AllZip-map (λ x. x) old.least.items c.in_ok-clone.field-0.items c.in_ok-clone.ensures.cases.0 ∙ map-id old.least.items in
-    copied_placed g.row.C.Denot test (length c.args.ordered.now.order) old new (λ (n : ℕ). c.in_ok-copy_sets.ensures n ∙ ap (lists_of n test) c.deref.ensures.value) c.in_ok-copy.ensures.places same c.requires.placed
+    copied_placed g.row.C.Denot test (length c.args.ordered.now.order) old new (λ (n : ℕ). c.in_ok-copy_sets.ensures.places n ∙ ap (lists_of n test) c.deref.ensures.value) c.in_ok-copy.ensures.places same c.requires.placed

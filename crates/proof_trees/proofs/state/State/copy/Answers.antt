@@ -11,6 +11,6 @@ returns-clause-value g c =
     let n = length c.args.self.now.least.items in
     let same : c.in_ok-clone.field-0.items ≡ c.args.self.now.least.items = AllZip-map (λ x. x) c.args.self.now.least.items c.in_ok-clone.field-0.items c.in_ok-clone.ensures.cases.0 ∙ map-id c.args.self.now.least.items in
     same_state _ _
-    (copied_places (λ k s. places_of k (g.C.CountySet.test s)) c.args.self.now.closed.items c.in_ok-copy_sets.field-0.items (length c.in_ok-clone.field-0.items) n (ap length same) (c.in_ok-copy_sets.ensures n ∙ ap (map (λ s. places_of n (g.C.CountySet.test s))) c.deref.ensures.value))
+    (copied_places (λ k s. places_of k (g.C.CountySet.test s)) c.args.self.now.closed.items c.in_ok-copy_sets.field-0.items (length c.in_ok-clone.field-0.items) n (ap length same) (c.in_ok-copy_sets.ensures.places n ∙ ap (map (λ s. places_of n (g.C.CountySet.test s))) c.deref.ensures.value))
     (λ x. c.in_ok-copy.ensures.places x)
     (λ x. ap (λ z. get_or z x 0) same)

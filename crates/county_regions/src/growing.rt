@@ -1,0 +1,262 @@
+//! The growth of connected sets, place by place. A test says what is kept, what is passed over and which place comes
+//! next.
+
+ghost use Rattle.std.specs.Prelude.{◌≡◌, ℕ, ◌+◌, ◌^◌, Bool, List, true, ◌<◌, ◌≤◌, ◌&&◌, not, ◌==◌, MatchOption, MatchResult, OnOk, IfOk, IsErrOf, length};
+ghost use Rattle.place_lists.specs.PlaceSets.{places_of};
+ghost use Rattle.grouping_laws.specs.Problem.{people_of};
+ghost use Rattle.grouping_laws.specs.Places.{places_below};
+ghost use Rattle.growing_sets.specs.Growing.{IsGrowth, IsFront, IsCandidate, IsMove, IsWhole};
+ghost use Rattle.growing_sets.specs.Listing.{IsListed, HasStepped};
+ghost use Rattle.county_regions.specs.Rows.{AreRows};
+ghost use Rattle.county_regions.specs.Growths.{problem_in, places_in, size_in};
+ghost use Rattle.county_regions.specs.declared.stop.Stop.{Stop};
+
+use crate::ground::{Growth, GrowthGround};
+use crate::growth_test::GrowthTest;
+use crate::stop::Stop;
+use ordered_counties::Steps;
+use place_sets::CountySet;
+use std::alloc::{AllocError, Global};
+
+/// The place of the front that the test names, if the set may have one more place.
+fn next_place<C: CountySet, T: GrowthTest<C>>(
+    ground: &GrowthGround<C>,
+    test: &T,
+    growth: &Growth<C>,
+) -> Option<u16>
+    requires growth { IsGrowth (problem_in ground.now) (places_in ground.now) ground.now.limit (C.test growth.now.set) (C.test growth.now.free) }
+    requires front { IsFront (problem_in ground.now) (C.test growth.now.set) (C.test growth.now.free) (C.test growth.now.front) }
+    ensures { MatchOption
+        result
+        (IsWhole (problem_in ground.now) (places_in ground.now) ground.now.limit (C.test growth.now.set) (C.test growth.now.free))
+        (λ c. IsCandidate (problem_in ground.now) (C.test growth.now.set) (C.test growth.now.free) c
+        × (size_in ground.now (C.test growth.now.set) < ground.now.limit)) }
+{
+    if growth.set.size() >= u32::from(ground.limit) {
+        return None;
+    }
+    test.next_place(ground.ordered, &growth.front)
+}
+
+/// Takes a step.
+fn take_step(steps: &mut Steps) -> Result<(), Stop>
+    ensures limit { steps.new.limit ≡ steps.old.limit }
+    ensures used { MatchResult
+        result
+        (λ _. steps.new.used ≡ steps.old.used + 1)
+        (λ fault. (fault ≡ Stop.StepLimit) × (steps.new.used ≡ steps.old.used) × (steps.new.used ≡ steps.new.limit)) }
+{
+    if steps.tick() {
+        Ok(())
+    } else {
+        Err(Stop::StepLimit)
+    }
+}
+
+/// Puts the set of a growth that grows no further behind the groups if it is kept.
+fn put_if_kept<C: CountySet, T: GrowthTest<C>>(
+    alloc: Global,
+    ground: &GrowthGround<C>,
+    test: &T,
+    growth: Growth<C>,
+    groups: &mut Vec<C>,
+) -> Result<(), AllocError>
+    requires fits { places_in ground.now ≤ C.PLACES }
+    requires rows { AreRows C C.test (problem_in ground.now) (places_in ground.now) ground.now.near.now }
+    requires growth { IsGrowth (problem_in ground.now) (places_in ground.now) ground.now.limit (C.test growth.set) (C.test growth.free) }
+    requires front { IsFront (problem_in ground.now) (C.test growth.set) (C.test growth.free) (C.test growth.front) }
+    requires people { growth.people ≡ people_of (problem_in ground.now) (places_of (places_in ground.now) (C.test growth.set)) }
+    requires total { people_of (problem_in ground.now) (places_below (places_in ground.now)) ≤ ground.now.ordered.now.problem.total_people }
+    requires bound { ground.now.ordered.now.problem.total_people ≤ 2 ^ 40 }
+    requires knows { T.knows test.now (problem_in ground.now) (places_in ground.now) ground.now.limit (C.test growth.free) }
+    requires whole { IsWhole (problem_in ground.now) (places_in ground.now) ground.now.limit (C.test growth.set) (C.test growth.free) }
+    ensures listed { OnOk
+        result
+        ((keep : List ℕ → Bool)
+        → T.decides test.now (problem_in ground.now) (places_in ground.now) ground.now.limit keep
+        → IsListed
+        C
+        C.test
+        (problem_in ground.now)
+        (places_in ground.now)
+        ground.now.limit
+        keep
+        (C.test growth.set)
+        (C.test growth.free)
+        groups.old.items
+        groups.new.items) }
+    ensures counted { OnOk result (length groups.new.items ≤ length groups.old.items + 1) }
+{
+    if test.is_kept(alloc, ground, &growth)? {
+        groups.push(growth.set)?;
+    }
+    Ok(())
+}
+
+/// Ends a growth whose set grows no further: takes a step, and puts the set behind the groups if it is kept.
+fn end_growth<C: CountySet, T: GrowthTest<C>>(
+    alloc: Global,
+    ground: &GrowthGround<C>,
+    test: &T,
+    growth: Growth<C>,
+    steps: &mut Steps,
+    groups: &mut Vec<C>,
+) -> Result<(), Stop>
+    requires fits { places_in ground.now ≤ C.PLACES }
+    requires rows { AreRows C C.test (problem_in ground.now) (places_in ground.now) ground.now.near.now }
+    requires growth { IsGrowth (problem_in ground.now) (places_in ground.now) ground.now.limit (C.test growth.set) (C.test growth.free) }
+    requires front { IsFront (problem_in ground.now) (C.test growth.set) (C.test growth.free) (C.test growth.front) }
+    requires people { growth.people ≡ people_of (problem_in ground.now) (places_of (places_in ground.now) (C.test growth.set)) }
+    requires total { people_of (problem_in ground.now) (places_below (places_in ground.now)) ≤ ground.now.ordered.now.problem.total_people }
+    requires bound { ground.now.ordered.now.problem.total_people ≤ 2 ^ 40 }
+    requires knows { T.knows test.now (problem_in ground.now) (places_in ground.now) ground.now.limit (C.test growth.free) }
+    requires whole { IsWhole (problem_in ground.now) (places_in ground.now) ground.now.limit (C.test growth.set) (C.test growth.free) }
+    ensures listed { OnOk
+        result
+        ((keep : List ℕ → Bool)
+        → T.decides test.now (problem_in ground.now) (places_in ground.now) ground.now.limit keep
+        → IsListed
+        C
+        C.test
+        (problem_in ground.now)
+        (places_in ground.now)
+        ground.now.limit
+        keep
+        (C.test growth.set)
+        (C.test growth.free)
+        groups.old.items
+        groups.new.items) }
+    ensures steps { HasStepped (problem_in ground.now) (places_in ground.now) ground.now.limit (C.test growth.set) (C.test growth.free) steps.old.used steps.new.used }
+    ensures counted { OnOk result (steps.old.used + length groups.new.items ≤ steps.new.used + length groups.old.items) }
+    ensures limit { steps.new.limit ≡ steps.old.limit }
+    ensures stopped { IsErrOf result Stop.StepLimit → steps.new.used ≡ steps.new.limit }
+{
+    take_step(steps)?;
+    put_if_kept(alloc, ground, test, growth, groups)?;
+    Ok(())
+}
+
+/// Passes over a growth: takes a step if the test counts it.
+fn pass_over<C: CountySet, T: GrowthTest<C>>(
+    ground: &GrowthGround<C>,
+    test: &T,
+    growth: &Growth<C>,
+    steps: &mut Steps,
+) -> Result<(), Stop>
+    requires { IsGrowth (problem_in ground.now) (places_in ground.now) ground.now.limit (C.test growth.now.set) (C.test growth.now.free) }
+    ensures steps { HasStepped (problem_in ground.now) (places_in ground.now) ground.now.limit (C.test growth.now.set) (C.test growth.now.free) steps.old.used steps.new.used }
+    ensures counted { OnOk result (steps.old.used ≤ steps.new.used) }
+    ensures limit { steps.new.limit ≡ steps.old.limit }
+    ensures stopped { IsErrOf result Stop.StepLimit → steps.new.used ≡ steps.new.limit }
+{
+    let _ground = ground;
+    let _test = test;
+    let _growth = growth;
+    if T::COUNTS_PASSED {
+        take_step(steps)?;
+    }
+    Ok(())
+}
+
+/// The growth in which a place of the front joins the set.
+fn with_place<C: CountySet>(
+    alloc: Global,
+    ground: &GrowthGround<C>,
+    growth: &Growth<C>,
+    place: u16,
+) -> Result<Growth<C>, AllocError>
+    requires fits { places_in ground.now ≤ C.PLACES }
+    requires rows { AreRows C C.test (problem_in ground.now) (places_in ground.now) ground.now.near.now }
+    requires growth { IsGrowth (problem_in ground.now) (places_in ground.now) ground.now.limit (C.test growth.now.set) (C.test growth.now.free) }
+    requires front { IsFront (problem_in ground.now) (C.test growth.now.set) (C.test growth.now.free) (C.test growth.now.front) }
+    requires people { growth.now.people ≡ people_of (problem_in ground.now) (places_of (places_in ground.now) (C.test growth.now.set)) }
+    requires total { people_of (problem_in ground.now) (places_below (places_in ground.now)) ≤ ground.now.ordered.now.problem.total_people }
+    requires bound { ground.now.ordered.now.problem.total_people ≤ 2 ^ 40 }
+    requires there { IsCandidate (problem_in ground.now) (C.test growth.now.set) (C.test growth.now.free) place }
+    requires room { length (places_of (places_in ground.now) (C.test growth.now.set)) < ground.now.limit }
+    ensures moved { IfOk result (λ more. IsMove (C.test growth.now.set) (C.test growth.now.free) (C.test more.set) (C.test more.free) place) }
+    ensures growth { IfOk result (λ more. IsGrowth (problem_in ground.now) (places_in ground.now) ground.now.limit (C.test more.set) (C.test more.free)) }
+    ensures front { IfOk result (λ more. IsFront (problem_in ground.now) (C.test more.set) (C.test more.free) (C.test more.front)) }
+    ensures people { IfOk result (λ more. more.people ≡ people_of (problem_in ground.now) (places_of (places_in ground.now) (C.test more.set))) }
+{
+    let people = growth.people + u64::from(ground.ordered.people(place));
+    let set = growth.set.with(alloc, place)?;
+    let free = growth.free.copy(alloc)?.without(place);
+    let both = growth.front.union(alloc, &ground.near[usize::from(place)])?;
+    let front = both.intersection(&free);
+    Ok(Growth {
+        set,
+        people,
+        front,
+        free,
+    })
+}
+
+/// The growth in which a place is no longer free.
+fn without_place<C: CountySet>(growth: Growth<C>, place: u16) -> Growth<C>
+    requires { place < C.PLACES }
+    ensures set { result.set ≡ growth.set }
+    ensures people { result.people ≡ growth.people }
+    ensures front { (x : ℕ) → C.test result.front x ≡ (C.test growth.front x && not (x == place)) }
+    ensures free { (x : ℕ) → C.test result.free x ≡ (C.test growth.free x && not (x == place)) }
+{
+    Growth {
+        set: growth.set,
+        people: growth.people,
+        front: growth.front.without(place),
+        free: growth.free.without(place),
+    }
+}
+
+/// Puts the connected sets that have all of a set, else only free places, and that are kept, behind the groups. The
+/// front has the free places that are adjacent to the set. A step is taken for each set that grows no further, and if
+/// the test counts them, for each set that is passed over.
+pub fn grow<C: CountySet, T: GrowthTest<C>>(
+    alloc: Global,
+    ground: &GrowthGround<C>,
+    test: &T,
+    growth: Growth<C>,
+    steps: &mut Steps,
+    groups: &mut Vec<C>,
+) -> Result<(), Stop>
+    requires fits { places_in ground.now ≤ C.PLACES }
+    requires rows { AreRows C C.test (problem_in ground.now) (places_in ground.now) ground.now.near.now }
+    requires growth { IsGrowth (problem_in ground.now) (places_in ground.now) ground.now.limit (C.test growth.set) (C.test growth.free) }
+    requires front { IsFront (problem_in ground.now) (C.test growth.set) (C.test growth.free) (C.test growth.front) }
+    requires people { growth.people ≡ people_of (problem_in ground.now) (places_of (places_in ground.now) (C.test growth.set)) }
+    requires total { people_of (problem_in ground.now) (places_below (places_in ground.now)) ≤ ground.now.ordered.now.problem.total_people }
+    requires bound { ground.now.ordered.now.problem.total_people ≤ 2 ^ 40 }
+    requires knows { T.knows test.now (problem_in ground.now) (places_in ground.now) ground.now.limit (C.test growth.free) }
+    ensures listed { OnOk
+        result
+        ((keep : List ℕ → Bool)
+        → T.decides test.now (problem_in ground.now) (places_in ground.now) ground.now.limit keep
+        → IsListed
+        C
+        C.test
+        (problem_in ground.now)
+        (places_in ground.now)
+        ground.now.limit
+        keep
+        (C.test growth.set)
+        (C.test growth.free)
+        groups.old.items
+        groups.new.items) }
+    ensures steps { HasStepped (problem_in ground.now) (places_in ground.now) ground.now.limit (C.test growth.set) (C.test growth.free) steps.old.used steps.new.used }
+    ensures counted { OnOk result (steps.old.used + length groups.new.items ≤ steps.new.used + length groups.old.items) }
+    ensures limit { steps.new.limit ≡ steps.old.limit }
+    ensures stopped { IsErrOf result Stop.StepLimit → steps.new.used ≡ steps.new.limit }
+{
+    if test.is_passed_over(alloc, ground, &growth)? {
+        return pass_over(ground, test, &growth, steps);
+    }
+    match next_place(ground, test, &growth) {
+        None => end_growth(alloc, ground, test, growth, steps, groups),
+        Some(place) => {
+            let joined = with_place(alloc, ground, &growth, place)?;
+            grow(alloc, ground, test, joined, steps, groups)?;
+            let others = without_place(growth, place);
+            grow(alloc, ground, test, others, steps, groups)
+        }
+    }
+}
