@@ -1,5 +1,5 @@
 -- The front of a growth that begins with one place.
-use Rattle.std.proofs.Common.{◌≡◌, ℕ, ◌<◌, Bool, true, ◌&&◌, ◌==◌, sym, ap, ◌∙◌, refl}
+use Rattle.std.proofs.Common.{◌≡◌, ℕ, ◌<◌, Bool, true, ◌&&◌, sym, ap, ◌∙◌, refl}
 use Rattle.std.proofs.lemmas.Bool.{and_parts, and_from, eqb-true, eq-eqb}
 use Rattle.grouping_laws.specs.Problem.{Problem}
 use Rattle.growing_sets.specs.Growing.{only, IsFront, IsCandidate}

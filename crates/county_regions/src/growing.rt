@@ -1,7 +1,7 @@
 //! The growth of connected sets, place by place. A test says what is kept, what is passed over and which place comes
 //! next.
 
-ghost use Rattle.std.specs.Prelude.{◌≡◌, ℕ, ◌+◌, ◌^◌, Bool, List, true, ◌<◌, ◌≤◌, ◌&&◌, not, ◌==◌, MatchOption, MatchResult, OnOk, IfOk, IsErrOf, length};
+ghost use Rattle.std.specs.Prelude.{◌≡◌, ℕ, ◌+◌, ◌^◌, Bool, List, ◌<◌, ◌≤◌, ◌&&◌, not, ◌==◌, MatchOption, MatchResult, OnOk, IfOk, IsErrOf, length};
 ghost use Rattle.place_lists.specs.PlaceSets.{places_of};
 ghost use Rattle.grouping_laws.specs.Problem.{people_of};
 ghost use Rattle.grouping_laws.specs.Places.{places_below};
@@ -139,7 +139,6 @@ fn end_growth<C: CountySet, T: GrowthTest<C>>(
 /// Passes over a growth: takes a step if the test counts it.
 fn pass_over<C: CountySet, T: GrowthTest<C>>(
     ground: &GrowthGround<C>,
-    test: &T,
     growth: &Growth<C>,
     steps: &mut Steps,
 ) -> Result<(), Stop>
@@ -150,7 +149,6 @@ fn pass_over<C: CountySet, T: GrowthTest<C>>(
     ensures stopped { IsErrOf result Stop.StepLimit → steps.new.used ≡ steps.new.limit }
 {
     let _ground = ground;
-    let _test = test;
     let _growth = growth;
     if T::COUNTS_PASSED {
         take_step(steps)?;
@@ -248,7 +246,7 @@ pub fn grow<C: CountySet, T: GrowthTest<C>>(
     ensures stopped { IsErrOf result Stop.StepLimit → steps.new.used ≡ steps.new.limit }
 {
     if test.is_passed_over(alloc, ground, &growth)? {
-        return pass_over(ground, test, &growth, steps);
+        return pass_over::<C, T>(ground, &growth, steps);
     }
     match next_place(ground, test, &growth) {
         None => end_growth(alloc, ground, test, growth, steps, groups),

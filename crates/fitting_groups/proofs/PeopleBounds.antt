@@ -11,10 +11,8 @@ use Rattle.place_lists.specs.PlaceSets.{places_of}
 use Rattle.grouping_laws.specs.Sets.{digit, total, often, member}
 use Rattle.grouping_laws.specs.Problem.{Problem, people_of}
 use Rattle.grouping_laws.proofs.Elements.{Has, has_all, contains_from_has}
-use Rattle.growing_sets.specs.Growing.{IsExtension, IsMove}
-use Rattle.certificate_languages.specs.declared.language.Language.{Language}
-use Rattle.fitting_groups.specs.declared.tables.Tables.{Tables}
-use Rattle.fitting_groups.specs.People.{AreByPeople, AreTables}
+use Rattle.growing_sets.specs.Growing.{IsExtension}
+use Rattle.fitting_groups.specs.People.{AreByPeople}
 
 -- no element has fewer people than one before it
 abbrev pub Rises : List (ℕ × ℕ) → Type 0

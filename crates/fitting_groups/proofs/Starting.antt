@@ -1,15 +1,15 @@
 -- Where the search inside a region begins.
-use Rattle.std.proofs.Common.{◌≡◌, ℕ, ◌<◌, Bool, true, false, nat_le, ◌&&◌, not, ◌==◌, List, [], refl, sym, ap, ◌∙◌, subst, arith}
+use Rattle.std.proofs.Common.{◌≡◌, ℕ, ◌<◌, Bool, true, false, nat_le, ◌&&◌, not, ◌==◌, List, [], refl, sym, ap, subst, arith}
 use Rattle.std.specs.Cmp.Lexicographic.{slice_cmp}
 use Rattle.std.specs.Ordering.{nat_cmp, is_lt}
 use Rattle.std.specs.List.Sorted.{IsSortedBy, IsPermutation}
-use Rattle.std.proofs.lemmas.Bool.{and_parts, and_from, eqb-true, eq-eqb}
+use Rattle.std.proofs.lemmas.Bool.{and_parts}
 use Rattle.std.proofs.lemmas.List.Sorted.{IsPermutation-map}
 use Rattle.grouping_laws.specs.Problem.{Problem}
 use Rattle.grouping_laws.specs.Places.{places_below}
 use Rattle.grouping_laws.proofs.Elements.{has_all, all_from_has}
 use Rattle.place_lists.specs.PlaceSets.{places_of}
-use Rattle.growing_sets.specs.Growing.{only, IsFront, IsCandidate, IsExtension, AreKept, sort_key}
+use Rattle.growing_sets.specs.Growing.{only, IsExtension, AreKept, sort_key}
 use Rattle.growing_sets.specs.Listing.{lists_of, OneStepEach, HasStepped}
 use Rattle.growing_sets.proofs.Distinct.{distinct_pairs}
 use Rattle.certificate_languages.specs.declared.language.Language.{Language}

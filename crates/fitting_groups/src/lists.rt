@@ -22,7 +22,7 @@ use ordered_counties::{Ordered, Steps};
 use place_sets::{CountySet, sorted};
 use proof_trees::{Language, State};
 use state_tests::open_places;
-use std::alloc::{AllocError, Global};
+use std::alloc::Global;
 
 /// Puts the connected sets of the region that have the place and at most `limit` places, and are kept, behind the
 /// groups.
