@@ -1,4 +1,5 @@
 pub mod WordLaws
+pub mod BackLaws
 pub mod FormLaws
 pub mod TextLaws
 pub mod FitsLaws

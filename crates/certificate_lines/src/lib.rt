@@ -27,7 +27,7 @@ pub use fault::{TextFault, TextKind, WriteFault};
 pub use item::{Allowance, Item, Opening, Version, Wanted};
 pub use items::{ItemSource, Items};
 pub use items_from::ItemsFrom;
-pub use lines::{MOST, levels_after};
+pub use lines::{MOST, ascend, levels_after};
 pub use weights::{Weight, Weights};
 pub use words::Words;
 pub use writing_lines::{

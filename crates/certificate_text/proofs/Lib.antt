@@ -1,7 +1,6 @@
 pub mod TreeLaws
 pub mod TreeViews
 pub mod LoopLaws
-pub mod BackLaws
 pub mod SpellLaws
 pub mod TextBack
 pub mod CertLaws

@@ -7,15 +7,15 @@ use Rattle.std.specs.List.{AllByRecursion, join_with_byte}
 use Rattle.std.specs.Str.Parse.{digits_value}
 use Rattle.std.proofs.lemmas.Fmt.{decimal_nonempty, digits_value-decimal}
 use Rattle.certificate_lines.specs.Words.{words_of}
-use Rattle.certificate_lines.specs.Spelling.{five_digits, weight_word, item_words}
+use Rattle.county_codes.specs.Digits.{five_digits}
+use Rattle.certificate_lines.specs.Spelling.{weight_word, item_words}
 use Rattle.certificate_lines.specs.Fits.{AreCodes}
 use Rattle.certificate_lines.specs.declared.weights.Weight.{Weight}
 use Rattle.certificate_lines.specs.declared.item.Allowance.TheVariants.{Room, Weigh}
 use Rattle.certificate_lines.specs.declared.item.Opening.TheVariants.{Branch, Stuck, Seats, Bound}
 use Rattle.certificate_lines.specs.declared.item.Item.{Item}
 use Rattle.certificate_lines.specs.declared.item.Item.TheVariants.{Opens, Takes, Mark, Allows, End}
-use Rattle.certificate_lines.proofs.WordLaws.{own}
-use Rattle.certificate_text.proofs.BackLaws.{decimal_digits}
+use Rattle.field_lines.proofs.NumbersBack.{own, decimal_digits}
 use Rattle.certificate_text.proofs.SpellLaws.{IsWord, Printed, printed_line, words_back}
 use Rattle.certificate_text.proofs.TextBack.{named_word, digits_shown, shown_append, code_word, code_words, words_of_short}
 use Rattle.tree_lines.specs.Ranges.{IsWeightInRange, IsInRange}

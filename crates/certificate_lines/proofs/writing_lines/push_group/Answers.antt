@@ -2,7 +2,7 @@ use Rattle.std.proofs.Common.{◌≡◌, ◌∙◌, ◌≤◌, ◌∷◌, ◌++�
 use Rattle.std.specs.List.{flat_map}
 use Rattle.std.proofs.lemmas.Bool.Decides.{nat_tests}
 use Rattle.certificate_lines.specs.Lines.{most}
-use Rattle.certificate_lines.specs.Spelling.{five_digits}
+use Rattle.county_codes.specs.Digits.{five_digits}
 use Rattle.certificate_lines.proofs.WordsWritten.{codes_line, are_codes}
 use Rattle.certificate_lines.proofs.writing_lines.push_group.Goals as goal
 

@@ -1,6 +1,6 @@
 use Rattle.std.proofs.Common.{◌≤◌, ◌∷◌, ◌++◌, [], All, ℕ, codes, sym}
 use Rattle.std.specs.List.{flat_map}
-use Rattle.certificate_lines.specs.Spelling.{five_digits}
+use Rattle.county_codes.specs.Digits.{five_digits}
 use Rattle.certificate_lines.proofs.WordsWritten.{codes_line, are_codes}
 use Rattle.certificate_lines.specs.declared.item.Item.TheVariants as item
 use Rattle.tree_lines.proofs.AddedLaws.{adds_line}

@@ -1,4 +1,4 @@
--- Numbers of a fixed number of digits.
+-- The five digits of a code, and codes after a mark.
 use Rattle.std.specs.Prelude.{ℕ, ◌+◌, ◌/◌, ◌%◌, List, [], ◌∷◌, ◌++◌}
 use Rattle.std.specs.List.{flat_map}
 

@@ -1,6 +1,6 @@
 use Rattle.std.proofs.Common.{◌≡◌, ◌≤◌, ◌++◌, All, take, drop}
-use Rattle.grouping_report.specs.Digits.{each_after}
-use Rattle.grouping_report.proofs.text.push_codes.Given as goal
+use Rattle.county_codes.specs.Digits.{each_after}
+use Rattle.county_codes.proofs.writing.push_codes.Given as goal
 
 abbrev pub invariant-loop-code : goal.invariant-loop-code
 invariant-loop-code l = record {

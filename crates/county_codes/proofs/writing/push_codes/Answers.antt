@@ -1,7 +1,7 @@
 use Rattle.std.proofs.Common.{List, ℕ, All, ◌≤◌, subst, arith, take_all}
 use Rattle.std.proofs.lemmas.Grind.{common_steps}
 use Rattle.std.proofs.lemmas.List.Elements.{All-more}
-use Rattle.grouping_report.proofs.text.push_codes.Goals as goal
+use Rattle.county_codes.proofs.writing.push_codes.Goals as goal
 
 pub loop-code-preserved : goal.loop-code-preserved
 loop-code-preserved c = record {

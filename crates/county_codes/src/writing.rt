@@ -1,22 +1,13 @@
-//! Numbers and codes in the texts that are written.
+//! Codes by their five digits, written.
 
-ghost use Rattle.std.specs.Prelude.{◌≡◌, ℕ, ◌≤◌, ◌++◌, All, OnOk, decimal};
-ghost use Rattle.grouping_report.specs.Digits.{five_digits, each_after};
+ghost use Rattle.std.specs.Prelude.{◌≡◌, ◌≤◌, ◌++◌, All, OnOk};
+ghost use Rattle.county_codes.specs.Digits.{five_digits, each_after};
 
-use county_codes::CountyCode;
-use itoa::Buffer;
+use crate::code::CountyCode;
 use std::alloc::AllocError;
 
-/// Appends a number in plain decimal. It fails only where a growth was refused.
-pub fn push_number(out: &mut Vec<u8>, number: u64) -> Result<(), AllocError>
-    ensures { OnOk result (out.new.items ≡ out.old.items ++ decimal number) }
-{
-    let mut buffer = Buffer::new();
-    out.extend_from_slice(buffer.format(number).as_bytes())
-}
-
-/// Appends the five digits of a number.
-pub(crate) fn push_five_digits(out: &mut Vec<u8>, number: u32) -> Result<(), AllocError>
+/// Appends the five digits of a number. It fails only where a growth was refused.
+pub fn push_five_digits(out: &mut Vec<u8>, number: u32) -> Result<(), AllocError>
     requires { number ≤ 99999 }
     ensures { OnOk result (out.new.items ≡ out.old.items ++ five_digits number) }
 {
@@ -32,7 +23,8 @@ pub(crate) fn push_five_digits(out: &mut Vec<u8>, number: u32) -> Result<(), All
 
 /// Appends the five digits of a code. It fails only where a growth was refused.
 pub fn push_code(out: &mut Vec<u8>, code: CountyCode) -> Result<(), AllocError>
-    ensures { OnOk result (out.new.items ≡ out.old.items ++ five_digits code) }
+    ensures text { OnOk result (out.new.items ≡ out.old.items ++ five_digits code) }
+    ensures small { code ≤ 99999 }
 {
     push_five_digits(out, code.get())
 }

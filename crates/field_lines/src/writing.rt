@@ -1,0 +1,14 @@
+//! A number, written.
+
+ghost use Rattle.std.specs.Prelude.{◌≡◌, ◌++◌, OnOk, decimal};
+
+use itoa::Buffer;
+use std::alloc::AllocError;
+
+/// Appends a number in plain decimal. It fails only where a growth was refused.
+pub fn push_number(out: &mut Vec<u8>, number: u64) -> Result<(), AllocError>
+    ensures { OnOk result (out.new.items ≡ out.old.items ++ decimal number) }
+{
+    let mut buffer = Buffer::new();
+    out.extend_from_slice(buffer.format(number).as_bytes())
+}
