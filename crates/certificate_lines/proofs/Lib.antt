@@ -9,3 +9,4 @@ pub mod ReaderLaws
 pub mod StackLaws
 pub mod EachLaws
 pub mod WordsWritten
+pub mod FittingLaws

@@ -61,6 +61,15 @@ pub fn push_number_line(out: &mut Vec<u8>, name: &[u8], number: u32) -> Result<(
     out.extend_from_slice(b"\n")
 }
 
+/// Appends a line of a name and a count. A name ends with a blank here.
+pub fn push_count_line(out: &mut Vec<u8>, name: &[u8], count: usize) -> Result<(), AllocError>
+    ensures { OnOk result (out.new.items ≡ out.old.items ++ (name.now ++ (decimal count ++ 10 ∷ []))) }
+{
+    out.extend_from_slice(name)?;
+    push_number(out, count as u64)?;
+    out.extend_from_slice(b"\n")
+}
+
 /// Appends a line of a name and two numbers. A name ends with a blank here.
 pub(crate) fn push_two_numbers_line(
     out: &mut Vec<u8>,

@@ -1,6 +1,6 @@
-//! A number, written.
+//! A number in decimal: written, and its length.
 
-ghost use Rattle.std.specs.Prelude.{◌≡◌, ◌++◌, OnOk, decimal};
+ghost use Rattle.std.specs.Prelude.{◌≡◌, ◌≤◌, ◌++◌, OnOk, decimal, length};
 
 use itoa::Buffer;
 use std::alloc::AllocError;
@@ -11,4 +11,13 @@ pub fn push_number(out: &mut Vec<u8>, number: u64) -> Result<(), AllocError>
 {
     let mut buffer = Buffer::new();
     out.extend_from_slice(buffer.format(number).as_bytes())
+}
+
+/// How many digits a number has in plain decimal.
+pub fn decimal_length(number: u64) -> usize
+    ensures value { result ≡ length (decimal number) }
+    ensures small { result ≤ 20 }
+{
+    let mut buffer = Buffer::new();
+    buffer.format(number).len()
 }
