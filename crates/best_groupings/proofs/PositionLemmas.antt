@@ -9,7 +9,7 @@ use Rattle.grouping_laws.proofs.Places.{has_member}
 use Rattle.place_lists.proofs.Sums.{total-map, total-append, total_ones}
 use Rattle.proof_trees.specs.State.{State, close, raise, open_to}
 use Rattle.proof_trees.specs.Regions.{without, listed}
-use Rattle.certificate_text.proofs.WriteLaws.{taken_more}
+use Rattle.certificate_text.proofs.ListLaws.{taken_more}
 use Rattle.best_groupings.specs.declared.position.Waiting.{Waiting}
 use Rattle.best_groupings.specs.declared.position.Position.{Position}
 use Rattle.best_groupings.specs.Positions.{waiting, raised_past, IsPosition}

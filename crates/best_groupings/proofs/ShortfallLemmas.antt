@@ -17,7 +17,7 @@ use Rattle.certificate_lines.specs.declared.item.Allowance.{Allowance as Allowan
 use Rattle.certificate_lines.specs.declared.item.Allowance.TheVariants.{Weigh}
 use Rattle.certificate_text.specs.Trees.{allowance_of}
 use Rattle.certificate_text.proofs.TreeViews.{allowance_again}
-use Rattle.certificate_text.proofs.WriteLaws.{taken_more}
+use Rattle.certificate_text.proofs.ListLaws.{taken_more}
 use Rattle.bound_verdicts.specs.Allowed.{IsSpelled}
 use Rattle.bound_verdicts.specs.Weights.{county_weight}
 use Rattle.certificate_checker.specs.Readable.{AreSpelled}

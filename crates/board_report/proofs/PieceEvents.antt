@@ -14,9 +14,9 @@ use Rattle.grouping_laws.proofs.Digits.{true_digit, digit_true}
 use Rattle.proof_trees.specs.Round.{Round}
 use Rattle.proof_trees.specs.State.{State, IsState}
 use Rattle.certificate_text.specs.Trees.{tree_of}
-use Rattle.tree_spelling.specs.TreeItems.{HasTargetLines}
-use Rattle.tree_spelling.proofs.ItemsFit.{target_fits}
-use Rattle.tree_spelling.proofs.Texts.{have_texts}
+use Rattle.certificate_text.specs.TreeItems.{HasTargetLines}
+use Rattle.certificate_text.proofs.ItemsFit.{target_fits}
+use Rattle.certificate_text.proofs.Texts.{have_texts}
 use Rattle.share_board.specs.Spelled.{HasFiveDigits}
 use Rattle.share_board.proofs.Spelling.{five_digits}
 use Rattle.branch_bound.specs.Pieces.{IsPiece}

@@ -18,7 +18,7 @@ use Rattle.certificate_lines.specs.declared.item.Item.TheVariants.{Allows}
 use Rattle.certificate_text.specs.declared.tree.Leaf.{Leaf as LeafHeld}
 use Rattle.certificate_text.specs.Trees.{allowance_of, leaf_of, leaf_items}
 use Rattle.certificate_text.proofs.TreeViews.{allowance_again}
-use Rattle.tree_spelling.specs.TreeItems.{FitsInTree}
+use Rattle.certificate_text.specs.TreeItems.{FitsInTree}
 use Rattle.known_groups.specs.Standing.{IsLevel, NoneUpTo}
 use Rattle.bound_leaves.specs.GivenLeaf.{IsGiven}
 use Rattle.bound_leaves.specs.EmptyLines.{AreEmptyFrom, AreEmptyThrough, EndsWith}

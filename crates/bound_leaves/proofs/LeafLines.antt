@@ -12,9 +12,9 @@ use Rattle.certificate_lines.specs.declared.item.Item.{Item}
 use Rattle.certificate_lines.specs.declared.item.Item.TheVariants.{Opens, Allows}
 use Rattle.certificate_lines.specs.declared.item.Opening.TheVariants as opening
 use Rattle.certificate_text.specs.Trees.{declared_weight, declared_allowance, leaf_items}
-use Rattle.tree_spelling.specs.TreeItems.{FitsInTree}
+use Rattle.certificate_text.specs.TreeItems.{FitsInTree}
 use Rattle.bound_leaves.specs.EmptyLines.{IsEmptyLine, AreEmptyFrom}
-use Rattle.tree_spelling.proofs.ShortLines.{weights_fit}
+use Rattle.certificate_text.proofs.ShortLines.{weights_fit}
 
 bound_opens : (language : Language) (n : ℕ) → n ≤ most_counties → FitsInTree language (Opens (opening.Bound n))
 bound_opens Plain n l = l

@@ -27,7 +27,7 @@ use Rattle.known_groups.specs.Known.{IsKnown}
 use Rattle.bound_leaves.specs.Missing.{AllowsFewer}
 use Rattle.bound_leaves.specs.PlacedWeights.{placed_weight, weights_above, AreTableWeights}
 use Rattle.bound_leaves.proofs.PlacedWeights.{above_known, table_weights}
-use Rattle.tree_spelling.proofs.ShortLines.{weights_fit}
+use Rattle.certificate_text.proofs.ShortLines.{weights_fit}
 
 -- where each group that is known weighs so much, each one that fits does
 known_heavy : (p : Problem) (round : Round) (s : State) (i quota : ℕ) (w : ℕ → ℕ) (groups : List (List ℕ)) → IsOrder p round.order → IsKnown p round s i groups → All (λ g. quota ≤ total w g) groups

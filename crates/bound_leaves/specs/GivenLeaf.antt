@@ -6,7 +6,7 @@ use Rattle.proof_trees.specs.State.{State}
 use Rattle.proof_trees.specs.Leaves.{IsValidLeaf}
 use Rattle.certificate_text.specs.declared.tree.Leaf.{Leaf}
 use Rattle.certificate_text.specs.Trees.{leaf_of, leaf_items}
-use Rattle.tree_spelling.specs.TreeItems.{FitsInTree}
+use Rattle.certificate_text.specs.TreeItems.{FitsInTree}
 
 -- the leaf is valid at the state, and its numbers are in the ranges of its lines
 pub record IsGiven (p : Problem) (round : Round) (s : State) (leaf : Leaf) : Type 0 where

@@ -9,7 +9,7 @@ use Rattle.proof_trees.specs.BoundLines.{allowance, IsFair}
 use Rattle.certificate_lines.specs.declared.item.Allowance.{Allowance}
 use Rattle.certificate_lines.specs.declared.item.Item.TheVariants.{Allows}
 use Rattle.certificate_text.specs.Trees.{allowance_of}
-use Rattle.tree_spelling.specs.TreeItems.{FitsInTree}
+use Rattle.certificate_text.specs.TreeItems.{FitsInTree}
 use Rattle.known_groups.specs.Standing.{IsLevel}
 
 -- the first size from 1 through the last one of which there are not as many closed groups as are wanted

@@ -6,31 +6,15 @@ ghost use Rattle.grouping_laws.specs.Sets.{member};
 ghost use Rattle.certificate_lines.specs.Lines.{ascend};
 ghost use Rattle.bound_verdicts.specs.Weights.{county_weight};
 
-use certificate_lines::Weight;
+use certificate_lines::{Weight, ascend};
 use county_codes::{CountyCode, has_code};
 use std::alloc::{AllocError, Global};
-
-/// Whether the codes of the weights ascend.
-fn do_ascend(weights: &[Weight]) -> bool
-    ensures { result ≡ ascend weights.now }
-{
-    let mut weights = weights;
-    while let [first, rest @ ..] = weights {
-        if let [second, ..] = rest
-            && first.county.get() >= second.county.get()
-        {
-            return false;
-        }
-        weights = rest;
-    }
-    true
-}
 
 /// Whether a text may spell the quota and the weights: the quota is no 0, and the codes ascend.
 pub(crate) fn is_spelled(quota: u32, weights: &[Weight]) -> bool
     ensures { IsTrue result ↔ ((1 ≤ quota) × (ascend weights.now ≡ true)) }
 {
-    quota > 0 && do_ascend(weights)
+    quota > 0 && ascend(weights)
 }
 
 /// Whether each weight is that of one of the codes.

@@ -26,7 +26,7 @@ use Rattle.certificate_text.specs.declared.tree.Branch.{Branch}
 use Rattle.certificate_text.specs.declared.tree.Take.{Take, Take'}
 use Rattle.certificate_text.specs.Trees.{tree_of, branch_onto, list_of_takes, items_of_tree, items_of_takes}
 use Rattle.certificate_text.proofs.TreeViews.{list_onto, items_of_branch, items_of_branches, branches_more}
-use Rattle.tree_spelling.specs.TreeItems.{FitsInTree}
+use Rattle.certificate_text.specs.TreeItems.{FitsInTree}
 use Rattle.branch_bound.specs.Searching.{IsSorted, AreTakesOf, IsTakeOf}
 
 pub joined : (bs : List Branch) (b : Branch) (tree : Tree) → list_onto (bs ++ b ∷ []) tree ≡ list_onto bs (branch_onto b tree)

@@ -29,8 +29,8 @@ use Rattle.certificate_text.specs.declared.tree.Branch.{Branch}
 use Rattle.certificate_text.specs.declared.certificate.Certificate.{Certificate as CertificateHeld}
 use Rattle.certificate_text.specs.Trees.{leaf_of, tree_of, certificate_of}
 use Rattle.certificate_text.proofs.TreeViews.{list_onto, made_tree}
-use Rattle.tree_spelling.specs.TreeItems.{HasLines, TargetHasLines}
-use Rattle.tree_spelling.proofs.Texts.{have_texts}
+use Rattle.certificate_text.specs.TreeItems.{HasLines, TargetHasLines}
+use Rattle.certificate_text.proofs.Texts.{have_texts}
 use Rattle.bound_leaves.specs.GivenLeaf.{IsGiven}
 use Rattle.branch_bound.specs.Searching.{IsProof}
 use Rattle.branch_bound.specs.Solving.{round_over, IsTarget}

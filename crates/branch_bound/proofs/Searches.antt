@@ -29,7 +29,7 @@ use Rattle.proof_trees.specs.Tree.{Tree, leaf, Takes}
 use Rattle.proof_trees.specs.Tree as tree
 use Rattle.proof_trees.proofs.Branches.{branch_keeps_state}
 use Rattle.proof_trees.proofs.Completion.{open_least}
-use Rattle.tree_spelling.specs.TreeItems.{FitsInTree}
+use Rattle.certificate_text.specs.TreeItems.{FitsInTree}
 use Rattle.branch_bound.specs.Searching.{state_in, IsAt, IsEnd, IsProof, IsBetter, IsTakeOf, AreTakesOf, IsChoice}
 use Rattle.branch_bound.specs.declared.ground.Ground.{Ground}
 use Rattle.branch_bound.specs.declared.position.Position.{Position}

@@ -7,7 +7,7 @@ use Rattle.proof_trees.specs.Round.{Wide, Round}
 use Rattle.proof_trees.specs.State.{State}
 use Rattle.proof_trees.specs.Proving.{Proves, CanBranch}
 use Rattle.proof_trees.specs.Search.{IsFound}
-use Rattle.tree_spelling.specs.TreeItems.{HasLines, HasTargetLines}
+use Rattle.certificate_text.specs.TreeItems.{HasLines, HasTargetLines}
 use Rattle.branch_bound.specs.declared.piece.Piece.{Piece}
 use Rattle.branch_bound.specs.declared.piece.Piece.TheVariants.{Proved, Better, Wider, Open}
 use Rattle.branch_bound.specs.declared.piece.Split.{Split}

@@ -28,7 +28,7 @@ use Rattle.certificate_text.specs.declared.tree.Take.{Take}
 use Rattle.certificate_text.specs.Trees.{leaf_of, tree_of, take_onto, list_of_takes, items_of_takes, items_of_tree}
 use Rattle.certificate_lines.specs.declared.item.Item.TheVariants as item
 use Rattle.line_verdicts.specs.Placed.{state_at, codes_of_sets, IsPlaced}
-use Rattle.tree_spelling.specs.TreeItems.{FitsInTree, HasLines, HasTargetLines}
+use Rattle.certificate_text.specs.TreeItems.{FitsInTree, HasLines, HasTargetLines}
 use Rattle.known_groups.specs.Known.{IsKnown}
 use Rattle.bound_leaves.specs.GivenLeaf.{IsGiven}
 use Rattle.branch_bound.specs.declared.ground.Ground.{Ground}

@@ -6,7 +6,7 @@ use Rattle.grouping_laws.specs.Allowance.{named_window}
 use Rattle.certificate_languages.specs.declared.language.Language.{Language}
 use Rattle.certificate_languages.specs.declared.language.Language.TheVariants.{Plain}
 use Rattle.proof_trees.specs.Round.{Round}
-use Rattle.tree_spelling.specs.TreeItems.{HasTargetLines}
+use Rattle.certificate_text.specs.TreeItems.{HasTargetLines}
 use Rattle.branch_bound.specs.Searching.{IsSorted}
 use Rattle.branch_bound.specs.Answered.{Certifies}
 use Rattle.branch_bound.specs.declared.outcome.First.{First}

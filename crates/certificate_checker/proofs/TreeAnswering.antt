@@ -13,9 +13,9 @@ use Rattle.certificate_lines.specs.declared.item.Item.{Item}
 use Rattle.certificate_lines.specs.declared.item.Wanted.TheVariants as want
 use Rattle.certificate_text.specs.Trees.{items_of_tree}
 use Rattle.certificate_text.specs.Spelled.{IsTreeSpelling}
-use Rattle.tree_lines.specs.Ranges.{AreTreeNumbers}
-use Rattle.tree_lines.specs.TreeFault.{lines_of_tree}
-use Rattle.tree_lines.proofs.Spelling.{spell}
+use Rattle.certificate_text.specs.Ranges.{AreTreeNumbers}
+use Rattle.certificate_text.specs.TreeFault.{lines_of_tree}
+use Rattle.certificate_text.proofs.Spelling.{spell}
 use Rattle.verdicts.specs.End.{fine, faulty}
 use Rattle.verdicts.specs.Lines.{tree_lines}
 use Rattle.verdicts.specs.Trees.{TreeEnds}

@@ -7,7 +7,7 @@ use Rattle.proof_trees.specs.Tree.{Tree}
 use Rattle.proof_trees.specs.Proving.{Proves}
 use Rattle.certificate_lines.specs.declared.fault.TextFault.{TextFault}
 use Rattle.certificate_text.specs.Spelled.{IsTreeSpelling}
-use Rattle.tree_lines.specs.TreeFault.{lines_of_tree, HasTreeFault}
+use Rattle.certificate_text.specs.TreeFault.{lines_of_tree, HasTreeFault}
 use Rattle.verdicts.specs.Fault.{Fault}
 use Rattle.verdicts.specs.End.{faulty}
 use Rattle.verdicts.specs.Trees.{TreeEnds}

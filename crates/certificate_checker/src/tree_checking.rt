@@ -9,8 +9,8 @@ ghost use Rattle.proof_trees.specs.Tree.{Tree as TreeValue};
 ghost use Rattle.certificate_lines.specs.Courses.{tree_course};
 ghost use Rattle.certificate_lines.specs.Lines.{most};
 ghost use Rattle.certificate_text.specs.Trees.{tree_of};
-ghost use Rattle.tree_lines.specs.Ranges.{AreTreeNumbers};
-ghost use Rattle.tree_lines.specs.TreeFault.{lines_of_tree};
+ghost use Rattle.certificate_text.specs.Ranges.{AreTreeNumbers};
+ghost use Rattle.certificate_text.specs.TreeFault.{lines_of_tree};
 ghost use Rattle.verdicts.specs.Verdict.{IsLawfulTarget};
 ghost use Rattle.line_verdicts.specs.Placed.{state_at, IsPlaced};
 ghost use Rattle.certificate_checker.specs.Judging.{AreWanted};
@@ -21,7 +21,7 @@ use crate::fault::CheckFault;
 use crate::feed::{Feed, Halt, first_fault};
 use crate::verdict::TreeVerdict;
 use certificate_lines::{Items, TextFault};
-use certificate_text::Tree;
+use certificate_text::{Tree, tree_lines};
 use grouping_judge::Counts;
 use grouping_problem::Problem;
 use line_verdicts::copied_state;
@@ -29,7 +29,6 @@ use ordered_counties::{Ordered, Steps};
 use place_sets::CountySet;
 use proof_trees::{Language, Round, State};
 use std::alloc::{AllocError, Global};
-use tree_lines::tree_lines;
 
 /// What is said of a tree whose lines have no fault. The stops that a fault of the text gives never come here.
 fn said_of(judged: Result<(), Halt>) -> Result<TreeVerdict, AllocError>

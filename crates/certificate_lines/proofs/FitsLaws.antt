@@ -11,7 +11,8 @@ use Rattle.certificate_lines.specs.Lines as line
 use Rattle.certificate_lines.specs.Lines.{most, begins, named, counted, number_at, code_at, each, ascend, order_on, limit_on, target_on, group_on, branch_on, stuck_on, bound_on, opening_on, take_on, weigh_on, allowance_on}
 use Rattle.certificate_lines.specs.Items.{by_words, head_in, headed, seen, taken, item_on, wanted_after, in_front, items_from}
 use Rattle.certificate_lines.specs.Rest.{fault_at}
-use Rattle.certificate_lines.specs.Spelling.{five_digits, item_words}
+use Rattle.county_codes.specs.Digits.{five_digits}
+use Rattle.certificate_lines.specs.Spelling.{item_words}
 use Rattle.certificate_lines.specs.Fits.{AreCodes, IsSet, Fits, AllFit}
 use Rattle.certificate_lines.proofs.WordLaws.{bind_ok}
 use Rattle.certificate_lines.proofs.FormLaws.{counted_ok, number_at_ok, code_at_ok, codes_ok, weights_ok, order_few, window_fits, length_map}

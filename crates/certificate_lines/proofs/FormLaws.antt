@@ -11,7 +11,8 @@ use Rattle.county_codes.specs.declared.group.Group.{Group}
 use Rattle.county_codes.specs.declared.window.Window.{Window}
 use Rattle.certificate_lines.specs.Words.{number, code, pair}
 use Rattle.certificate_lines.specs.Lines.{most, begins, named, counted, number_at, code_at, each, ascend, window_on, order_on, limit_on, target_on, group_on, branch_on, stuck_on, bound_on, opening_on, take_on, weigh_on, allowance_on, end_on}
-use Rattle.certificate_lines.specs.Spelling.{five_digits, weight_word, item_words}
+use Rattle.county_codes.specs.Digits.{five_digits}
+use Rattle.certificate_lines.specs.Spelling.{weight_word, item_words}
 use Rattle.certificate_lines.specs.Items.{taken}
 use Rattle.certificate_lines.specs.Fits.{FitsWeight}
 use Rattle.certificate_lines.proofs.WordLaws.{bind_ok, number_ok, code_ok, pair_ok, each_ok}

@@ -1,4 +1,5 @@
 pub mod WordLaws
+pub mod BackLaws
 pub mod FormLaws
 pub mod TextLaws
 pub mod FitsLaws
@@ -8,3 +9,4 @@ pub mod ReaderLaws
 pub mod StackLaws
 pub mod EachLaws
 pub mod WordsWritten
+pub mod FittingLaws

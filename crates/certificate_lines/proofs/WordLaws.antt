@@ -9,15 +9,16 @@ use Rattle.std.specs.Str.Parse.{digits_value}
 use Rattle.std.proofs.lemmas.Bool.{and_parts, and_from, leb-true}
 use Rattle.std.proofs.lemmas.Bool.Decides.{nat_tests}
 use Rattle.std.proofs.lemmas.Fmt.{decimal-digits_value}
-use Rattle.std.proofs.lemmas.Str.Parse.{IsDigitsTest, IsNumeralModel, numerals_by_value}
 use Rattle.std.proofs.lemmas.List.Splits.{join_with_byte-slice_split}
 use Rattle.field_lines.specs.Chain.{◌>>=◌}
 use Rattle.field_lines.specs.Fields.{fields_of}
 use Rattle.field_lines.specs.Number.{number_of, number_in, kept_in}
 use Rattle.field_lines.proofs.NumberLemmas.{is_digit}
+use Rattle.field_lines.proofs.NumbersBack.{own}
 use Rattle.certificate_lines.specs.Words.{has_bytes, is_numeral, has_leading_zero, number, code, pair, halves}
 use Rattle.certificate_lines.specs.Lines.{each, counted}
-use Rattle.certificate_lines.specs.Spelling.{five_digits, weight_word}
+use Rattle.county_codes.specs.Digits.{five_digits}
+use Rattle.certificate_lines.specs.Spelling.{weight_word}
 use Rattle.certificate_lines.specs.declared.fault.TextKind.{TextKind}
 use Rattle.certificate_lines.specs.declared.fault.TextKind.TheVariants.{BadNumber, BadWord, NotCanonical}
 use Rattle.certificate_lines.specs.declared.weights.Weight.{Weight}
@@ -31,22 +32,6 @@ pub record Bound {A B E : Type 0} (r : Result A E) (f : A → Result B E) (y : B
 pub bind_ok : {A B E : Type 0} (r : Result A E) (f : A → Result B E) (y : B) → (r >>= f) ≡ Ok y → Bound r f y
 bind_ok (Ok x) f y h = record { value = x; first = refl; then = h }
 bind_ok (Err e) f y h = cc
-
-tells : IsDigitsTest (λ ds. list_all is_ascii_digit ds ≡ true)
-tells = record {
-  empty = refl;
-  parts = λ c cs e.
-      let parts = and_parts (is_ascii_digit c) (list_all is_ascii_digit cs) e in
-      let digit = is_digit c parts.0 in
-      ((digit.low, digit.high), parts.1);
-  more = λ c cs range rest.
-      let from : 48 ≤ c = range.0 in
-      let to : c ≤ 57 = range.1 in
-      and_from (is_ascii_digit c) (list_all is_ascii_digit cs) (grind (arith, nat_tests, from, to)) rest;
-}
-
-pub own : IsNumeralModel (λ ds. list_all is_ascii_digit ds ≡ true) (digits_value 10)
-own = numerals_by_value (λ ds. list_all is_ascii_digit ds ≡ true) tells
 
 -- a number, within its range
 pub record NumberIs (least greatest : ℕ) (word : List ℕ) (n : ℕ) : Type 0 where

@@ -1,6 +1,7 @@
 -- How items, and values that are made of them, are spelled.
-use Rattle.std.specs.Prelude.{ℕ, ◌+◌, ◌/◌, ◌%◌, List, [], ◌∷◌, ◌++◌, map, codes, decimal, Some, None}
+use Rattle.std.specs.Prelude.{ℕ, List, [], ◌∷◌, ◌++◌, map, codes, decimal, Some, None}
 use Rattle.std.specs.List.{flat_map, join_with_byte}
+use Rattle.county_codes.specs.Digits.{five_digits}
 use Rattle.certificate_languages.specs.declared.language.Language.TheVariants.{Plain, Wide}
 use Rattle.certificate_lines.specs.declared.weights.Weight.{Weight}
 use Rattle.certificate_lines.specs.declared.item.Version.TheVariants.{One, Two}
@@ -8,10 +9,6 @@ use Rattle.certificate_lines.specs.declared.item.Allowance.TheVariants.{Room, We
 use Rattle.certificate_lines.specs.declared.item.Opening.TheVariants.{Branch, Stuck, Seats, Bound}
 use Rattle.certificate_lines.specs.declared.item.Item.{Item}
 use Rattle.certificate_lines.specs.declared.item.Item.TheVariants.{Head, Within, Order, Limit, Target, Grouped, Opens, Takes, Mark, Allows, End}
-
--- the five digits of a county's code
-abbrev pub five_digits : ℕ → List ℕ
-five_digits code = (48 + code / 10000) ∷ (48 + code / 1000 % 10) ∷ (48 + code / 100 % 10) ∷ (48 + code / 10 % 10) ∷ (48 + code % 10) ∷ []
 
 -- a weight: the code, a colon and the number
 abbrev pub weight_word : Weight → List ℕ

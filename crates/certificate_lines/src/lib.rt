@@ -10,6 +10,7 @@
 
 mod cursor;
 mod fault;
+mod fitting;
 mod item;
 mod items;
 mod items_from;
@@ -24,17 +25,19 @@ mod writing_words;
 pub use county_codes::Window;
 pub use cursor::{Cursor, ended, push_on};
 pub use fault::{TextFault, TextKind, WriteFault};
+pub use fitting::{
+    allowance_fits, are_few, branch_fits, group_fits, is_code, order_fits, take_fits,
+};
 pub use item::{Allowance, Item, Opening, Version, Wanted};
 pub use items::{ItemSource, Items};
 pub use items_from::ItemsFrom;
-pub use lines::{MOST, levels_after};
+pub use lines::{MOST, ascend, levels_after};
 pub use weights::{Weight, Weights};
 pub use words::Words;
 pub use writing_lines::{
-    push_allowance, push_branch, push_group, push_head, push_limit, push_order, push_take,
-    push_target_line, push_window,
+    push_group, push_group_line, push_head, push_limit, push_order, push_target_line, push_window,
 };
 pub use writing_words::{
-    push_code_and_number_line, push_code_line, push_codes_line, push_number_and_weights,
-    push_number_line,
+    push_code_and_number_line, push_code_line, push_codes_line, push_count_line,
+    push_number_and_weights, push_number_line,
 };

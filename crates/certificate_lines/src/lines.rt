@@ -220,7 +220,7 @@ pub(crate) fn take_on(alloc: Global, words: &mut Words) -> Result<Option<Codes>,
 }
 
 /// Whether the codes of weights ascend.
-pub(crate) fn ascend(weights: &[Weight]) -> bool
+pub fn ascend(weights: &[Weight]) -> bool
     ensures { result ≡ ascend weights.now }
 {
     let mut weights = weights;

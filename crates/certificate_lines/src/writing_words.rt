@@ -2,48 +2,13 @@
 
 ghost use Rattle.std.specs.Prelude.{◌≡◌, ◌≤◌, ◌∷◌, ◌++◌, [], OnOk, decimal, All};
 ghost use Rattle.std.specs.List.{flat_map};
-ghost use Rattle.certificate_lines.specs.Spelling.{five_digits, weight_word};
+ghost use Rattle.county_codes.specs.Digits.{five_digits};
+ghost use Rattle.certificate_lines.specs.Spelling.{weight_word};
 
 use crate::weights::Weight;
-use county_codes::CountyCode;
-use itoa::Buffer;
+use county_codes::{CountyCode, push_code, push_codes};
+use field_lines::push_number;
 use std::alloc::AllocError;
-
-/// Appends a number in plain decimal.
-fn push_number(out: &mut Vec<u8>, number: u32) -> Result<(), AllocError>
-    ensures { OnOk result (out.new.items ≡ out.old.items ++ decimal number) }
-{
-    let mut buffer = Buffer::new();
-    out.extend_from_slice(buffer.format(number).as_bytes())
-}
-
-/// Appends the five digits of a code.
-fn push_code(out: &mut Vec<u8>, code: CountyCode) -> Result<(), AllocError>
-    ensures text { OnOk result (out.new.items ≡ out.old.items ++ five_digits code) }
-    ensures small { code ≤ 99999 }
-{
-    let number = code.get();
-    let digits = [
-        b'0' + (number / 10_000) as u8,
-        b'0' + (number / 1_000 % 10) as u8,
-        b'0' + (number / 100 % 10) as u8,
-        b'0' + (number / 10 % 10) as u8,
-        b'0' + (number % 10) as u8,
-    ];
-    out.extend_from_slice(&digits)
-}
-
-/// Appends codes, each after a blank.
-fn push_codes(out: &mut Vec<u8>, codes: &[CountyCode]) -> Result<(), AllocError>
-    ensures text { OnOk result (out.new.items ≡ out.old.items ++ flat_map (λ c. 32 ∷ five_digits c) codes.now) }
-    ensures small { OnOk result (All (λ c. c ≤ 99999) codes.now) }
-{
-    for code in codes {
-        out.extend_from_slice(b" ")?;
-        push_code(out, *code)?;
-    }
-    Ok(())
-}
 
 /// Appends weights, each after a blank.
 fn push_weights(out: &mut Vec<u8>, weights: &[Weight]) -> Result<(), AllocError>
@@ -55,7 +20,7 @@ fn push_weights(out: &mut Vec<u8>, weights: &[Weight]) -> Result<(), AllocError>
         out.extend_from_slice(b" ")?;
         push_code(out, weight.county)?;
         out.extend_from_slice(b":")?;
-        push_number(out, weight.weight)?;
+        push_number(out, u64::from(weight.weight))?;
     }
     Ok(())
 }
@@ -83,7 +48,7 @@ pub fn push_code_and_number_line(
     out.extend_from_slice(name)?;
     push_code(out, code)?;
     out.extend_from_slice(b" ")?;
-    push_number(out, number)?;
+    push_number(out, u64::from(number))?;
     out.extend_from_slice(b"\n")
 }
 
@@ -92,7 +57,16 @@ pub fn push_number_line(out: &mut Vec<u8>, name: &[u8], number: u32) -> Result<(
     ensures { OnOk result (out.new.items ≡ out.old.items ++ (name.now ++ (decimal number ++ 10 ∷ []))) }
 {
     out.extend_from_slice(name)?;
-    push_number(out, number)?;
+    push_number(out, u64::from(number))?;
+    out.extend_from_slice(b"\n")
+}
+
+/// Appends a line of a name and a count. A name ends with a blank here.
+pub fn push_count_line(out: &mut Vec<u8>, name: &[u8], count: usize) -> Result<(), AllocError>
+    ensures { OnOk result (out.new.items ≡ out.old.items ++ (name.now ++ (decimal count ++ 10 ∷ []))) }
+{
+    out.extend_from_slice(name)?;
+    push_number(out, count as u64)?;
     out.extend_from_slice(b"\n")
 }
 
@@ -106,9 +80,9 @@ pub(crate) fn push_two_numbers_line(
     ensures { OnOk result (out.new.items ≡ out.old.items ++ (name.now ++ (decimal first ++ 32 ∷ (decimal second ++ 10 ∷ [])))) }
 {
     out.extend_from_slice(name)?;
-    push_number(out, first)?;
+    push_number(out, u64::from(first))?;
     out.extend_from_slice(b" ")?;
-    push_number(out, second)?;
+    push_number(out, u64::from(second))?;
     out.extend_from_slice(b"\n")
 }
 
@@ -122,7 +96,7 @@ pub fn push_codes_line(
     ensures small { OnOk result (All (λ c. c ≤ 99999) codes.now) }
 {
     out.extend_from_slice(name)?;
-    push_codes(out, codes)?;
+    push_codes(out, b" ", codes)?;
     out.extend_from_slice(b"\n")
 }
 
@@ -138,8 +112,8 @@ pub(crate) fn push_number_and_codes_line(
     ensures small { OnOk result (All (λ c. c ≤ 99999) codes.now) }
 {
     out.extend_from_slice(name)?;
-    push_number(out, u32::from(number))?;
-    push_codes(out, codes)?;
+    push_number(out, u64::from(number))?;
+    push_codes(out, b" ", codes)?;
     out.extend_from_slice(b"\n")
 }
 
@@ -155,6 +129,6 @@ pub fn push_number_and_weights(
     ensures numbers { OnOk result (All (λ w. w.weight ≤ 4294967295) weights.now) }
 {
     out.extend_from_slice(name)?;
-    push_number(out, number)?;
+    push_number(out, u64::from(number))?;
     push_weights(out, weights)
 }

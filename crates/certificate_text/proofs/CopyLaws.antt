@@ -7,7 +7,7 @@ use Rattle.certificate_text.specs.declared.tree.Branch.{Branch, out-Branch, roll
 use Rattle.certificate_text.specs.declared.tree.Take.{Take}
 use Rattle.certificate_text.specs.declared.tree.Leaf.{Leaf as DeclaredLeaf}
 use Rattle.certificate_text.proofs.TreeViews.{list_onto, made_tree, made_takes}
-use Rattle.certificate_text.proofs.WriteLaws.{taken_more}
+use Rattle.certificate_text.proofs.ListLaws.{taken_more}
 
 -- takes in front of others
 abbrev pub takes_onto : List Take → Takes → Takes

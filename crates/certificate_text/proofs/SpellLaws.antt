@@ -12,9 +12,11 @@ use Rattle.field_lines.specs.Chain.{◌>>=◌}
 use Rattle.field_lines.specs.Fault.{most_bytes}
 use Rattle.certificate_lines.specs.Words.{words_of, has_bytes, is_printable, is_canonical, line_bytes, line_words, code, pair}
 use Rattle.certificate_lines.specs.Lines.{most, begins, counted, number_at, code_at, each, order_on, window_on, limit_on, target_on, group_on, branch_on, stuck_on, bound_on, opening_on, take_on, weigh_on, allowance_on}
-use Rattle.certificate_lines.specs.Spelling.{five_digits, weight_word, item_words}
+use Rattle.county_codes.specs.Digits.{five_digits}
+use Rattle.certificate_lines.specs.Spelling.{weight_word, item_words}
 use Rattle.certificate_lines.specs.Fits.{AreCodes, IsSet, FitsWeight, AreWeights}
-use Rattle.certificate_text.proofs.BackLaws.{number_back, code_back, Digit, decimal_digits, pair_back, each_back}
+use Rattle.field_lines.proofs.NumbersBack.{Digit, decimal_digits}
+use Rattle.certificate_lines.proofs.BackLaws.{number_back, code_back, pair_back, each_back}
 use Rattle.certificate_languages.specs.declared.language.Language.{Language}
 use Rattle.certificate_languages.specs.declared.language.Language.TheVariants.{Plain, Wide}
 use Rattle.certificate_lines.specs.declared.weights.Weight.{Weight}

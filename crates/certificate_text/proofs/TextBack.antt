@@ -14,10 +14,12 @@ use Rattle.certificate_lines.specs.Words.{line_bytes}
 use Rattle.certificate_lines.specs.Lines as line
 use Rattle.certificate_lines.specs.Lines.{most}
 use Rattle.certificate_lines.specs.Items.{by_words, seen, taken, item_on, wanted_after, in_front, items_from}
-use Rattle.certificate_lines.specs.Spelling.{five_digits, weight_word, item_words, text_of}
+use Rattle.county_codes.specs.Digits.{five_digits}
+use Rattle.certificate_lines.specs.Spelling.{weight_word, item_words, text_of}
 use Rattle.certificate_lines.specs.Fits.{AreCodes, IsSet, FitsWeight, AreWeights, Fits, AllFit}
 use Rattle.certificate_lines.specs.Rest.{fault_at}
-use Rattle.certificate_text.proofs.BackLaws.{Digit, decimal_digits, code_digits}
+use Rattle.field_lines.proofs.NumbersBack.{Digit, decimal_digits}
+use Rattle.county_codes.proofs.DigitsBack.{code_digits}
 use Rattle.certificate_text.proofs.SpellLaws.{Shown, IsWord, Printed, printed_line, line_words_back, window_back, order_back, limit_back, group_back, take_back, plain_back, wide_back, stuck_back, bound_back, weigh_back, target_back}
 use Rattle.certificate_lines.specs.declared.fault.TextKind.{TextKind}
 use Rattle.certificate_lines.specs.declared.fault.TextFault.{TextFault}

@@ -1,2 +1,9 @@
 pub mod Trees
 pub mod Spelled
+pub mod Tests
+pub mod Ranges
+pub mod Added
+pub mod TreeFault
+pub mod LineLaws
+pub mod TreeItems
+pub mod TextLaws

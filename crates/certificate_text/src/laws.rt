@@ -10,7 +10,9 @@ ghost use Rattle.certificate_lines.specs.Items.{items_from};
 ghost use Rattle.certificate_lines.specs.Courses.{course_from, whole};
 ghost use Rattle.certificate_lines.specs.Fits.{AllFit};
 ghost use Rattle.certificate_lines.specs.Spelling.{text_of};
+ghost use Rattle.certificate_text.specs.LineLaws.{TreesSpell};
 ghost use Rattle.certificate_text.specs.Spelled.{IsSpelling, IsTreeSpelling};
+ghost use Rattle.certificate_text.specs.TextLaws.{ProofTreesHaveTexts};
 ghost use Rattle.certificate_text.specs.Trees.{Certificate};
 
 /// Items that fit are read from their text, items that are read fit, and the text they are read from is theirs.
@@ -39,4 +41,15 @@ pub fn trees_have_one_text()
     ensures one_text { (language : Language) (counties : ℕ) (t u : List ℕ) (tree : Tree) → IsTreeSpelling language counties t tree → IsTreeSpelling language counties u tree → t ≡ u }
     ensures one_value { (language : Language) (counties : ℕ) (t : List ℕ) (a b : Tree) → IsTreeSpelling language counties t a → IsTreeSpelling language counties t b → a ≡ b }
     ensures no_prefix { (language : Language) (counties : ℕ) (t rest : List ℕ) (a b : Tree) → IsTreeSpelling language counties t a → IsTreeSpelling language counties (t ++ rest) b → rest ≡ [] }
+{}
+
+/// The lines of a tree spell it where they meet no fault, and nothing spells it where they meet one.
+pub fn trees_spell()
+    ensures { TreesSpell }
+{}
+
+/// A proof tree whose numbers are in range is spelled, and so is a certificate whose numbers are: no branch of it is
+/// too deep, and no line of weights too long.
+pub fn proof_trees_have_texts()
+    ensures { ProofTreesHaveTexts }
 {}

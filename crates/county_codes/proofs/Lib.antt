@@ -1,2 +1,3 @@
 pub mod CodeListLemmas
 pub mod WindowLemmas
+pub mod DigitsBack

@@ -3,3 +3,4 @@ pub mod Counties
 pub mod Groups
 pub mod Limits
 pub mod Windows
+pub mod Digits

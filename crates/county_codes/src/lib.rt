@@ -17,6 +17,7 @@ mod group;
 mod limits;
 mod window;
 mod withdrawn;
+mod writing;
 
 pub use code::CountyCode;
 pub use code_lists::{has_code, listed_codes, repeated_code, unlisted_code};
@@ -26,3 +27,4 @@ pub use group::{Group, Grouping};
 pub use limits::MAX_COUNTIES;
 pub use window::Window;
 pub use withdrawn::{Withdrawn, copy_sets};
+pub use writing::{push_code, push_codes, push_five_digits};

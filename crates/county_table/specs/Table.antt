@@ -3,7 +3,7 @@ use Rattle.std.specs.Prelude.{ℕ, List, [], ◌∷◌, ◌++◌, Option, Some, 
 use Rattle.county_codes.specs.declared.county.County.{County}
 use Rattle.county_codes.specs.declared.group.Group.{Group}
 use Rattle.county_codes.specs.declared.withdrawn.Withdrawn.{Withdrawn}
-use Rattle.grouping_report.specs.Digits.{five_digits}
+use Rattle.county_codes.specs.Digits.{five_digits}
 use Rattle.pl94_counties.specs.Named.{CountyName}
 use Rattle.county_table.specs.LabelledSets.{SetValue, labelled_sets, set_of}
 use Rattle.county_table.specs.Quoting.{line_text}

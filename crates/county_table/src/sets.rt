@@ -8,7 +8,7 @@ ghost use Rattle.county_table.specs.Table.{counties_of};
 ghost use Rattle.county_table.specs.LabelledSets.{people_inside as people_of_set, set_under, numbered_groups, numbered_withdrawn, labelled_sets as sets_under_labels, set_of as set_of_code};
 
 use county_codes::{Codes, CountyCode, Group, Withdrawn, has_code};
-use grouping_report::push_number;
+use field_lines::push_number;
 use pl94_counties::NamedCounty;
 use std::alloc::{AllocError, Global};
 use std::marker::Model;

@@ -9,9 +9,8 @@ ghost use Rattle.pl94_counties.specs.Named.{county_name};
 ghost use Rattle.county_table.specs.Table.{county_fields, county_lines, table_text};
 
 use crate::sets::{LabelledSet, labelled_sets, set_of};
-use county_codes::{Group, Withdrawn};
+use county_codes::{Group, Withdrawn, push_code};
 use csv::WriterBuilder;
-use grouping_report::push_code;
 use itoa::Buffer;
 use pl94_counties::NamedCounty;
 use std::alloc::{AllocError, Global};

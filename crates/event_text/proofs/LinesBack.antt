@@ -6,8 +6,8 @@ use Rattle.std.proofs.lemmas.Fmt.{decimal_nonempty, length-decimal-le}
 use Rattle.field_lines.specs.Fault.{most_bytes}
 use Rattle.certificate_lines.specs.Lines.{most}
 use Rattle.certificate_lines.specs.Items.{by_words}
-use Rattle.certificate_lines.specs.Spelling.{five_digits}
-use Rattle.certificate_text.proofs.BackLaws.{decimal_digits}
+use Rattle.county_codes.specs.Digits.{five_digits}
+use Rattle.field_lines.proofs.NumbersBack.{decimal_digits}
 use Rattle.certificate_text.proofs.SpellLaws.{Printed, printed_line, line_words_back, number_at_back, code_at_back}
 use Rattle.certificate_text.proofs.TextBack.{IsShort, named_word, digits_shown, code_word, words_of_short}
 use Rattle.event_text.specs.Lines.{greatest, hand_on, result_on, split_on, better_on, wider_on, event_on}

@@ -6,7 +6,7 @@ use Rattle.field_lines.specs.Raw.{RawLine, bytes_of}
 use Rattle.certificate_lines.specs.Words.{line_words}
 use Rattle.certificate_lines.specs.Lines.{most, begins, counted, number_at, code_at}
 use Rattle.certificate_lines.specs.Items.{by_words}
-use Rattle.certificate_lines.specs.Spelling.{five_digits}
+use Rattle.county_codes.specs.Digits.{five_digits}
 use Rattle.certificate_lines.specs.declared.fault.TextKind.TheVariants.{BadWord}
 use Rattle.certificate_lines.proofs.WordLaws.{bind_ok}
 use Rattle.certificate_lines.proofs.FormLaws.{named_ok, counted_ok, number_at_ok, code_at_ok}

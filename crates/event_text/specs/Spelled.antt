@@ -5,7 +5,8 @@ use Rattle.certificate_languages.specs.declared.language.Language.{Language}
 use Rattle.certificate_lines.specs.Lines.{most}
 use Rattle.certificate_lines.specs.Items.{groups_wanted}
 use Rattle.certificate_lines.specs.Fits.{AllFit}
-use Rattle.certificate_lines.specs.Spelling.{five_digits, text_of}
+use Rattle.county_codes.specs.Digits.{five_digits}
+use Rattle.certificate_lines.specs.Spelling.{text_of}
 use Rattle.certificate_lines.specs.declared.item.Item.{Item}
 use Rattle.certificate_lines.specs.declared.item.Item.TheVariants.{Grouped}
 use Rattle.certificate_lines.specs.declared.item.Wanted.{Wanted}

@@ -18,7 +18,7 @@ use Rattle.grouping_laws.specs.PlaceProblem.{code_at}
 use Rattle.place_lists.specs.PlaceSets.{places_of}
 use Rattle.place_lists.proofs.PlaceSums.{places_step}
 use Rattle.line_verdicts.proofs.PlacedLemmas.{all_one}
-use Rattle.tree_spelling.specs.TreeItems.{HasTargetLines}
+use Rattle.certificate_text.specs.TreeItems.{HasTargetLines}
 use Rattle.finished_groupings.specs.Finished.{CoverOnce, HasNumbers}
 use Rattle.finished_groupings.proofs.Covering.{size_covered, one_size, few_sets}
 

@@ -14,7 +14,7 @@ use Rattle.grouping_laws.proofs.Seated.{seated_sets}
 use Rattle.proof_trees.specs.Round.{Round}
 use Rattle.proof_trees.specs.State.{State}
 use Rattle.proof_trees.specs.Search.{IsFound}
-use Rattle.tree_spelling.specs.TreeItems.{HasTargetLines}
+use Rattle.certificate_text.specs.TreeItems.{HasTargetLines}
 use Rattle.line_verdicts.specs.Placed.{codes_of_set, codes_of_sets}
 use Rattle.finished_groupings.specs.Finished.{AreFinished, CoverOnce, HasNumbers}
 use Rattle.finished_groupings.proofs.Covering.{all_differ}

@@ -12,7 +12,7 @@ ghost use Rattle.proof_trees.specs.State.{IsState};
 ghost use Rattle.proof_trees.specs.Fitting.{NoGroupFits};
 ghost use Rattle.proof_trees.specs.Leaves.{IsStuck, IsOffSeats};
 ghost use Rattle.proof_trees.specs.Search.{IsFound};
-ghost use Rattle.tree_spelling.specs.TreeItems.{HasTargetLines};
+ghost use Rattle.certificate_text.specs.TreeItems.{HasTargetLines};
 ghost use Rattle.line_verdicts.specs.Placed.{state_at, IsPlaced};
 ghost use Rattle.known_groups.specs.Standing.{StandsAhead};
 

@@ -2,7 +2,7 @@
 use Rattle.std.specs.Prelude.{ℕ, List, ◌++◌, codes, decimal}
 use Rattle.grouping_judge.specs.declared.grouping_fault.GroupingFault.{GroupingFault}
 use Rattle.grouping_judge.specs.declared.grouping_fault.GroupingFault.TheVariants.{EmptyGroup, UnknownCounty, Twice, Missing, NotConnected, OutOfWindow, SeatsTotal, Memory}
-use Rattle.grouping_report.specs.Digits.{five_digits}
+use Rattle.county_codes.specs.Digits.{five_digits}
 
 -- words and a number
 unfoldable pub with_number : List ℕ → ℕ → List ℕ

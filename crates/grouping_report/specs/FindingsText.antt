@@ -5,7 +5,7 @@ use Rattle.baf_auditor.specs.declared.finding.Set.{Set}
 use Rattle.baf_auditor.specs.declared.finding.Set.TheVariants as sets
 use Rattle.baf_auditor.specs.declared.finding.Finding.{Finding}
 use Rattle.baf_auditor.specs.declared.finding.Finding.TheVariants as findings
-use Rattle.grouping_report.specs.Digits.{five_digits}
+use Rattle.county_codes.specs.Digits.{five_digits}
 use Rattle.grouping_report.specs.FaultWords.{with_number, grouping_fault_words}
 
 -- the fifteen digits of a block

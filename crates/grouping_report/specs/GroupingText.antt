@@ -3,7 +3,7 @@ use Rattle.std.specs.Prelude.{◌≤◌, ℕ, List, ◌++◌, length, All, codes
 use Rattle.std.specs.List.{flat_map}
 use Rattle.grouping_laws.specs.Grouping.{Grouping}
 use Rattle.field_lines.specs.Fault.{most_lines, most_bytes}
-use Rattle.grouping_report.specs.Digits.{each_after}
+use Rattle.county_codes.specs.Digits.{each_after}
 
 -- a group's seats and its codes, each code after a pipe
 unfoldable pub group_fields : ℕ → List ℕ → List ℕ

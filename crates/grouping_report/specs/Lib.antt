@@ -1,4 +1,3 @@
-pub mod Digits
 pub mod FirstLines
 pub mod SizeTable
 pub mod Report

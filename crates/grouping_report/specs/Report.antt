@@ -3,7 +3,7 @@ use Rattle.std.specs.Prelude.{ℕ, zero, suc, ◌+◌, List, [], ◌∷◌, ◌+
 use Rattle.grouping_laws.specs.Problem.{Problem, people_of}
 use Rattle.grouping_problem.specs.ProblemValue.{ProblemValue, problem_of}
 use Rattle.grouping_laws.specs.Grouping.{Grouping, sets_of, counts}
-use Rattle.grouping_report.specs.Digits.{each_after}
+use Rattle.county_codes.specs.Digits.{each_after}
 use Rattle.grouping_report.specs.FirstLines.{first_lines}
 
 -- the people, the chamber, the allowance where it isn't one twentieth, the seats left, and how many counties there are

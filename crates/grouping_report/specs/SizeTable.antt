@@ -4,7 +4,7 @@ use Rattle.std.specs.List.{flat_map}
 use Rattle.grouping_problem.specs.ProblemValue.{ProblemValue, problem_of}
 use Rattle.grouping_laws.specs.SeatWindow.{seat_run, people_bounds}
 use Rattle.county_codes.specs.declared.county.County.{County}
-use Rattle.grouping_report.specs.Digits.{five_digits}
+use Rattle.county_codes.specs.Digits.{five_digits}
 use Rattle.grouping_report.specs.FirstLines.{first_lines}
 
 -- the least and the greatest number of seats, or `none`

@@ -3,8 +3,8 @@
 ghost use Rattle.std.specs.Prelude.{◌≡◌, ◌++◌, OnOk};
 ghost use Rattle.grouping_report.specs.FaultWords.{with_number, with_code, grouping_fault_words};
 
-use crate::text::{push_code, push_number};
-use county_codes::CountyCode;
+use county_codes::{CountyCode, push_code};
+use field_lines::push_number;
 use grouping_judge::GroupingFault;
 use std::alloc::AllocError;
 

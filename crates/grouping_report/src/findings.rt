@@ -4,8 +4,8 @@ ghost use Rattle.std.specs.Prelude.{◌≡◌, ◌++◌, OnOk, IfOk, codes};
 ghost use Rattle.grouping_report.specs.FindingsText.{fifteen_digits, with_block, set_words, with_set, with_label, crossing_words, number_words, size_words, finding_words, findings_text as text_of};
 
 use crate::faults::{push_grouping_fault, push_words_number};
-use crate::text::push_five_digits;
 use baf_auditor::{Finding, Findings, Label, Set};
+use county_codes::push_five_digits;
 use std::alloc::{AllocError, Global};
 
 /// Appends the fifteen digits of a block.

@@ -4,8 +4,8 @@ ghost use Rattle.std.specs.Prelude.{◌≡◌, ◌<◌, ◌≤◌, ◌++◌, All
 ghost use Rattle.seat_lines.specs.GroupingLines.{grouping_list};
 ghost use Rattle.grouping_report.specs.GroupingText.{group_fields, grouping_text as text_of, IsReadable};
 
-use crate::text::{push_codes, push_number};
-use county_codes::{Group, Grouping};
+use county_codes::{Group, Grouping, push_codes};
+use field_lines::push_number;
 use std::alloc::{AllocError, Global};
 
 /// Appends the line of a group.

@@ -9,7 +9,6 @@ mod grouping;
 mod outcome;
 mod reports;
 mod table;
-mod text;
 
 pub use faults::{push_grouping_fault, push_words_number};
 pub use findings::findings_text;
@@ -20,4 +19,3 @@ pub use seat_lines::{
     CodeLineFault as GroupingTextFault, CodeLineKind as GroupingTextKind, read_grouping,
 };
 pub use table::size_table;
-pub use text::{push_code, push_codes, push_number};

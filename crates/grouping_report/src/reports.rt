@@ -10,8 +10,8 @@ ghost use Rattle.grouping_report.specs.Outcomes.{NamesLawful, outcome_text};
 use crate::faults::push_words_number;
 use crate::first_lines::push_first_lines;
 use crate::outcome::Outcome;
-use crate::text::{push_codes, push_number};
-use county_codes::{Group, Grouping};
+use county_codes::{Group, Grouping, push_codes};
+use field_lines::push_number;
 use grouping_problem::Problem;
 use std::alloc::{AllocError, Global};
 

@@ -5,8 +5,8 @@ ghost use Rattle.grouping_report.specs.SizeTable.{size_text, county_line, lines_
 ghost use Rattle.grouping_problem.specs.Building.{people_in};
 
 use crate::first_lines::push_first_lines;
-use crate::text::{push_code, push_number};
-use county_codes::County;
+use county_codes::{County, push_code};
+use field_lines::push_number;
 use grouping_problem::Problem;
 use std::alloc::{AllocError, Global};
 

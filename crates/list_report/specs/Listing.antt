@@ -5,7 +5,7 @@ use Rattle.grouping_laws.specs.SeatWindow.{seat_run}
 use Rattle.grouping_laws.specs.Grouping.{Grouping, sets_of}
 use Rattle.grouping_problem.specs.ProblemValue.{ProblemValue, problem_of, codes_of}
 use Rattle.county_codes.specs.Counties.{people_in}
-use Rattle.grouping_report.specs.Digits.{each_after}
+use Rattle.county_codes.specs.Digits.{each_after}
 use Rattle.grouping_report.specs.FaultWords.{with_number}
 use Rattle.grouping_report.specs.Report.{head_lines, answer_line, counts_line}
 use Rattle.list_report.specs.declared.alternatives.Region.{Region}

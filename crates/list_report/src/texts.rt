@@ -8,9 +8,10 @@ ghost use Rattle.list_report.specs.Listing.{people_inside, seats_words, set_line
 
 use crate::alternatives::{Region, alternative_number, has_product, inside};
 use crate::sets::Sets;
-use county_codes::{Codes, County, CountyCode, has_code};
+use county_codes::{Codes, County, CountyCode, has_code, push_codes};
+use field_lines::push_number;
 use grouping_problem::Problem;
-use grouping_report::{push_codes, push_number, push_words_number};
+use grouping_report::push_words_number;
 use std::alloc::{AllocError, Global};
 
 /// The people of the problem's counties in a set.

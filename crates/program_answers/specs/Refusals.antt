@@ -29,7 +29,7 @@ use Rattle.share_board.specs.declared.fault.BoardFault.{BoardFault}
 use Rattle.share_board.specs.declared.fault.BoardFault.TheVariants as board
 use Rattle.shelves.specs.declared.shelf.ShelfFault.{ShelfFault}
 use Rattle.shelves.specs.declared.shelf.ShelfFault.TheVariants as shelf
-use Rattle.grouping_report.specs.Digits.{five_digits}
+use Rattle.county_codes.specs.Digits.{five_digits}
 use Rattle.program_answers.specs.Answer.{Answered, budget_answer, memory_answer}
 use Rattle.program_answers.specs.CheckLines.{text_kind_word}
 

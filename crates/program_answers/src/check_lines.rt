@@ -9,8 +9,8 @@ use crate::answer::RunAnswer;
 use crate::refusal::push_word;
 use certificate_checker::CheckFault;
 use certificate_lines::TextKind;
+use field_lines::push_number;
 use grouping_judge::GroupingFault;
-use grouping_report::push_number;
 use std::alloc::{AllocError, Global};
 
 /// The word of a kind of fault of a certificate's text.

@@ -5,18 +5,18 @@ ghost use Rattle.pl94_counties.specs.declared.fault.Pl94Kind.TheVariants as kind
 ghost use Rattle.pl94_counties.specs.Named.{IsNoMemory};
 ghost use Rattle.grouping_problem.specs.declared.fault.ProblemFault.TheVariants as problem;
 ghost use Rattle.program_answers.specs.Answers.{Refuses, IsShown};
-ghost use Rattle.grouping_report.specs.Digits.{five_digits};
+ghost use Rattle.county_codes.specs.Digits.{five_digits};
 ghost use Rattle.seat_lines.specs.declared.fault.CodeLineKind.TheVariants as lines_of_codes;
 ghost use Rattle.assignment_file.specs.declared.fault.AssignmentKind.TheVariants as lines_of_assignments;
 ghost use Rattle.program_answers.specs.Refusals.{line_fault_word, kind_word, code_line_word, assignment_word, assignment_answer, cut_line, file_word, input_of as input_file_of, refused_line, input_answer, pl94_answer, named_answer, code_file_answer, fault_line, verdict_answer, after_blank, problem_words, refused_problem, problem_answer, shelf_word, device_line, shelf_answer};
 
 use crate::answer::Refusal;
 use baf_auditor::{AssignmentFault, AssignmentKind};
-use county_codes::CountyCode;
-use field_lines::LineFault;
+use county_codes::{CountyCode, push_code};
+use field_lines::{LineFault, push_number};
 use grouping_judge::GroupingFault;
 use grouping_problem::ProblemFault;
-use grouping_report::{push_code, push_grouping_fault, push_number};
+use grouping_report::push_grouping_fault;
 use pl94_counties::{File, NamedFault, Pl94Fault, Pl94Kind};
 use seat_lines::{CodeLineFault, CodeLineKind};
 use shelves::ShelfFault;

@@ -7,7 +7,7 @@ ghost use Rattle.run_record.specs.Record.{file_word as word_of_file, option_word
 use crate::escapes::push_escaped;
 use crate::run::{FileRead, FileStored, ReadFile, Run, StoreOption};
 use crate::sums::ByteSum;
-use itoa::Buffer;
+use field_lines::push_number;
 use std::alloc::{AllocError, Global};
 
 /// Appends the word of a file that is read.
@@ -43,9 +43,8 @@ fn push_option_word(out: &mut Vec<u8>, option: StoreOption) -> Result<(), AllocE
 fn push_named_sum(out: &mut Vec<u8>, sum: &ByteSum, name: &[u8]) -> Result<(), AllocError>
     ensures { OnOk result (out.new.items ≡ out.old.items ++ named_sum sum.now name.now) }
 {
-    let mut buffer = Buffer::new();
     out.extend_from_slice(b" ")?;
-    out.extend_from_slice(buffer.format(sum.bytes()).as_bytes())?;
+    push_number(out, sum.bytes())?;
     out.extend_from_slice(b" ")?;
     out.extend_from_slice(sum.digest())?;
     out.extend_from_slice(b" ")?;
@@ -130,9 +129,8 @@ fn push_stores(out: &mut Vec<u8>, stores: &[FileStored]) -> Result<(), AllocErro
 fn push_status(out: &mut Vec<u8>, status: u8) -> Result<(), AllocError>
     ensures { OnOk result (out.new.items ≡ out.old.items ++ status_line status) }
 {
-    let mut buffer = Buffer::new();
     out.extend_from_slice(b"status ")?;
-    out.extend_from_slice(buffer.format(status).as_bytes())?;
+    push_number(out, u64::from(status))?;
     out.extend_from_slice(b"\n")
 }
 

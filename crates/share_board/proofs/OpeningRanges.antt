@@ -15,7 +15,7 @@ use Rattle.proof_trees.specs.Groups.{AreGroupsAt}
 use Rattle.proof_trees.specs.Proving.{limit_of}
 use Rattle.shared_proofs.specs.Skeleton.{Skeleton, waits, proved, split, Parts, no_part, part, groups_in}
 use Rattle.shared_proofs.specs.Content.{Opens, EachOpens}
-use Rattle.tree_spelling.specs.TreeItems.{FitsInTree}
+use Rattle.certificate_text.specs.TreeItems.{FitsInTree}
 use Rattle.share_board.specs.Spelled.{HasRanges, EachHasRanges, HasFiveDigits}
 use Rattle.share_board.proofs.OneOpening.{names_none}
 use Rattle.share_board.proofs.Spelling.{five_digits, group_is_set}

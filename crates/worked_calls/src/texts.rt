@@ -1,9 +1,10 @@
 //! Texts of the greatest numbers, and of a grouping's faults.
 
 use anyhow::{Context, Result};
-use county_codes::CountyCode;
+use county_codes::{CountyCode, push_code};
+use field_lines::push_number;
 use grouping_judge::GroupingFault;
-use grouping_report::{push_code, push_grouping_fault, push_number};
+use grouping_report::push_grouping_fault;
 
 /// Prints a number and a code.
 fn show_number(rt: &HostRuntime, number: u64, code: u32) -> Result<()> {

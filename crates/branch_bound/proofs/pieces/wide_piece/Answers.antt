@@ -6,7 +6,7 @@ use Rattle.certificate_text.specs.declared.tree.Tree.{roll-Tree}
 use Rattle.certificate_text.proofs.TreeViews.{list_onto, items_of_branches}
 use Rattle.complete_lists.specs.Complete.{IsComplete}
 use Rattle.proof_trees.specs.Proving.{Proves}
-use Rattle.tree_spelling.specs.TreeItems.{FitsInTree}
+use Rattle.certificate_text.specs.TreeItems.{FitsInTree}
 use Rattle.branch_bound.specs.Searching.{problem_in, round_in, state_in, IsNextMove}
 use Rattle.branch_bound.specs.Pieces.{IsPiece}
 use Rattle.branch_bound.proofs.Searches.{leaf_end}

@@ -8,7 +8,7 @@ use Rattle.proof_trees.specs.Proving.{Proves}
 use Rattle.proof_trees.specs.Certificate.{TargetFits}
 use Rattle.complete_lists.specs.Complete.{IsComplete}
 use Rattle.certificate_text.proofs.TreeViews.{list_onto, items_of_branches}
-use Rattle.tree_spelling.specs.TreeItems.{FitsInTree}
+use Rattle.certificate_text.specs.TreeItems.{FitsInTree}
 use Rattle.branch_bound.specs.Searching.{problem_in, round_in, state_in, AreTakesOf}
 use Rattle.branch_bound.specs.PlainRounds.{IsStateOf}
 use Rattle.branch_bound.proofs.plain_search.+proving_plain.Given as goal

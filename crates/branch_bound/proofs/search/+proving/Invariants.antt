@@ -8,7 +8,7 @@ use Rattle.proof_trees.specs.Proving.{Proves}
 use Rattle.proof_trees.specs.Certificate.{TargetFits}
 use Rattle.complete_lists.specs.Complete.{IsComplete}
 use Rattle.certificate_text.proofs.TreeViews.{list_onto, items_of_branches}
-use Rattle.tree_spelling.specs.TreeItems.{FitsInTree}
+use Rattle.certificate_text.specs.TreeItems.{FitsInTree}
 use Rattle.std.proofs.Common.{length}
 use Rattle.ordered_counties.specs.OrderedValue.{problem_at}
 use Rattle.known_groups.specs.PartLists.{AreListsOf}

@@ -3,7 +3,7 @@ use Rattle.grouping_problem.specs.ProblemValue.{problem_of}
 use Rattle.proof_trees.specs.RoundValue.{round_of}
 use Rattle.certificate_lines.specs.Courses.{Course, tree_course}
 use Rattle.line_verdicts.specs.Placed.{state_at}
-use Rattle.tree_lines.specs.TreeFault.{lines_of_tree}
+use Rattle.certificate_text.specs.TreeFault.{lines_of_tree}
 use Rattle.certificate_checker.specs.Feeding.{FeedValue, feed_at}
 use Rattle.certificate_checker.specs.TreeAnswered.{IsTreeAnswer}
 use Rattle.certificate_checker.proofs.TreeAnswering.{tree_said}

@@ -1,0 +1,153 @@
+//! Whether a line spells a value: a test for each form of line whose values may be out of range.
+
+ghost use Rattle.std.specs.Prelude.{◌≡◌, ◌≤◌, ◌↔◌, ◌&&◌, ◌∷◌, ◌++◌, nat_le, length, IsTrue, codes, decimal};
+ghost use Rattle.std.specs.List.{list_all, flat_map};
+ghost use Rattle.field_lines.specs.Fault.{most_bytes};
+ghost use Rattle.certificate_lines.specs.Fits.{Fits, IsSet, AreCodes, AreWeights};
+ghost use Rattle.certificate_lines.specs.Lines.{most, ascend};
+ghost use Rattle.certificate_lines.specs.Spelling.{weight_word};
+ghost use Rattle.certificate_lines.specs.declared.item.Item.TheVariants as item;
+ghost use Rattle.certificate_lines.specs.declared.item.Opening.TheVariants as opening;
+ghost use Rattle.certificate_lines.specs.declared.item.Wanted.TheVariants as want;
+
+use crate::item::Allowance;
+use crate::lines::{MOST, ascend};
+use crate::weights::Weight;
+use certificate_languages::Language;
+use county_codes::{CountyCode, Group};
+use field_lines::{MAX_LINE, decimal_length};
+
+/// Whether a line, a target or a leaf may have so many.
+pub fn are_few(count: usize) -> bool
+    ensures { result ≡ nat_le count most }
+{
+    count <= MOST as usize
+}
+
+/// Whether the code has five digits, as every code has.
+pub fn is_code(code: CountyCode) -> bool
+    ensures { result ≡ nat_le code 99999 }
+{
+    code.get() <= 99_999
+}
+
+/// Whether each code has five digits, as every code has.
+fn all_codes(codes: &[CountyCode]) -> bool
+    ensures { result ≡ list_all (λ c. nat_le c 99999) codes.now }
+{
+    codes.iter().all(|code| is_code(*code))
+}
+
+/// Whether the codes are no more than an order may have.
+fn has_few_codes(codes: &[CountyCode]) -> bool
+    ensures { result ≡ (nat_le (length codes.now) most && list_all (λ c. nat_le c 99999) codes.now) }
+{
+    are_few(codes.len()) && all_codes(codes)
+}
+
+/// Whether the codes are one at least, and no more than a group may have.
+fn has_some_codes(codes: &[CountyCode]) -> bool
+    ensures { result ≡ (nat_le 1 (length codes.now) && (nat_le (length codes.now) most && list_all (λ c. nat_le c 99999) codes.now)) }
+{
+    !codes.is_empty() && has_few_codes(codes)
+}
+
+/// Whether a line spells the order.
+pub fn order_fits(order: &[CountyCode]) -> bool
+    ensures { IsTrue result ↔ ((length order.now ≤ most) × AreCodes order.now) }
+{
+    has_few_codes(order)
+}
+
+/// Whether a line spells a group that is taken.
+pub fn take_fits(codes: &[CountyCode]) -> bool
+    ensures { IsTrue result ↔ IsSet codes.now }
+{
+    has_some_codes(codes)
+}
+
+/// Whether a group may have so many seats, as every number of seats is one that it may have.
+fn are_seats(seats: u16) -> bool
+    ensures { result ≡ nat_le seats 65535 }
+{
+    u32::from(seats) <= 65_535
+}
+
+/// Whether a line spells a group of the target.
+pub fn group_fits(group: &Group) -> bool
+    ensures { IsTrue result ↔ ((group.now.seats ≤ 65535) × IsSet group.now.codes) }
+{
+    if !are_seats(group.seats) {
+        return false;
+    }
+    take_fits(group.codes.as_slice())
+}
+
+/// Whether a line spells a branch, where it may open so many levels.
+pub fn branch_fits(language: Language, levels: u16, county: CountyCode, limit: Option<u16>) -> bool
+    ensures { IsTrue result ↔ Fits (want.Tree language levels) (item.Opens (opening.Branch county limit)) }
+{
+    if levels == 0 || !is_code(county) {
+        return false;
+    }
+    match (language, limit) {
+        (Language::Plain, None) => true,
+        (Language::Wide, Some(limit)) => limit > 0 && are_few(usize::from(limit)),
+        _ => false,
+    }
+}
+
+/// Whether a county's weight is in its range, and its code has five digits.
+fn is_weight(weight: Weight) -> bool
+    ensures { result ≡ (nat_le weight.county 99999 && (nat_le 1 weight.weight && nat_le weight.weight 1000000)) }
+{
+    is_code(weight.county) && 1 <= weight.weight && weight.weight <= 1_000_000
+}
+
+/// Whether each weight is such.
+fn are_weights(weights: &[Weight]) -> bool
+    ensures { result ≡ list_all (λ w. nat_le w.county 99999 && (nat_le 1 w.weight && nat_le w.weight 1000000)) weights.now }
+{
+    weights.iter().all(|weight| is_weight(*weight))
+}
+
+/// Whether the quota and the weights are in their ranges, and the codes ascend.
+fn have_ranges(quota: u32, weights: &[Weight]) -> bool
+    ensures { result ≡ (nat_le 1 quota && (nat_le quota 256000000 && (list_all (λ w. nat_le w.county 99999 && (nat_le 1 w.weight && nat_le w.weight 1000000)) weights.now && ascend weights.now))) }
+{
+    1 <= quota && quota <= 256_000_000 && are_weights(weights) && ascend(weights)
+}
+
+/// Whether the line of weights is no longer than a line may be.
+fn is_short(quota: u32, weights: &[Weight]) -> bool
+    ensures { result ≡ nat_le (length (codes "weigh " ++ (decimal quota ++ flat_map (λ w. 32 ∷ weight_word w) weights.now))) most_bytes }
+{
+    let mut length = 6 + decimal_length(u64::from(quota));
+    for weight in weights {
+        if length > MAX_LINE {
+            return false;
+        }
+        length += 7 + decimal_length(u64::from(weight.weight));
+    }
+    length <= MAX_LINE
+}
+
+/// Whether a line spells weights of a bound leaf.
+fn weigh_fits(quota: u32, weights: &[Weight]) -> bool
+    ensures { IsTrue result ↔ AreWeights quota weights.now }
+{
+    if !have_ranges(quota, weights) {
+        return false;
+    }
+    is_short(quota, weights)
+}
+
+/// Whether a line spells a line of a bound leaf.
+pub fn allowance_fits(allowance: &Allowance) -> bool
+    ensures { IsTrue result ↔ Fits (want.Allowances 1) (item.Allows allowance.now) }
+{
+    match allowance {
+        Allowance::Room => true,
+        Allowance::Weigh { quota, weights } => weigh_fits(*quota, weights.as_slice()),
+    }
+}

@@ -1,0 +1,20 @@
+use Rattle.std.proofs.Common.{◌≡◌, List, [], ◌∷◌, map, subst}
+use Rattle.certificate_lines.specs.declared.item.Allowance.{Allowance}
+use Rattle.certificate_lines.specs.declared.item.Wanted.TheVariants as want
+use Rattle.proof_trees.specs.Tree.{bound}
+use Rattle.certificate_text.specs.Trees.{allowance_of, leaf_items}
+use Rattle.certificate_text.specs.Tests.{Tests}
+use Rattle.certificate_text.proofs.PartsTested.{stuck_tested}
+use Rattle.certificate_text.proofs.TreeFits.{seats_fitting}
+use Rattle.certificate_text.proofs.fitting.leaf_fits.Goals as goal
+
+pub returns-in-Stuck : goal.returns-in-Stuck
+returns-in-Stuck c language levels = rw c.in-Stuck.is (stuck_tested language levels c.in-Stuck.county c.is_code.result c.is_code.ensures)
+
+pub returns-in-Seats : goal.returns-in-Seats
+returns-in-Seats c language levels = rw c.in-Seats.is (seats_fitting language levels)
+
+pub returns-in-Bound : goal.returns-in-Bound
+returns-in-Bound c language levels =
+    rw c.in-Bound.is
+    (subst (λ (l : List Allowance). Tests (want.Tree language levels ∷ []) (leaf_items (bound (map allowance_of l))) [] c.bound_fits.result) c.deref.ensures.value (c.bound_fits.ensures language levels))

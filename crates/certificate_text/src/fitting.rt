@@ -1,0 +1,168 @@
+//! Which trees and certificates a text spells, told from their values: no line is written.
+
+ghost use Rattle.std.specs.Prelude.{◌↔◌, ◌<◌, ℕ, List, [], ◌∷◌, ◌++◌, map, length, Some, IsTrue};
+ghost use Rattle.proof_trees.specs.Depth.{after_raise};
+ghost use Rattle.proof_trees.specs.RoundValue.{target_of};
+ghost use Rattle.proof_trees.specs.Tree.{bound};
+ghost use Rattle.certificate_languages.specs.declared.language.Language.{Language};
+ghost use Rattle.certificate_lines.specs.Fits.{AllFit};
+ghost use Rattle.certificate_lines.specs.Items.{groups_wanted, allowances_wanted};
+ghost use Rattle.certificate_lines.specs.declared.item.Item.TheVariants as item;
+ghost use Rattle.certificate_lines.specs.declared.item.Wanted.TheVariants as want;
+ghost use Rattle.certificate_text.specs.Spelled.{IsSpelling, IsTreeSpelling};
+ghost use Rattle.certificate_text.specs.Tests.{Tests};
+ghost use Rattle.certificate_text.specs.Trees.{allowance_of, tree_of, leaf_of, leaf_items, items_of_tree, items_of_takes, list_of_takes, items_of_head, items_of_target, items_of_certificate, certificate_of};
+
+use crate::certificate::Certificate;
+use crate::tree::{Leaf, Take, Tree};
+use certificate_lines::{
+    Allowance, allowance_fits, are_few, branch_fits, group_fits, is_code, levels_after, order_fits,
+    take_fits,
+};
+use county_codes::{Group, Grouping, Window};
+use proof_trees::Language;
+
+/// Whether the lines of a bound leaf fit, after its first.
+fn allowances_fit(allowances: &[Allowance]) -> bool
+    ensures { Tests (allowances_wanted (length allowances.now)) (map item.Allows allowances.now) [] result }
+{
+    for allowance in allowances {
+        if !allowance_fits(allowance) {
+            return false;
+        }
+    }
+    true
+}
+
+/// Whether the lines of a bound leaf fit.
+fn bound_fits(allowances: &[Allowance]) -> bool
+    ensures { (language : Language) (levels : ℕ) → Tests (want.Tree language levels ∷ []) (leaf_items (bound (map allowance_of allowances.now))) [] result }
+{
+    if !are_few(allowances.len()) {
+        return false;
+    }
+    allowances_fit(allowances)
+}
+
+/// Whether the lines of a leaf fit.
+fn leaf_fits(leaf: &Leaf) -> bool
+    ensures { (language : Language) (levels : ℕ) → Tests (want.Tree language levels ∷ []) (leaf_items (leaf_of leaf.now)) [] result }
+{
+    match leaf {
+        Leaf::Stuck(county) => is_code(*county),
+        Leaf::Seats => true,
+        Leaf::Bound(allowances) => bound_fits(allowances),
+    }
+}
+
+/// Whether the lines of the takes of a branch fit, each with its tree, and of its mark.
+#[cycle(fitting)]
+fn takes_fit(takes: &[Take], language: Language, levels: u16) -> bool
+    requires { 0 < levels }
+    ensures { Tests (want.Takes language levels ∷ []) (items_of_takes (list_of_takes takes.now) ++ item.Mark ∷ []) (want.Tree language (after_raise language levels) ∷ []) result }
+{
+    'taking: for take in takes {
+        if !take_fits(take.codes.as_slice()) {
+            return false;
+        }
+        if !tree_fits(&take.tree, language, levels - 1) {
+            return false;
+        }
+    }
+    true
+}
+
+/// Whether the lines of a tree fit, whose branches may open so many levels.
+#[cycle(fitting)]
+fn tree_fits(tree: &Tree, language: Language, levels: u16) -> bool
+    ensures { Tests (want.Tree language levels ∷ []) (items_of_tree (tree_of tree.now)) [] result }
+{
+    let mut levels = levels;
+    'branching: for branch in &tree.branches {
+        if !branch_fits(language, levels, branch.county, branch.limit) {
+            return false;
+        }
+        if !takes_fit(&branch.takes, language, levels) {
+            return false;
+        }
+        levels = levels_after(language, levels);
+    }
+    leaf_fits(&tree.leaf)
+}
+
+/// Whether the head fits, and the line of the allowance if one is named.
+fn head_fits(window: Option<Window>) -> bool
+    ensures { (language : Language) → Tests (want.Head ∷ []) (items_of_head language window) (want.Order language ∷ []) result }
+{
+    match window {
+        None => true,
+        Some(window) => window.is_in_range(),
+    }
+}
+
+/// Whether the lines of groups fit.
+fn groups_fit(groups: &[Group]) -> bool
+    ensures { Tests (groups_wanted (length groups.now)) (map item.Grouped groups.now) [] result }
+{
+    for group in groups {
+        if !group_fits(group) {
+            return false;
+        }
+    }
+    true
+}
+
+/// Whether the lines of a target with these groups fit.
+fn counted_groups_fit(groups: &[Group]) -> bool
+    ensures { Tests (want.Target ∷ []) (items_of_target (Some groups.now)) [] result }
+{
+    if !are_few(groups.len()) {
+        return false;
+    }
+    groups_fit(groups)
+}
+
+/// Whether the lines of a target fit, or the line that there is none.
+fn target_fits(target: &Option<Grouping>) -> bool
+    ensures { Tests (want.Target ∷ []) (items_of_target (target_of target.now)) [] result }
+{
+    match target {
+        Some(target) => counted_groups_fit(&target.groups),
+        None => true,
+    }
+}
+
+/// Whether the lines of a certificate fit.
+fn certificate_fits(certificate: &Certificate) -> bool
+    ensures { IsTrue result ↔ AllFit (want.Head ∷ []) (items_of_certificate (certificate_of certificate.now)) }
+{
+    let round = &certificate.round;
+    let order = round.order.as_slice();
+    if !head_fits(round.window) {
+        return false;
+    }
+    if !order_fits(order) {
+        return false;
+    }
+    if !are_few(usize::from(round.limit)) {
+        return false;
+    }
+    if !target_fits(&round.target) {
+        return false;
+    }
+    tree_fits(&certificate.tree, round.language, order.len() as u16)
+}
+
+/// Whether a text spells the tree, for an order of so many counties.
+pub(crate) fn has_tree_text(tree: &Tree, language: Language, counties: u16) -> bool
+    ensures { IsTrue result ↔ ((text : List ℕ) × IsTreeSpelling language counties text (tree_of tree.now)) }
+{
+    tree_fits(tree, language, counties)
+}
+
+/// Whether a text spells the certificate.
+pub(crate) fn has_text(certificate: &Certificate) -> bool
+    ensures { IsTrue result ↔ ((text : List ℕ) × IsSpelling text (certificate_of certificate.now)) }
+{
+    certificate_fits(certificate)
+}

@@ -1,7 +1,0 @@
-use Rattle.std.proofs.Common.{map, take}
-use Rattle.certificate_lines.specs.declared.item.Item.TheVariants as item
-use Rattle.tree_lines.specs.Added.{Added}
-use Rattle.tree_lines.proofs.writing.push_allowances.Given as goal
-
-abbrev pub invariant-loop-allowance : goal.invariant-loop-allowance
-invariant-loop-allowance l = Added (map item.Allows (take l.allowance-index l.allowances)) l.fn.out.items l.out.items

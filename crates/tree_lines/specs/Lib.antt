@@ -1,4 +1,0 @@
-pub mod Ranges
-pub mod Added
-pub mod TreeFault
-pub mod Laws

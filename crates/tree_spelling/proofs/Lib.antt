@@ -1,3 +1,0 @@
-pub mod ItemsFit
-pub mod ShortLines
-pub mod Texts

@@ -1,2 +1,0 @@
-pub mod TreeItems
-pub mod Laws
