@@ -6,14 +6,13 @@ use Rattle.certificate_languages.specs.declared.language.Language.TheVariants.{P
 use Rattle.proof_trees.specs.Tree.{bound}
 use Rattle.proof_trees.specs.Depth.{after_raise}
 use Rattle.certificate_lines.specs.Lines.{most}
-use Rattle.certificate_lines.specs.Items.{wanted_after, allowances_wanted}
+use Rattle.certificate_lines.specs.Items.{allowances_wanted}
 use Rattle.certificate_lines.specs.Fits.{Fits, IsSet}
 use Rattle.certificate_lines.specs.Writes.{DontFit}
 use Rattle.certificate_lines.specs.declared.item.Allowance.{Allowance as DeclaredAllowance}
 use Rattle.certificate_lines.specs.declared.item.Opening.TheVariants as opening
 use Rattle.certificate_lines.specs.declared.item.Item.{Item}
 use Rattle.certificate_lines.specs.declared.item.Item.TheVariants as item
-use Rattle.certificate_lines.specs.declared.item.Wanted.{Wanted}
 use Rattle.certificate_lines.specs.declared.item.Wanted.TheVariants as want
 use Rattle.certificate_text.specs.Trees.{allowance_of, leaf_items, tree_of, leaf_of, items_of_tree, items_of_takes, list_of_takes}
 use Rattle.certificate_text.specs.Tests.{Fitting}

@@ -1,4 +1,4 @@
-use Rattle.std.proofs.Common.{decimal, sym}
+use Rattle.std.proofs.Common.{decimal}
 use Rattle.certificate_lines.proofs.WordsWritten.{codes_line}
 use Rattle.certificate_lines.proofs.writing_lines.push_group_line.Goals as goal
 

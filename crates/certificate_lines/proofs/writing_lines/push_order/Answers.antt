@@ -1,4 +1,4 @@
-use Rattle.std.proofs.Common.{codes, sym}
+use Rattle.std.proofs.Common.{codes}
 use Rattle.certificate_lines.proofs.WordsWritten.{codes_line}
 use Rattle.certificate_lines.proofs.writing_lines.push_order.Goals as goal
 

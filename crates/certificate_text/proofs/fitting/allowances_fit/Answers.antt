@@ -1,6 +1,5 @@
-use Rattle.std.proofs.Common.{◌≡◌, ◌-◌, ◌∙◌, ℕ, [], true, false, length, map, take, refl, ap, sym, arith, take_all}
+use Rattle.std.proofs.Common.{◌-◌, ℕ, true, false, length, refl}
 use Rattle.certificate_lines.specs.Fits.{Fits}
-use Rattle.certificate_lines.specs.Items.{allowances_wanted}
 use Rattle.certificate_lines.specs.declared.item.Allowance.{Allowance}
 use Rattle.certificate_lines.specs.declared.item.Allowance.TheVariants.{Room, Weigh}
 use Rattle.certificate_lines.specs.declared.item.Item.TheVariants as item

@@ -1,4 +1,4 @@
-use Rattle.std.proofs.Common.{◌≡◌, ◌≤◌, ℕ, length, sym, subst}
+use Rattle.std.proofs.Common.{length}
 use Rattle.certificate_lines.specs.Lines.{most}
 use Rattle.certificate_text.proofs.TreeFits.{bound_unfit}
 use Rattle.certificate_text.proofs.PartsTested.{passed, failed, bound_tested}

@@ -1,4 +1,4 @@
-use Rattle.std.proofs.Common.{◌≡◌, List, [], ◌∷◌, map, subst}
+use Rattle.std.proofs.Common.{List, [], ◌∷◌, map, subst}
 use Rattle.certificate_lines.specs.declared.item.Allowance.{Allowance}
 use Rattle.certificate_lines.specs.declared.item.Wanted.TheVariants as want
 use Rattle.proof_trees.specs.Tree.{bound}
