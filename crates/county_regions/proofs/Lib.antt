@@ -3,4 +3,3 @@ pub mod Filling
 pub mod PartLists
 pub mod Failing
 pub mod Passed
-pub mod StartFronts

@@ -1,14 +1,10 @@
 //! The growth of connected sets, place by place. A test says what is kept, what is passed over and which place comes
 //! next.
 
-ghost use Rattle.std.specs.Prelude.{◌≡◌, ℕ, ◌+◌, ◌^◌, Bool, List, ◌<◌, ◌≤◌, ◌&&◌, not, ◌==◌, MatchOption, MatchResult, OnOk, IfOk, IsErrOf, length};
-ghost use Rattle.place_lists.specs.PlaceSets.{places_of};
-ghost use Rattle.grouping_laws.specs.Problem.{people_of};
-ghost use Rattle.grouping_laws.specs.Places.{places_below};
-ghost use Rattle.growing_sets.specs.Growing.{IsGrowth, IsFront, IsCandidate, IsMove, IsWhole};
+ghost use Rattle.std.specs.Prelude.{◌≡◌, ℕ, ◌+◌, Bool, List, ◌<◌, ◌≤◌, ◌&&◌, not, ◌==◌, MatchOption, MatchResult, OnOk, IfOk, IsErrOf, length};
+ghost use Rattle.growing_sets.specs.Growing.{IsCandidate, IsMove, IsWhole};
 ghost use Rattle.growing_sets.specs.Listing.{IsListed, HasStepped};
-ghost use Rattle.county_regions.specs.Rows.{AreRows};
-ghost use Rattle.county_regions.specs.Growths.{problem_in, places_in, size_in};
+ghost use Rattle.county_regions.specs.Growths.{problem_in, places_in, size_in, IsSoundGround, IsSoundGrowth};
 ghost use Rattle.county_regions.specs.declared.stop.Stop.{Stop};
 
 use crate::ground::{Growth, GrowthGround};
@@ -24,8 +20,7 @@ fn next_place<C: CountySet, T: GrowthTest<C>>(
     test: &T,
     growth: &Growth<C>,
 ) -> Option<u16>
-    requires growth { IsGrowth (problem_in ground.now) (places_in ground.now) ground.now.limit (C.test growth.now.set) (C.test growth.now.free) }
-    requires front { IsFront (problem_in ground.now) (C.test growth.now.set) (C.test growth.now.free) (C.test growth.now.front) }
+    requires growth { IsSoundGrowth C C.test ground.now growth.now }
     ensures { MatchOption
         result
         (IsWhole (problem_in ground.now) (places_in ground.now) ground.now.limit (C.test growth.now.set) (C.test growth.now.free))
@@ -61,13 +56,8 @@ fn put_if_kept<C: CountySet, T: GrowthTest<C>>(
     growth: Growth<C>,
     groups: &mut Vec<C>,
 ) -> Result<(), AllocError>
-    requires fits { places_in ground.now ≤ C.PLACES }
-    requires rows { AreRows C C.test (problem_in ground.now) (places_in ground.now) ground.now.near.now }
-    requires growth { IsGrowth (problem_in ground.now) (places_in ground.now) ground.now.limit (C.test growth.set) (C.test growth.free) }
-    requires front { IsFront (problem_in ground.now) (C.test growth.set) (C.test growth.free) (C.test growth.front) }
-    requires people { growth.people ≡ people_of (problem_in ground.now) (places_of (places_in ground.now) (C.test growth.set)) }
-    requires total { people_of (problem_in ground.now) (places_below (places_in ground.now)) ≤ ground.now.ordered.now.problem.total_people }
-    requires bound { ground.now.ordered.now.problem.total_people ≤ 2 ^ 40 }
+    requires sound { IsSoundGround C C.test C.PLACES ground.now }
+    requires growth { IsSoundGrowth C C.test ground.now growth }
     requires knows { T.knows test.now (problem_in ground.now) (places_in ground.now) ground.now.limit (C.test growth.free) }
     requires whole { IsWhole (problem_in ground.now) (places_in ground.now) ground.now.limit (C.test growth.set) (C.test growth.free) }
     ensures listed { OnOk
@@ -102,13 +92,8 @@ fn end_growth<C: CountySet, T: GrowthTest<C>>(
     steps: &mut Steps,
     groups: &mut Vec<C>,
 ) -> Result<(), Stop>
-    requires fits { places_in ground.now ≤ C.PLACES }
-    requires rows { AreRows C C.test (problem_in ground.now) (places_in ground.now) ground.now.near.now }
-    requires growth { IsGrowth (problem_in ground.now) (places_in ground.now) ground.now.limit (C.test growth.set) (C.test growth.free) }
-    requires front { IsFront (problem_in ground.now) (C.test growth.set) (C.test growth.free) (C.test growth.front) }
-    requires people { growth.people ≡ people_of (problem_in ground.now) (places_of (places_in ground.now) (C.test growth.set)) }
-    requires total { people_of (problem_in ground.now) (places_below (places_in ground.now)) ≤ ground.now.ordered.now.problem.total_people }
-    requires bound { ground.now.ordered.now.problem.total_people ≤ 2 ^ 40 }
+    requires sound { IsSoundGround C C.test C.PLACES ground.now }
+    requires growth { IsSoundGrowth C C.test ground.now growth }
     requires knows { T.knows test.now (problem_in ground.now) (places_in ground.now) ground.now.limit (C.test growth.free) }
     requires whole { IsWhole (problem_in ground.now) (places_in ground.now) ground.now.limit (C.test growth.set) (C.test growth.free) }
     ensures listed { OnOk
@@ -142,7 +127,7 @@ fn pass_over<C: CountySet, T: GrowthTest<C>>(
     growth: &Growth<C>,
     steps: &mut Steps,
 ) -> Result<(), Stop>
-    requires { IsGrowth (problem_in ground.now) (places_in ground.now) ground.now.limit (C.test growth.now.set) (C.test growth.now.free) }
+    requires { IsSoundGrowth C C.test ground.now growth.now }
     ensures steps { HasStepped (problem_in ground.now) (places_in ground.now) ground.now.limit (C.test growth.now.set) (C.test growth.now.free) steps.old.used steps.new.used }
     ensures counted { OnOk result (steps.old.used ≤ steps.new.used) }
     ensures limit { steps.new.limit ≡ steps.old.limit }
@@ -163,19 +148,12 @@ fn with_place<C: CountySet>(
     growth: &Growth<C>,
     place: u16,
 ) -> Result<Growth<C>, AllocError>
-    requires fits { places_in ground.now ≤ C.PLACES }
-    requires rows { AreRows C C.test (problem_in ground.now) (places_in ground.now) ground.now.near.now }
-    requires growth { IsGrowth (problem_in ground.now) (places_in ground.now) ground.now.limit (C.test growth.now.set) (C.test growth.now.free) }
-    requires front { IsFront (problem_in ground.now) (C.test growth.now.set) (C.test growth.now.free) (C.test growth.now.front) }
-    requires people { growth.now.people ≡ people_of (problem_in ground.now) (places_of (places_in ground.now) (C.test growth.now.set)) }
-    requires total { people_of (problem_in ground.now) (places_below (places_in ground.now)) ≤ ground.now.ordered.now.problem.total_people }
-    requires bound { ground.now.ordered.now.problem.total_people ≤ 2 ^ 40 }
+    requires sound { IsSoundGround C C.test C.PLACES ground.now }
+    requires growth { IsSoundGrowth C C.test ground.now growth.now }
     requires there { IsCandidate (problem_in ground.now) (C.test growth.now.set) (C.test growth.now.free) place }
-    requires room { length (places_of (places_in ground.now) (C.test growth.now.set)) < ground.now.limit }
+    requires room { size_in ground.now (C.test growth.now.set) < ground.now.limit }
     ensures moved { IfOk result (λ more. IsMove (C.test growth.now.set) (C.test growth.now.free) (C.test more.set) (C.test more.free) place) }
-    ensures growth { IfOk result (λ more. IsGrowth (problem_in ground.now) (places_in ground.now) ground.now.limit (C.test more.set) (C.test more.free)) }
-    ensures front { IfOk result (λ more. IsFront (problem_in ground.now) (C.test more.set) (C.test more.free) (C.test more.front)) }
-    ensures people { IfOk result (λ more. more.people ≡ people_of (problem_in ground.now) (places_of (places_in ground.now) (C.test more.set))) }
+    ensures growth { IfOk result (λ more. IsSoundGrowth C C.test ground.now more) }
 {
     let people = growth.people + u64::from(ground.ordered.people(place));
     let set = growth.set.with(alloc, place)?;
@@ -217,13 +195,8 @@ pub fn grow<C: CountySet, T: GrowthTest<C>>(
     steps: &mut Steps,
     groups: &mut Vec<C>,
 ) -> Result<(), Stop>
-    requires fits { places_in ground.now ≤ C.PLACES }
-    requires rows { AreRows C C.test (problem_in ground.now) (places_in ground.now) ground.now.near.now }
-    requires growth { IsGrowth (problem_in ground.now) (places_in ground.now) ground.now.limit (C.test growth.set) (C.test growth.free) }
-    requires front { IsFront (problem_in ground.now) (C.test growth.set) (C.test growth.free) (C.test growth.front) }
-    requires people { growth.people ≡ people_of (problem_in ground.now) (places_of (places_in ground.now) (C.test growth.set)) }
-    requires total { people_of (problem_in ground.now) (places_below (places_in ground.now)) ≤ ground.now.ordered.now.problem.total_people }
-    requires bound { ground.now.ordered.now.problem.total_people ≤ 2 ^ 40 }
+    requires sound { IsSoundGround C C.test C.PLACES ground.now }
+    requires growth { IsSoundGrowth C C.test ground.now growth }
     requires knows { T.knows test.now (problem_in ground.now) (places_in ground.now) ground.now.limit (C.test growth.free) }
     ensures listed { OnOk
         result

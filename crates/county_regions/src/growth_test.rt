@@ -1,12 +1,10 @@
 //! What a growth keeps, what it passes over, and which place joins its set next.
 
-ghost use Rattle.std.specs.Prelude.{◌≡◌, ℕ, Bool, List, [], true, false, ◌<◌, ◌≤◌, ◌^◌, MatchOption, IfOk, IsTrue, length};
+ghost use Rattle.std.specs.Prelude.{◌≡◌, ℕ, Bool, List, [], true, false, ◌<◌, MatchOption, IfOk, IsTrue, length};
 ghost use Rattle.place_lists.specs.PlaceSets.{places_of};
-ghost use Rattle.grouping_laws.specs.Problem.{Problem, people_of};
-ghost use Rattle.grouping_laws.specs.Places.{places_below};
-ghost use Rattle.growing_sets.specs.Growing.{IsGrowth, IsFront, IsWhole, AreKept};
-ghost use Rattle.county_regions.specs.Rows.{AreRows};
-ghost use Rattle.county_regions.specs.Growths.{problem_in, places_in};
+ghost use Rattle.grouping_laws.specs.Problem.{Problem};
+ghost use Rattle.growing_sets.specs.Growing.{IsWhole, AreKept};
+ghost use Rattle.county_regions.specs.Growths.{problem_in, places_in, IsSoundGround, IsSoundGrowth};
 
 use crate::ground::{Growth, GrowthGround};
 use ordered_counties::Ordered;
@@ -32,13 +30,8 @@ pub trait GrowthTest<C: CountySet> {
         ground: &GrowthGround<C>,
         growth: &Growth<C>,
     ) -> Result<bool, AllocError>
-        requires fits { places_in ground.now ≤ C.PLACES }
-        requires rows { AreRows C C.test (problem_in ground.now) (places_in ground.now) ground.now.near.now }
-        requires growth { IsGrowth (problem_in ground.now) (places_in ground.now) ground.now.limit (C.test growth.now.set) (C.test growth.now.free) }
-        requires front { IsFront (problem_in ground.now) (C.test growth.now.set) (C.test growth.now.free) (C.test growth.now.front) }
-        requires people { growth.now.people ≡ people_of (problem_in ground.now) (places_of (places_in ground.now) (C.test growth.now.set)) }
-        requires total { people_of (problem_in ground.now) (places_below (places_in ground.now)) ≤ ground.now.ordered.now.problem.total_people }
-        requires bound { ground.now.ordered.now.problem.total_people ≤ 2 ^ 40 }
+        requires sound { IsSoundGround C C.test C.PLACES ground.now }
+        requires growth { IsSoundGrowth C C.test ground.now growth.now }
         requires knows { knows self.now (problem_in ground.now) (places_in ground.now) ground.now.limit (C.test growth.now.free) }
         ensures passed { IfOk
             result
@@ -59,13 +52,8 @@ pub trait GrowthTest<C: CountySet> {
         ground: &GrowthGround<C>,
         growth: &Growth<C>,
     ) -> Result<bool, AllocError>
-        requires fits { places_in ground.now ≤ C.PLACES }
-        requires rows { AreRows C C.test (problem_in ground.now) (places_in ground.now) ground.now.near.now }
-        requires growth { IsGrowth (problem_in ground.now) (places_in ground.now) ground.now.limit (C.test growth.now.set) (C.test growth.now.free) }
-        requires front { IsFront (problem_in ground.now) (C.test growth.now.set) (C.test growth.now.free) (C.test growth.now.front) }
-        requires people { growth.now.people ≡ people_of (problem_in ground.now) (places_of (places_in ground.now) (C.test growth.now.set)) }
-        requires total { people_of (problem_in ground.now) (places_below (places_in ground.now)) ≤ ground.now.ordered.now.problem.total_people }
-        requires bound { ground.now.ordered.now.problem.total_people ≤ 2 ^ 40 }
+        requires sound { IsSoundGround C C.test C.PLACES ground.now }
+        requires growth { IsSoundGrowth C C.test ground.now growth.now }
         requires knows { knows self.now (problem_in ground.now) (places_in ground.now) ground.now.limit (C.test growth.now.free) }
         requires whole { IsWhole (problem_in ground.now) (places_in ground.now) ground.now.limit (C.test growth.now.set) (C.test growth.now.free) }
         ensures kept { IfOk

@@ -1,5 +1,5 @@
 -- The people of a set that grows, and sets that are passed over, since they stay below the fewest people that suit a seat.
-use Rattle.std.proofs.Common.{◌≡◌, ℕ, ◌+◌, ◌-◌, ◌*◌, ◌≤◌, ◌<◌, Bool, true, false, nat_lt, ◌||◌, ◌&&◌, not, ◌==◌, List, [], ◌∷◌, length, refl, sym, ap, ◌∙◌, arith}
+use Rattle.std.proofs.Common.{◌≡◌, ℕ, ◌+◌, ◌-◌, ◌*◌, ◌≤◌, ◌<◌, Bool, true, false, nat_lt, ◌||◌, List, [], ◌∷◌, length, refl, sym, ap, ◌∙◌, arith}
 use Rattle.std.proofs.lemmas.Bool.{false≢true, ltb-true}
 use Rattle.grouping_laws.specs.Sets.{member}
 use Rattle.grouping_laws.specs.Problem.{Problem, Suits, people_of, IsProblem}
@@ -41,14 +41,6 @@ people_with p n limit set free more less c h is m = total_with p.people n c set 
     out : (b : Bool) → set c ≡ b → b ≡ false
     out false e = refl
     out true e = absurd (false≢true (sym (h.apart c e) ∙ is))
-
--- and fewer places are free, none with more people
-pub fewer_most : (p : Problem) (set free more less : ℕ → Bool) (c most : ℕ) → IsMove set free more less c → HasMost p free most → HasMost p less most
-fewer_most p set free more less c most m few x e = few x (first (free x) (not (x == c)) (sym (m.without x) ∙ e))
-  where
-    first : (a b : Bool) → (a && b) ≡ true → a ≡ true
-    first true b e = refl
-    first false b e = e
 
 -- the people of one place
 pub people_only : (p : Problem) (n at : ℕ) (set free : ℕ → Bool) → IsStart n at set free → p.people at ≡ people_of p (places_of n set)

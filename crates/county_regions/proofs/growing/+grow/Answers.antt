@@ -10,6 +10,7 @@ use Rattle.growing_sets.proofs.Listing.{on_ok, listed_none, listed_fork, stepped
 use Rattle.grouping_laws.specs.Problem.{people_of}
 use Rattle.place_lists.specs.PlaceSets.{places_of}
 use Rattle.ordered_counties.specs.OrderedValue.{problem_at}
+use Rattle.county_regions.specs.Growths.{IsSoundGrowth}
 use Rattle.county_regions.specs.declared.stop.Stop.TheVariants.{StepLimit}
 use Rattle.county_regions.proofs.Failing.{refused_not_stopped, handed_on}
 use Rattle.county_regions.proofs.growing.+grow.Goals as goal
@@ -57,11 +58,11 @@ grow-requires g t c κs within =
     let place = c.in-Some.place in
     let free = c.in-Some.ensures.0.is_free in
     let m = c.in_ok-joined-in-Some.ensures.moved in
-    let fewer = fewer_free p n limit (test growth.set) (test growth.free) more less place c.requires.growth free m in
+    let fewer = fewer_free p n limit (test growth.set) (test growth.free) more less place c.requires.growth.growth free m in
     let lower : (x : ℕ) → less x ≡ true → test growth.free x ≡ true = λ x e. (and_parts (test growth.free x) (not (x == place)) (sym (m.without x) ∙ e)).0 in
     let knows = g.met.T.GrowthTest.shrinks c.args.test.now p n limit (test growth.free) less lower c.requires.knows in
     let joined = c.in_ok-joined-in-Some.ensures in
-    (first_of (omega (arith, fewer), search (rules, fewer)), (within.0, (within.1, (c.requires.fits, (c.requires.rows, (joined.growth, (joined.front, (joined.people, (c.requires.total, (c.requires.bound, knows))))))))))
+    (first_of (omega (arith, fewer), search (rules, fewer)), (within.0, (within.1, (c.requires.sound, (joined.growth, knows)))))
 
 pub grow-requires-in-Some : goal.grow-requires-in-Some
 grow-requires-in-Some g t c κs within =
@@ -78,14 +79,19 @@ grow-requires-in-Some g t c κs within =
     let rest = test c.without_place-others.result.free in
     let n2 : IsMove (test growth.set) (test growth.free) more rest place = record { with = m.with; without = c.without_place-others.ensures.free } in
     let set = c.without_place-others.ensures.set in
-    let h : IsGrowth p n limit (test growth.set) rest = skipped_growth p n limit (test growth.set) (test growth.free) more rest place c.requires.growth n2 in
-    let fewer = fewer_free p n limit (test growth.set) (test growth.free) more rest place c.requires.growth free n2 in
+    let h : IsGrowth p n limit (test growth.set) rest = skipped_growth p n limit (test growth.set) (test growth.free) more rest place c.requires.growth.growth n2 in
+    let fewer = fewer_free p n limit (test growth.set) (test growth.free) more rest place c.requires.growth.growth free n2 in
     let lower : (x : ℕ) → rest x ≡ true → test growth.free x ≡ true = λ x e. (and_parts (test growth.free x) (not (x == place)) (sym (n2.without x) ∙ e)).0 in
     let knows = g.met.T.GrowthTest.shrinks c.args.test.now p n limit (test growth.free) rest lower c.requires.knows in
     let front : IsFront p (test growth.set) rest (test c.without_place-others.result.front) =
-    skipped_front p (test growth.set) (test growth.free) (test growth.front) more rest (test c.without_place-others.result.front) place n2 c.requires.front c.without_place-others.ensures.front in
-    let people : c.without_place-others.result.people ≡ people_of p (places_of n (test c.without_place-others.result.set)) = c.without_place-others.ensures.people ∙ (c.requires.people ∙ ap (λ (z : g.row.C.Denot). people_of p (places_of n (test z))) (sym set)) in
-    (first_of (omega (arith, fewer), search (rules, fewer)), (within.0, (within.1, (c.requires.fits, (c.requires.rows, (subst (λ (z : g.row.C.Denot). IsGrowth p n limit (test z) rest) (sym set) h, (subst (λ (z : g.row.C.Denot). IsFront p (test z) rest (test c.without_place-others.result.front)) (sym set) front, (people, (c.requires.total, (c.requires.bound, knows))))))))))
+    skipped_front p (test growth.set) (test growth.free) (test growth.front) more rest (test c.without_place-others.result.front) place n2 c.requires.growth.front c.without_place-others.ensures.front in
+    let people : c.without_place-others.result.people ≡ people_of p (places_of n (test c.without_place-others.result.set)) = c.without_place-others.ensures.people ∙ (c.requires.growth.people ∙ ap (λ (z : g.row.C.Denot). people_of p (places_of n (test z))) (sym set)) in
+    let sound : IsSoundGrowth g.row.C.Denot test c.args.ground.now c.without_place-others.result = record {
+      growth = subst (λ (z : g.row.C.Denot). IsGrowth p n limit (test z) rest) (sym set) h;
+      front = subst (λ (z : g.row.C.Denot). IsFront p (test z) rest (test c.without_place-others.result.front)) (sym set) front;
+      people = people;
+    } in
+    (first_of (omega (arith, fewer), search (rules, fewer)), (within.0, (within.1, (c.requires.sound, (sound, knows)))))
 
 pub returns-in_ok-grow-in-Some-clause-steps : goal.returns-in_ok-grow-in-Some-clause-steps
 returns-in_ok-grow-in-Some-clause-steps g t c =
@@ -104,7 +110,7 @@ returns-in_ok-grow-in-Some-clause-steps g t c =
     let same : less ≡ rest = fun_ext (λ x. m.without x ∙ sym (c.without_place-others.ensures.free x)) in
     let first : HasStepped p n limit more rest c.args.steps.now.used c.grow.new.steps.used = subst (λ (z : ℕ → Bool). HasStepped p n limit more z c.args.steps.now.used c.grow.new.steps.used) same c.grow.ensures.steps in
     let second : HasStepped p n limit (test growth.set) rest c.grow.new.steps.used c.grow-in-Some.new.steps.used = subst (λ (z : g.row.C.Denot). HasStepped p n limit (test z) rest c.grow.new.steps.used c.grow-in-Some.new.steps.used) c.without_place-others.ensures.set c.grow-in-Some.ensures.steps in
-    stepped_fork p n limit (test growth.set) (test growth.free) more rest place c.args.steps.now.used c.grow.new.steps.used c.grow-in-Some.new.steps.used c.requires.growth free n2 first second
+    stepped_fork p n limit (test growth.set) (test growth.free) more rest place c.args.steps.now.used c.grow.new.steps.used c.grow-in-Some.new.steps.used c.requires.growth.growth free n2 first second
 
 pub returns-in_ok-grow-in-Some-clause-listed : goal.returns-in_ok-grow-in-Some-clause-listed
 returns-in_ok-grow-in-Some-clause-listed g t c =
@@ -126,7 +132,7 @@ returns-in_ok-grow-in-Some-clause-listed g t c =
     let new = c.grow-in-Some.new.groups.items in
     on_ok c.grow-in-Some.result c.grow-in-Some.ensures.listed
     (λ second keep d.
-    listed_fork g.row.C.Denot test p n limit keep (test growth.set) (test growth.free) more rest place old mid new c.requires.growth free n2
+    listed_fork g.row.C.Denot test p n limit keep (test growth.set) (test growth.free) more rest place old mid new c.requires.growth.growth free n2
     (subst (λ (z : ℕ → Bool). IsListed g.row.C.Denot test p n limit keep more z old mid) same (c.in_ok-grow-in-Some.ensures.listed keep d))
     (subst (λ (z : g.row.C.Denot). IsListed g.row.C.Denot test p n limit keep (test z) rest mid new) c.without_place-others.ensures.set (second keep d)))
 

@@ -10,14 +10,14 @@ returns-in_err-put_if_kept-clause-steps g c =
     let test = g.C.CountySet.test in
     let p = problem_at c.args.ground.now.ordered.now in
     let n = length c.args.ground.now.ordered.now.order in
-    stepped_leaf p n c.args.ground.now.limit (test c.args.growth.set) (test c.args.growth.free) c.args.steps.now.used c.take_step.new.steps.used c.requires.growth c.requires.whole c.in_ok-take_step.ensures.used
+    stepped_leaf p n c.args.ground.now.limit (test c.args.growth.set) (test c.args.growth.free) c.args.steps.now.used c.take_step.new.steps.used c.requires.growth.growth c.requires.whole c.in_ok-take_step.ensures.used
 
 pub returns-clause-steps : goal.returns-clause-steps
 returns-clause-steps g c =
     let test = g.C.CountySet.test in
     let p = problem_at c.args.ground.now.ordered.now in
     let n = length c.args.ground.now.ordered.now.order in
-    stepped_leaf p n c.args.ground.now.limit (test c.args.growth.set) (test c.args.growth.free) c.args.steps.now.used c.take_step.new.steps.used c.requires.growth c.requires.whole c.in_ok-take_step.ensures.used
+    stepped_leaf p n c.args.ground.now.limit (test c.args.growth.set) (test c.args.growth.free) c.args.steps.now.used c.take_step.new.steps.used c.requires.growth.growth c.requires.whole c.in_ok-take_step.ensures.used
 
 pub returns-in_err-take_step-clause-steps : goal.returns-in_err-take_step-clause-steps
 returns-in_err-take_step-clause-steps g c =

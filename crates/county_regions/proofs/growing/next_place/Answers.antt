@@ -17,6 +17,6 @@ returns g c =
     let p = problem_at c.args.ground.now.ordered.now in
     let n = length c.args.ground.now.ordered.now.order in
     let growth = c.args.growth.now in
-    let size = c.size.ensures.count n c.requires.growth.below in
+    let size = c.size.ensures.count n c.requires.growth.growth.below in
     let few : length (places_of n (test growth.set)) < c.args.ground.now.limit = grind (arith, tests, size) in
-    found p n c.args.ground.now.limit (test growth.set) (test growth.free) (test growth.front) c.next_place.result c.requires.growth c.requires.front c.next_place.ensures.place few
+    found p n c.args.ground.now.limit (test growth.set) (test growth.free) (test growth.front) c.next_place.result c.requires.growth.growth c.requires.growth.front c.next_place.ensures.place few

@@ -9,7 +9,7 @@ returns-in_ok-take_step-clause-steps g c =
     let test = g.C.CountySet.test in
     let p = problem_at c.args.ground.now.ordered.now in
     let n = length c.args.ground.now.ordered.now.order in
-    stepped_passed p n c.args.ground.now.limit (test c.args.growth.now.set) (test c.args.growth.now.free) c.args.steps.now.used c.take_step.new.steps.used c.requires c.in_ok-take_step.ensures.used
+    stepped_passed p n c.args.ground.now.limit (test c.args.growth.now.set) (test c.args.growth.now.free) c.args.steps.now.used c.take_step.new.steps.used c.requires.growth c.in_ok-take_step.ensures.used
 
 pub returns-in_err-take_step-clause-steps : goal.returns-in_err-take_step-clause-steps
 returns-in_err-take_step-clause-steps g c =

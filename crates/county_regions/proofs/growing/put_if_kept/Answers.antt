@@ -12,7 +12,7 @@ returns-in_ok-push-clause-listed g c =
     let n = length c.args.ground.now.ordered.now.order in
     let growth = c.args.growth in
     λ keep d.
-    listed_kept g.row.C.Denot test p n c.args.ground.now.limit keep growth.set (test growth.free) c.args.groups.now.items c.push.new.self.items c.requires.growth c.requires.whole (c.in_ok-is_kept.ensures.kept keep d ∙ c.if-branch.true) c.in_ok-push.ensures.items
+    listed_kept g.row.C.Denot test p n c.args.ground.now.limit keep growth.set (test growth.free) c.args.groups.now.items c.push.new.self.items c.requires.growth.growth c.requires.whole (c.in_ok-is_kept.ensures.kept keep d ∙ c.if-branch.true) c.in_ok-push.ensures.items
 
 pub returns-else-branch-clause-listed : goal.returns-else-branch-clause-listed
 returns-else-branch-clause-listed g c =
@@ -22,7 +22,7 @@ returns-else-branch-clause-listed g c =
     let growth = c.args.growth in
     λ keep d.
     listed_none g.row.C.Denot test p n c.args.ground.now.limit keep (test growth.set) (test growth.free) c.args.groups.now.items c.args.groups.now.items
-    (leaf_left p n c.args.ground.now.limit keep (test growth.set) (test growth.free) c.requires.growth c.requires.whole (c.in_ok-is_kept.ensures.kept keep d ∙ c.if-branch.false)) refl
+    (leaf_left p n c.args.ground.now.limit keep (test growth.set) (test growth.free) c.requires.growth.growth c.requires.whole (c.in_ok-is_kept.ensures.kept keep d ∙ c.if-branch.false)) refl
 
 pub returns-in_err-is_kept-clause-listed : goal.returns-in_err-is_kept-clause-listed
 returns-in_err-is_kept-clause-listed g c = IfOk-from_err c.from_residual.result _ c.from_residual.ensures.0

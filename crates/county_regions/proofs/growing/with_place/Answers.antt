@@ -13,7 +13,7 @@ overflow_add-people g c =
     let test = g.C.CountySet.test in
     let p = problem_at c.args.ground.now.ordered.now in
     let n = length c.args.ground.now.ordered.now.order in
-    omega (arith, total_all p.people n (test c.args.growth.now.set), c.requires.people, c.requires.total, c.requires.bound)
+    omega (arith, total_all p.people n (test c.args.growth.now.set), c.requires.growth.people, c.requires.sound.total, c.requires.sound.bound)
 
 pub returns-clause-moved : goal.returns-clause-moved
 returns-clause-moved g c = record {
@@ -22,17 +22,8 @@ returns-clause-moved g c = record {
 }
 
 pub returns-clause-growth : goal.returns-clause-growth
-returns-clause-growth g c = let test = g.C.CountySet.test in
-    let p = problem_at c.args.ground.now.ordered.now in
-    let n = length c.args.ground.now.ordered.now.order in
-    let old = c.args.growth.now in
-    let set = test c.in_ok-set.set in
-    let free = test c.without-free.result in
-    let m : IsMove (test old.set) (test old.free) set free c.args.place = record { with = c.in_ok-set.ensures.places; without = λ x. c.without-free.ensures.places x ∙ ap (λ z. z && not (x == c.args.place)) (c.in_ok-copy.ensures.places x) } in
-    grown_growth p n c.args.ground.now.limit (test old.set) (test old.free) set free c.args.place c.requires.rows.problem.symmetric c.requires.growth c.requires.there c.requires.room m
-
-pub returns-clause-front : goal.returns-clause-front
-returns-clause-front g c = let test = g.C.CountySet.test in
+returns-clause-growth g c =
+    let test = g.C.CountySet.test in
     let p = problem_at c.args.ground.now.ordered.now in
     let n = length c.args.ground.now.ordered.now.order in
     let old = c.args.growth.now in
@@ -41,20 +32,14 @@ returns-clause-front g c = let test = g.C.CountySet.test in
     let m : IsMove (test old.set) (test old.free) set free c.args.place = record { with = c.in_ok-set.ensures.places; without = λ x. c.without-free.ensures.places x ∙ ap (λ z. z && not (x == c.args.place)) (c.in_ok-copy.ensures.places x) } in
     let at = get_or c.args.ground.now.near.now c.from-2.result c.index-ground-from.result in
     let near : (y : ℕ) → y < n → test at y ≡ p.adjacent c.args.place y =
-    λ y l. ap (λ k. test (get_or c.args.ground.now.near.now k c.index-ground-from.result) y) c.from-2.ensures ∙ c.requires.rows.row c.args.place y c.index-ground-from.result (c.requires.growth.free_below c.args.place c.requires.there.is_free) l in
-    grown_front p n c.args.ground.now.limit (test old.set) (test old.free) (test old.front) set free (test at) (test c.intersection-front.result) c.args.place c.requires.growth c.requires.there.is_free m c.requires.front
-    near (λ x. c.intersection-front.ensures.places x ∙ ap (λ z. z && free x) (c.in_ok-both.ensures.places x))
-
-pub returns-clause-people : goal.returns-clause-people
-returns-clause-people g c = let test = g.C.CountySet.test in
-    let p = problem_at c.args.ground.now.ordered.now in
-    let n = length c.args.ground.now.ordered.now.order in
-    let old = c.args.growth.now in
-    let set = test c.in_ok-set.set in
-    let free = test c.without-free.result in
-    let m : IsMove (test old.set) (test old.free) set free c.args.place = record { with = c.in_ok-set.ensures.places; without = λ x. c.without-free.ensures.places x ∙ ap (λ z. z && not (x == c.args.place)) (c.in_ok-copy.ensures.places x) } in
-    let sum = people_with p n c.args.ground.now.limit (test old.set) (test old.free) set free c.args.place c.requires.growth c.requires.there.is_free m in
-    omega (arith, sum, c.requires.people, c.people.ensures, c.from.ensures)
+    λ y l. ap (λ k. test (get_or c.args.ground.now.near.now k c.index-ground-from.result) y) c.from-2.ensures ∙ c.requires.sound.rows.row c.args.place y c.index-ground-from.result (c.requires.growth.growth.free_below c.args.place c.requires.there.is_free) l in
+    let sum = people_with p n c.args.ground.now.limit (test old.set) (test old.free) set free c.args.place c.requires.growth.growth c.requires.there.is_free m in
+    record {
+      growth = grown_growth p n c.args.ground.now.limit (test old.set) (test old.free) set free c.args.place c.requires.sound.rows.problem.symmetric c.requires.growth.growth c.requires.there c.requires.room m;
+      front = grown_front p n c.args.ground.now.limit (test old.set) (test old.free) (test old.front) set free (test at) (test c.intersection-front.result) c.args.place c.requires.growth.growth c.requires.there.is_free m c.requires.growth.front
+          near (λ x. c.intersection-front.ensures.places x ∙ ap (λ z. z && free x) (c.in_ok-both.ensures.places x));
+      people = omega (arith, sum, c.requires.growth.people, c.people.ensures, c.from.ensures);
+    }
 
 pub returns-in_err-set-clause-moved : goal.returns-in_err-set-clause-moved
 returns-in_err-set-clause-moved g c = IfOk-from_err c.from_residual.result _ c.from_residual.ensures.0
@@ -62,32 +47,14 @@ returns-in_err-set-clause-moved g c = IfOk-from_err c.from_residual.result _ c.f
 pub returns-in_err-set-clause-growth : goal.returns-in_err-set-clause-growth
 returns-in_err-set-clause-growth g c = IfOk-from_err c.from_residual.result _ c.from_residual.ensures.0
 
-pub returns-in_err-set-clause-front : goal.returns-in_err-set-clause-front
-returns-in_err-set-clause-front g c = IfOk-from_err c.from_residual.result _ c.from_residual.ensures.0
-
-pub returns-in_err-set-clause-people : goal.returns-in_err-set-clause-people
-returns-in_err-set-clause-people g c = IfOk-from_err c.from_residual.result _ c.from_residual.ensures.0
-
 pub returns-in_err-copy-clause-moved : goal.returns-in_err-copy-clause-moved
 returns-in_err-copy-clause-moved g c = IfOk-from_err c.from_residual-in_err-copy.result _ c.from_residual-in_err-copy.ensures.0
 
 pub returns-in_err-copy-clause-growth : goal.returns-in_err-copy-clause-growth
 returns-in_err-copy-clause-growth g c = IfOk-from_err c.from_residual-in_err-copy.result _ c.from_residual-in_err-copy.ensures.0
 
-pub returns-in_err-copy-clause-front : goal.returns-in_err-copy-clause-front
-returns-in_err-copy-clause-front g c = IfOk-from_err c.from_residual-in_err-copy.result _ c.from_residual-in_err-copy.ensures.0
-
-pub returns-in_err-copy-clause-people : goal.returns-in_err-copy-clause-people
-returns-in_err-copy-clause-people g c = IfOk-from_err c.from_residual-in_err-copy.result _ c.from_residual-in_err-copy.ensures.0
-
 pub returns-in_err-both-clause-moved : goal.returns-in_err-both-clause-moved
 returns-in_err-both-clause-moved g c = IfOk-from_err c.from_residual-in_err-both.result _ c.from_residual-in_err-both.ensures.0
 
 pub returns-in_err-both-clause-growth : goal.returns-in_err-both-clause-growth
 returns-in_err-both-clause-growth g c = IfOk-from_err c.from_residual-in_err-both.result _ c.from_residual-in_err-both.ensures.0
-
-pub returns-in_err-both-clause-front : goal.returns-in_err-both-clause-front
-returns-in_err-both-clause-front g c = IfOk-from_err c.from_residual-in_err-both.result _ c.from_residual-in_err-both.ensures.0
-
-pub returns-in_err-both-clause-people : goal.returns-in_err-both-clause-people
-returns-in_err-both-clause-people g c = IfOk-from_err c.from_residual-in_err-both.result _ c.from_residual-in_err-both.ensures.0

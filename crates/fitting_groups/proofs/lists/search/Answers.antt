@@ -22,15 +22,14 @@ grow-requires-clause-growth g c =
     let n = length c.args.ordered.now.order in
     let growth = c.in_ok-growth.growth in
     let freed : (x : ℕ) → test growth.free x ≡ others (test c.args.region) c.args.place x = λ x. ap (λ (z : g.row.C.Denot). test z x) c.in_ok-growth.ensures.free ∙ c.without-free.ensures.places x in
-    regions_are_grown.growth (problem_at c.args.ordered.now) n c.args.limit c.args.place (test c.args.region) (test growth.set) (test growth.free) c.requires.some
-    (record { below = c.requires.below; there = c.requires.there; set_is = c.in_ok-growth.ensures.set; free_is = freed })
-
-pub grow-requires-clause-people : goal.grow-requires-clause-people
-grow-requires-clause-people g c =
     let p = problem_at c.args.ordered.now in
-    let n = length c.args.ordered.now.order in
     let there = c.requires.below c.args.place c.requires.there in
-    c.in_ok-growth.ensures.people ∙ (people_only p n c.args.place (only c.args.place) (later n c.args.place) (starts n c.args.place there) ∙ ap (λ (z : ℕ → Bool). people_of p (places_of n z)) (sym (fun_ext c.in_ok-growth.ensures.set)))
+    record {
+      growth = regions_are_grown.growth (problem_at c.args.ordered.now) n c.args.limit c.args.place (test c.args.region) (test growth.set) (test growth.free) c.requires.some
+          (record { below = c.requires.below; there = c.requires.there; set_is = c.in_ok-growth.ensures.set; free_is = freed });
+      front = c.in_ok-growth.ensures.front;
+      people = c.in_ok-growth.ensures.people ∙ (people_only p n c.args.place (only c.args.place) (later n c.args.place) (starts n c.args.place there) ∙ ap (λ (z : ℕ → Bool). people_of p (places_of n z)) (sym (fun_ext c.in_ok-growth.ensures.set)));
+    }
 
 pub returns-clause-listed : goal.returns-clause-listed
 returns-clause-listed g c =
@@ -84,9 +83,6 @@ returns-in_err-growth-clause-stopped g c = refused_not_stopped c.from_residual.r
 pub returns-in_err-growth-clause-steps : goal.returns-in_err-growth-clause-steps
 returns-in_err-growth-clause-steps g c =
     stepped_none (problem_at c.args.ordered.now) (length c.args.ordered.now.order) c.args.limit (only c.args.place) (others (g.C.CountySet.test c.args.region) c.args.place) c.args.steps.now.used c.args.steps.now.used refl
-
-pub grow-requires-clause-front : goal.grow-requires-clause-front
-grow-requires-clause-front g c = c.in_ok-growth.ensures.front
 
 pub grow-requires-clause-knows : goal.grow-requires-clause-knows
 grow-requires-clause-knows g c =

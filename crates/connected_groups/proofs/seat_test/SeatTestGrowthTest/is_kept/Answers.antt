@@ -7,7 +7,7 @@ use Rattle.connected_groups.proofs.seat_test.SeatTestGrowthTest.is_kept.Goals as
 pub suits-requires : goal.suits-requires
 suits-requires g c =
     let all = total_all (problem_at c.args.ground.now.ordered.now).people (length c.args.ground.now.ordered.now.order) (g.C.CountySet.test c.args.growth.now.set) in
-    omega (arith, all, c.requires.people, c.requires.total)
+    omega (arith, all, c.requires.growth.people, c.requires.sound.total)
 
 pub returns : goal.returns
 returns g c =
@@ -15,4 +15,4 @@ returns g c =
     let p = problem_at c.args.ground.now.ordered.now in
     let n = length c.args.ground.now.ordered.now.order in
     let growth = c.args.growth.now in
-    record { kept = λ keep d. kept_by_people p n keep (test growth.set) growth.people d c.requires.people ∙ sym c.suits.ensures }
+    record { kept = λ keep d. kept_by_people p n keep (test growth.set) growth.people d c.requires.growth.people ∙ sym c.suits.ensures }

@@ -7,7 +7,7 @@ use Rattle.connected_groups.proofs.seat_test.SeatTestGrowthTest.is_passed_over.G
 pub stays_small-requires-clause-bound : goal.stays_small-requires-clause-bound
 stays_small-requires-clause-bound g c =
     let all = total_all (problem_at c.args.ground.now.ordered.now).people (length c.args.ground.now.ordered.now.order) (g.C.CountySet.test c.args.growth.now.set) in
-    omega (arith, all, c.requires.people, c.requires.total, c.requires.bound)
+    omega (arith, all, c.requires.growth.people, c.requires.sound.total, c.requires.sound.bound)
 
 pub returns : goal.returns
 returns g c =
@@ -18,5 +18,5 @@ returns g c =
     let it = c.args.self.now in
     record {
       passed = λ yes keep d.
-          small_none p n c.args.ground.now.limit it.most growth.people it.least keep (test growth.set) (test growth.free) c.requires.rows.problem d c.requires.knows.1 c.requires.people c.requires.knows.0 (sym c.stays_small.ensures ∙ yes);
+          small_none p n c.args.ground.now.limit it.most growth.people it.least keep (test growth.set) (test growth.free) c.requires.sound.rows.problem d c.requires.knows.1 c.requires.growth.people c.requires.knows.0 (sym c.stays_small.ensures ∙ yes);
     }
