@@ -1,5 +1,6 @@
 -- Sets of pairs of codes.
 use Rattle.std.proofs.Common.{◌≡◌, ◌≢◌, ℕ, ◌+◌, ◌<◌, ◌≤◌, ◌==◌, ◌&&◌, ◌||◌, ◌⊎◌, inl, inr, ⊎_elim, not, nat_lt, cond, Bool, true, false, List, [], ◌∷◌, length, drop, get_or, drop-cons, suc, refl, sym, ap, ◌∙◌, arith}
+use Rattle.std.proofs.Math.Bool.{or-false}
 use Rattle.std.specs.declared.cmp.Ordering.{Ordering}
 use Rattle.std.specs.declared.cmp.Ordering.TheVariants.{Less, Equal, Greater}
 use Rattle.std.specs.Ordering.{nat_cmp, is_eq, ordering_then}
@@ -137,10 +138,6 @@ next_code true n true = refl
 next_code true n false = refl
 next_code false n old = refl
 
-or_false : (b : Bool) → (b || false) ≡ b
-or_false true = refl
-or_false false = refl
-
 module _ (c : ℕ) (old new : BTreeSet ℕ) (whole : Bool) where
   pub after_code : (code : ℕ) (codes : List ℕ) → contains nat_cmp new c ≡ cond (is_eq (nat_cmp code c)) true (contains nat_cmp old c)
       → (contains nat_cmp old c || member (code ∷ codes) c) ≡ whole → (contains nat_cmp new c || member codes c) ≡ whole
@@ -149,4 +146,4 @@ module _ (c : ℕ) (old new : BTreeSet ℕ) (whole : Bool) where
       ∙ next_code (code == c) (member codes c) (contains nat_cmp old c) ∙ before
 
   pub after_codes : (codes : List ℕ) → codes ≡ [] → (contains nat_cmp old c || member codes c) ≡ whole → contains nat_cmp old c ≡ whole
-  after_codes codes none before = sym (or_false (contains nat_cmp old c)) ∙ ap (λ (l : List ℕ). contains nat_cmp old c || member l c) (sym none) ∙ before
+  after_codes codes none before = sym (or-false (contains nat_cmp old c)) ∙ ap (λ (l : List ℕ). contains nat_cmp old c || member l c) (sym none) ∙ before

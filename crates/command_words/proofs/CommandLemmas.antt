@@ -1,5 +1,6 @@
 -- The rules of a command that is built up, and what clap makes of them.
 use Rattle.std.proofs.Common.{◌≡◌, ◌∙◌, ◌||◌, Bool, true, false, refl, sym, ap, ap₂, List, [], ◌∷◌, ◌++◌, Result, IfOk}
+use Rattle.std.proofs.Math.Bool.{or-false}
 use Rattle.std.specs.Prelude.{fold}
 use Rattle.std.proofs.lemmas.List.{append-nil, append_assoc}
 use Rattle.std.proofs.lemmas.Result.{IfOk-weaker}
@@ -8,10 +9,6 @@ use Rattle.clap.specs.declared.builder.arg.Arg.{Arg}
 use Rattle.clap.specs.declared.builder.command.Command.{Command}
 use Rattle.clap.specs.declared.builder.command.Command.TheViews.{out-Command}
 use Rattle.command_words.specs.Command.{HasMore, HasShape, subcommand}
-
-or_false : (b : Bool) → (b || false) ≡ b
-or_false true = refl
-or_false false = refl
 
 fold_one_more : (a : App) (rules : List Rule) (r : Rule) → with_rule (fold with_rule a rules) r ≡ fold with_rule a (rules ++ r ∷ [])
 fold_one_more a [] r = refl
@@ -26,7 +23,7 @@ pub has_one_more : (old mid new : Command) (a : Arg) (rules : List Rule) (r : Ru
 has_one_more old mid new a rules r before added is local = record {
   app = added.shape local
       ∙ (ap (λ (x : Rule). with_rule (app_of mid) x) is ∙ (ap (λ (x : App). with_rule x r) before.app ∙ fold_one_more (app_of old) rules r));
-  local = added.globals ∙ (ap (λ (b : Bool). (out-Command mid).has_globals || b) local ∙ (or_false (out-Command mid).has_globals ∙ before.local));
+  local = added.globals ∙ (ap (λ (b : Bool). (out-Command mid).has_globals || b) local ∙ (or-false (out-Command mid).has_globals ∙ before.local));
 }
 
 pub one_more_if_ok : {E : Type 0} (old mid : Command) (r : Result Command E) (a : Arg) (rules : List Rule) (x : Rule) → HasMore old rules mid → IfOk r (AddsArg mid a) → rule_of a ≡ x

@@ -1,5 +1,6 @@
 -- Entries collected line by line.
 use Rattle.std.proofs.Common.{◌≡◌, ℕ, ◌++◌, ◌==◌, ◌<◌, ◌||◌, Bool, true, false, cond, List, [], ◌∷◌, Option, Some, None, Result, Ok, Err, is_some, fold, if◌then◌else◌, refl, sym, ap, ◌∙◌, subst, append_assoc, arith}
+use Rattle.std.proofs.Math.Bool.{or-false}
 use Rattle.std.specs.declared.cmp.Ordering.{Ordering}
 use Rattle.std.specs.declared.cmp.Ordering.TheVariants.{Less, Equal, Greater}
 use Rattle.std.specs.Ordering.{nat_cmp, is_eq, match_ordering}
@@ -58,15 +59,11 @@ some_test true v (Some q) h = refl
 some_test false v None h = refl
 some_test false v (Some q) h = refl
 
-or_false : (b : Bool) → b ≡ (b || false)
-or_false true = refl
-or_false false = refl
-
 pub tied_is : (x y : ℕ) → is_eq (nat_cmp x y) ≡ (x == y)
 tied_is x y = unsigned_tied x y
 
 placed_after : (n : ℕ) (placed es : List (ℕ × ℕ)) → is_some (people_of n (fold (λ p e. insert_entry nat_cmp p e.0 e.1) placed es)) ≡ (is_some (people_of n placed) || has_number n es)
-placed_after n placed [] = or_false (is_some (people_of n placed))
+placed_after n placed [] = sym (or-false (is_some (people_of n placed)))
 placed_after n placed (e ∷ es) =
     placed_after n (insert_entry nat_cmp placed e.0 e.1) es
     ∙ ap (λ p. is_some p || has_number n es) (people_of-insert_entry n e.0 e.1 placed)
