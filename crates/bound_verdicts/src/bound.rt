@@ -12,14 +12,14 @@ ghost use Rattle.certificate_text.specs.Trees.{allowance_of};
 ghost use Rattle.verdicts.specs.Leaves.{IsAllowanceFault};
 ghost use Rattle.verdicts.specs.Cost.{LineLooks};
 ghost use Rattle.line_verdicts.specs.Placed.{state_at, IsPlaced};
-ghost use Rattle.line_verdicts.specs.LineFaults.{Stops};
+ghost use Rattle.line_verdicts.specs.LineStops.{Stops};
 ghost use Rattle.line_verdicts.specs.declared.fault.LineStop.{LineStop};
 ghost use Rattle.bound_verdicts.specs.Weights.{IsUnfair};
 ghost use Rattle.bound_verdicts.specs.Allowed.{IsSpelled, IsAllowed};
 
 use crate::judging::judge_weights;
 use certificate_lines::Allowance;
-use line_verdicts::{LineFault, LineStop};
+use line_verdicts::{CheckFault, LineStop};
 use ordered_counties::{Ordered, Steps};
 use place_sets::CountySet;
 use proof_trees::{Round, State};
@@ -186,7 +186,7 @@ pub fn judge_allowance<C: CountySet>(
     let all = closed_of_size(ordered, state, size) + allowance;
     let wanted = u32::from(wanted);
     if all > wanted {
-        return Err(LineStop::Fault(LineFault::BoundOver));
+        return Err(LineStop::Fault(CheckFault::BoundOver));
     }
     if all < wanted {
         return Ok(Allowed::Loss);

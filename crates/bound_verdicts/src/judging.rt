@@ -15,14 +15,14 @@ ghost use Rattle.proof_trees.specs.BoundLines.{IsFair};
 ghost use Rattle.certificate_lines.specs.Lines.{ascend};
 ghost use Rattle.verdicts.specs.Cost.{AreSoMany};
 ghost use Rattle.line_verdicts.specs.Placed.{state_at, codes_of_sets, IsPlaced};
-ghost use Rattle.line_verdicts.specs.LineFaults.{Stops};
+ghost use Rattle.line_verdicts.specs.LineStops.{Stops};
 ghost use Rattle.line_verdicts.specs.declared.fault.LineStop.{LineStop};
 ghost use Rattle.bound_verdicts.specs.Weights.{weights_of, county_weight, IsUnfair};
 
 use crate::weights::{are_known, is_spelled, weights_at};
 use certificate_lines::Weight;
 use fitting_groups::{Stop, groups_of};
-use line_verdicts::{LineFault, LineStop};
+use line_verdicts::{CheckFault, LineStop};
 use ordered_counties::{Ordered, Steps};
 use place_sets::CountySet;
 use proof_trees::{Round, State};
@@ -134,12 +134,12 @@ pub(crate) fn judge_weights<C: CountySet>(
     }
     let codes = round.order.as_slice();
     if !are_known(codes, weights) {
-        return Err(LineStop::Fault(LineFault::WrongCounty));
+        return Err(LineStop::Fault(CheckFault::WrongCounty));
     }
     let table = weights_at(alloc, codes, weights)?;
     let groups = groups_to_weigh(alloc, ordered, near, round, state, size, steps)?;
     if !weigh_enough(&table, u64::from(quota), &groups) {
-        return Err(LineStop::Fault(LineFault::LightGroup));
+        return Err(LineStop::Fault(CheckFault::LightGroup));
     }
     Ok(open_weight(alloc, ordered, state, size, weights, &table)?)
 }

@@ -19,8 +19,8 @@ use Rattle.text_verdicts.proofs.Verdicts.{best, impossible}
 use Rattle.certificate_checker.specs.Feeding.{FeedValue, Fed}
 use Rattle.certificate_checker.specs.Certificates.{IsCertificateJudged}
 use Rattle.certificate_checker.specs.Answered.{IsCheckAnswer, CheckIsRight, ShowsImpossible, ChecksItems, ChecksBytes}
-use Rattle.certificate_checker.specs.declared.fault.CheckFault.{CheckFault}
-use Rattle.certificate_checker.specs.declared.fault.CheckFault.TheVariants.{Text}
+use Rattle.line_verdicts.specs.declared.fault.CheckFault.{CheckFault}
+use Rattle.line_verdicts.specs.declared.fault.CheckFault.TheVariants.{Text}
 use Rattle.std.specs.declared.alloc.AllocError.{AllocError}
 use Rattle.certificate_checker.specs.declared.feed.Halt.{Halt}
 use Rattle.certificate_checker.specs.declared.feed.Halt.TheVariants as stop

@@ -19,7 +19,7 @@ use Rattle.bound_verdicts.specs.declared.bound.Allowed.{Allowed}
 use Rattle.bound_verdicts.specs.declared.bound.Allowed.TheVariants.{Loss, Even}
 use Rattle.certificate_checker.specs.Feeding.{FeedValue, Fed}
 use Rattle.certificate_checker.specs.Judging.{AreWanted, line_items, IsLineJudged, IsLeafJudged, IsEndOf}
-use Rattle.certificate_checker.specs.declared.fault.CheckFault.TheVariants.{BoundLength}
+use Rattle.line_verdicts.specs.declared.fault.CheckFault.TheVariants.{BoundLength}
 use Rattle.certificate_checker.specs.declared.feed.Halt.{Halt}
 use Rattle.certificate_checker.specs.declared.feed.Halt.TheVariants as stop
 use Rattle.verdicts.specs.Fault as fault

@@ -18,7 +18,7 @@ use Rattle.verdicts.specs.WorkCost.{WorkLooks}
 use Rattle.verdicts.proofs.Work.{lines_carry}
 use Rattle.verdicts.proofs.WorkCost.{where_fine, lines_cost}
 use Rattle.verdicts.proofs.Leaves.{leaf_valid}
-use Rattle.line_verdicts.specs.LineFaults.{Stops, line_fault}
+use Rattle.line_verdicts.specs.LineStops.{Stops}
 use Rattle.line_verdicts.specs.declared.fault.LineStop.{LineStop}
 use Rattle.line_verdicts.specs.declared.fault.LineStop.TheVariants as line_stop
 use Rattle.certificate_checker.specs.Feeding.{FeedValue, TookLine, Reaches, Halts}
@@ -82,8 +82,8 @@ pub branch_halts : (p : Problem) (round : Round) (s : State) (county : ℕ) (lim
     → (st ≡ line_stop.StepLimit → CanBranch round s county (limit_of round limit) × ((m : ℕ) → AreSoMany round.order (IsSetAt p round.order s county (limit_of round limit)) m → mid.limit ≤ mid.used + 2 * m))
     → IsStopAt mid.line st found → Halts p round old (a_tree (branch county limit takes raised) s ∷ more) rest found
 branch_halts p round s county limit takes raised more old mid rest x (line_stop.Fault f) found took same names items stops looks at =
-    subst (Halts p round old (a_tree (branch county limit takes raised) s ∷ more) rest) (sym at.1)
-    (line_fault f, at.2, subst (λ n. WorkEnds (a_tree (branch county limit takes raised) s ∷ more) p round (old.line + 1) (faulty (line_fault f) n)) (sym took.1) (lines_carry.branch_fault county limit takes raised p round s more (old.line + 1) (line_fault f) stops))
+    subst (Halts p round old (a_tree (branch county limit takes raised) s ∷ more) rest) (sym at)
+    (stops.0, stops.1, subst (λ n. WorkEnds (a_tree (branch county limit takes raised) s ∷ more) p round (old.line + 1) (faulty stops.0 n)) (sym took.1) (lines_carry.branch_fault county limit takes raised p round s more (old.line + 1) stops.0 stops.2))
 branch_halts p round s county limit takes raised more old mid rest x line_stop.Unspelled found took same names items stops looks at = absurd (stops names)
 branch_halts p round s county limit takes raised more old mid rest x line_stop.StepLimit found took same names items stops looks at =
     subst (Halts p round old (a_tree (branch county limit takes raised) s ∷ more) rest) (sym at)

@@ -12,7 +12,7 @@ use Rattle.certificate_lines.specs.declared.item.Item.{Item}
 use Rattle.certificate_lines.specs.declared.item.Item.TheVariants.{Allows}
 use Rattle.verdicts.specs.Leaves.{IsAllowanceFault}
 use Rattle.verdicts.specs.Cost.{LineLooks}
-use Rattle.line_verdicts.specs.LineFaults.{Stops, line_fault}
+use Rattle.line_verdicts.specs.LineStops.{Stops}
 use Rattle.line_verdicts.specs.declared.fault.LineStop.{LineStop}
 use Rattle.line_verdicts.specs.declared.fault.LineStop.TheVariants as line_stop
 use Rattle.bound_verdicts.specs.Allowed.{IsSpelled, IsAllowed}
@@ -54,7 +54,7 @@ line_stop_at p round s wanted i used (b ∷ others) rest old mid new a st found 
   where
     by_stop : (st : LineStop) (found : Halt) → IsStopAt (old.line + 1) st found → Stops st (IsAllowanceFault round.language p s wanted i used (allowance_of a)) (IsSpelled a → ⊥)
         → (st ≡ line_stop.StepLimit → (m : ℕ) → LineLooks (allowance_of a) p round s i m → old.limit ≤ old.used + 1 + 2 * m) → allowance_of a ≡ b → IsSpelled a → IsLineJudged p round s wanted i used (b ∷ others) rest old (Err found) new
-    by_stop (line_stop.Fault f) found at stops looks same is = subst (λ x. IsLineJudged p round s wanted i used (b ∷ others) rest old (Err x) new) (sym at.1) (line_fault f, at.2, subst (λ x. IsAllowanceFault round.language p s wanted i used x (line_fault f)) same stops, refl)
+    by_stop (line_stop.Fault f) found at stops looks same is = subst (λ x. IsLineJudged p round s wanted i used (b ∷ others) rest old (Err x) new) (sym at) (stops.0, stops.1, subst (λ x. IsAllowanceFault round.language p s wanted i used x stops.0) same stops.2, refl)
     by_stop line_stop.Unspelled found at stops looks same is = absurd (stops is)
     by_stop line_stop.StepLimit found at stops looks same is = subst (λ x. IsLineJudged p round s wanted i used (b ∷ others) rest old (Err x) new) (sym at) (λ m l. looks refl m (subst (λ x. LineLooks x p round s i m) (sym same) l))
     by_stop line_stop.Memory found at stops looks same is = subst (λ x. IsLineJudged p round s wanted i used (b ∷ others) rest old (Err x) new) (sym at) tt
@@ -83,7 +83,7 @@ judged_small language p s wanted i used line a (Err st) (Err found) Other is at 
 -- a call that only judges keeps what was read
 pub kept_fed : {X : Type 0} (old new : FeedValue) (line : ℕ) (judged : Result X LineStop) (r : Result X Halt) → Fed old new → IsJudgedAt line judged r → IsFed old r new
 kept_fed old new line (Ok x) (Ok y) f at = f
-kept_fed {X = X} old new line (Err (line_stop.Fault k)) (Err found) f at = subst (λ z. IsFed {X = X} old (Err z) new) (sym at.1) f
+kept_fed {X = X} old new line (Err (line_stop.Fault k)) (Err found) f at = subst (λ z. IsFed {X = X} old (Err z) new) (sym at) f
 kept_fed {X = X} old new line (Err line_stop.Unspelled) (Err found) f at = subst (λ z. IsFed {X = X} old (Err z) new) (sym at) f
 kept_fed {X = X} old new line (Err line_stop.StepLimit) (Err found) f at = subst (λ z. IsFed {X = X} old (Err z) new) (sym at) f
 kept_fed {X = X} old new line (Err line_stop.Memory) (Err found) f at = subst (λ z. IsFed {X = X} old (Err z) new) (sym at) tt

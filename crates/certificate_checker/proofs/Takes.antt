@@ -19,7 +19,7 @@ use Rattle.line_verdicts.specs.Placed.{codes_of_sets}
 use Rattle.certificate_checker.specs.Readable.{IsReadable, AreReadable}
 use Rattle.certificate_checker.specs.Feeding.{FeedValue, Fed, IsFed, TookLine, Reaches, Halts, items_to_mark}
 use Rattle.certificate_checker.specs.Judging.{IsJudged, TookForm, IsTakeStop}
-use Rattle.certificate_checker.specs.declared.fault.CheckFault.TheVariants.{MissingGroup}
+use Rattle.line_verdicts.specs.declared.fault.CheckFault.TheVariants.{MissingGroup}
 use Rattle.certificate_checker.specs.declared.feed.Halt.{Halt}
 use Rattle.certificate_checker.specs.declared.feed.Halt.TheVariants as stop
 use Rattle.certificate_checker.proofs.Views.{view_take, view_mark, takes_begin}

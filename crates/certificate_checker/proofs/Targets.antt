@@ -14,7 +14,7 @@ use Rattle.grouping_judge.specs.declared.grouping_fault.GroupingFault.{GroupingF
 use Rattle.ordered_counties.proofs.OrderLemmas.{order_long}
 use Rattle.verdicts.specs.Fault.{LimitTooSmall, TargetFault}
 use Rattle.verdicts.specs.Verdict.{IsLimitFault, IsTargetFault}
-use Rattle.certificate_checker.specs.CheckFaults.{fault_of}
+use Rattle.line_verdicts.specs.CheckFaults.{fault_of}
 use Rattle.certificate_checker.specs.Certificates.{StopsAt, IsTargetStop}
 use Rattle.certificate_checker.specs.declared.feed.Halt.{Halt}
 use Rattle.certificate_checker.specs.declared.feed.Halt.TheVariants as stop

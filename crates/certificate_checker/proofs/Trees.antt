@@ -16,7 +16,7 @@ use Rattle.proof_trees.specs.Tree.{Allowance}
 use Rattle.verdicts.specs.Branches.{IsBranchFault}
 use Rattle.verdicts.specs.Cost.{AreSoMany}
 use Rattle.verdicts.specs.Work.{Open, a_tree, some_takes}
-use Rattle.line_verdicts.specs.LineFaults.{Stops}
+use Rattle.line_verdicts.specs.LineStops.{Stops}
 use Rattle.line_verdicts.specs.declared.fault.LineStop.{LineStop}
 use Rattle.line_verdicts.specs.declared.fault.LineStop.TheVariants as line_stop
 use Rattle.certificate_checker.specs.Readable.{IsReadable, AreReadable, AreSpelled}

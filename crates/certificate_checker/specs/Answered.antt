@@ -11,9 +11,9 @@ use Rattle.verdicts.specs.Fault.{Fault}
 use Rattle.verdicts.specs.Verdict as said
 use Rattle.text_verdicts.specs.TextVerdict.{HasTextFault, IsTextVerdict}
 use Rattle.text_verdicts.specs.TextCost.{TextCosts}
-use Rattle.certificate_checker.specs.CheckFaults.{fault_of}
-use Rattle.certificate_checker.specs.declared.fault.CheckFault.{CheckFault}
-use Rattle.certificate_checker.specs.declared.fault.CheckFault.TheVariants.{Text}
+use Rattle.line_verdicts.specs.CheckFaults.{fault_of}
+use Rattle.line_verdicts.specs.declared.fault.CheckFault.{CheckFault}
+use Rattle.line_verdicts.specs.declared.fault.CheckFault.TheVariants.{Text}
 use Rattle.certificate_checker.specs.declared.fault.CheckStop.{CheckStop}
 use Rattle.certificate_checker.specs.declared.fault.CheckStop.TheVariants as stop
 use Rattle.certificate_checker.specs.declared.verdict.Verdict.{Verdict}

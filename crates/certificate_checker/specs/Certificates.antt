@@ -19,8 +19,8 @@ use Rattle.verdicts.specs.Verdict.{IsLargeEnough, IsLawfulTarget, CertificateEnd
 use Rattle.verdicts.specs.Cost.{Where, TreeLooks, CertificateCosts}
 use Rattle.grouping_judge.specs.declared.grouping_fault.GroupingFault.{GroupingFault}
 use Rattle.grouping_judge.specs.declared.grouping_fault.GroupingFault.TheVariants.{Memory}
-use Rattle.certificate_checker.specs.CheckFaults.{fault_of}
-use Rattle.certificate_checker.specs.declared.fault.CheckFault.TheVariants.{TargetFault}
+use Rattle.line_verdicts.specs.CheckFaults.{fault_of}
+use Rattle.line_verdicts.specs.declared.fault.CheckFault.TheVariants.{TargetFault}
 use Rattle.certificate_checker.specs.Feeding.{FeedValue}
 use Rattle.certificate_checker.specs.declared.feed.Halt.{Halt}
 use Rattle.certificate_checker.specs.declared.feed.Halt.TheVariants as stop

@@ -14,7 +14,7 @@ use Rattle.verdicts.specs.Fault.{Fault}
 use Rattle.verdicts.specs.End.{End, faulty}
 use Rattle.verdicts.specs.Work.{Open, WorkEnds}
 use Rattle.verdicts.specs.WorkCost.{WorkLooks}
-use Rattle.certificate_checker.specs.CheckFaults.{fault_of}
+use Rattle.line_verdicts.specs.CheckFaults.{fault_of}
 use Rattle.certificate_checker.specs.declared.feed.Feed.{Feed}
 use Rattle.certificate_checker.specs.declared.feed.Halt.{Halt}
 use Rattle.certificate_checker.specs.declared.feed.Halt.TheVariants as stop

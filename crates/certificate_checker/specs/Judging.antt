@@ -25,14 +25,12 @@ use Rattle.verdicts.specs.Work.{Open, a_tree, some_takes}
 use Rattle.bound_verdicts.specs.Allowed.{IsAllowed}
 use Rattle.bound_verdicts.specs.declared.bound.Allowed.{Allowed}
 use Rattle.bound_verdicts.specs.declared.bound.Allowed.TheVariants.{Loss, Even}
-use Rattle.line_verdicts.specs.LineFaults.{line_fault}
-use Rattle.line_verdicts.specs.declared.fault.LineFault.{LineFault}
 use Rattle.line_verdicts.specs.declared.fault.LineStop.{LineStop}
 use Rattle.line_verdicts.specs.declared.fault.LineStop.TheVariants as line_stop
-use Rattle.certificate_checker.specs.CheckFaults.{fault_of}
+use Rattle.line_verdicts.specs.CheckFaults.{fault_of}
 use Rattle.certificate_checker.specs.Feeding.{FeedValue, TookLine, Reaches, Halts}
-use Rattle.certificate_checker.specs.declared.fault.CheckFault.{CheckFault}
-use Rattle.certificate_checker.specs.declared.fault.CheckFault.TheVariants.{BoundLength}
+use Rattle.line_verdicts.specs.declared.fault.CheckFault.{CheckFault}
+use Rattle.line_verdicts.specs.declared.fault.CheckFault.TheVariants.{BoundLength}
 use Rattle.certificate_checker.specs.declared.feed.Halt.{Halt}
 use Rattle.certificate_checker.specs.declared.feed.Halt.TheVariants as stop
 use Rattle.certificate_checker.specs.declared.ground.Ground.{Ground}
@@ -64,7 +62,7 @@ TookForm wrap view old (Err stop.Refused) new = ⊤
 
 -- the reading stopped as the judging of the line did
 abbrev pub IsStopAt : ℕ → LineStop → Halt → Type 0
-IsStopAt line (line_stop.Fault f) found = (fault : CheckFault) × (found ≡ stop.Fault fault line) × (fault_of fault ≡ Some (line_fault f))
+IsStopAt line (line_stop.Fault fault) found = found ≡ stop.Fault fault line
 IsStopAt line line_stop.Unspelled found = found ≡ stop.Unspelled
 IsStopAt line line_stop.StepLimit found = found ≡ stop.Budget
 IsStopAt line line_stop.Memory found = found ≡ stop.Refused
@@ -97,10 +95,10 @@ abbrev pub line_items : List Allowance → List Item
 line_items lines = map (λ a. Allows (declared_allowance a)) lines
 
 -- the fault of a leaf of one line stands at its line
-abbrev pub IsFoundAt : Option LineFault → ℕ → Result (Unit {0}) Halt → Type 0
+abbrev pub IsFoundAt : Option CheckFault → ℕ → Result (Unit {0}) Halt → Type 0
 IsFoundAt None line (Ok done) = ⊤
-IsFoundAt (Some f) line (Err (stop.Fault fault found)) = (fault_of fault ≡ Some (line_fault f)) × (found ≡ line)
-IsFoundAt _ line _ = ⊥
+IsFoundAt (Some fault) line result = result ≡ Err (stop.Fault fault line)
+IsFoundAt None line (Err found) = ⊥
 
 -- a bound leaf ends here, or it is at fault at its first line
 abbrev pub IsEndOf : Bool → ℕ → Result (Unit {0}) Halt → Type 0

@@ -1,4 +1,3 @@
-pub mod CheckFaults
 pub mod Readable
 pub mod Feeding
 pub mod Judging

@@ -12,9 +12,9 @@ use Rattle.verdicts.specs.Fault.{Fault}
 use Rattle.verdicts.specs.End.{faulty}
 use Rattle.verdicts.specs.Trees.{TreeEnds}
 use Rattle.verdicts.specs.Cost.{TreeCosts}
-use Rattle.certificate_checker.specs.CheckFaults.{fault_of}
-use Rattle.certificate_checker.specs.declared.fault.CheckFault.{CheckFault}
-use Rattle.certificate_checker.specs.declared.fault.CheckFault.TheVariants.{Text}
+use Rattle.line_verdicts.specs.CheckFaults.{fault_of}
+use Rattle.line_verdicts.specs.declared.fault.CheckFault.{CheckFault}
+use Rattle.line_verdicts.specs.declared.fault.CheckFault.TheVariants.{Text}
 use Rattle.certificate_checker.specs.declared.feed.Halt.{Halt}
 use Rattle.certificate_checker.specs.declared.feed.Halt.TheVariants as stop
 use Rattle.std.specs.declared.alloc.AllocError.{AllocError}

@@ -13,7 +13,6 @@ ghost use Rattle.certificate_lines.specs.Courses.{Course};
 ghost use Rattle.certificate_checker.specs.Feeding.{feed_at, CountsSteps, IsFed};
 ghost use Rattle.certificate_checker.specs.Judging.{IsGround, AreTakesListed, IsRefused, IsTakeStop};
 
-use crate::fault::of_line;
 use crate::feed::{Feed, Halt};
 use crate::forms::judged_at;
 use crate::ground::Ground;
@@ -97,7 +96,7 @@ pub(crate) fn taken_state<C: CountySet>(
             },
             None => Err(Halt::Refused),
         },
-        Err(fault) => Err(Halt::Fault(of_line(fault), line)),
+        Err(fault) => Err(Halt::Fault(fault, line)),
     }
 }
 

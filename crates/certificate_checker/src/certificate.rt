@@ -22,7 +22,6 @@ ghost use Rattle.certificate_checker.specs.Feeding.{stream_of, CountsSteps, IsFe
 ghost use Rattle.certificate_checker.specs.Judging.{IsJudged, AreWanted};
 ghost use Rattle.certificate_checker.specs.Certificates.{StopsAt, IsTargetStop, AreCounts, IsRoundJudged, IsCertificateJudged};
 
-use crate::fault::CheckFault;
 use crate::feed::{Feed, Halt};
 use crate::forms::next_end;
 use crate::ground::Ground;
@@ -33,7 +32,7 @@ use county_codes::{Group, Grouping, Window};
 use county_regions::neighbour_rows;
 use grouping_judge::{Counts, GroupingFault, judge};
 use grouping_problem::Problem;
-use line_verdicts::first_state;
+use line_verdicts::{CheckFault, first_state};
 use ordered_counties::{OrderFault, Ordered};
 use place_sets::CountySet;
 use proof_trees::{Round, State};

@@ -9,12 +9,13 @@ ghost use Rattle.certificate_checker.specs.Feeding.{FeedValue, Fed, stream_of, T
 ghost use Rattle.certificate_checker.specs.Answered.{IsCheckAnswer, CheckIsRight, ShowsImpossible, ChecksItems, ChecksBytes, is_read_fault};
 
 use crate::certificate::judge_certificate;
-use crate::fault::{CheckFault, CheckStop};
+use crate::fault::CheckStop;
 use crate::feed::{Feed, Halt, read_rest};
 use crate::verdict::Verdict;
 use certificate_lines::{ItemSource, Items, ItemsFrom};
 use field_lines::Source;
 use grouping_problem::Problem;
+use line_verdicts::CheckFault;
 use ordered_counties::Steps;
 use place_sets::{CountySet, MaskSet, Places, fits_mask};
 use std::alloc::{AllocError, Global};

@@ -1,64 +1,6 @@
-//! What may be wrong with a certificate, and why a text from a source may have no verdict.
+//! Why a text from a source may have no verdict.
 
-ghost use Rattle.std.specs.Prelude.{◌≡◌, Some};
-ghost use Rattle.line_verdicts.specs.LineFaults.{line_fault};
-ghost use Rattle.certificate_checker.specs.CheckFaults.{fault_of};
-
-use certificate_lines::TextFault;
-use grouping_judge::GroupingFault;
-use line_verdicts::LineFault;
 use thiserror::Error;
-
-/// Why a text is no certificate, or a tree no proof.
-#[derive(Clone, Copy, Debug, PartialEq, Eq, Error)]
-pub enum CheckFault {
-    /// The text spells no certificate: its first fault. It comes before any other.
-    #[error("{0}")]
-    Text(TextFault),
-    /// The allowance that the text names, or one twentieth if it names none, isn't the problem's.
-    #[error("the certificate is for another allowance")]
-    WrongWindow,
-    /// The order has not each county of the problem once, or another code.
-    #[error("the order has not each county of the problem once")]
-    WrongOrder,
-    /// A group of the target has more counties than the limit.
-    #[error("a group of the target is above the limit")]
-    LimitTooSmall,
-    /// The target is not lawful.
-    #[error("the target is not lawful: {0}")]
-    TargetFault(GroupingFault),
-    /// The line names a county that may not stand there.
-    #[error("the county may not stand here")]
-    WrongCounty,
-    /// A group that fits is left out.
-    #[error("a group that fits is left out")]
-    MissingGroup,
-    /// The group is none of those that fit.
-    #[error("the group is none of those that fit")]
-    StrayGroup,
-    /// A group that fits weighs less than the quota.
-    #[error("a group that fits weighs less than the quota")]
-    LightGroup,
-    /// The line allows more groups than the target has.
-    #[error("the line allows more groups than the target has")]
-    BoundOver,
-    /// The leaf has too many lines or too few, or lines behind one that allows fewer groups than the target
-    /// has.
-    #[error("the leaf has too many lines or too few")]
-    BoundLength,
-    /// The part around the county can be filled, as far as this leaf tells.
-    #[error("the part around the county is not stuck")]
-    NotStuck,
-    /// The seats may add up.
-    #[error("the seats may add up")]
-    SeatsOpen,
-    /// There is no target to bound.
-    #[error("there is no target to bound")]
-    BoundWithoutTarget,
-    /// No county is open, so a leaf has to stand here.
-    #[error("no county is open: a leaf has to stand here")]
-    NoLeaf,
-}
 
 /// Why a text that is pulled from a source has no verdict.
 #[derive(Clone, Copy, Debug, PartialEq, Eq, Error)]
@@ -69,22 +11,4 @@ pub enum CheckStop {
     /// Memory was refused.
     #[error("out of memory")]
     Memory,
-}
-
-/// The fault of a line as one of the checker.
-pub(crate) fn of_line(fault: LineFault) -> CheckFault
-    ensures { fault_of result ≡ Some (line_fault fault) }
-{
-    match fault {
-        LineFault::WrongCounty => CheckFault::WrongCounty,
-        LineFault::MissingGroup => CheckFault::MissingGroup,
-        LineFault::StrayGroup => CheckFault::StrayGroup,
-        LineFault::LightGroup => CheckFault::LightGroup,
-        LineFault::BoundOver => CheckFault::BoundOver,
-        LineFault::BoundLength => CheckFault::BoundLength,
-        LineFault::NotStuck => CheckFault::NotStuck,
-        LineFault::SeatsOpen => CheckFault::SeatsOpen,
-        LineFault::BoundWithoutTarget => CheckFault::BoundWithoutTarget,
-        LineFault::NoLeaf => CheckFault::NoLeaf,
-    }
 }

@@ -5,8 +5,8 @@ ghost use Rattle.certificate_lines.specs.ItemsLeft.{Through as ItemsThrough};
 ghost use Rattle.certificate_checker.specs.Feeding.{stream_of, Through, ForEach, CountsSteps, TakesStep, IsFed, TookLine, StopsAtText, Passes, IsRestRead};
 ghost use Rattle.certificate_checker.specs.declared.feed.Halt.TheVariants.{Refused};
 
-use crate::fault::CheckFault;
 use certificate_lines::{Item, ItemSource, Items, TextFault, TextKind};
+use line_verdicts::CheckFault;
 use ordered_counties::Steps;
 use std::alloc::{AllocError, AllocFailed};
 

@@ -6,7 +6,6 @@ ghost use Rattle.certificate_lines.specs.declared.item.Item.TheVariants as item;
 ghost use Rattle.certificate_checker.specs.Feeding.{stream_of, CountsSteps, TakesStep, IsFed, Through, ForEach};
 ghost use Rattle.certificate_checker.specs.Judging.{TookForm, IsStopAt, IsJudgedAt};
 
-use crate::fault::of_line;
 use crate::feed::{Feed, Halt, next_line};
 use certificate_lines::{Allowance, Item, ItemSource, Opening, Version};
 use county_codes::{Codes, Group, Window};
@@ -176,7 +175,7 @@ fn stop_at(stop: LineStop, line: u64) -> Halt
     ensures { IsStopAt line stop result }
 {
     match stop {
-        LineStop::Fault(fault) => Halt::Fault(of_line(fault), line),
+        LineStop::Fault(fault) => Halt::Fault(fault, line),
         LineStop::Unspelled => Halt::Unspelled,
         LineStop::StepLimit => Halt::Budget,
         LineStop::Memory => Halt::Refused,

@@ -11,23 +11,22 @@ ghost use Rattle.certificate_checker.specs.Readable.{AreSpelled};
 ghost use Rattle.certificate_checker.specs.Feeding.{FeedValue, stream_of, CountsSteps, IsFed, Through, ForEach};
 ghost use Rattle.certificate_checker.specs.Judging.{IsGround, IsLeafJudged, IsFoundAt, IsEndOf, IsSmall, IsLineJudged, line_items};
 
-use crate::fault::{CheckFault, of_line};
 use crate::feed::{Feed, Halt};
 use crate::forms::{judged_at, next_allowance};
 use crate::ground::Ground;
 use bound_verdicts::{Allowed, judge_allowance};
 use certificate_lines::ItemSource;
 use county_codes::CountyCode;
-use line_verdicts::{LineFault, judge_seats, judge_stuck};
+use line_verdicts::{CheckFault, judge_seats, judge_stuck};
 use place_sets::CountySet;
 use proof_trees::State;
 
 /// What a leaf of one line comes to, with its fault, if there is one, at its line.
-fn found_at(fault: Option<LineFault>, line: u64) -> Result<(), Halt>
+fn found_at(fault: Option<CheckFault>, line: u64) -> Result<(), Halt>
     ensures { IsFoundAt fault line result }
 {
     match fault {
-        Some(fault) => Err(Halt::Fault(of_line(fault), line)),
+        Some(fault) => Err(Halt::Fault(fault, line)),
         None => Ok(()),
     }
 }

@@ -30,6 +30,7 @@ mod tree_checking;
 mod verdict;
 
 pub use checking::{check, check_from, check_from_over, check_over};
-pub use fault::{CheckFault, CheckStop};
+pub use fault::CheckStop;
+pub use line_verdicts::CheckFault;
 pub use tree_checking::check_tree;
 pub use verdict::{TreeVerdict, Verdict};

@@ -13,13 +13,12 @@ ghost use Rattle.certificate_checker.specs.Feeding.{stream_of, CountsSteps, IsFe
 ghost use Rattle.certificate_checker.specs.Judging.{IsGround, IsJudged};
 
 use crate::branches::{groups_behind, listed_groups, taken_state};
-use crate::fault::CheckFault;
 use crate::feed::{Feed, Halt};
 use crate::forms::{next_opening, next_take};
 use crate::ground::Ground;
 use crate::leaves::{judge_bound_leaf, judge_seats_leaf, judge_stuck_leaf};
 use certificate_lines::{ItemSource, Opening};
-use line_verdicts::raise_place;
+use line_verdicts::{CheckFault, raise_place};
 use place_sets::CountySet;
 use proof_trees::State;
 

@@ -17,14 +17,13 @@ ghost use Rattle.certificate_checker.specs.Judging.{AreWanted};
 ghost use Rattle.certificate_checker.specs.TreeAnswered.{IsTreeAnswer, IsRightOfTrees, IsSaid};
 
 use crate::certificate::{judge_order, judge_placed, judge_target};
-use crate::fault::CheckFault;
 use crate::feed::{Feed, Halt, first_fault};
 use crate::verdict::TreeVerdict;
 use certificate_lines::{Items, TextFault};
 use certificate_text::{Tree, tree_lines};
 use grouping_judge::Counts;
 use grouping_problem::Problem;
-use line_verdicts::copied_state;
+use line_verdicts::{CheckFault, copied_state};
 use ordered_counties::{Ordered, Steps};
 use place_sets::CountySet;
 use proof_trees::{Language, Round, State};

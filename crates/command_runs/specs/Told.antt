@@ -16,7 +16,7 @@ use Rattle.certificate_checker.specs.Answered.{IsCheckAnswer}
 use Rattle.complete_lists.specs.AllBest.{AreAllBest}
 use Rattle.best_groupings.specs.InOrder.{AreInOrder}
 use Rattle.list_report.specs.Listing.{listing_text}
-use Rattle.certificate_checker.specs.declared.fault.CheckFault.{CheckFault}
+use Rattle.line_verdicts.specs.declared.fault.CheckFault.{CheckFault}
 use Rattle.certificate_checker.specs.declared.verdict.Verdict.TheVariants.{No}
 use Rattle.command_words.specs.Words.{Means, takes_words}
 use Rattle.command_words.specs.declared.words.ProblemWords.{ProblemWords}

@@ -10,7 +10,7 @@ use Rattle.verdicts.specs.Verdict as said
 use Rattle.text_verdicts.specs.TextVerdict.{IsTextVerdict}
 use Rattle.text_verdicts.proofs.Verdicts.{certified, one, apart}
 use Rattle.certificate_checker.specs.Answered.{IsCheckAnswer, IsRefusal}
-use Rattle.certificate_checker.specs.declared.fault.CheckFault.{CheckFault}
+use Rattle.line_verdicts.specs.declared.fault.CheckFault.{CheckFault}
 use Rattle.certificate_checker.specs.declared.verdict.Verdict.{Verdict}
 use Rattle.certificate_checker.specs.declared.verdict.Verdict.TheVariants.{Best, Impossible, No, Budget}
 use Rattle.desk_texts.specs.Says.{SaysBest, SaysImpossible, CheckerAgrees}

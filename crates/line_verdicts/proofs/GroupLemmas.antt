@@ -28,7 +28,7 @@ use Rattle.county_regions.specs.declared.stop.Stop.{Stop}
 use Rattle.county_regions.specs.declared.stop.Stop.TheVariants as search
 use Rattle.line_verdicts.specs.declared.fault.LineStop.{LineStop}
 use Rattle.line_verdicts.specs.declared.fault.LineStop.TheVariants as line
-use Rattle.line_verdicts.specs.LineFaults.{line_stop}
+use Rattle.line_verdicts.specs.LineStops.{line_stop}
 use Rattle.line_verdicts.specs.Placed.{codes_of_sets, IsClosable}
 
 -- images of different elements are different

@@ -1,11 +1,13 @@
 -- A set's codes against a list, one place after another.
 use Rattle.std.proofs.Common.{◌≡◌, ℕ, zero, suc, ◌+◌, ◌-◌, ◌≤◌, ◌<◌, Bool, true, false, cond, Option, Some, None, is_none, IsTrue, Contains, List, [], ◌∷◌, ◌++◌, drop, get_or, length, refl, sym, ap, ◌∙◌, subst, arith, map, ◌↔◌}
+use Rattle.std.specs.List.{slice_get}
 use Rattle.std.proofs.lemmas.Bool.{false≢true}
 use Rattle.std.proofs.lemmas.List.{append_assoc, append-nil, append_cancel_left, map-append, length-append, drop_more, drop_all, length-map, get_or-map}
 use Rattle.grouping_laws.specs.Places.{codes_at}
 use Rattle.place_lists.specs.PlaceSets.{places_of, IsNext}
 use Rattle.place_lists.proofs.PlaceSums.{places_step}
 use Rattle.ordered_counties.specs.OrderedValue.{code_at}
+use Rattle.verdicts.specs.Branches as branches
 
 -- no place from one to another
 gap : (t : ℕ → Bool) (from k : ℕ) → ((x : ℕ) → from ≤ x → x < from + k → t x ≡ false) → places_of (from + k) t ≡ places_of from t
@@ -104,3 +106,8 @@ none_listed f [] codes none h = absurd (omega (arith, h.1))
 none_listed f (x ∷ xs) codes none h =
     let l : h.0 < length (x ∷ xs) = omega (arith, h.1, length-map (x ∷ xs) f) in
     none h.0 x l (sym (get_or-map f (x ∷ xs) h.0 x codes l) ∙ h.2)
+
+-- the first set has other codes, or there is none
+pub none_next : {X : Type 0} (f : X → List ℕ) (xs : List X) (codes : List ℕ) → ((x : X) → slice_get xs 0 ≡ Some x → f x ≡ codes → ⊥) → branches.IsNext (map f xs) codes → ⊥
+none_next f [] codes other h = h
+none_next f (x ∷ xs) codes other h = other x refl h

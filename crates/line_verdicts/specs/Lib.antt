@@ -1,2 +1,3 @@
 pub mod Placed
-pub mod LineFaults
+pub mod CheckFaults
+pub mod LineStops

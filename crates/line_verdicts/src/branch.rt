@@ -12,10 +12,11 @@ ghost use Rattle.proof_trees.specs.Proving.{limit_of, NamesLimit, CanBranch};
 ghost use Rattle.verdicts.specs.Branches.{IsBranchFault, IsNext, IsTakeFault};
 ghost use Rattle.verdicts.specs.Cost.{AreSoMany};
 ghost use Rattle.line_verdicts.specs.Placed.{state_at, codes_of_set, codes_of_sets, IsPlaced, IsClosable};
-ghost use Rattle.line_verdicts.specs.LineFaults.{Stops, line_fault};
+ghost use Rattle.line_verdicts.specs.CheckFaults.{NamesFault};
+ghost use Rattle.line_verdicts.specs.LineStops.{Stops};
 ghost use Rattle.line_verdicts.specs.declared.fault.LineStop.{LineStop};
 
-use crate::fault::{LineFault, LineStop};
+use crate::fault::{CheckFault, LineStop};
 use crate::leaf::place_of;
 use county_codes::CountyCode;
 use fitting_groups::groups_at;
@@ -80,22 +81,22 @@ fn branch_place<C: CountySet>(
     let _places = ordered.places();
     let open = open_places(alloc, state, limit)?;
     let Some(first) = open.next(0) else {
-        return Err(LineStop::Fault(LineFault::NoLeaf));
+        return Err(LineStop::Fault(CheckFault::NoLeaf));
     };
     if limit > round.limit {
-        return Err(LineStop::Fault(LineFault::WrongCounty));
+        return Err(LineStop::Fault(CheckFault::WrongCounty));
     }
     let Some(place) = place_of(ordered, county) else {
-        return Err(LineStop::Fault(LineFault::WrongCounty));
+        return Err(LineStop::Fault(CheckFault::WrongCounty));
     };
     if !open.has(place) {
-        return Err(LineStop::Fault(LineFault::WrongCounty));
+        return Err(LineStop::Fault(CheckFault::WrongCounty));
     }
     match round.language {
         Language::Wide => Ok(place),
         Language::Plain => {
             if place != first {
-                return Err(LineStop::Fault(LineFault::WrongCounty));
+                return Err(LineStop::Fault(CheckFault::WrongCounty));
             }
             Ok(place)
         }
@@ -227,13 +228,13 @@ pub fn judge_take<C: CountySet>(
     ordered: &Ordered,
     groups: &[C],
     codes: &[CountyCode],
-) -> Result<(), LineFault>
+) -> Result<(), CheckFault>
     requires fits { length ordered.now.order ≤ C.PLACES }
     requires below { AreBelow (length ordered.now.order) C.test groups.now }
     ensures { MatchResult
         result
         (λ _. IsNext (codes_of_sets ordered.now.order C.test groups.now) codes.now)
-        (λ fault. IsTakeFault (codes_of_sets ordered.now.order C.test groups.now) codes.now (line_fault fault)) }
+        (λ fault. NamesFault fault (IsTakeFault (codes_of_sets ordered.now.order C.test groups.now) codes.now)) }
 {
     if let Some(first) = groups.first() {
         if has_codes(ordered, first, codes) {
@@ -241,7 +242,7 @@ pub fn judge_take<C: CountySet>(
         }
     }
     if is_listed(ordered, groups, codes) {
-        return Err(LineFault::MissingGroup);
+        return Err(CheckFault::MissingGroup);
     }
-    Err(LineFault::StrayGroup)
+    Err(CheckFault::StrayGroup)
 }

@@ -1,16 +1,33 @@
-//! What may be wrong with a line of a tree, and why a line is not found fine.
+//! What may be wrong with a certificate, and why a line of a tree is not found fine.
 
 ghost use Rattle.std.specs.Prelude.{◌≡◌};
-ghost use Rattle.line_verdicts.specs.LineFaults.{line_stop};
+ghost use Rattle.line_verdicts.specs.LineStops.{line_stop};
 ghost use Rattle.line_verdicts.specs.declared.fault.LineStop.TheVariants.{Memory};
 
+use certificate_lines::TextFault;
 use fitting_groups::Stop;
+use grouping_judge::GroupingFault;
 use std::alloc::AllocError;
 use thiserror::Error;
 
-/// What is wrong with a line of a tree, at the state that it stands at.
+/// Why a text is no certificate, or a tree no proof.
 #[derive(Clone, Copy, Debug, PartialEq, Eq, Error)]
-pub enum LineFault {
+pub enum CheckFault {
+    /// The text spells no certificate: its first fault. It comes before any other.
+    #[error("{0}")]
+    Text(TextFault),
+    /// The allowance that the text names, or one twentieth if it names none, isn't the problem's.
+    #[error("the certificate is for another allowance")]
+    WrongWindow,
+    /// The order has not each county of the problem once, or another code.
+    #[error("the order has not each county of the problem once")]
+    WrongOrder,
+    /// A group of the target has more counties than the limit.
+    #[error("a group of the target is above the limit")]
+    LimitTooSmall,
+    /// The target is not lawful.
+    #[error("the target is not lawful: {0}")]
+    TargetFault(GroupingFault),
     /// The line names a county that may not stand there.
     #[error("the county may not stand here")]
     WrongCounty,
@@ -49,7 +66,7 @@ pub enum LineFault {
 pub enum LineStop {
     /// The line is at fault.
     #[error("{0}")]
-    Fault(LineFault),
+    Fault(CheckFault),
     /// No text spells the line.
     #[error("no text spells the line")]
     Unspelled,

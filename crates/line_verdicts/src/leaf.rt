@@ -8,9 +8,9 @@ ghost use Rattle.county_regions.specs.Rows.{AreRows};
 ghost use Rattle.proof_trees.specs.Leaves.{IsStuck, IsOffSeats};
 ghost use Rattle.verdicts.specs.Leaves.{IsStuckFault, IsSeatsFault};
 ghost use Rattle.line_verdicts.specs.Placed.{state_at, IsPlaced};
-ghost use Rattle.line_verdicts.specs.LineFaults.{line_fault};
+ghost use Rattle.line_verdicts.specs.CheckFaults.{NamesFault};
 
-use crate::fault::LineFault;
+use crate::fault::CheckFault;
 use county_codes::CountyCode;
 use ordered_counties::Ordered;
 use place_sets::CountySet;
@@ -40,7 +40,7 @@ pub fn judge_stuck<C: CountySet>(
     near: &[C],
     state: &State<C>,
     county: CountyCode,
-) -> Result<Option<LineFault>, AllocError>
+) -> Result<Option<CheckFault>, AllocError>
     requires fits { length ordered.now.order ≤ C.PLACES }
     requires rows { AreRows C C.test (problem_at ordered.now) (length ordered.now.order) near.now }
     requires placed { IsPlaced (length ordered.now.order) C.test state.now }
@@ -49,19 +49,19 @@ pub fn judge_stuck<C: CountySet>(
         (λ found. MatchOption
         found
         (IsStuck (problem_of ordered.now.problem) (state_at ordered.now.order C.test state.now) county)
-        (λ fault. IsStuckFault (problem_of ordered.now.problem) (state_at ordered.now.order C.test state.now) county (line_fault fault))) }
+        (λ fault. NamesFault fault (IsStuckFault (problem_of ordered.now.problem) (state_at ordered.now.order C.test state.now) county))) }
 {
     let _places = ordered.places();
     let Some(place) = place_of(ordered, county) else {
-        return Ok(Some(LineFault::WrongCounty));
+        return Ok(Some(CheckFault::WrongCounty));
     };
     if !state.rest.has(place) {
-        return Ok(Some(LineFault::WrongCounty));
+        return Ok(Some(CheckFault::WrongCounty));
     }
     if is_stuck_at(alloc, ordered, near, state, place)? {
         return Ok(None);
     }
-    Ok(Some(LineFault::NotStuck))
+    Ok(Some(CheckFault::NotStuck))
 }
 
 /// The fault of a seats leaf, `None` where the leaf is valid: `SeatsOpen` where a part of the rest suits no seats,
@@ -73,7 +73,7 @@ pub fn judge_seats<C: CountySet>(
     ordered: &Ordered,
     near: &[C],
     state: &State<C>,
-) -> Result<Option<LineFault>, AllocError>
+) -> Result<Option<CheckFault>, AllocError>
     requires fits { length ordered.now.order ≤ C.PLACES }
     requires rows { AreRows C C.test (problem_at ordered.now) (length ordered.now.order) near.now }
     requires placed { IsPlaced (length ordered.now.order) C.test state.now }
@@ -82,11 +82,11 @@ pub fn judge_seats<C: CountySet>(
         (λ found. MatchOption
         found
         (IsOffSeats (problem_of ordered.now.problem) (state_at ordered.now.order C.test state.now))
-        (λ fault. IsSeatsFault (problem_of ordered.now.problem) (state_at ordered.now.order C.test state.now) (line_fault fault))) }
+        (λ fault. NamesFault fault (IsSeatsFault (problem_of ordered.now.problem) (state_at ordered.now.order C.test state.now)))) }
 {
     let _places = ordered.places();
     if is_off_seats(alloc, ordered, near, state)? {
         return Ok(None);
     }
-    Ok(Some(LineFault::SeatsOpen))
+    Ok(Some(CheckFault::SeatsOpen))
 }

@@ -4,8 +4,8 @@ use Rattle.certificate_lines.specs.declared.fault.TextKind.{TextKind}
 use Rattle.certificate_lines.specs.declared.fault.TextKind.TheVariants as text
 use Rattle.grouping_judge.specs.declared.grouping_fault.GroupingFault.{GroupingFault}
 use Rattle.grouping_judge.specs.declared.grouping_fault.GroupingFault.TheVariants as verdict
-use Rattle.certificate_checker.specs.declared.fault.CheckFault.{CheckFault}
-use Rattle.certificate_checker.specs.declared.fault.CheckFault.TheVariants.{Text, WrongWindow, WrongOrder, LimitTooSmall, TargetFault, WrongCounty, MissingGroup, StrayGroup, LightGroup, BoundOver, BoundLength, NotStuck, SeatsOpen, BoundWithoutTarget, NoLeaf}
+use Rattle.line_verdicts.specs.declared.fault.CheckFault.{CheckFault}
+use Rattle.line_verdicts.specs.declared.fault.CheckFault.TheVariants.{Text, WrongWindow, WrongOrder, LimitTooSmall, TargetFault, WrongCounty, MissingGroup, StrayGroup, LightGroup, BoundOver, BoundLength, NotStuck, SeatsOpen, BoundWithoutTarget, NoLeaf}
 use Rattle.program_answers.specs.Answer.{Answered}
 
 -- the word of a kind of fault of a certificate's text

@@ -7,10 +7,10 @@ ghost use Rattle.program_answers.specs.CheckLines.{text_kind_word, grouping_kind
 
 use crate::answer::RunAnswer;
 use crate::refusal::push_word;
-use certificate_checker::CheckFault;
 use certificate_lines::TextKind;
 use field_lines::push_number;
 use grouping_judge::GroupingFault;
+use line_verdicts::CheckFault;
 use std::alloc::{AllocError, Global};
 
 /// The word of a kind of fault of a certificate's text.

@@ -6,6 +6,7 @@ use Rattle.grouping_laws.specs.GroupsFrom.{IsOrder}
 use Rattle.place_lists.specs.PlaceSets.{places_of}
 use Rattle.grouping_problem.specs.ProblemValue.{problem_of}
 use Rattle.proof_trees.specs.RoundValue.{round_of}
+use Rattle.verdicts.specs.Fault.{WrongCounty, LightGroup}
 use Rattle.line_verdicts.specs.Placed.{state_at, codes_of_sets}
 use Rattle.bound_verdicts.specs.Weights.{county_weight}
 use Rattle.bound_verdicts.proofs.FairLines.{foreign, fair, light, all_heavy, one_light, same_test}
@@ -18,7 +19,7 @@ returns-then-not-are_known-clause-weights g c =
     let round = c.args.round.now in
     let whole : IsOrder p round.order = subst (IsOrder p) c.requires.order c.places-places.ensures.order in
     let unknown : list_all (λ w. member round.order w.county) ws ≡ false = sym (ap (λ (z : List ℕ). list_all (λ w. member z w.county) ws) c.as_slice-codes.ensures) ∙ (sym c.are_known.ensures ∙ c.if-not-are_known.true) in
-    inl (refl, foreign p round.order c.args.quota ws whole unknown)
+    (WrongCounty, refl, inl (refl, foreign p round.order c.args.quota ws whole unknown))
 
 pub returns-then-not-weigh_enough-clause-weights : goal.returns-then-not-weigh_enough-clause-weights
 returns-then-not-weigh_enough-clause-weights g c =
@@ -37,7 +38,7 @@ returns-then-not-weigh_enough-clause-weights g c =
     let e : table ≡ map w order = c.deref.ensures.value ∙ (c.in_ok-table.ensures ∙ ap (map w) (c.as_slice-codes.ensures ∙ sym c.requires.order)) in
     let enough = same_test (λ (z : g.row.C.Denot). total (λ i. get_or table i 0) (places_of (length table) (test z))) c.weigh_enough.result c.from.result quota c.deref-2.result.now sets c.from.ensures c.deref-2.ensures.value c.weigh_enough.ensures in
     let found = one_light g.row.C.Denot test order table w e quota sets (λ all. false≢true (sym c.if-not-weigh_enough.true ∙ enough.1 all)) in
-    inr (refl, light p (round_of round) s c.args.size quota ws (codes_of_sets order test sets) whole c.in_ok-groups.ensures.groups known found)
+    (LightGroup, refl, inr (refl, light p (round_of round) s c.args.size quota ws (codes_of_sets order test sets) whole c.in_ok-groups.ensures.groups known found))
 
 pub returns-clause-weights : goal.returns-clause-weights
 returns-clause-weights g c =

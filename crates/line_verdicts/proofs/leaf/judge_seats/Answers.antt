@@ -2,6 +2,7 @@ use Rattle.std.proofs.Common.{◌∙◌, sym, refl}
 use Rattle.std.proofs.lemmas.Bool.{false≢true}
 use Rattle.grouping_problem.specs.ProblemValue.{problem_of}
 use Rattle.proof_trees.specs.StateValue.{state_of}
+use Rattle.verdicts.specs.Fault.{SeatsOpen}
 use Rattle.line_verdicts.proofs.LeafLemmas.{seats_both}
 use Rattle.line_verdicts.proofs.leaf.judge_seats.Goals as goal
 
@@ -10,4 +11,4 @@ returns-then-branch g c = (seats_both (problem_of c.args.ordered.now.problem) c.
 
 pub returns : goal.returns
 returns g c =
-    (refl, λ v. false≢true (sym c.if-branch.false ∙ c.in_ok-is_off_seats.ensures.1 ((seats_both (problem_of c.args.ordered.now.problem) c.args.ordered.now.order c.places-places.ensures.order (state_of g.C.CountySet.test c.args.state.now) c.requires.placed.rest c.places-places.ensures.problem).1 v)))
+    (SeatsOpen, refl, (refl, λ v. false≢true (sym c.if-branch.false ∙ c.in_ok-is_off_seats.ensures.1 ((seats_both (problem_of c.args.ordered.now.problem) c.args.ordered.now.order c.places-places.ensures.order (state_of g.C.CountySet.test c.args.state.now) c.requires.placed.rest c.places-places.ensures.problem).1 v))))

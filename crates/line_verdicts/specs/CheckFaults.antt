@@ -1,9 +1,9 @@
--- What the faults of a checker name.
-use Rattle.std.specs.Prelude.{Option, Some, None}
+-- What the faults of a certificate name.
+use Rattle.std.specs.Prelude.{◌≡◌, Option, Some, None}
 use Rattle.verdicts.specs.Fault.{Fault}
 use Rattle.verdicts.specs.Fault as fault
-use Rattle.certificate_checker.specs.declared.fault.CheckFault.{CheckFault}
-use Rattle.certificate_checker.specs.declared.fault.CheckFault.TheVariants.{Text, WrongWindow, WrongOrder, LimitTooSmall, TargetFault, WrongCounty, MissingGroup, StrayGroup, LightGroup, BoundOver, BoundLength, NotStuck, SeatsOpen, BoundWithoutTarget, NoLeaf}
+use Rattle.line_verdicts.specs.declared.fault.CheckFault.{CheckFault}
+use Rattle.line_verdicts.specs.declared.fault.CheckFault.TheVariants.{Text, WrongWindow, WrongOrder, LimitTooSmall, TargetFault, WrongCounty, MissingGroup, StrayGroup, LightGroup, BoundOver, BoundLength, NotStuck, SeatsOpen, BoundWithoutTarget, NoLeaf}
 
 -- the fault of a certificate whose text can be read; a fault of the text is none
 abbrev pub fault_of : CheckFault → Option Fault
@@ -22,3 +22,7 @@ fault_of NotStuck = Some fault.NotStuck
 fault_of SeatsOpen = Some fault.SeatsOpen
 fault_of BoundWithoutTarget = Some fault.BoundWithoutTarget
 fault_of NoLeaf = Some fault.NoLeaf
+
+-- the property holds of the fault of a certificate that the value names
+abbrev pub NamesFault : CheckFault → (Fault → Type 0) → Type 0
+NamesFault fault IsFault = (named : Fault) × (fault_of fault ≡ Some named) × IsFault named
