@@ -1,5 +1,6 @@
 -- What lines say of a block, line by line.
 use Rattle.std.proofs.Common.{◌≡◌, ℕ, zero, suc, ◌+◌, ◌==◌, nat_le, ◌&&◌, ◌||◌, Bool, true, false, List, [], ◌∷◌, Option, Some, None, refl, sym, ap, ◌∙◌, arith, if◌then◌else◌}
+use Rattle.std.proofs.Math.Bool.{or-false}
 use Rattle.std.proofs.lemmas.Bool.Decides.{nat_tests}
 use Rattle.grouping_laws.specs.Sets.{digit}
 use Rattle.assignment_file.specs.Labels.{assigns}
@@ -17,10 +18,6 @@ after_lines code before (line ∷ lines) = after_lines code (after_line code bef
 or_twice : (a b c : Bool) → (a || (b || c)) ≡ ((a || b) || c)
 or_twice true b c = refl
 or_twice false b c = refl
-
-or_false : (a : Bool) → a ≡ (a || false)
-or_false true = refl
-or_false false = refl
 
 -- one more time
 once_more : (times : ℕ) (assigned : Bool) (label : List ℕ) → (times ≡ 0 → assigned ≡ false)
@@ -53,7 +50,7 @@ module _ (code : ℕ) where
   said : (lines : List Assignment) → Said lines
   said [] times assigned fresh =
       let same : times ≡ times + 0 = omega arith in
-      ap (λ (n : ℕ). named_times n assigned) same ∙ ap (λ (b : Bool). named_times (times + 0) b) (or_false assigned)
+      ap (λ (n : ℕ). named_times n assigned) same ∙ ap (λ (b : Bool). named_times (times + 0) b) (sym (or-false assigned))
   said (line ∷ lines) times assigned fresh = said_by line lines (said lines) times assigned fresh (line.block == code)
 
 pub said_of : (code : ℕ) (lines : List Assignment) → after_lines code None lines ≡ naming lines code

@@ -1,5 +1,6 @@
 -- What the judging of a state rests on.
-use Rattle.std.proofs.Common.{◌≡◌, ℕ, ◌+◌, ◌≤◌, ◌<◌, Bool, true, false, List, [], ◌∷◌, length, map, refl, sym, ap, ◌∙◌, subst, arith, All, Contains, inl, inr}
+use Rattle.std.proofs.Common.{◌≡◌, ℕ, ◌+◌, ◌≤◌, ◌<◌, Bool, true, false, List, [], ◌∷◌, length, map, refl, sym, ap, ◌∙◌, subst, arith, All, Contains, inl}
+use Rattle.grouping_laws.proofs.PlaceCodes.{mapped_has}
 use Rattle.std.proofs.lemmas.Bool.{false≢true}
 use Rattle.grouping_laws.specs.GroupsFrom.{IsOrder, place}
 use Rattle.grouping_laws.proofs.Elements.{Has, has_all, has_from_contains, contains_from_has}
@@ -18,13 +19,8 @@ use Rattle.branch_bound.specs.declared.ground.Ground.{Ground}
 use Rattle.branch_bound.specs.declared.position.Position.{Position}
 
 -- an element of a list, mapped
-has_mapped : {X Y : Type 0} (f : X → Y) (xs : List X) (x : X) → Has xs x → Has (map f xs) (f x)
-has_mapped f [] x h = h
-has_mapped f (y ∷ xs) x (inl e) = inl (ap f e)
-has_mapped f (y ∷ xs) x (inr h) = inr (has_mapped f xs x h)
-
 contains_mapped : {X Y : Type 0} (f : X → Y) (xs : List X) (x : X) → Contains xs x → Contains (map f xs) (f x)
-contains_mapped f xs x h = contains_from_has (map f xs) (f x) (has_mapped f xs x (has_from_contains xs x h))
+contains_mapped f xs x h = contains_from_has (map f xs) (f x) (mapped_has f xs x (has_from_contains xs x h))
 
 -- a list that is not empty has an element
 some_element : {X : Type 0} (xs : List X) → 1 ≤ length xs → (x : X) × Has xs x
@@ -39,7 +35,7 @@ module _ (C : Type 0) (test : C → ℕ → Bool) (places : ℕ) (g : Ground C) 
   known_candidate : (set : C) → Has at.groups.items set → IsCandidate (problem_in g) (round_in g) s at.size (codes_of_set g.ordered.now.order test set)
   known_candidate set has =
       is.known.each (codes_of_set g.ordered.now.order test set)
-      (contains_from_has (sets at.groups.items) (codes_of_set g.ordered.now.order test set) (has_mapped (codes_of_set g.ordered.now.order test) at.groups.items set has))
+      (contains_from_has (sets at.groups.items) (codes_of_set g.ordered.now.order test set) (mapped_has (codes_of_set g.ordered.now.order test) at.groups.items set has))
 
   pub none_at : at.groups.items ≡ [] → (group : List ℕ) → Fits g.round.now.language (problem_in g) s group → length group ≤ at.size → ⊥
   none_at empty group fits small =

@@ -1,5 +1,6 @@
 -- What the search keeps and comes to.
-use Rattle.std.proofs.Common.{◌≡◌, ℕ, ◌+◌, ◌≤◌, ◌<◌, Bool, List, [], ◌∷◌, ◌++◌, length, map, take, get_or, Vec, Global, refl, sym, ap, ◌∙◌, subst, arith, Option, inl, inr}
+use Rattle.std.proofs.Common.{◌≡◌, ℕ, ◌+◌, ◌≤◌, ◌<◌, Bool, List, [], ◌∷◌, ◌++◌, length, map, take, get_or, Vec, Global, refl, sym, ap, ◌∙◌, subst, arith, Option}
+use Rattle.grouping_laws.proofs.PlaceCodes.{mapped_has}
 use Rattle.std.specs.List.{AllByRecursion}
 use Rattle.std.proofs.lemmas.List.{map-append, take_more}
 use Rattle.grouping_laws.specs.Problem.{Problem}
@@ -73,16 +74,11 @@ better_as p round first s g agrees better = record {
 pub listed : {C : Type 0} (groups : List C) (i : ℕ) (item : C) → i < length groups → item ≡ get_or groups i item → Has groups item
 listed groups i item l e = subst (Has groups) (sym e) (has_get groups i item l)
 
-has_mapped : {X Y : Type 0} (f : X → Y) (xs : List X) (x : X) → Has xs x → Has (map f xs) (f x)
-has_mapped f [] x h = h
-has_mapped f (y ∷ xs) x (inl e) = inl (ap f e)
-has_mapped f (y ∷ xs) x (inr h) = inr (has_mapped f xs x h)
-
 module _ (C : Type 0) (test : C → ℕ → Bool) (order : List ℕ) (p : Problem) (round : Round) (s : State) (groups : List C) where
   -- each of the groups of a branch is one
   pub group_there : (c limit i : ℕ) (item : C) → AreGroupsAt p round s c limit (codes_of_sets order test groups) → i < length groups → item ≡ get_or groups i item → IsGroupAt p round s c limit (codes_of_set order test item)
   group_there c limit i item are l e =
-      ((are.each (codes_of_set order test item)).0 (contains_from_has (codes_of_sets order test groups) (codes_of_set order test item) (has_mapped (codes_of_set order test) groups item (listed groups i item l e))))
+      ((are.each (codes_of_set order test item)).0 (contains_from_has (codes_of_sets order test groups) (codes_of_set order test item) (mapped_has (codes_of_set order test) groups item (listed groups i item l e))))
 
   -- one take more
   pub takes_more : (i : ℕ) (item : C) (ts news : List Take) (t : Take) → i < length groups → item ≡ get_or groups i item → news ≡ ts ++ t ∷ [] → IsTakeOf p round s (codes_of_set order test item) t → AreTakesOf p round s (codes_of_sets order test (take i groups)) ts

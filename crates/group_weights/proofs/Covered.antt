@@ -1,5 +1,6 @@
 -- The places of the groups of a list, together.
 use Rattle.std.proofs.Common.{◌≡◌, ℕ, ◌+◌, ◌<◌, Bool, true, false, ◌||◌, List, [], ◌∷◌, ◌++◌, length, take, get_or, subst, inl, inr, ⊎_elim, refl, sym, ap, ◌∙◌, All, Contains, Option, Some, None, MatchOption}
+use Rattle.std.proofs.Math.Bool.{or-false}
 use Rattle.std.specs.List.{list_any}
 use Rattle.std.proofs.lemmas.Bool.{false≢true, or_cases, or_parts}
 use Rattle.std.proofs.lemmas.List.{take_more}
@@ -44,12 +45,8 @@ pub covers_more : (C : Type 0) (test : C → ℕ → Bool) (groups : List C) (i 
     → (x : ℕ) → new x ≡ list_any (λ g. test g x) (take (i + 1) groups)
 covers_more C test groups i group old new below at so_far more x =
     let q = λ (g : C). test g x in
-    let last : test group x ≡ list_any q (get_or groups i group ∷ []) = ap q at ∙ sym (or_false (q (get_or groups i group))) in
+    let last : test group x ≡ list_any q (get_or groups i group ∷ []) = ap q at ∙ sym (or-false (q (get_or groups i group))) in
     more x ∙ (ap (λ z. z || test group x) (so_far x) ∙ (ap (λ z. list_any q (take i groups) || z) last ∙ (sym (list_any-append q (take i groups) (get_or groups i group ∷ [])) ∙ ap (list_any q) (sym (take_more groups i group below)))))
-  where
-    or_false : (b : Bool) → (b || false) ≡ b
-    or_false true = refl
-    or_false false = refl
 
 -- one more weight
 pub one_more : (P : ℕ → Type 0) (xs : List ℕ) (x : ℕ) → All P xs → P x → All P (xs ++ x ∷ [])
