@@ -1,5 +1,5 @@
 -- What the judging of a state rests on.
-use Rattle.std.proofs.Common.{◌≡◌, ℕ, ◌+◌, ◌≤◌, ◌<◌, Bool, true, false, List, [], ◌∷◌, length, map, refl, sym, ap, ◌∙◌, subst, arith, All, Contains, inl}
+use Rattle.std.proofs.Common.{◌≡◌, ℕ, ◌+◌, ◌≤◌, ◌<◌, Bool, true, false, List, [], ◌∷◌, length, map, Vec, Global, refl, sym, ap, ◌∙◌, subst, arith, All, Contains, inl, inr}
 use Rattle.grouping_laws.proofs.PlaceCodes.{mapped_has}
 use Rattle.std.proofs.lemmas.Bool.{false≢true}
 use Rattle.grouping_laws.specs.GroupsFrom.{IsOrder, place}
@@ -11,9 +11,10 @@ use Rattle.proof_trees.specs.State.{State}
 use Rattle.proof_trees.specs.Fitting.{Fits, IsLive}
 use Rattle.proof_trees.specs.Groups.{AreGroupsOf}
 use Rattle.line_verdicts.specs.Placed.{codes_of_set, codes_of_sets, IsPlaced}
-use Rattle.known_groups.specs.Known.{IsKnown, IsCandidate, AreThose}
-use Rattle.known_groups.proofs.KnownGroups.{known_serves, none_left}
+use Rattle.known_groups.specs.Known.{IsKnown, IsCandidate, AreCandidates, AreThose}
+use Rattle.known_groups.proofs.KnownGroups.{known_serves, none_left, candidates_fit, candidates_listed}
 use Rattle.known_groups.proofs.KeptSteps.{code_in, place_in}
+use Rattle.known_groups.proofs.PartSteps.{none_held}
 use Rattle.branch_bound.specs.Searching.{problem_in, round_in, state_in, IsGround, IsAt, IsChoice}
 use Rattle.branch_bound.specs.declared.ground.Ground.{Ground}
 use Rattle.branch_bound.specs.declared.position.Position.{Position}
@@ -42,8 +43,9 @@ module _ (C : Type 0) (test : C → ℕ → Bool) (places : ℕ) (g : Ground C) 
       none_left (problem_in g) (round_in g) s at.size (subst (IsOrder (problem_in g)) ground.order order) (subst (λ z. IsKnown (problem_in g) (round_in g) s at.size (codes_of_sets g.ordered.now.order test z)) empty is.known) group fits small
 
   pub live_at : (next : Position C) → next.state ≡ at.state → next.size ≡ at.size → AreBelow (length g.ordered.now.order) test next.groups.items
-      → AreThose g.ordered.now.order (IsLive (problem_in g) (state_in g test at.state)) (codes_of_sets g.ordered.now.order test at.groups.items) (codes_of_sets g.ordered.now.order test next.groups.items) → IsAt test g s next
-  live_at next same size below those = record {
+      → AreThose g.ordered.now.order (IsLive (problem_in g) (state_in g test at.state)) (codes_of_sets g.ordered.now.order test at.groups.items) (codes_of_sets g.ordered.now.order test next.groups.items)
+      → next.has_larger ≡ at.has_larger → next.larger ≡ at.larger → IsAt test g s next
+  live_at next same size below those has kept = record {
     placed = subst (λ z. IsPlaced (length g.ordered.now.order) test z) (sym same) is.placed;
     is = ap (state_in g test) same ∙ is.is;
     state = is.state;
@@ -53,11 +55,14 @@ module _ (C : Type 0) (test : C → ℕ → Bool) (places : ℕ) (g : Ground C) 
         (known_serves.live (problem_in g) (round_in g) s at.size (sets at.groups.items) (sets next.groups.items) ground.wide is.known
         (subst (λ z. AreThose g.round.now.order (IsLive (problem_in g) z) (sets at.groups.items) (sets next.groups.items)) is.is
         (subst (λ o. AreThose o (IsLive (problem_in g) (state_in g test at.state)) (sets at.groups.items) (sets next.groups.items)) ground.order those))).1;
+    larger_below = subst (λ (z : Vec C Global). AreBelow (length g.ordered.now.order) test z.items) (sym kept) is.larger_below;
+    larger = λ e. subst (λ (z : Vec C Global). AreCandidates (problem_in g) (round_in g) s (next.size + 1) (sets z.items)) (sym kept)
+        (subst (λ n. AreCandidates (problem_in g) (round_in g) s (n + 1) (sets at.larger.items)) (sym size) (is.larger (sym has ∙ e)));
   }
 
   pub sized_at : (next : Position C) → at.groups.items ≡ [] → next.state ≡ at.state → next.size ≡ at.size + 1 → at.size < g.round.now.limit → AreBelow (length g.ordered.now.order) test next.groups.items
-      → AreGroupsOf (problem_in g) (round_in g) s (at.size + 1) (codes_of_sets g.ordered.now.order test next.groups.items) → IsAt test g s next
-  sized_at next empty same size less below groups = record {
+      → AreGroupsOf (problem_in g) (round_in g) s (at.size + 1) (codes_of_sets g.ordered.now.order test next.groups.items) → next.has_larger ≡ false → next.larger.items ≡ [] → IsAt test g s next
+  sized_at next empty same size less below groups has none = record {
     placed = subst (λ z. IsPlaced (length g.ordered.now.order) test z) (sym same) is.placed;
     is = ap (state_in g test) same ∙ is.is;
     state = is.state;
@@ -66,6 +71,45 @@ module _ (C : Type 0) (test : C → ℕ → Bool) (places : ℕ) (g : Ground C) 
     known = subst (λ n. IsKnown (problem_in g) (round_in g) s n (sets next.groups.items)) (sym size)
         (known_serves.next (problem_in g) (round_in g) s at.size (sets next.groups.items) (subst (IsOrder (problem_in g)) ground.order order)
         (subst (λ z. IsKnown (problem_in g) (round_in g) s at.size (codes_of_sets g.ordered.now.order test z)) empty is.known) groups);
+    larger_below = subst (AreBelow (length g.ordered.now.order) test) (sym none) (none_held (λ set. (x : ℕ) → test set x ≡ true → x < length g.ordered.now.order));
+    larger = λ e. absurd (false≢true (sym has ∙ e));
+  }
+
+  -- the live ones of the candidates of one county more are the groups that fit
+  pub larger_fit : (those : List (List ℕ)) → at.has_larger ≡ true
+      → AreThose g.ordered.now.order (IsLive (problem_in g) (state_in g test at.state)) (codes_of_sets g.ordered.now.order test at.larger.items) those → AreGroupsOf (problem_in g) (round_in g) s (at.size + 1) those
+  larger_fit those has lives =
+      candidates_fit (problem_in g) (round_in g) s (at.size + 1) (sets at.larger.items) those ground.wide (is.larger has)
+      (subst (λ z. AreThose g.round.now.order (IsLive (problem_in g) z) (sets at.larger.items) those) is.is
+      (subst (λ o. AreThose o (IsLive (problem_in g) (state_in g test at.state)) (sets at.larger.items) those) ground.order lives))
+
+  -- a position with other candidates of one county more
+  pub larger_at : (next : Position C) → next.state ≡ at.state → next.size ≡ at.size → next.groups ≡ at.groups → AreBelow (length g.ordered.now.order) test next.larger.items
+      → AreGroupsOf (problem_in g) (round_in g) s (at.size + 1) (codes_of_sets g.ordered.now.order test next.larger.items) → IsAt test g s next
+  larger_at next same size kept below groups = record {
+    placed = subst (λ z. IsPlaced (length g.ordered.now.order) test z) (sym same) is.placed;
+    is = ap (state_in g test) same ∙ is.is;
+    state = is.state;
+    small = omega (arith, size, is.small);
+    below = subst (λ (z : Vec C Global). AreBelow (length g.ordered.now.order) test z.items) (sym kept) is.below;
+    known = subst (λ (z : Vec C Global). IsKnown (problem_in g) (round_in g) s next.size (sets z.items)) (sym kept) (subst (λ n. IsKnown (problem_in g) (round_in g) s n (sets at.groups.items)) (sym size) is.known);
+    larger_below = below;
+    larger = λ e. subst (λ n. AreCandidates (problem_in g) (round_in g) s (n + 1) (sets next.larger.items)) (sym size) (candidates_listed (problem_in g) (round_in g) s (at.size + 1) (sets next.larger.items) groups);
+  }
+
+  -- and a position with the live ones of them
+  pub tested_at : (next : Position C) → next.state ≡ at.state → next.size ≡ at.size → next.groups ≡ at.groups → next.has_larger ≡ at.has_larger → AreBelow (length g.ordered.now.order) test next.larger.items
+      → AreThose g.ordered.now.order (IsLive (problem_in g) (state_in g test at.state)) (codes_of_sets g.ordered.now.order test at.larger.items) (codes_of_sets g.ordered.now.order test next.larger.items) → IsAt test g s next
+  tested_at next same size kept has below lives = record {
+    placed = subst (λ z. IsPlaced (length g.ordered.now.order) test z) (sym same) is.placed;
+    is = ap (state_in g test) same ∙ is.is;
+    state = is.state;
+    small = omega (arith, size, is.small);
+    below = subst (λ (z : Vec C Global). AreBelow (length g.ordered.now.order) test z.items) (sym kept) is.below;
+    known = subst (λ (z : Vec C Global). IsKnown (problem_in g) (round_in g) s next.size (sets z.items)) (sym kept) (subst (λ n. IsKnown (problem_in g) (round_in g) s n (sets at.groups.items)) (sym size) is.known);
+    larger_below = below;
+    larger = λ e. subst (λ n. AreCandidates (problem_in g) (round_in g) s (n + 1) (sets next.larger.items)) (sym size)
+        (candidates_listed (problem_in g) (round_in g) s (at.size + 1) (sets next.larger.items) (larger_fit (sets next.larger.items) (sym has ∙ e) lives));
   }
 
   -- groups that are known have a county at least

@@ -1,5 +1,5 @@
 -- The positions of a search: what is known at one goes with it.
-use Rattle.std.proofs.Common.{◌≡◌, ℕ, ◌<◌, ◌≤◌, Bool, true, List, length, refl, sym, ap, ◌∙◌, subst, arith}
+use Rattle.std.proofs.Common.{◌≡◌, ℕ, ◌+◌, ◌<◌, ◌≤◌, Bool, true, List, Vec, Global, length, refl, sym, ap, ◌∙◌, subst, arith}
 use Rattle.grouping_laws.specs.Problem.{IsProblem}
 use Rattle.grouping_laws.specs.GroupsFrom.{IsOrder}
 use Rattle.growing_sets.specs.Listing.{AreBelow}
@@ -11,8 +11,8 @@ use Rattle.proof_trees.specs.Proving.{CanBranch}
 use Rattle.proof_trees.proofs.Branches.{branch_keeps_state}
 use Rattle.proof_trees.proofs.Completion.{open_least}
 use Rattle.line_verdicts.specs.Placed.{codes_of_set, codes_of_sets, IsPlaced, IsClosable}
-use Rattle.known_groups.specs.Known.{IsCandidate, IsKnown, AreThose, IsApart, Lacks, Has}
-use Rattle.known_groups.proofs.KnownGroups.{known_serves}
+use Rattle.known_groups.specs.Known.{IsCandidate, AreCandidates, IsKnown, AreThose, IsApart, Lacks, Has}
+use Rattle.known_groups.proofs.KnownGroups.{known_serves, candidates_closed, candidates_raised}
 use Rattle.known_groups.proofs.Closing.{candidate_closable}
 use Rattle.branch_bound.specs.Searching.{problem_in, round_in, state_in, IsGround, IsAt, IsChoice}
 use Rattle.branch_bound.specs.declared.ground.Ground.{Ground}
@@ -39,8 +39,10 @@ module _ (C : Type 0) (test : C → ℕ → Bool) (places : ℕ) (g : Ground C) 
   pub closed_at : (s : State) (at next : Position C) (c : ℕ) (group : C) → IsProblem (problem_in g) → IsAt test g s at → IsGroupAt (problem_in g) (round_in g) s c at.size (codes_of_set g.ordered.now.order test group)
       → IsPlaced (length g.ordered.now.order) test next.state → state_in g test next.state ≡ close (codes_of_set g.ordered.now.order test group) (state_in g test at.state) → next.size ≡ at.size → AreBelow (length g.ordered.now.order) test next.groups.items
       → AreThose g.ordered.now.order (IsApart (codes_of_set g.ordered.now.order test group)) (codes_of_sets g.ordered.now.order test at.groups.items) (codes_of_sets g.ordered.now.order test next.groups.items)
+      → next.has_larger ≡ at.has_larger → AreBelow (length g.ordered.now.order) test next.larger.items
+      → AreThose g.ordered.now.order (IsApart (codes_of_set g.ordered.now.order test group)) (codes_of_sets g.ordered.now.order test at.larger.items) (codes_of_sets g.ordered.now.order test next.larger.items)
       → IsAt test g (close (codes_of_set g.ordered.now.order test group) s) next
-  closed_at s at next c group problem is fits placed value size below those =
+  closed_at s at next c group problem is fits placed value size below those same larger_below larger_those =
       let codes = codes_of_set g.ordered.now.order test group in
       record {
         placed = placed;
@@ -51,12 +53,16 @@ module _ (C : Type 0) (test : C → ℕ → Bool) (places : ℕ) (g : Ground C) 
         known = subst (λ n. IsKnown (problem_in g) (round_in g) (close codes s) n (sets next.groups.items)) (sym size)
             (known_serves.closed (problem_in g) (round_in g) s at.size codes (sets at.groups.items) (sets next.groups.items) problem is.state fits.fits is.known
             (subst (λ o. AreThose o (IsApart codes) (sets at.groups.items) (sets next.groups.items)) ground.order those));
+        larger_below = larger_below;
+        larger = λ e. subst (λ n. AreCandidates (problem_in g) (round_in g) (close codes s) (n + 1) (sets next.larger.items)) (sym size)
+            (candidates_closed (problem_in g) (round_in g) s (at.size + 1) codes (sets at.larger.items) (sets next.larger.items) problem is.state fits.fits (is.larger (sym same ∙ e))
+            (subst (λ o. AreThose o (IsApart codes) (sets at.larger.items) (sets next.larger.items)) ground.order larger_those));
       }
 
   pub raised_at : (s : State) (at next : Position C) (c : ℕ) → IsAt test g s at → CanBranch (round_in g) s c at.size → IsPlaced (length g.ordered.now.order) test next.state → state_in g test next.state ≡ raise c at.size (state_in g test at.state) → next.size ≡ at.size
       → AreBelow (length g.ordered.now.order) test next.groups.items → AreThose g.ordered.now.order (Lacks c) (codes_of_sets g.ordered.now.order test at.groups.items) (codes_of_sets g.ordered.now.order test next.groups.items)
-      → IsAt test g (raise c at.size s) next
-  raised_at s at next c is can placed value size below those = record {
+      → next.has_larger ≡ at.has_larger → next.larger ≡ at.larger → IsAt test g (raise c at.size s) next
+  raised_at s at next c is can placed value size below those same kept = record {
     placed = placed;
     is = value ∙ ap (raise c at.size) is.is;
     state = (branch_keeps_state).raised_state (problem_in g) (round_in g) s c at.size is.state can;
@@ -65,6 +71,10 @@ module _ (C : Type 0) (test : C → ℕ → Bool) (places : ℕ) (g : Ground C) 
     known = subst (λ n. IsKnown (problem_in g) (round_in g) (raise c at.size s) n (sets next.groups.items)) (sym size)
         (known_serves.raised (problem_in g) (round_in g) s at.size c (sets at.groups.items) (sets next.groups.items) (omega (arith, open_least s at.size c can.is_open)) is.known
         (subst (λ o. AreThose o (Lacks c) (sets at.groups.items) (sets next.groups.items)) ground.order those));
+    larger_below = subst (λ (z : Vec C Global). AreBelow (length g.ordered.now.order) test z.items) (sym kept) is.larger_below;
+    larger = λ e. subst (λ (z : Vec C Global). AreCandidates (problem_in g) (round_in g) (raise c at.size s) (next.size + 1) (sets z.items)) (sym kept)
+        (subst (λ n. AreCandidates (problem_in g) (round_in g) (raise c at.size s) (n + 1) (sets at.larger.items)) (sym size)
+        (candidates_raised (problem_in g) (round_in g) s at.size c (sets at.larger.items) (omega (arith, open_least s at.size c can.is_open)) (is.larger (sym same ∙ e))));
   }
 
   -- one may branch at a county of a group that is known

@@ -29,7 +29,7 @@ use Rattle.certificate_text.specs.Trees.{leaf_of, tree_of, take_onto, list_of_ta
 use Rattle.certificate_lines.specs.declared.item.Item.TheVariants as item
 use Rattle.line_verdicts.specs.Placed.{state_at, codes_of_sets, IsPlaced}
 use Rattle.certificate_text.specs.TreeItems.{FitsInTree, HasLines, HasTargetLines}
-use Rattle.known_groups.specs.Known.{IsKnown}
+use Rattle.known_groups.specs.Known.{AreCandidates, IsKnown}
 use Rattle.bound_leaves.specs.GivenLeaf.{IsGiven}
 use Rattle.branch_bound.specs.declared.ground.Ground.{Ground}
 use Rattle.branch_bound.specs.declared.position.Position.{Position}
@@ -62,7 +62,8 @@ pub record IsGround {C : Type 0} (places : ℕ) (test : C → ℕ → Bool) (g :
   pub small : g.round.now.limit ≤ most_counties
   pub wide : g.round.now.language ≡ Wide
 
--- A position is at a state of the round, of which the groups of so many counties, at most the limit, are known.
+-- A position is at a state of the round, of which the groups of so many counties, at most the limit, are known, and maybe those of one
+-- county more.
 pub record IsAt {C : Type 0} (test : C → ℕ → Bool) (g : Ground C) (s : State) (at : Position C) : Type 0 where
   pub placed : IsPlaced (length g.ordered.now.order) test at.state
   pub is : state_in g test at.state ≡ s
@@ -70,6 +71,8 @@ pub record IsAt {C : Type 0} (test : C → ℕ → Bool) (g : Ground C) (s : Sta
   pub small : at.size ≤ g.round.now.limit
   pub below : AreBelow (length g.ordered.now.order) test at.groups.items
   pub known : IsKnown (problem_in g) (round_in g) s at.size (codes_of_sets g.ordered.now.order test at.groups.items)
+  pub larger_below : AreBelow (length g.ordered.now.order) test at.larger.items
+  pub larger : at.has_larger ≡ true → AreCandidates (problem_in g) (round_in g) s (at.size + 1) (codes_of_sets g.ordered.now.order test at.larger.items)
 
 -- the groups stand by size and then by places, and the codes of each in the order of places
 pub record IsSorted (order : List ℕ) (g : Grouping) : Type 0 where

@@ -8,6 +8,7 @@ ghost use Rattle.known_groups.specs.PartLists.{AreListsOf};
 ghost use Rattle.branch_bound.specs.Searching.{problem_in, round_in, state_in, IsGround, IsAt, IsEnd, IsNextMove, IsNextSize};
 
 use crate::ground::Ground;
+use crate::larger::{next_groups, with_larger};
 use crate::outcome::{Move, Next};
 use crate::position::Position;
 use bound_leaves::{empty_leaf, room_leaf, wanted_more, weighed_leaf, whole_leaf};
@@ -15,7 +16,7 @@ use certificate_text::Leaf;
 use finished_groupings::finished_grouping;
 use fitting_groups::Stop;
 use group_weights::{county_of_choice, weigh};
-use known_groups::{PartLists, groups_of_size, live_groups};
+use known_groups::{PartLists, live_groups};
 use ordered_counties::Steps;
 use place_sets::CountySet;
 use std::alloc::AllocError;
@@ -59,7 +60,7 @@ fn next_size<C: CountySet>(
     if let Some(leaf) = room_leaf(*alloc, ordered, round, state, *size + 1)? {
         return Ok(Next::Leaf(leaf));
     }
-    match groups_of_size(*alloc, ordered, near, round, state, *size + 1, lists, steps) {
+    match next_groups(ground, position, lists, steps) {
         Ok(groups) => Ok(Next::Groups(groups)),
         Err(stop) => Err(stop),
     }
@@ -161,11 +162,17 @@ fn move_at_sizes<C: CountySet>(
                 position.size += 1;
                 position.groups = groups;
                 position.tested = true;
+                position.larger = Vec::new(ground.alloc);
+                position.has_larger = false;
             }
             Err(stop) => return Err(stop),
         }
     }
     match move_at_groups(ground, position) {
+        Ok(Move::Branch(place, at)) => match with_larger(ground, at, steps) {
+            Ok(at) => Ok(Move::Branch(place, at)),
+            Err(stop) => Err(stop),
+        },
         Ok(next_move) => Ok(next_move),
         Err(refused) => Err(refused.into()),
     }
@@ -193,6 +200,9 @@ fn without_dead<C: CountySet>(
         state,
         size,
         groups,
+        larger,
+        has_larger,
+        larger_tested,
         ..
     } = position;
     match live_groups(
@@ -208,6 +218,9 @@ fn without_dead<C: CountySet>(
             size,
             groups,
             tested: true,
+            larger,
+            has_larger,
+            larger_tested,
         }),
         Err(stop) => Err(stop),
     }

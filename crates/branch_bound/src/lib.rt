@@ -19,6 +19,7 @@
 mod answer;
 mod ground;
 mod judging;
+mod larger;
 mod moves;
 mod outcome;
 mod piece;

@@ -32,6 +32,9 @@ pub(crate) fn first_position<C: CountySet>(ground: &Ground<C>) -> Result<Positio
         size: 0,
         groups: Vec::new(ground.alloc),
         tested: true,
+        larger: Vec::new(ground.alloc),
+        has_larger: false,
+        larger_tested: false,
     })
 }
 
@@ -119,11 +122,15 @@ pub(crate) fn closed_position<C: CountySet>(
     let _problem = ground.ordered.problem();
     let state = closed_state(ground.alloc, ground.ordered, &position.state, group)?;
     let groups = groups_apart(ground.alloc, ground.ordered, &position.groups, group)?;
+    let larger = groups_apart(ground.alloc, ground.ordered, &position.larger, group)?;
     Ok(Position {
         state,
         size: position.size,
         groups,
         tested: false,
+        larger,
+        has_larger: position.has_larger,
+        larger_tested: false,
     })
 }
 
@@ -150,6 +157,9 @@ pub(crate) fn raised_position<C: CountySet>(
         size,
         groups,
         tested,
+        larger,
+        has_larger,
+        larger_tested,
     } = position;
     let groups = groups_lacking(ground.alloc, ground.ordered, &groups, place)?;
     raise_place(ground.ordered, &mut state, place, size);
@@ -158,5 +168,8 @@ pub(crate) fn raised_position<C: CountySet>(
         size,
         groups,
         tested,
+        larger,
+        has_larger,
+        larger_tested,
     })
 }

@@ -83,6 +83,9 @@ fn begun<C: CountySet>(ground: &Ground<C>, state: &State<C>) -> Result<Position<
         size: 0,
         groups: Vec::new(ground.alloc),
         tested: true,
+        larger: Vec::new(ground.alloc),
+        has_larger: false,
+        larger_tested: false,
     })
 }
 

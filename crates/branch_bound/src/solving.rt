@@ -48,7 +48,6 @@ const FIRST_LIMIT: u16 = 2;
 fn limit_after(limit: u16) -> u16 {
     match limit {
         2 => 3,
-        3 => 6,
         _ => u16::MAX,
     }
 }

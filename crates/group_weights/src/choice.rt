@@ -8,7 +8,7 @@ use crate::sets::{covered_by, lightest};
 use place_sets::CountySet;
 use std::alloc::{AllocError, Global};
 
-/// The places of a set, all below `places`, whose weight is at least a third of the quota.
+/// The places of a set, all below `places`, whose weight is at least a sixth of the quota.
 fn heavy_places<C: CountySet>(set: C, places: u16, weights: &[u32], quota: u64) -> C
     requires fits { places ≤ C.PLACES }
     requires count { length weights.now ≡ places }
@@ -16,7 +16,7 @@ fn heavy_places<C: CountySet>(set: C, places: u16, weights: &[u32], quota: u64) 
 {
     let mut heavy = set;
     for place in 0..places {
-        if 3 * u64::from(weights[usize::from(place)]) < quota {
+        if 6 * u64::from(weights[usize::from(place)]) < quota {
             heavy = heavy.without(place);
         }
     }
@@ -48,7 +48,7 @@ fn fewest_groups<C: CountySet>(groups: &[C], set: &C) -> Option<u16>
     Some(best)
 }
 
-/// A county to branch at, by its place: of those whose weight is at least a third of the lightest group's, else of
+/// A county to branch at, by its place: of those whose weight is at least a sixth of the lightest group's, else of
 /// all, one that is in the fewest groups. None where no group has a county.
 ///
 /// # Errors

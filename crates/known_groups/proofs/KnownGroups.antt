@@ -13,9 +13,9 @@ use Rattle.proof_trees.specs.Fitting.{Fits, IsLive, IsKept}
 use Rattle.proof_trees.specs.Groups.{IsGroupOf, AreGroupsOf, AreGroupsAt}
 use Rattle.proof_trees.specs.Proving.{CanBranch, GoesInOrder}
 use Rattle.proof_trees.proofs.Branches.{branch_keeps_state}
-use Rattle.proof_trees.proofs.Completion.{open_rest, open_least}
+use Rattle.proof_trees.proofs.Completion.{open_rest, open_least, is_open}
 use Rattle.proof_trees.proofs.Decided.{fits_alike}
-use Rattle.known_groups.specs.Known.{IsCandidate, IsKnown, AreThose, IsApart, Lacks, Has, KnownServes}
+use Rattle.known_groups.specs.Known.{IsCandidate, AreCandidates, IsKnown, AreThose, IsApart, Lacks, Has, KnownServes}
 
 nothing : {X : Type 0} (x : X) → Contains [] x → ⊥
 nothing x h = has_from_contains [] x h
@@ -159,6 +159,56 @@ takes p round s i c groups those found widely known having lives = record {
 
 can : (p : Problem) (round : Round) (s : State) (i c : ℕ) (g : List ℕ) → round.language ≡ Wide → i ≤ round.limit → IsCandidate p round s i g → member g c ≡ true → CanBranch round s c i
 can p round s i c g widely small is m = record { small = small; is_open = is.inside c m; in_turn = subst (λ l. GoesInOrder l round s c i) (sym widely) tt }
+
+-- candidates of any size serve in the same way, whatever smaller groups fit
+pub candidates_listed : (p : Problem) (round : Round) (s : State) (i : ℕ) (groups : List (List ℕ)) → AreGroupsOf p round s i groups → AreCandidates p round s i groups
+candidates_listed p round s i groups are = record {
+  each = λ g h. let f = (are.each g).0 h in record { lawful = f.fits.lawful; inside = subst (λ n. Inside (open_to s n) g) f.size f.fits.inside; in_order = f.in_order; size = f.size };
+  all = λ g f. (are.each g).1 f;
+  sorted = are.sorted;
+}
+
+-- where a group is closed, the candidates apart from it stay
+pub candidates_closed : (p : Problem) (round : Round) (s : State) (i : ℕ) (k : List ℕ) (groups those : List (List ℕ)) → IsProblem p → IsState p round s → Fits round.language p s k → AreCandidates p round s i groups
+    → AreThose round.order (IsApart k) groups those → AreCandidates p round (close k s) i those
+candidates_closed p round s i k groups those law state fits known are = record {
+  each = λ g h.
+      let r = (are.each g).0 h in
+      let c = known.each g r.0 in
+      record { lawful = c.lawful; inside = λ x m. closed_open s i k x (r.1 x m) ∙ c.inside x m; in_order = c.in_order; size = c.size };
+  all = λ g f.
+      let apart : IsApart k g = λ x m. closed_shut s i k x (subst (λ n. Inside (open_to (close k s) n) g) f.size f.fits.inside x m) in
+      (are.each g).1 (known.all g (record { fits = (branch_keeps_state).closed_narrows p round s k law state fits g f.fits; in_order = f.in_order; size = f.size }), apart);
+  sorted = are.in_turn known.sorted;
+}
+
+-- where a county is raised past a size, all candidates of the next size stay
+pub candidates_raised : (p : Problem) (round : Round) (s : State) (i c : ℕ) (groups : List (List ℕ)) → s.least c ≤ i + 1 → AreCandidates p round s (i + 1) groups → AreCandidates p round (raise c i s) (i + 1) groups
+candidates_raised p round s i c groups low known = record {
+  each = λ g h. let is = known.each g h in record { lawful = is.lawful; inside = λ x m. still x (is.inside x m); in_order = is.in_order; size = is.size };
+  all = λ g f. known.all g (record { fits = (branch_keeps_state).raised_narrows round.language p s c i low g f.fits; in_order = f.in_order; size = f.size });
+  sorted = known.sorted;
+}
+  where
+    least : (b : Bool) (n : ℕ) → n ≤ i + 1 → cond b (i + 1) n ≤ i + 1
+    least true n l = omega arith
+    least false n l = l
+
+    still : (x : ℕ) → open_to s (i + 1) x ≡ true → open_to (raise c i s) (i + 1) x ≡ true
+    still x e = is_open (raise c i s) (i + 1) x (open_rest s (i + 1) x e) (least (x == c) (s.least x) (open_least s (i + 1) x e))
+
+-- in a wide round the live ones are the groups that fit
+pub candidates_fit : (p : Problem) (round : Round) (s : State) (i : ℕ) (groups those : List (List ℕ)) → round.language ≡ Wide → AreCandidates p round s i groups → AreThose round.order (IsLive p s) groups those → AreGroupsOf p round s i those
+candidates_fit p round s i groups those widely known lives = record {
+  each = λ g. (
+    λ h.
+        let r = (lives.each g).0 h in
+        let c = known.each g r.0 in
+        record { fits = record { lawful = c.lawful; inside = subst (λ n. Inside (open_to s n) g) (sym c.size) c.inside; kept = subst (λ l. IsKept l p s g) (sym widely) r.1 }; in_order = c.in_order; size = c.size },
+    λ f. (lives.each g).1 (known.all g f, subst (λ l. IsKept l p s g) widely f.fits.kept),
+  );
+  sorted = lives.in_turn known.sorted;
+}
 
 pub known_serves : KnownServes
 known_serves = record { first = first; next = next; closed = closed; raised = raised; live = live; takes = takes; can = can }

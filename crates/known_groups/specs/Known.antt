@@ -18,6 +18,12 @@ pub record IsCandidate (p : Problem) (round : Round) (s : State) (i : ℕ) (g : 
   pub in_order : filter (member g) round.order ≡ g
   pub size : length g ≡ i
 
+-- these are candidates of i counties, among them all that fit, sorted by lists of places
+pub record AreCandidates (p : Problem) (round : Round) (s : State) (i : ℕ) (groups : List (List ℕ)) : Type 0 where
+  pub each : (g : List ℕ) → Contains groups g → IsCandidate p round s i g
+  pub all : (g : List ℕ) → IsGroupOf p round s i g → Contains groups g
+  pub sorted : AllPairs (IsBefore round.order) groups
+
 -- no group of fewer than i counties fits, and these are candidates of i counties, among them all that fit, sorted by lists of places
 pub record IsKnown (p : Problem) (round : Round) (s : State) (i : ℕ) (groups : List (List ℕ)) : Type 0 where
   pub none_below : (g : List ℕ) → Fits round.language p s g → length g < i → ⊥

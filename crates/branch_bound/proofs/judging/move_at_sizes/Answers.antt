@@ -18,7 +18,7 @@ loop-position-preserved g c =
     let size = c.loop-position.position.size in
     let found = subst (λ z. IsNextSize test ground (state_in ground test c.loop-position.position.state) size z) c.in-Ok-Groups.field-0-is c.in-Ok-Groups.ensures.next in
     record {
-      at = sized_at g.row.C.Denot test g.C.CountySet.PLACES ground c.requires.ground c.places-places.ensures.order (state_in ground test c.args.position.state) c.loop-position.position inv.at _ c.in-Ok-Groups.ensures.none refl refl found.0 found.1 (subst (λ z. AreGroupsOf (problem_in ground) (round_in ground) (state_in ground test z) (size + 1) (codes_of_sets ground.ordered.now.order test c.in-Ok-Groups.groups.items)) inv.state found.2);
+      at = sized_at g.row.C.Denot test g.C.CountySet.PLACES ground c.requires.ground c.places-places.ensures.order (state_in ground test c.args.position.state) c.loop-position.position inv.at _ c.in-Ok-Groups.ensures.none refl refl found.0 found.1 (subst (λ z. AreGroupsOf (problem_in ground) (round_in ground) (state_in ground test z) (size + 1) (codes_of_sets ground.ordered.now.order test c.in-Ok-Groups.groups.items)) inv.state found.2) refl c.new.ensures.items;
       state = inv.state;
       lists = c.next_size.ensures.lists;
       more = omega (arith, inv.more, c.next_size.ensures.more);

@@ -35,7 +35,3 @@ returns-in-Some-2-clause-next g c = (rw c.in-Some-2.is at c.in_ok-leaf-2.ensures
 
 pub returns-in-Ok-clause-next : goal.returns-in-Ok-clause-next
 returns-in-Ok-clause-next g c = (omega (arith, c.requires.at.small, c.if-size-round.false), c.in-Ok.ensures.below, c.in-Ok.ensures.groups)
-
-pub groups_of_size-requires-clause-none : goal.groups_of_size-requires-clause-none
-groups_of_size-requires-clause-none g c = λ group fits small.
-    none_at g.row.C.Denot g.C.CountySet.test g.C.CountySet.PLACES c.args.ground.now c.requires.ground c.places-places.ensures.order (state_in c.args.ground.now g.C.CountySet.test c.args.position.now.state) c.args.position.now c.requires.at c.requires.none group fits (omega (arith, small))

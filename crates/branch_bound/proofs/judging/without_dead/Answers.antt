@@ -12,6 +12,7 @@ returns-in-Ok-clause-at g c =
     let ground = c.args.ground.now in
     let order = ground.ordered.now.order in (
       live_at g.row.C.Denot test g.C.CountySet.PLACES ground c.requires.ground c.places-places.ensures.order (state_in ground test c.args.position.state) c.args.position c.requires.at _ refl refl c.in-Ok.ensures.below
-          (subst (λ z. AreThose order (IsLive (problem_in ground) (state_in ground test c.args.position.state)) (codes_of_sets order test z) (codes_of_sets order test c.in-Ok.groups.items)) c.deref.ensures.value c.in-Ok.ensures.those),
+          (subst (λ z. AreThose order (IsLive (problem_in ground) (state_in ground test c.args.position.state)) (codes_of_sets order test z) (codes_of_sets order test c.in-Ok.groups.items)) c.deref.ensures.value c.in-Ok.ensures.those)
+          refl refl,
       refl,
     )
