@@ -10,7 +10,7 @@ ghost use Rattle.proof_trees.specs.Groups.{AreGroupsOf};
 ghost use Rattle.proof_trees.specs.Leaves.{IsStuck};
 ghost use Rattle.line_verdicts.specs.Placed.{codes_of_sets};
 ghost use Rattle.known_groups.specs.PartLists.{AreListsOf};
-ghost use Rattle.fitting_groups.specs.declared.stop.Stop.{Stop};
+ghost use Rattle.county_regions.specs.declared.stop.Stop.{Stop};
 ghost use Rattle.branch_bound.specs.Searching.{problem_in, round_in, state_in, IsGround, IsAt};
 
 use crate::ground::Ground;
