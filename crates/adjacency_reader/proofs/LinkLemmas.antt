@@ -6,7 +6,7 @@ use Rattle.std.specs.BTreeSet.{BTreeSet, contains}
 use Rattle.std.proofs.lemmas.Bool.{and_parts, and_from, or_left}
 use Rattle.std.proofs.lemmas.Bool.Decides.{Decides-eqb}
 use Rattle.grouping_laws.specs.Sets.{member}
-use Rattle.grouping_problem.specs.ProblemValue.{names_both}
+use Rattle.county_problem.specs.ProblemValue.{names_both}
 use Rattle.adjacency_reader.specs.declared.links.Sign.{Sign}
 use Rattle.adjacency_reader.specs.declared.links.Sign.TheVariants.{Add, Cut}
 use Rattle.adjacency_reader.specs.declared.links.Link.{Link}

@@ -6,7 +6,7 @@ use Rattle.std.proofs.lemmas.Bool.{and_parts, and_from, or_cases}
 use Rattle.std.proofs.lemmas.Bool.Decides.{Decides-eqb, Decides-ltb}
 use Rattle.std.proofs.lemmas.List.Folds.{list_any_at, Any-from_list_any}
 use Rattle.std.proofs.lemmas.Map.Views.{Contains-from_any, any-filter_same}
-use Rattle.grouping_problem.specs.ProblemValue.{names_both}
+use Rattle.county_problem.specs.ProblemValue.{names_both}
 use Rattle.adjacency_reader.specs.Pairs.{by_codes, names}
 use Rattle.adjacency_reader.proofs.PairLemmas.{tied}
 

@@ -2,7 +2,7 @@
 use Rattle.std.specs.Prelude.{◌≡◌, ◌≢◌, ℕ, ◌<◌, ◌&&◌, ◌↔◌, ◌⊎◌, Bool, true, false, List, Option, Some, None, Contains}
 use Rattle.std.specs.List.Sorted.{IsStrictlySortedBy}
 use Rattle.grouping_laws.specs.Sets.{member}
-use Rattle.grouping_problem.specs.ProblemValue.{names_both}
+use Rattle.county_problem.specs.ProblemValue.{names_both}
 use Rattle.adjacency_reader.specs.declared.links.Sign.{Sign}
 use Rattle.adjacency_reader.specs.declared.links.Sign.TheVariants.{Add, Cut}
 use Rattle.adjacency_reader.specs.declared.links.Link.{Link}
@@ -26,7 +26,8 @@ pub record Adjacent (listed : List ℕ) (rows : List (ℕ × ℕ)) (links : List
 -- the pairs after the links: the lesser code first, ascending, each once
 pub record AreLinked (pairs : List (ℕ × ℕ)) (links : List Link) (linked : List (ℕ × ℕ)) : Type 0 where
   pub ascending : IsStrictlySortedBy by_codes linked
-  pub each : (a b : ℕ) → Contains linked (a, b) ↔ ((a < b) × (joined_by (last_sign links a b) (names_both pairs a b) ≡ true))
+  pub each : (a b : ℕ) → Contains linked (a, b)
+      ↔ ((a < b) × (joined_by (last_sign links a b) (names_both pairs a b) ≡ true))
 
 -- two counties of which one isn't listed are added by the last link on them
 abbrev pub IsStrangeLink : List ℕ → List Link → ℕ → ℕ → Type 0
@@ -34,4 +35,5 @@ IsStrangeLink listed links a b = ((member listed a && member listed b) ≡ false
 
 -- the pairs are those that are adjacent, and beside them those of links that name a county outside the list
 abbrev pub AreAdjacent : List ℕ → List (ℕ × ℕ) → List Link → List (ℕ × ℕ) → Type 0
-AreAdjacent listed rows links linked = (a b : ℕ) → a < b → Contains linked (a, b) ↔ (Adjacent listed rows links a b ⊎ IsStrangeLink listed links a b)
+AreAdjacent listed rows links linked =
+    (a b : ℕ) → a < b → Contains linked (a, b) ↔ (Adjacent listed rows links a b ⊎ IsStrangeLink listed links a b)

@@ -4,13 +4,13 @@ use Rattle.std.specs.Option.{ok_or, option_or}
 use Rattle.field_lines.specs.Chain.{◌>>=◌}
 use Rattle.field_lines.specs.Fields.{field_of}
 use Rattle.field_lines.specs.Number.{digits_of}
-use Rattle.seat_lines.specs.declared.fault.CodeLineKind.{CodeLineKind}
-use Rattle.seat_lines.specs.declared.fault.CodeLineKind.TheVariants.{TooFewFields, BadSign, BadCode}
-use Rattle.seat_lines.specs.declared.fault.CodeLineFault.{CodeLineFault}
+use Rattle.grouping_reader.specs.declared.fault.CodeLineKind.{CodeLineKind}
+use Rattle.grouping_reader.specs.declared.fault.CodeLineKind.TheVariants.{TooFewFields, BadSign, BadCode}
+use Rattle.grouping_reader.specs.declared.fault.CodeLineFault.{CodeLineFault}
 use Rattle.adjacency_reader.specs.declared.links.Sign.{Sign}
 use Rattle.adjacency_reader.specs.declared.links.Sign.TheVariants.{Add, Cut}
 use Rattle.adjacency_reader.specs.declared.links.Link.{Link}
-use Rattle.seat_lines.specs.Faults.{value_list}
+use Rattle.grouping_reader.specs.Faults.{value_list}
 
 -- the sign that a field is: `+` or `-`
 abbrev pub sign_of : List ℕ → Option Sign

@@ -6,10 +6,10 @@ use Rattle.field_lines.specs.Cut.{Line, cut}
 use Rattle.field_lines.specs.Fields.{field_of}
 use Rattle.field_lines.specs.Number.{digits_of}
 use Rattle.field_lines.specs.Values.{values_of}
-use Rattle.seat_lines.specs.declared.fault.CodeLineKind.{CodeLineKind}
-use Rattle.seat_lines.specs.declared.fault.CodeLineKind.TheVariants.{TooFewFields, BadCode}
-use Rattle.seat_lines.specs.declared.fault.CodeLineFault.{CodeLineFault}
-use Rattle.seat_lines.specs.Faults.{line_fault, cut_fault}
+use Rattle.grouping_reader.specs.declared.fault.CodeLineKind.{CodeLineKind}
+use Rattle.grouping_reader.specs.declared.fault.CodeLineKind.TheVariants.{TooFewFields, BadCode}
+use Rattle.grouping_reader.specs.declared.fault.CodeLineFault.{CodeLineFault}
+use Rattle.grouping_reader.specs.Faults.{code_line_fault, code_line_cut_fault}
 
 -- the county and its neighbour on a line: field 2 and field 4, each of five digits
 unfoldable pub row_on : List ℕ → Result (ℕ × ℕ) CodeLineKind
@@ -31,4 +31,4 @@ without_header (line ∷ lines) = if is_header line.bytes then lines else line �
 
 -- the rows of a whole text in their order, or its first fault
 abbrev pub row_list : List ℕ → Result (List (ℕ × ℕ)) CodeLineFault
-row_list text = values_of row_on line_fault cut_fault (without_header (cut text).lines) (cut text).fault
+row_list text = values_of row_on code_line_fault code_line_cut_fault (without_header (cut text).lines) (cut text).fault

@@ -2,10 +2,10 @@
 use Rattle.std.specs.Prelude.{ℕ, List, Result}
 use Rattle.std.specs.Result.{result_map_both}
 use Rattle.county_codes.specs.declared.withdrawn.Withdrawn.{Withdrawn}
-use Rattle.seat_lines.specs.SeatLine.{seat_line}
-use Rattle.seat_lines.specs.declared.fault.CodeLineKind.{CodeLineKind}
-use Rattle.seat_lines.specs.declared.fault.CodeLineFault.{CodeLineFault}
-use Rattle.seat_lines.specs.Faults.{value_list}
+use Rattle.grouping_reader.specs.SeatLine.{seat_line}
+use Rattle.grouping_reader.specs.declared.fault.CodeLineKind.{CodeLineKind}
+use Rattle.grouping_reader.specs.declared.fault.CodeLineFault.{CodeLineFault}
+use Rattle.grouping_reader.specs.Faults.{value_list}
 
 -- seats and codes, as a withdrawn set
 abbrev pub set_of : ℕ × List ℕ → Withdrawn

@@ -14,7 +14,8 @@ use std::collections::BTreeSet;
 
 /// Cuts the pair of two different codes from the set, where it is there. The same code twice cuts nothing.
 fn cut_pair(pairs: &mut BTreeSet<(CountyCode, CountyCode)>, a: CountyCode, b: CountyCode)
-    ensures { (x y : ℕ) → contains by_codes pairs.new (x, y) ≡ (not (nat_lt x y && names x y (a, b)) && contains by_codes pairs.old (x, y)) }
+    ensures { (x y : ℕ) → contains by_codes pairs.new (x, y) ≡ (not (nat_lt x y && names x y (a, b))
+        && contains by_codes pairs.old (x, y)) }
 {
     if a != b {
         pairs.remove(&in_order(a, b));
@@ -23,7 +24,10 @@ fn cut_pair(pairs: &mut BTreeSet<(CountyCode, CountyCode)>, a: CountyCode, b: Co
 
 /// Adds the pair of a link to the set, or cuts it from the set.
 fn apply(linked: &mut BTreeSet<(CountyCode, CountyCode)>, link: &Link) -> Result<(), AllocError>
-    ensures { OnOk result ((a b : ℕ) → contains by_codes linked.new (a, b) ≡ joined_by (if nat_lt a b && is_on a b link.now then Some link.now.sign else None) (contains by_codes linked.old (a, b))) }
+    ensures { OnOk result ((a b : ℕ)
+        → contains by_codes linked.new (a, b)
+        ≡ joined_by (if nat_lt a b
+        && is_on a b link.now then Some link.now.sign else None) (contains by_codes linked.old (a, b))) }
 {
     match link.sign {
         Sign::Add => add_pair(linked, link.a, link.b),
@@ -50,7 +54,8 @@ pub fn apply_links(
     links: &[Link],
 ) -> Result<Vec<(CountyCode, CountyCode)>, AllocError>
     ensures linked { IfOk result (λ v. AreLinked pairs.now links.now v.items) }
-    ensures adjacent { IfOk result (λ v. (listed : List ℕ) (rows : List (ℕ × ℕ)) → ArePairs listed rows pairs.now → AreAdjacent listed rows links.now v.items) }
+    ensures adjacent { IfOk result (λ v. (listed : List ℕ) (rows : List (ℕ × ℕ)) → ArePairs listed rows pairs.now
+        → AreAdjacent listed rows links.now v.items) }
 {
     let mut linked = pair_set(alloc, pairs)?;
     for link in links {

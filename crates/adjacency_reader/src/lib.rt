@@ -15,7 +15,7 @@ mod rows;
 mod sets;
 
 pub use apply::apply_links;
+pub use grouping_reader::{CodeLineFault, CodeLineKind};
 pub use links::{Link, Sign, read_links};
 pub use pairs::read_pairs;
-pub use seat_lines::{CodeLineFault as AdjacencyFault, CodeLineKind as AdjacencyKind};
 pub use sets::read_withdrawn;

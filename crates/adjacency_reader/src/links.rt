@@ -2,13 +2,13 @@
 
 ghost use Rattle.std.specs.Prelude.{◌≡◌};
 ghost use Rattle.field_lines.specs.Values.{GivesUnless, AddsUnless};
-ghost use Rattle.seat_lines.specs.Faults.{IsMemory};
+ghost use Rattle.grouping_reader.specs.Faults.{IsCodeLineMemory};
 ghost use Rattle.adjacency_reader.specs.Links.{sign_of, link_on, link_list};
-ghost use Rattle.seat_lines.specs.declared.fault.CodeLineKind.TheVariants.{Memory};
+ghost use Rattle.grouping_reader.specs.declared.fault.CodeLineKind.TheVariants.{Memory};
 
 use county_codes::CountyCode;
 use field_lines::{Lines, field_at};
-use seat_lines::{CodeLineFault, CodeLineKind, DELIMITER, code_in};
+use grouping_reader::{CodeLineFault, CodeLineKind, DELIMITER, code_in};
 use std::alloc::Global;
 
 /// What a link does to a pair.
@@ -84,7 +84,7 @@ fn add_link(links: &mut Vec<Link>, line: &[u8]) -> Result<(), CodeLineKind>
 /// then `BadSign`, then `BadCode`. A line that can't be read (`Lower`) answers after the lines before it,
 /// and `Memory` in the place of any answer.
 pub fn read_links(alloc: Global, bytes: &[u8]) -> Result<Vec<Link>, CodeLineFault>
-    ensures value { GivesUnless IsMemory (λ v. v.items) result (link_list bytes.now) }
+    ensures value { GivesUnless IsCodeLineMemory (λ v. v.items) result (link_list bytes.now) }
 {
     let mut links = Vec::new(alloc);
     let mut lines = Lines::new(bytes);

@@ -5,14 +5,14 @@ ghost use Rattle.std.specs.Ordering.{nat_cmp};
 ghost use Rattle.std.specs.List.Sorted.{IsStrictlySortedBy};
 ghost use Rattle.std.specs.BTreeSet.{contains};
 ghost use Rattle.grouping_laws.specs.Sets.{member};
-ghost use Rattle.grouping_problem.specs.ProblemValue.{names_both};
+ghost use Rattle.county_problem.specs.ProblemValue.{names_both};
 ghost use Rattle.field_lines.specs.Values.{AnswersUnless};
-ghost use Rattle.seat_lines.specs.Faults.{IsMemory};
+ghost use Rattle.grouping_reader.specs.Faults.{IsCodeLineMemory};
 ghost use Rattle.adjacency_reader.specs.Pairs.{by_codes, in_order, names, ArePairs, IsPairsAnswer};
 
 use crate::rows::read_rows;
 use county_codes::CountyCode;
-use seat_lines::{CodeLineFault, CodeLineKind};
+use grouping_reader::{CodeLineFault, CodeLineKind};
 use std::alloc::{AllocError, Global};
 use std::collections::BTreeSet;
 
@@ -47,7 +47,8 @@ fn listed_rows(
     listed: &BTreeSet<CountyCode>,
     rows: &[(CountyCode, CountyCode)],
 ) -> Result<Vec<(CountyCode, CountyCode)>, AllocError>
-    ensures { IfOk result (λ v. v.items ≡ filter (λ q. contains nat_cmp listed.now q.0 && contains nat_cmp listed.now q.1) rows.now) }
+    ensures { IfOk result (λ v. v.items
+        ≡ filter (λ q. contains nat_cmp listed.now q.0 && contains nat_cmp listed.now q.1) rows.now) }
 {
     let mut kept = Vec::new(alloc);
     for row in rows {
@@ -64,7 +65,8 @@ pub(crate) fn add_pair(
     a: CountyCode,
     b: CountyCode,
 ) -> Result<(), AllocError>
-    ensures { OnOk result ((x y : ℕ) → contains by_codes pairs.new (x, y) ≡ (nat_lt x y && names x y (a, b) || contains by_codes pairs.old (x, y))) }
+    ensures { OnOk result ((x y : ℕ)
+        → contains by_codes pairs.new (x, y) ≡ (nat_lt x y && names x y (a, b) || contains by_codes pairs.old (x, y))) }
 {
     if a != b {
         pairs.insert(in_order(a, b))?;
@@ -129,7 +131,7 @@ pub fn read_pairs(
     bytes: &[u8],
     counties: &[CountyCode],
 ) -> Result<Vec<(CountyCode, CountyCode)>, CodeLineFault>
-    ensures pairs { AnswersUnless IsMemory (λ v. v.items) result (IsPairsAnswer bytes.now counties.now) }
+    ensures pairs { AnswersUnless IsCodeLineMemory (λ v. v.items) result (IsPairsAnswer bytes.now counties.now) }
 {
     let rows = read_rows(alloc, bytes)?;
     match pairs_among(alloc, counties, &rows) {

@@ -2,13 +2,13 @@
 
 ghost use Rattle.std.specs.Prelude.{◌≡◌};
 ghost use Rattle.field_lines.specs.Values.{GivesUnless, AddsUnless};
-ghost use Rattle.seat_lines.specs.Faults.{IsMemory};
+ghost use Rattle.grouping_reader.specs.Faults.{IsCodeLineMemory};
 ghost use Rattle.adjacency_reader.specs.Rows.{row_on, is_header, row_list};
-ghost use Rattle.seat_lines.specs.declared.fault.CodeLineKind.TheVariants.{Memory};
+ghost use Rattle.grouping_reader.specs.declared.fault.CodeLineKind.TheVariants.{Memory};
 
 use county_codes::CountyCode;
 use field_lines::{Lines, field_at, five_digits};
-use seat_lines::{CodeLineFault, CodeLineKind, DELIMITER, code_in};
+use grouping_reader::{CodeLineFault, CodeLineKind, DELIMITER, code_in};
 use std::alloc::Global;
 
 /// The county and its neighbour on a line.
@@ -52,7 +52,7 @@ pub(crate) fn read_rows(
     alloc: Global,
     bytes: &[u8],
 ) -> Result<Vec<(CountyCode, CountyCode)>, CodeLineFault>
-    ensures { GivesUnless IsMemory (λ v. v.items) result (row_list bytes.now) }
+    ensures { GivesUnless IsCodeLineMemory (λ v. v.items) result (row_list bytes.now) }
 {
     let mut rows = Vec::new(alloc);
     let mut lines = Lines::new(bytes);

@@ -2,13 +2,13 @@
 
 ghost use Rattle.std.specs.Prelude.{◌≡◌};
 ghost use Rattle.field_lines.specs.Values.{GivesUnless, AddsUnless};
-ghost use Rattle.seat_lines.specs.Faults.{IsMemory};
+ghost use Rattle.grouping_reader.specs.Faults.{IsCodeLineMemory};
 ghost use Rattle.adjacency_reader.specs.Withdrawn.{set_on, withdrawn_list};
-ghost use Rattle.seat_lines.specs.declared.fault.CodeLineKind.TheVariants.{Memory};
+ghost use Rattle.grouping_reader.specs.declared.fault.CodeLineKind.TheVariants.{Memory};
 
 use county_codes::Withdrawn;
 use field_lines::Lines;
-use seat_lines::{CodeLineFault, CodeLineKind, seats_and_codes};
+use grouping_reader::{CodeLineFault, CodeLineKind, seats_and_codes};
 use std::alloc::Global;
 
 /// The least number of seats of a withdrawn set.
@@ -47,7 +47,7 @@ fn add_set(alloc: Global, sets: &mut Vec<Withdrawn>, line: &[u8]) -> Result<(), 
 /// then `BadSeats`, then `BadCode`. A line that can't be read (`Lower`) answers after the lines before it,
 /// and `Memory` in the place of any answer.
 pub fn read_withdrawn(alloc: Global, bytes: &[u8]) -> Result<Vec<Withdrawn>, CodeLineFault>
-    ensures value { GivesUnless IsMemory (λ v. v.items) result (withdrawn_list bytes.now) }
+    ensures value { GivesUnless IsCodeLineMemory (λ v. v.items) result (withdrawn_list bytes.now) }
 {
     let mut sets = Vec::new(alloc);
     let mut lines = Lines::new(bytes);

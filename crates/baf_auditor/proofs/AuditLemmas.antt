@@ -15,14 +15,14 @@ use Rattle.std.proofs.lemmas.Map.Keys.{IsDistinct-from_sorted}
 use Rattle.county_codes.specs.declared.withdrawn.Withdrawn as county
 use Rattle.grouping_laws.specs.Problem.{Suits}
 use Rattle.grouping_laws.specs.Grouping.{Grouping}
-use Rattle.grouping_problem.specs.ProblemValue.{ProblemValue, problem_of}
+use Rattle.county_problem.specs.ProblemValue.{ProblemValue, problem_of}
 use Rattle.pl94_counties.specs.declared.blocks.Block.{Block}
 use Rattle.pl94_counties.proofs.TraceLemmas.{contains_head, contains_nil}
-use Rattle.assignment_file.specs.declared.assignments.Assignment.{Assignment}
-use Rattle.baf_auditor.specs.Findings.{DrawnSet, Plan, groups_from, withdrawn_from, drawn_sets, EachOnce, HasBlockIn, HasPeople, IsUnknown, IsTwice, IsUnassigned, IsCrossing, IsWrongNumber, IsWrongSize, IsFinding, IsLesser, set_key, key_of, AreAll, AreCodes, AreFindings, plan_of}
+use Rattle.baf_auditor.specs.declared.assignments.Assignment.{Assignment}
+use Rattle.baf_auditor.specs.Findings.{DrawnSet, Plan, groups_from, withdrawn_from, drawn_sets, EachOnce, HasBlockIn, HasPeople, IsUnknown, IsTwice, IsUnassigned, IsCrossing, IsWrongNumber, IsWrongSize, IsFinding, IsLesserKey, set_key, key_of, AreAll, AreCodesWith, AreFindings, plan_of}
 use Rattle.baf_auditor.specs.Listing.{listing}
 use Rattle.baf_auditor.specs.Giving.{by_label, giving}
-use Rattle.baf_auditor.specs.Districts.{Given, district_people, size_finding, name_at, crossings, districts_at, numbers_from}
+use Rattle.baf_auditor.specs.Districts.{GivenBlock, district_people, size_finding, name_at, crossings, districts_at, numbers_from}
 use Rattle.baf_auditor.specs.Kinds.{code_finding, AreOfDistricts, IsClean}
 use Rattle.baf_auditor.specs.declared.codes.CodeKind.TheVariants as kinds
 use Rattle.baf_auditor.specs.declared.finding.Set.{Set}
@@ -122,13 +122,13 @@ label_tied x y tied = label_same x y (texts_ties x y ∙ tied)
 module _ (problem : ProblemValue) (gs : Grouping) (blocks : List Block) (lines : List Assignment)
     (blocks_sorted : IsStrictlySortedBy nat_cmp (map (λ b. b.code) blocks)) (listed : ℕ → Option ℕ)
     (listing_is : (code : ℕ) → listed code ≡ listing (drawn_sets problem gs) blocks code)
-    (given : List Given) (given_sorted : IsStrictlySortedBy by_label (map (λ e. e.0) given))
+    (given : List GivenBlock) (given_sorted : IsStrictlySortedBy by_label (map (λ e. e.0) given))
     (giving_is : (key : List ℕ × ℕ) → lookup (is_at (by_label key)) given ≡ giving listed lines key) where
   abbrev plan : Plan
   plan = record { drawn = drawn_sets problem gs; blocks = blocks; lines = lines }
 
   -- the codes of listed blocks
-  pub given_fit : All (λ b. b.code < 1000000000000000) blocks → (k : List ℕ × ℕ) (e : Given) → Contains given e → e.0 ≡ k → k.1 < 1000000000000000
+  pub given_fit : All (λ b. b.code < 1000000000000000) blocks → (k : List ℕ × ℕ) (e : GivenBlock) → Contains given e → e.0 ≡ k → k.1 < 1000000000000000
   given_fit fits k e h same =
       let b = is_listed plan blocks_sorted listed listing_is given given_sorted giving_is e h in
       let small : b.0.code < 1000000000000000 = All-contains (λ (x : Block). x.code < 1000000000000000) blocks b.0 fits b.1.1.0 in
@@ -172,8 +172,8 @@ module _ (problem : ProblemValue) (gs : Grouping) (blocks : List Block) (lines :
         let b = stands_to plan blocks_sorted listed listing_is given given_sorted giving_is ds.found ds.found_sorted ds.standing_is label is.other is.in_other in
         let first : name_at (length gs) a.0 ≡ s = sym (names a.0 is.one a.1) ∙ is.one_is in
         let second : name_at (length gs) b.0 ≡ t = sym (names b.0 is.other b.1) ∙ is.other_is in
-        let lesser : IsLesser (set_key (name_at (length gs) a.0)) (set_key (name_at (length gs) b.0)) =
-        subst (λ (x : Set). IsLesser (set_key x) (set_key (name_at (length gs) b.0))) (sym first) (subst (λ (x : Set). IsLesser (set_key s) (set_key x)) (sym second) is.before) in
+        let lesser : IsLesserKey (set_key (name_at (length gs) a.0)) (set_key (name_at (length gs) b.0)) =
+        subst (λ (x : Set). IsLesserKey (set_key x) (set_key (name_at (length gs) b.0))) (sym first) (subst (λ (x : Set). IsLesserKey (set_key s) (set_key x)) (sym second) is.before) in
         let pair = crossings_to (length gs) keys (label, a.0) (label, b.0) ds.found_sorted a.2 b.2 refl (before_place (length gs) a.0 b.0 lesser) in
         subst (λ (x : Set). Contains (crossings (length gs) keys) (findings.Crosses label s x)) second
         (subst (λ (x : Set). Contains (crossings (length gs) keys) (findings.Crosses label x (name_at (length gs) b.0))) first pair)
@@ -262,7 +262,7 @@ module _ (problem : ProblemValue) (gs : Grouping) (blocks : List Block) (lines :
           from_kind = λ f h. (let e = size_kind f h in omega (arith, e));
         })))
 
-    module _ (unknown twice unassigned : List ℕ) (unknown_are : AreCodes (IsUnknown plan) unknown) (twice_are : AreCodes (IsTwice plan) twice) (unassigned_are : AreCodes (IsUnassigned plan) unassigned) where
+    module _ (unknown twice unassigned : List ℕ) (unknown_are : AreCodesWith (IsUnknown plan) unknown) (twice_are : AreCodesWith (IsTwice plan) twice) (unassigned_are : AreCodesWith (IsUnassigned plan) unassigned) where
       abbrev us : List Finding
       us = map (code_finding kinds.Unknown) unknown
 

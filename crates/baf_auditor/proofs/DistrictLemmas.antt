@@ -11,14 +11,14 @@ use Rattle.std.specs.Str.{bytes_eq}
 use Rattle.std.proofs.lemmas.Map.Views.{Contains-from_lookup, lookup-from_Contains}
 use Rattle.std.proofs.lemmas.Map.Keys.{IsDistinct-from_sorted}
 use Rattle.grouping_laws.specs.Sets.{digit, total, member}
-use Rattle.place_lists.proofs.Sums.{total_ones, total_same}
+use Rattle.place_laws.proofs.Sums.{total_ones, total_same}
 use Rattle.pl94_counties.specs.declared.blocks.Block.{Block}
 use Rattle.pl94_counties.proofs.TraceLemmas.{contains_head, contains_tail, contains_nil, contains_cases}
-use Rattle.assignment_file.specs.Labels.{assigns}
-use Rattle.baf_auditor.specs.Findings.{DrawnSet, Plan, county_of, set_of, IsListed, IsGiven, HasBlockIn, IsDistrict, EachOnce, HasDistricts, HasPeople}
+use Rattle.baf_auditor.specs.Labels.{assigns}
+use Rattle.baf_auditor.specs.Findings.{DrawnSet, Plan, county_of_block, set_of_county, IsListedBlock, IsGivenTo, HasBlockIn, IsDistrict, EachOnce, HasDistricts, HasPeople}
 use Rattle.baf_auditor.specs.Listing.{place_of, listing}
 use Rattle.baf_auditor.specs.Giving.{by_label, gives, giving}
-use Rattle.baf_auditor.specs.Districts.{Given, people_after, district_people, is_place, shows, after_shown, stands_after, standing, districts_at}
+use Rattle.baf_auditor.specs.Districts.{GivenBlock, people_after, district_people, is_place, shows, after_shown, stands_after, standing, districts_at}
 use Rattle.baf_auditor.proofs.KindLemmas.{FoundListed, found_listed, listed_found, both, same_number, number_same}
 use Rattle.baf_auditor.proofs.GivingLemmas.{tied_key}
 use Rattle.baf_auditor.proofs.ListLemmas.{Apart, pairs_from_apart, once_total, chosen_from, chosen_to, chosen_apart, weight, total_chosen, sorted_apart, any_from, any_to, mapped_from, mapped_to, apart_from_map}
@@ -126,21 +126,21 @@ module _ (drawn : List DrawnSet) where
       by : (◌≡◌ {A = Option (Unit {0})} None (Some tt)) ⊎ Shown given k → k.1 < length drawn
       by (inl e) = absurd cc
       by (inr s) =
-          let parts = both (is_place (place_of drawn (county_of s.0.1)) k.1) (bytes_eq s.0.0 k.0) s.2 in
-          let item = item_found (λ (set : DrawnSet). member set.codes (county_of s.0.1)) drawn 0 k.1 (place_is (place_of drawn (county_of s.0.1)) k.1 parts.0) in
+          let parts = both (is_place (place_of drawn (county_of_block s.0.1)) k.1) (bytes_eq s.0.0 k.0) s.2 in
+          let item = item_found (λ (set : DrawnSet). member set.codes (county_of_block s.0.1)) drawn 0 k.1 (place_is (place_of drawn (county_of_block s.0.1)) k.1 parts.0) in
           omega (arith, item.1, item.3)
 
 -- ---- the districts of a plan, by the listed blocks that lines give to them
 module _ (plan : Plan) (blocks_sorted : IsStrictlySortedBy nat_cmp (map (λ b. b.code) plan.blocks)) (listed : ℕ → Option ℕ)
     (listing_is : (code : ℕ) → listed code ≡ listing plan.drawn plan.blocks code)
-    (given : List Given) (given_sorted : IsStrictlySortedBy by_label (map (λ e. e.0) given))
+    (given : List GivenBlock) (given_sorted : IsStrictlySortedBy by_label (map (λ e. e.0) given))
     (giving_is : (key : List ℕ × ℕ) → lookup (is_at (by_label key)) given ≡ giving listed plan.lines key) where
-  line_gives : (code : ℕ) (label : List ℕ) → IsGiven plan code label → list_any (gives (label, code)) plan.lines ≡ true
+  line_gives : (code : ℕ) (label : List ℕ) → IsGivenTo plan code label → list_any (gives (label, code)) plan.lines ≡ true
   line_gives code label g = any_to (gives (label, code)) plan.lines g.line g.stands
       (both_true (assigns g.line.label) (bytes_eq g.line.label label && g.line.block == code) (ap assigns g.labelled ∙ g.assigned)
       (both_true (bytes_eq g.line.label label) (g.line.block == code) (same_label g.line.label label g.labelled) (number_same g.line.block code g.names)))
 
-  given_line : (code : ℕ) (label : List ℕ) → list_any (gives (label, code)) plan.lines ≡ true → IsGiven plan code label
+  given_line : (code : ℕ) (label : List ℕ) → list_any (gives (label, code)) plan.lines ≡ true → IsGivenTo plan code label
   given_line code label is =
       let l = any_from (gives (label, code)) plan.lines is in
       let one = both (assigns l.0.label) (bytes_eq l.0.label label && l.0.block == code) l.2 in
@@ -149,7 +149,7 @@ module _ (plan : Plan) (blocks_sorted : IsStrictlySortedBy nat_cmp (map (λ b. b
       record { line = l.0; stands = l.1; names = same_number l.0.block code two.1; labelled = same; assigned = sym (ap assigns same) ∙ one.0 }
 
   abbrev FoundGiven : List ℕ → ℕ → ℕ → Type 0
-  FoundGiven label code people = IsGiven plan code label × (listing plan.drawn plan.blocks code ≡ Some people)
+  FoundGiven label code people = IsGivenTo plan code label × (listing plan.drawn plan.blocks code ≡ Some people)
 
   given_from : (label : List ℕ) (code people : ℕ) → Contains given ((label, code), people) → FoundGiven label code people
   given_from label code people h = by (list_any (gives (label, code)) plan.lines) refl (sym (giving_is (label, code)) ∙ entry_to given given_sorted (label, code) people h)
@@ -158,25 +158,25 @@ module _ (plan : Plan) (blocks_sorted : IsStrictlySortedBy nat_cmp (map (λ b. b
       by true is there = (given_line code label is, sym (listing_is code) ∙ there)
       by false is there = cc
 
-  given_to : (block : Block) (label : List ℕ) → IsListed plan block → IsGiven plan block.code label → Contains given ((label, block.code), block.people)
+  given_to : (block : Block) (label : List ℕ) → IsListedBlock plan block → IsGivenTo plan block.code label → Contains given ((label, block.code), block.people)
   given_to block label is g = entry_from given given_sorted (label, block.code) block.people
       (giving_is (label, block.code) ∙ ap (λ (b : Bool). if b then listed block.code else None) (line_gives block.code label g) ∙ listing_is block.code ∙ listed_found plan blocks_sorted block is)
 
   -- each of them is a listed block
-  pub is_listed : (e : Given) → Contains given e → FoundListed plan blocks_sorted e.0.1 e.1
+  pub is_listed : (e : GivenBlock) → Contains given e → FoundListed plan blocks_sorted e.0.1 e.1
   is_listed e h = found_listed plan blocks_sorted e.0.1 e.1 (given_from e.0.0 e.0.1 e.1 h).1
 
   -- ---- the people of a district
-  abbrev block_of_label : List ℕ → Given → Option Block
+  abbrev block_of_label : List ℕ → GivenBlock → Option Block
   block_of_label label e = if bytes_eq e.0.0 label then Some (record { code = e.0.1; people = e.1 }) else None
 
-  abbrev share : List ℕ → Given → ℕ
+  abbrev share : List ℕ → GivenBlock → ℕ
   share label e = weight (λ (b : Block). b.people) (block_of_label label e)
 
   abbrev pub people_sum : List ℕ → ℕ
   people_sum label = total (share label) given
 
-  labelled : (label : List ℕ) (e : Given) (block : Block) → block_of_label label e ≡ Some block → (e.0.0 ≡ label) × (e.0.1 ≡ block.code) × (e.1 ≡ block.people)
+  labelled : (label : List ℕ) (e : GivenBlock) (block : Block) → block_of_label label e ≡ Some block → (e.0.0 ≡ label) × (e.0.1 ≡ block.code) × (e.1 ≡ block.people)
   labelled label e block is = by (bytes_eq e.0.0 label) refl is
     where
       by : (b : Bool) → bytes_eq e.0.0 label ≡ b → (if b then Some (record { code = e.0.1; people = e.1 }) else None) ≡ Some block → (e.0.0 ≡ label) × (e.0.1 ≡ block.code) × (e.1 ≡ block.people)
@@ -192,19 +192,19 @@ module _ (plan : Plan) (blocks_sorted : IsStrictlySortedBy nat_cmp (map (λ b. b
       block_with : ℕ → ℕ → Block
       block_with c p = record { code = c; people = p }
 
-  given_same : (e f : Given) → e.0.0 ≡ f.0.0 → e.0.1 ≡ f.0.1 → e.1 ≡ f.1 → e ≡ f
+  given_same : (e f : GivenBlock) → e.0.0 ≡ f.0.0 → e.0.1 ≡ f.0.1 → e.1 ≡ f.1 → e ≡ f
   given_same e f label code people = ap (λ l. ((l, e.0.1), e.1)) label ∙ ap (λ c. ((f.0.0, c), e.1)) code ∙ ap (λ p. (f.0, p)) people
 
   abbrev IsBlockOf : List ℕ → Block → Type 0
-  IsBlockOf label block = IsListed plan block × IsGiven plan block.code label
+  IsBlockOf label block = IsListedBlock plan block × IsGivenTo plan block.code label
 
   blocks_of_label : (label : List ℕ) → EachOnce (IsBlockOf label) (filter_map (block_of_label label) given)
   blocks_of_label label = record {
-    once = pairs_from_apart (filter_map (block_of_label label) given) (chosen_apart (block_of_label label) alone given (apart_from_map (λ (e : Given). e.0) given (keys_apart given given_sorted)));
+    once = pairs_from_apart (filter_map (block_of_label label) given) (chosen_apart (block_of_label label) alone given (apart_from_map (λ (e : GivenBlock). e.0) given (keys_apart given given_sorted)));
     are = λ block. (from block, to block);
   }
     where
-      alone : (e f : Given) (block : Block) → block_of_label label e ≡ Some block → block_of_label label f ≡ Some block → e ≡ f
+      alone : (e f : GivenBlock) (block : Block) → block_of_label label e ≡ Some block → block_of_label label f ≡ Some block → e ≡ f
       alone e f block one other =
           let a = labelled label e block one in
           let b = labelled label f block other in
@@ -216,9 +216,9 @@ module _ (plan : Plan) (blocks_sorted : IsStrictlySortedBy nat_cmp (map (λ b. b
           let a = labelled label l.0 block l.2 in
           let found = is_listed l.0 l.1 in
           let same : found.0 ≡ block = block_same found.0 block (found.2 ∙ a.1) (found.3 ∙ a.2) in
-          let line : IsGiven plan l.0.0.1 l.0.0.0 = (given_from l.0.0.0 l.0.0.1 l.0.1 l.1).0 in (
-            subst (λ (b : Block). IsListed plan b) same found.1,
-            subst (λ (c : ℕ). IsGiven plan c label) a.1 (subst (λ (t : List ℕ). IsGiven plan l.0.0.1 t) a.0 line),
+          let line : IsGivenTo plan l.0.0.1 l.0.0.0 = (given_from l.0.0.0 l.0.0.1 l.0.1 l.1).0 in (
+            subst (λ (b : Block). IsListedBlock plan b) same found.1,
+            subst (λ (c : ℕ). IsGivenTo plan c label) a.1 (subst (λ (t : List ℕ). IsGivenTo plan l.0.0.1 t) a.0 line),
           )
 
       to : (block : Block) → IsBlockOf label block → Contains (filter_map (block_of_label label) given) block
@@ -234,10 +234,10 @@ module _ (plan : Plan) (blocks_sorted : IsStrictlySortedBy nat_cmp (map (λ b. b
       ∙ total_chosen (block_of_label label) (λ (b : Block). b.people) given
 
   -- ---- the sum of a label, block after block
-  abbrev HasLabel : List Given → List ℕ → Type 0
-  HasLabel es label = (e : Given) × Contains es e × (e.0.0 ≡ label)
+  abbrev HasLabel : List GivenBlock → List ℕ → Type 0
+  HasLabel es label = (e : GivenBlock) × Contains es e × (e.0.0 ≡ label)
 
-  sum_more : (label : List ℕ) (es : List Given) (n : ℕ) → people_after label (Some n) es ≡ Some (n + total (share label) es)
+  sum_more : (label : List ℕ) (es : List GivenBlock) (n : ℕ) → people_after label (Some n) es ≡ Some (n + total (share label) es)
   sum_more label [] n = let e : n ≡ n + 0 = omega arith in ap (λ m. Some m) e
   sum_more label (e ∷ es) n = by (λ m. sum_more label es m) (bytes_eq e.0.0 label)
     where
@@ -245,17 +245,17 @@ module _ (plan : Plan) (blocks_sorted : IsStrictlySortedBy nat_cmp (map (λ b. b
       by later true = later (n + e.1) ∙ (let f : n + e.1 + total (share label) es ≡ n + (e.1 + total (share label) es) = omega arith in ap (λ m. Some m) f)
       by later false = later n ∙ (let f : n + total (share label) es ≡ n + (0 + total (share label) es) = omega arith in ap (λ m. Some m) f)
 
-  abbrev Summed : List Given → List ℕ → Option ℕ → Type 0
+  abbrev Summed : List GivenBlock → List ℕ → Option ℕ → Type 0
   Summed es label None = HasLabel es label → ⊥
   Summed es label (Some n) = HasLabel es label × (n ≡ total (share label) es)
 
-  summed : (label : List ℕ) (es : List Given) → Summed es label (people_after label None es)
+  summed : (label : List ℕ) (es : List GivenBlock) → Summed es label (people_after label None es)
   summed label [] = λ h. contains_nil h.0 h.1
   summed label (e ∷ es) = by (summed label es) (bytes_eq e.0.0 label) refl
     where
       none : (o : Option ℕ) → (e.0.0 ≡ label → ⊥) → share label e ≡ 0 → Summed es label o → Summed (e ∷ es) label o
       none None other nothing later = λ h. elim (contains_cases e es h.0 h.1) as (λ _. ⊥) [
-        | inl same ↦ other (ap (λ (f : Given). f.0.0) same ∙ h.2)
+        | inl same ↦ other (ap (λ (f : GivenBlock). f.0.0) same ∙ h.2)
         | inr k ↦ later (h.0, k, h.2)
       ]
       none (Some n) other nothing later = let l = later.0 in let sum = later.1 in ((l.0, contains_tail e es l.0 l.1, l.2), omega (arith, sum, nothing))
@@ -271,11 +271,11 @@ module _ (plan : Plan) (blocks_sorted : IsStrictlySortedBy nat_cmp (map (λ b. b
           none (people_after label None es) (λ same. let t : bytes_eq e.0.0 label ≡ true = same_label e.0.0 label same in cc) nothing later
 
   -- a district has a label with a block
-  district_from : (e : Given) → Contains given e → IsDistrict plan e.0.0
+  district_from : (e : GivenBlock) → Contains given e → IsDistrict plan e.0.0
   district_from e h =
       let found = is_listed e h in
-      let line : IsGiven plan e.0.1 e.0.0 = (given_from e.0.0 e.0.1 e.1 h).0 in
-      (found.1.0, record { block = found.0; stands = found.1.1; given = subst (λ (c : ℕ). IsGiven plan c e.0.0) (sym found.2) line })
+      let line : IsGivenTo plan e.0.1 e.0.0 = (given_from e.0.0 e.0.1 e.1 h).0 in
+      (found.1.0, record { block = found.0; stands = found.1.1; given = subst (λ (c : ℕ). IsGivenTo plan c e.0.0) (sym found.2) line })
 
   pub district_of_sum : (label : List ℕ) (people : ℕ) → district_people given label ≡ Some people → IsDistrict plan label × (people ≡ people_sum label)
   district_of_sum label people is =
@@ -312,24 +312,24 @@ module _ (plan : Plan) (blocks_sorted : IsStrictlySortedBy nat_cmp (map (λ b. b
         by : (◌≡◌ {A = Option (Unit {0})} None (Some tt)) ⊎ Shown plan.drawn (map (λ e. e.0) given) (label, place) → StandsAt label place
         by (inl e) = absurd cc
         by (inr s) =
-            let parts = both (is_place (place_of plan.drawn (county_of s.0.1)) place) (bytes_eq s.0.0 label) s.2 in
-            let at : place_of plan.drawn (county_of s.0.1) ≡ Some place = place_is plan.drawn (place_of plan.drawn (county_of s.0.1)) place parts.0 in
+            let parts = both (is_place (place_of plan.drawn (county_of_block s.0.1)) place) (bytes_eq s.0.0 label) s.2 in
+            let at : place_of plan.drawn (county_of_block s.0.1) ≡ Some place = place_is plan.drawn (place_of plan.drawn (county_of_block s.0.1)) place parts.0 in
             let same : s.0.0 ≡ label = label_same s.0.0 label parts.1 in
-            let g = mapped_from (λ (e : Given). e.0) given s.0 s.1 in
-            let item = item_found (λ (set : DrawnSet). member set.codes (county_of s.0.1)) plan.drawn 0 place at in
+            let g = mapped_from (λ (e : GivenBlock). e.0) given s.0 s.1 in
+            let item = item_found (λ (set : DrawnSet). member set.codes (county_of_block s.0.1)) plan.drawn 0 place at in
             let where_is : item.0 ≡ place = omega (arith, item.1) in
             let block = is_listed g.0 g.1 in
-            let line : IsGiven plan g.0.0.1 g.0.0.0 = (given_from g.0.0.0 g.0.0.1 g.0.1 g.1).0 in
+            let line : IsGivenTo plan g.0.0.1 g.0.0.0 = (given_from g.0.0.0 g.0.0.1 g.0.1 g.1).0 in
             let code : block.0.code ≡ s.0.1 = block.2 ∙ ap (λ (k : List ℕ × ℕ). k.1) g.2 in
             let set = block.1.0 in
-            let there : set_of plan.drawn (county_of s.0.1) ≡ Some set = ap (λ (c : ℕ). set_of plan.drawn (county_of c)) (sym code) ∙ block.1.1.1 in (
+            let there : set_of_county plan.drawn (county_of_block s.0.1) ≡ Some set = ap (λ (c : ℕ). set_of_county plan.drawn (county_of_block c)) (sym code) ∙ block.1.1.1 in (
               set,
               ap (λ (i : ℕ). item_at plan.drawn i) (sym where_is) ∙ sym item.2 ∙ there,
               subst (λ (i : ℕ). i < length plan.drawn) where_is item.3,
               record {
                 block = block.0;
                 stands = block.1.1;
-                given = subst (λ (c : ℕ). IsGiven plan c label) (sym block.2) (subst (λ (l : List ℕ). IsGiven plan g.0.0.1 l) (ap (λ (k : List ℕ × ℕ). k.0) g.2 ∙ same) line);
+                given = subst (λ (c : ℕ). IsGivenTo plan c label) (sym block.2) (subst (λ (l : List ℕ). IsGivenTo plan g.0.0.1 l) (ap (λ (k : List ℕ × ℕ). k.0) g.2 ∙ same) line);
               },
             )
 
@@ -339,12 +339,12 @@ module _ (plan : Plan) (blocks_sorted : IsStrictlySortedBy nat_cmp (map (λ b. b
     pub stands_to : (label : List ℕ) (set : DrawnSet) → HasBlockIn plan label set → PlaceOf label set
     stands_to label set h =
         let code = h.block.code in
-        let p = place_found (λ (s : DrawnSet). member s.codes (county_of code)) plan.drawn 0 set h.stands.1 in
-        let at : place_of plan.drawn (county_of code) ≡ Some p.0 = p.1 ∙ (let e : 0 + p.0 ≡ p.0 = omega arith in ap (λ m. Some m) e) in
+        let p = place_found (λ (s : DrawnSet). member s.codes (county_of_block code)) plan.drawn 0 set h.stands.1 in
+        let at : place_of plan.drawn (county_of_block code) ≡ Some p.0 = p.1 ∙ (let e : 0 + p.0 ≡ p.0 = omega arith in ap (λ m. Some m) e) in
         let entry = given_to h.block label (set, h.stands) h.given in
         let shown : shows plan.drawn (label, p.0) (label, code) ≡ true =
-        both_true (is_place (place_of plan.drawn (county_of code)) p.0) (bytes_eq label label) (ap (λ (o : Option ℕ). is_place o p.0) at ∙ number_same p.0 p.0 refl) (same_label label label refl) in
-        let there = standing_is (label, p.0) ∙ shown_to plan.drawn (label, p.0) (map (λ e. e.0) given) None (label, code) (mapped_to (λ (e : Given). e.0) given ((label, code), h.block.people) entry) shown in
+        both_true (is_place (place_of plan.drawn (county_of_block code)) p.0) (bytes_eq label label) (ap (λ (o : Option ℕ). is_place o p.0) at ∙ number_same p.0 p.0 refl) (same_label label label refl) in
+        let there = standing_is (label, p.0) ∙ shown_to plan.drawn (label, p.0) (map (λ e. e.0) given) None (label, code) (mapped_to (λ (e : GivenBlock). e.0) given ((label, code), h.block.people) entry) shown in
         (p.0, p.2, mapped_to (λ (e : (List ℕ × ℕ) × Unit {0}). e.0) found ((label, p.0), tt) (entry_from found found_sorted (label, p.0) tt there))
 
     -- ---- how many districts stand in a set

@@ -10,12 +10,12 @@ use Rattle.std.specs.Cmp.{unsigned_tied}
 use Rattle.std.specs.Cmp.Lexicographic.{slice_cmp, texts_ties, same_text}
 use Rattle.std.specs.BTreeMap.{is_at}
 use Rattle.std.proofs.lemmas.Bool.Decides.{nat_tests}
-use Rattle.assignment_file.specs.Labels.{assigns}
-use Rattle.baf_auditor.specs.Findings.{DrawnSet, county_of}
+use Rattle.baf_auditor.specs.Labels.{assigns}
+use Rattle.baf_auditor.specs.Findings.{DrawnSet, county_of_block}
 use Rattle.baf_auditor.specs.Listing.{place_of}
 use Rattle.baf_auditor.specs.Giving.{by_label, gives, giving, after_given}
 use Rattle.baf_auditor.specs.Districts.{with_people, is_place, after_shown}
-use Rattle.assignment_file.specs.declared.assignments.Assignment.{Assignment}
+use Rattle.baf_auditor.specs.declared.assignments.Assignment.{Assignment}
 
 module _ (listed : ℕ → Option ℕ) (key : List ℕ × ℕ) where
   -- after further lines
@@ -107,7 +107,7 @@ put_people own people before old other new sum put =
         ap (λ (n : ℕ). Some (n + people)) there
 
 -- ---- a district is put with its set's place
-pub put_place : (label : List ℕ) (code place : ℕ) (drawn : List DrawnSet) (key : List ℕ × ℕ) (before new : Option (Unit {0})) → place_of drawn (county_of code) ≡ Some place
+pub put_place : (label : List ℕ) (code place : ℕ) (drawn : List DrawnSet) (key : List ℕ × ℕ) (before new : Option (Unit {0})) → place_of drawn (county_of_block code) ≡ Some place
     → new ≡ cond (is_at (by_label (label, place)) key) (Some tt) before → new ≡ after_shown drawn key before (label, code)
 put_place label code place drawn key before new is put =
     put ∙ ap (λ (b : Bool). cond b (Some tt) before) (tied_key (label, place) key ∙ turned (bytes_eq label key.0) (place == key.1))
@@ -119,6 +119,6 @@ put_place label code place drawn key before new is put =
     turned false true = refl
     turned false false = refl
 
-pub no_place : (label : List ℕ) (code : ℕ) (drawn : List DrawnSet) (key : List ℕ × ℕ) (before : Option (Unit {0})) → place_of drawn (county_of code) ≡ None
+pub no_place : (label : List ℕ) (code : ℕ) (drawn : List DrawnSet) (key : List ℕ × ℕ) (before : Option (Unit {0})) → place_of drawn (county_of_block code) ≡ None
     → before ≡ after_shown drawn key before (label, code)
 no_place label code drawn key before none = ap (λ (o : Option ℕ). if (is_place o key.1 && bytes_eq label key.0) then Some tt else before) (sym none)

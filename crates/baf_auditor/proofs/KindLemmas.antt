@@ -15,11 +15,11 @@ use Rattle.grouping_laws.specs.Sets.{digit, member}
 use Rattle.pl94_counties.specs.declared.blocks.Block.{Block}
 use Rattle.pl94_counties.proofs.CollectLemmas.{tied_same}
 use Rattle.pl94_counties.proofs.TraceLemmas.{contains_head, contains_tail, contains_nil, contains_cases}
-use Rattle.assignment_file.specs.Labels.{assigns}
-use Rattle.baf_auditor.specs.Findings.{DrawnSet, Plan, county_of, IsListed, IsGiven, times_named, IsUnknown, IsTwice, IsUnassigned, AreCodes}
+use Rattle.baf_auditor.specs.Labels.{assigns}
+use Rattle.baf_auditor.specs.Findings.{DrawnSet, Plan, county_of_block, IsListedBlock, IsGivenTo, times_named, IsUnknown, IsTwice, IsUnassigned, AreCodesWith}
 use Rattle.baf_auditor.specs.Naming.{is_assigned, named_times, naming, has_district}
 use Rattle.baf_auditor.specs.Listing.{kept, place_of, people_in_set, after_block, after_blocks, listing}
-use Rattle.assignment_file.specs.declared.assignments.Assignment.{Assignment}
+use Rattle.baf_auditor.specs.declared.assignments.Assignment.{Assignment}
 use Rattle.baf_auditor.specs.declared.named.Named.{Named}
 
 -- ---- codes kept of entries
@@ -172,18 +172,18 @@ place_at test (d ∷ ds) n set there = by (test d) there (place_at test ds (n + 
 
 module _ (drawn : List DrawnSet) (code : ℕ) where
   abbrev ListedBy : List Block → ℕ → Type 0
-  ListedBy bs p = (block : Block) × Contains bs block × (block.code ≡ code) × (block.people ≡ p) × (is_some (place_of drawn (county_of code)) ≡ true)
+  ListedBy bs p = (block : Block) × Contains bs block × (block.code ≡ code) × (block.people ≡ p) × (is_some (place_of drawn (county_of_block code)) ≡ true)
 
-  listed_placed : (b : Block) (bs : List Block) (o : Option ℕ) (p : ℕ) (placed : Bool) → is_some (place_of drawn (county_of b.code)) ≡ placed → b.code ≡ code
+  listed_placed : (b : Block) (bs : List Block) (o : Option ℕ) (p : ℕ) (placed : Bool) → is_some (place_of drawn (county_of_block b.code)) ≡ placed → b.code ≡ code
       → option_or (if placed then Some b.people else None) o ≡ Some p → (o ≡ Some p) ⊎ ListedBy (b ∷ bs) p
   listed_placed b bs o p true is same there =
       let people : b.people ≡ p = cc in
-      inr (b, contains_head b bs, same, people, subst (λ (k : ℕ). is_some (place_of drawn (county_of k)) ≡ true) same is)
+      inr (b, contains_head b bs, same, people, subst (λ (k : ℕ). is_some (place_of drawn (county_of_block k)) ≡ true) same is)
   listed_placed b bs o p false is same there = inl there
 
   listed_first : (b : Block) (bs : List Block) (o : Option ℕ) (p : ℕ) (own : Bool) → (b.code == code) ≡ own
       → (if own then option_or (people_in_set drawn b) o else o) ≡ Some p → (o ≡ Some p) ⊎ ListedBy (b ∷ bs) p
-  listed_first b bs o p true is there = listed_placed b bs o p (is_some (place_of drawn (county_of b.code))) refl (same_number b.code code is) there
+  listed_first b bs o p true is there = listed_placed b bs o p (is_some (place_of drawn (county_of_block b.code))) refl (same_number b.code code is) there
   listed_first b bs o p false is there = inl there
 
   listed_by : (bs : List Block) (o : Option ℕ) (p : ℕ) → after_blocks drawn code o bs ≡ Some p → (o ≡ Some p) ⊎ ListedBy bs p
@@ -209,7 +209,7 @@ listed_from drawn blocks code p there = elim (listed_by drawn code blocks None p
   | inr l ↦ l
 ]
 
-listed_now : (drawn : List DrawnSet) (b : Block) (bs : List Block) (o : Option ℕ) → is_some (place_of drawn (county_of b.code)) ≡ true
+listed_now : (drawn : List DrawnSet) (b : Block) (bs : List Block) (o : Option ℕ) → is_some (place_of drawn (county_of_block b.code)) ≡ true
     → AllByRecursion (λ k. nat_cmp b.code k ≡ Less) (map (λ c. c.code) bs) → after_blocks drawn b.code o (b ∷ bs) ≡ Some b.people
 listed_now drawn b bs o placed above =
     let own : (b.code == b.code) ≡ true = number_same b.code b.code refl in
@@ -218,33 +218,33 @@ listed_now drawn b bs o placed above =
     ∙ stays drawn b.code bs (Some b.people) above
 
 listed_after : (drawn : List DrawnSet) (blocks : List Block) (o : Option ℕ) (block : Block) → IsStrictlySortedBy nat_cmp (map (λ b. b.code) blocks) → Contains blocks block
-    → is_some (place_of drawn (county_of block.code)) ≡ true → after_blocks drawn block.code o blocks ≡ Some block.people
+    → is_some (place_of drawn (county_of_block block.code)) ≡ true → after_blocks drawn block.code o blocks ≡ Some block.people
 unfolding IsStrictlySortedBy
 listed_after drawn [] o block sorted h placed = absurd (contains_nil block h)
 listed_after drawn (b ∷ bs) o block sorted h placed = elim (contains_cases b bs block h) as (λ _. after_blocks drawn block.code o (b ∷ bs) ≡ Some block.people) [
   | inl same ↦ subst (λ (d : Block). after_blocks drawn d.code o (b ∷ bs) ≡ Some d.people) same
-      (listed_now drawn b bs o (subst (λ (d : Block). is_some (place_of drawn (county_of d.code)) ≡ true) (sym same) placed) sorted.0)
+      (listed_now drawn b bs o (subst (λ (d : Block). is_some (place_of drawn (county_of_block d.code)) ≡ true) (sym same) placed) sorted.0)
   | inr later ↦ listed_after drawn bs (after_block drawn block.code o b) block sorted.1 later placed
 ]
 
 pub listed_to : (drawn : List DrawnSet) (blocks : List Block) (block : Block) → IsStrictlySortedBy nat_cmp (map (λ b. b.code) blocks) → Contains blocks block
-    → is_some (place_of drawn (county_of block.code)) ≡ true → listing drawn blocks block.code ≡ Some block.people
+    → is_some (place_of drawn (county_of_block block.code)) ≡ true → listing drawn blocks block.code ≡ Some block.people
 listed_to drawn blocks block sorted h placed = listed_after drawn blocks None block sorted h placed
 
 -- ---- listed blocks by the plan
 module _ (plan : Plan) (blocks_sorted : IsStrictlySortedBy nat_cmp (map (λ b. b.code) plan.blocks)) where
   -- a block that is listed is found, and what is found is a listed block
-  pub listed_found : (block : Block) → IsListed plan block → listing plan.drawn plan.blocks block.code ≡ Some block.people
-  listed_found block is = listed_to plan.drawn plan.blocks block blocks_sorted is.1.0 (place_at (λ set. member set.codes (county_of block.code)) plan.drawn 0 is.0 is.1.1)
+  pub listed_found : (block : Block) → IsListedBlock plan block → listing plan.drawn plan.blocks block.code ≡ Some block.people
+  listed_found block is = listed_to plan.drawn plan.blocks block blocks_sorted is.1.0 (place_at (λ set. member set.codes (county_of_block block.code)) plan.drawn 0 is.0 is.1.1)
 
   abbrev pub FoundListed : ℕ → ℕ → Type 0
-  FoundListed code p = (block : Block) × IsListed plan block × (block.code ≡ code) × (block.people ≡ p)
+  FoundListed code p = (block : Block) × IsListedBlock plan block × (block.code ≡ code) × (block.people ≡ p)
 
   pub found_listed : (code p : ℕ) → listing plan.drawn plan.blocks code ≡ Some p → FoundListed code p
   found_listed code p there =
       let l = listed_from plan.drawn plan.blocks code p there in
-      let placed : is_some (place_of plan.drawn (county_of l.0.code)) ≡ true = subst (λ (k : ℕ). is_some (place_of plan.drawn (county_of k)) ≡ true) (sym l.2) l.4 in
-      let set = set_at (λ set. member set.codes (county_of l.0.code)) plan.drawn 0 placed in
+      let placed : is_some (place_of plan.drawn (county_of_block l.0.code)) ≡ true = subst (λ (k : ℕ). is_some (place_of plan.drawn (county_of_block k)) ≡ true) (sym l.2) l.4 in
+      let set = set_at (λ set. member set.codes (county_of_block l.0.code)) plan.drawn 0 placed in
       (l.0, (set.0, (l.1, set.1)), l.2, l.3)
 
 -- ---- the kinds
@@ -262,7 +262,7 @@ module _ (plan : Plan) (named : List (ℕ × Named)) (listed : List (ℕ × ℕ)
   known code n h = named_known (times_named plan.lines code) (is_assigned plan.lines code) n (sym (naming_is code) ∙ found_to named named_sorted code n h)
 
   -- two or more lines name it
-  pub are_twice : AreCodes (IsTwice plan) (picked (λ (e : ℕ × Named). e.1.twice) named)
+  pub are_twice : AreCodesWith (IsTwice plan) (picked (λ (e : ℕ × Named). e.1.twice) named)
   are_twice = record {
     ascending = picked_sorted (λ (e : ℕ × Named). e.1.twice) named named_sorted;
     are = λ code. (
@@ -279,7 +279,7 @@ module _ (plan : Plan) (named : List (ℕ × Named)) (listed : List (ℕ × ℕ)
   unlisted_by code None is u = refl
   unlisted_by code (Some p) is u = let f = found_listed plan blocks_sorted code p is in absurd (u.unlisted f.0 f.1 f.2)
 
-  pub are_unknown : AreCodes (IsUnknown plan) (picked (λ (e : ℕ × Named). is_none (lookup (is_at (nat_cmp e.0)) listed)) named)
+  pub are_unknown : AreCodesWith (IsUnknown plan) (picked (λ (e : ℕ × Named). is_none (lookup (is_at (nat_cmp e.0)) listed)) named)
   are_unknown = record {
     ascending = picked_sorted (λ (e : ℕ × Named). is_none (lookup (is_at (nat_cmp e.0)) listed)) named named_sorted;
     are = λ code. (
@@ -289,7 +289,7 @@ module _ (plan : Plan) (named : List (ℕ × Named)) (listed : List (ℕ × ℕ)
             line = line.0;
             stands = line.1;
             names = line.2;
-            unlisted = λ (block : Block) (is : IsListed plan block) (same : block.code ≡ code).
+            unlisted = λ (block : Block) (is : IsListedBlock plan block) (same : block.code ≡ code).
                 (let there : lookup (is_at (nat_cmp code)) listed ≡ Some block.people = listing_is code ∙ ap (λ (k : ℕ). listing plan.drawn plan.blocks k) (sym same) ∙ listed_found plan blocks_sorted block is in
                 let none : is_none (lookup (is_at (nat_cmp code)) listed) ≡ true = e.2 in
                 let some : is_none (lookup (is_at (nat_cmp code)) listed) ≡ false = ap (λ (o : Option ℕ). is_none o) there in
@@ -318,10 +318,10 @@ module _ (plan : Plan) (named : List (ℕ × Named)) (listed : List (ℕ × ℕ)
   test_is : (code p : ℕ) → test_unassigned (code, p) ≡ (nat_lt 0 p && not (is_assigned plan.lines code))
   test_is code p = ap (λ (o : Option Named). nat_lt 0 p && not (has_district o)) (naming_is code) ∙ ap (λ (b : Bool). nat_lt 0 p && not b) (district_of code (naming plan.lines code) refl)
 
-  given_assigned : (code : ℕ) (label : List ℕ) → IsGiven plan code label → is_assigned plan.lines code ≡ true
+  given_assigned : (code : ℕ) (label : List ℕ) → IsGivenTo plan code label → is_assigned plan.lines code ≡ true
   given_assigned code label g = line_assigned code plan.lines g.line g.stands g.names (ap assigns g.labelled ∙ g.assigned)
 
-  none_given : (code : ℕ) (b : Bool) → is_assigned plan.lines code ≡ b → ((label : List ℕ) → IsGiven plan code label → ⊥) → not b ≡ true
+  none_given : (code : ℕ) (b : Bool) → is_assigned plan.lines code ≡ b → ((label : List ℕ) → IsGivenTo plan code label → ⊥) → not b ≡ true
   none_given code true is none =
       let line = assigned_by code plan.lines is in
       absurd (none line.0.label (record { line = line.0; stands = line.1; names = line.2; labelled = refl; assigned = line.3 }))
@@ -337,7 +337,7 @@ module _ (plan : Plan) (named : List (ℕ × Named)) (listed : List (ℕ × ℕ)
   both_true true t f g = g
   both_true false t f g = cc
 
-  pub are_unassigned : AreCodes (IsUnassigned plan) (picked test_unassigned listed)
+  pub are_unassigned : AreCodesWith (IsUnassigned plan) (picked test_unassigned listed)
   are_unassigned = record {
     ascending = picked_sorted test_unassigned listed listed_sorted;
     are = λ code. (
@@ -349,7 +349,7 @@ module _ (plan : Plan) (named : List (ℕ × Named)) (listed : List (ℕ × ℕ)
             listed = found.1;
             code_is = found.2;
             some_people = subst (λ (p : ℕ). 1 ≤ p) (sym found.3) (some_people e.0 parts.0);
-            none = λ (label : List ℕ) (g : IsGiven plan code label). (let yes : is_assigned plan.lines code ≡ true = given_assigned code label g in let denied : not (is_assigned plan.lines code) ≡ true = parts.1 in cc);
+            none = λ (label : List ℕ) (g : IsGivenTo plan code label). (let yes : is_assigned plan.lines code ≡ true = given_assigned code label g in let denied : not (is_assigned plan.lines code) ≡ true = parts.1 in cc);
           }),
       λ u. (let there : lookup (is_at (nat_cmp code)) listed ≡ Some u.block.people = listing_is code ∙ ap (λ (k : ℕ). listing plan.drawn plan.blocks k) (sym u.code_is) ∙ listed_found plan blocks_sorted u.block u.listed in
           picked_to test_unassigned listed code u.block.people (found_from listed code u.block.people there)

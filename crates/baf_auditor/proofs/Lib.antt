@@ -1,3 +1,4 @@
+pub mod RowLemmas
 pub mod ListLemmas
 pub mod NamingLemmas
 pub mod ListingLemmas

@@ -3,10 +3,10 @@ use Rattle.std.proofs.Common.{◌≡◌, ℕ, zero, suc, ◌+◌, ◌==◌, nat_
 use Rattle.std.proofs.Math.Bool.{or-false}
 use Rattle.std.proofs.lemmas.Bool.Decides.{nat_tests}
 use Rattle.grouping_laws.specs.Sets.{digit}
-use Rattle.assignment_file.specs.Labels.{assigns}
+use Rattle.baf_auditor.specs.Labels.{assigns}
 use Rattle.baf_auditor.specs.Findings.{times_named}
 use Rattle.baf_auditor.specs.Naming.{is_assigned, named_times, naming, named_again, after_line}
-use Rattle.assignment_file.specs.declared.assignments.Assignment.{Assignment}
+use Rattle.baf_auditor.specs.declared.assignments.Assignment.{Assignment}
 use Rattle.baf_auditor.specs.declared.named.Named.{Named}
 
 -- what is said of a block after further lines

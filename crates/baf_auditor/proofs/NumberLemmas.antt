@@ -8,7 +8,7 @@ use Rattle.std.specs.Cmp.Lexicographic.{slice_cmp}
 use Rattle.std.proofs.lemmas.Bool.Decides.{nat_tests}
 use Rattle.std.proofs.lemmas.List.Elements.{Contains-append_left, Contains-append_right, Contains-append_cases}
 use Rattle.pl94_counties.proofs.TraceLemmas.{contains_head, contains_tail, contains_nil, contains_cases}
-use Rattle.baf_auditor.specs.Findings.{DrawnSet, set_key, IsLesser, by_key}
+use Rattle.baf_auditor.specs.Findings.{DrawnSet, set_key, IsLesserKey, by_key}
 use Rattle.baf_auditor.specs.Districts.{name_at, size_finding, districts_at, number_finding, numbers_from}
 use Rattle.baf_auditor.specs.declared.finding.Set.{Set}
 use Rattle.baf_auditor.specs.declared.finding.Finding.{Finding}
@@ -114,8 +114,8 @@ module _ (keys : List (List ℕ × ℕ)) where
           let e : n + zero ≡ n = omega arith in
           let here : d.name ≡ name_at groups n = names zero d refl ∙ ap (λ m. name_at groups m) e in
           let there : b.1.name ≡ name_at groups (n + suc b.0) = names (suc b.0) b.1 b.2 in
-          let lesser : IsLesser (set_key d.name) (set_key b.1.name) =
-          subst (λ (s : Set). IsLesser (set_key s) (set_key b.1.name)) (sym here) (subst (λ (s : Set). IsLesser (set_key (name_at groups n)) (set_key s)) (sym there) (place_before groups n (n + suc b.0) (omega arith))) in
+          let lesser : IsLesserKey (set_key d.name) (set_key b.1.name) =
+          subst (λ (s : Set). IsLesserKey (set_key s) (set_key b.1.name)) (sym here) (subst (λ (s : Set). IsLesserKey (set_key (name_at groups n)) (set_key s)) (sym there) (place_before groups n (n + suc b.0) (omega arith))) in
           subst (λ (x : Finding). by_key x g ≡ Less) a.1 (subst (λ (x : Finding). by_key (WrongNumber d.name d.seats (districts_at n keys)) x ≡ Less) b.4 lesser)
 
 -- ---- people of districts

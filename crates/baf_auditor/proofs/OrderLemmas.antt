@@ -8,7 +8,7 @@ use Rattle.std.specs.Cmp.{nat_cmp_is, nat_cmp_total, ranked, tied_itself}
 use Rattle.std.specs.Cmp.Lexicographic.{slice_cmp, nat_list_cmp_total, texts_ties}
 use Rattle.std.proofs.lemmas.Bool.Decides.{nat_tests}
 use Rattle.pl94_counties.proofs.TraceLemmas.{contains_head, contains_tail, contains_cases}
-use Rattle.baf_auditor.specs.Findings.{set_key, IsLesser, key_of, by_key, AreCodes}
+use Rattle.baf_auditor.specs.Findings.{set_key, IsLesserKey, key_of, by_key, AreCodesWith}
 use Rattle.baf_auditor.specs.Giving.{by_label}
 use Rattle.baf_auditor.specs.Districts.{name_at}
 use Rattle.baf_auditor.specs.declared.finding.Set.{Set}
@@ -60,29 +60,29 @@ pub keys_long : (s t : Set) → length (set_key s) ≡ length (set_key t)
 keys_long s t = key_long s ∙ sym (key_long t)
 
 -- a set at an earlier place is the lesser one
-pub place_before : (groups i j : ℕ) → i < j → IsLesser (set_key (name_at groups i)) (set_key (name_at groups j))
+pub place_before : (groups i j : ℕ) → i < j → IsLesserKey (set_key (name_at groups i)) (set_key (name_at groups j))
 place_before groups i j lt = by (nat_lt i groups) (nat_lt j groups) refl refl
   where
     least : (m n : ℕ) → m < n → ordering_then (nat_cmp m n) Equal ≡ Less
     least m n below = ap (λ r. ordering_then r Equal) (less_number m n below)
 
     by : (b c : Bool) → nat_lt i groups ≡ b → nat_lt j groups ≡ c
-        → IsLesser (set_key (if b then Group (i + 1) else Withdrawn (i - groups + 1))) (set_key (if c then Group (j + 1) else Withdrawn (j - groups + 1)))
+        → IsLesserKey (set_key (if b then Group (i + 1) else Withdrawn (i - groups + 1))) (set_key (if c then Group (j + 1) else Withdrawn (j - groups + 1)))
     by true true e f = let below : i + 1 < j + 1 = omega (arith, lt) in least (i + 1) (j + 1) below
     by true false e f = refl
     by false true e f = absurd (grind (arith, nat_tests, e, f, lt))
     by false false e f = let from : groups ≤ i = grind (arith, nat_tests, e) in let below : i - groups + 1 < j - groups + 1 = omega (arith, lt, from) in least (i - groups + 1) (j - groups + 1) below
 
-never_less_itself : (k : List ℕ) → IsLesser k k → ⊥
+never_less_itself : (k : List ℕ) → IsLesserKey k k → ⊥
 never_less_itself k less = let same : slice_cmp nat_cmp k k ≡ Equal = tied_itself nat_list_cmp_total k in cc
 
 -- and the lesser one stands at an earlier place
-pub before_place : (groups i j : ℕ) → IsLesser (set_key (name_at groups i)) (set_key (name_at groups j)) → i < j
+pub before_place : (groups i j : ℕ) → IsLesserKey (set_key (name_at groups i)) (set_key (name_at groups j)) → i < j
 before_place groups i j less = by (nat_cmp i j) refl
   where
     by : (r : Ordering) → nat_cmp i j ≡ r → i < j
     by Less e = number_less i j e
-    by Equal e = absurd (let same : i ≡ j = ranked i j Equal (sym e) in never_less_itself (set_key (name_at groups j)) (subst (λ (k : ℕ). IsLesser (set_key (name_at groups k)) (set_key (name_at groups j))) same less))
+    by Equal e = absurd (let same : i ≡ j = ranked i j Equal (sym e) in never_less_itself (set_key (name_at groups j)) (subst (λ (k : ℕ). IsLesserKey (set_key (name_at groups k)) (set_key (name_at groups j))) same less))
     by Greater e = absurd (let above : j < i = ranked i j Greater (sym e) in
         never_less_itself (set_key (name_at groups i)) (nat_list_cmp_total.trans (set_key (name_at groups i)) (set_key (name_at groups j)) (set_key (name_at groups i)) less (place_before groups j i above)))
 
@@ -92,19 +92,19 @@ place_alone groups i j same = by (nat_cmp i j) refl
   where
     by : (r : Ordering) → nat_cmp i j ≡ r → i ≡ j
     by Equal e = ranked i j Equal (sym e)
-    by Less e = absurd (never_less_itself (set_key (name_at groups j)) (subst (λ (s : Set). IsLesser (set_key s) (set_key (name_at groups j))) same (place_before groups i j (number_less i j e))))
-    by Greater e = absurd (never_less_itself (set_key (name_at groups j)) (subst (λ (s : Set). IsLesser (set_key (name_at groups j)) (set_key s)) same (place_before groups j i (ranked i j Greater (sym e)))))
+    by Less e = absurd (never_less_itself (set_key (name_at groups j)) (subst (λ (s : Set). IsLesserKey (set_key s) (set_key (name_at groups j))) same (place_before groups i j (number_less i j e))))
+    by Greater e = absurd (never_less_itself (set_key (name_at groups j)) (subst (λ (s : Set). IsLesserKey (set_key (name_at groups j)) (set_key s)) same (place_before groups j i (ranked i j Greater (sym e)))))
 
 -- ---- findings of crossing districts
 pub crossing_label : (a b : List ℕ) (s t u v : Set) → slice_cmp nat_cmp a b ≡ Less → by_key (Crosses a s t) (Crosses b u v) ≡ Less
 crossing_label a b s t u v less = ap (λ r. ordering_then r (slice_cmp nat_cmp (set_key s ++ set_key t) (set_key u ++ set_key v))) less
 
-pub crossing_first : (a : List ℕ) (s t u v : Set) → IsLesser (set_key s) (set_key u) → by_key (Crosses a s t) (Crosses a u v) ≡ Less
+pub crossing_first : (a : List ℕ) (s t u v : Set) → IsLesserKey (set_key s) (set_key u) → by_key (Crosses a s t) (Crosses a u v) ≡ Less
 crossing_first a s t u v less =
     ap (λ r. ordering_then r (slice_cmp nat_cmp (set_key s ++ set_key t) (set_key u ++ set_key v))) (tied_itself nat_list_cmp_total a)
     ∙ less_before (set_key s) (set_key u) (set_key t) (set_key v) (keys_long s u) less
 
-pub crossing_second : (a : List ℕ) (s t v : Set) → IsLesser (set_key t) (set_key v) → by_key (Crosses a s t) (Crosses a s v) ≡ Less
+pub crossing_second : (a : List ℕ) (s t v : Set) → IsLesserKey (set_key t) (set_key v) → by_key (Crosses a s t) (Crosses a s v) ≡ Less
 crossing_second a s t v less =
     ap (λ r. ordering_then r (slice_cmp nat_cmp (set_key s ++ set_key t) (set_key s ++ set_key v))) (tied_itself nat_list_cmp_total a)
     ∙ same_before (set_key s) (set_key t) (set_key v) ∙ less
@@ -160,7 +160,7 @@ module _ (P : Finding → Type 0) (Q : ℕ → Type 0) (kind : ℕ) (named : ℕ
   pub codes_kind : (codes : List ℕ) (f : Finding) → Contains (map named codes) f → (key_of f).0 ≡ kind
   codes_kind codes f h = let m = mapped_from named codes f h in sym (ap (λ (g : Finding). (key_of g).0) m.2) ∙ kind_is m.0
 
-  pub codes_ordered : (codes : List ℕ) → AreCodes Q codes → IsOrdered P kind (map named codes)
+  pub codes_ordered : (codes : List ℕ) → AreCodesWith Q codes → IsOrdered P kind (map named codes)
   codes_ordered codes are = record {
     in_order = mapped_sorted codes are.ascending;
     is_so = λ f h. (let m = mapped_from named codes f h in subst P m.2 (so m.0 ((are.are m.0).0 m.1)));

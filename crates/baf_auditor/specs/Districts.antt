@@ -1,9 +1,10 @@
 -- Districts: their people, and the sets in which they have blocks.
-use Rattle.std.specs.Prelude.{ℕ, nat_lt, ◌+◌, ◌-◌, ◌==◌, ◌&&◌, ◌||◌, Bool, false, List, [], ◌∷◌, ◌++◌, Option, Some, None, if◌then◌else◌}
+use Rattle.std.specs.Prelude.{ℕ, nat_lt, ◌+◌, ◌-◌, ◌==◌, ◌&&◌, ◌||◌, Bool, false, List, [], ◌∷◌, ◌++◌, Option, Some}
+use Rattle.std.specs.Prelude.{None, if◌then◌else◌}
 use Rattle.std.specs.Str.{bytes_eq}
 use Rattle.std.specs.Option.{unwrap_or}
 use Rattle.grouping_laws.specs.Sets.{digit, total}
-use Rattle.baf_auditor.specs.Findings.{DrawnSet, county_of}
+use Rattle.baf_auditor.specs.Findings.{DrawnSet, county_of_block}
 use Rattle.baf_auditor.specs.Listing.{place_of}
 use Rattle.baf_auditor.specs.declared.finding.Set.{Set}
 use Rattle.baf_auditor.specs.declared.finding.Set.TheVariants.{Group, Withdrawn}
@@ -11,8 +12,8 @@ use Rattle.baf_auditor.specs.declared.finding.Finding.{Finding}
 use Rattle.baf_auditor.specs.declared.finding.Finding.TheVariants.{Crosses, WrongNumber, DistrictSize}
 
 -- a listed block that lines give to a district: the label and the block's code, and its people
-abbrev pub Given : Type 0
-Given = (List ℕ × ℕ) × ℕ
+abbrev pub GivenBlock : Type 0
+GivenBlock = (List ℕ × ℕ) × ℕ
 
 -- ---- people
 
@@ -21,12 +22,12 @@ abbrev pub with_people : List ℕ → List ℕ → ℕ → Option ℕ → Option
 with_people label own people before = if bytes_eq own label then Some (unwrap_or before 0 + people) else before
 
 -- the people of the district of a label after further blocks of districts
-abbrev pub people_after : List ℕ → Option ℕ → List Given → Option ℕ
+abbrev pub people_after : List ℕ → Option ℕ → List GivenBlock → Option ℕ
 people_after label before [] = before
 people_after label before (e ∷ es) = people_after label (with_people label e.0.0 e.1 before) es
 
 -- the people of the district of a label, if it has a block
-abbrev pub district_people : List Given → List ℕ → Option ℕ
+abbrev pub district_people : List GivenBlock → List ℕ → Option ℕ
 district_people given label = people_after label None given
 
 -- a finding where the people of a district are not within bounds
@@ -42,7 +43,7 @@ is_place (Some j) i = j == i
 
 -- whether a block of a district, by label and code, shows that a district stands in the set at a place
 abbrev pub shows : List DrawnSet → List ℕ × ℕ → List ℕ × ℕ → Bool
-shows drawn key own = is_place (place_of drawn (county_of own.1)) key.1 && bytes_eq own.0 key.0
+shows drawn key own = is_place (place_of drawn (county_of_block own.1)) key.1 && bytes_eq own.0 key.0
 
 -- whether a district stands in a set, after a further block of a district
 abbrev pub after_shown : List DrawnSet → List ℕ × ℕ → Option (Unit {0}) → List ℕ × ℕ → Option (Unit {0})
@@ -70,7 +71,8 @@ crossing groups first place = Crosses first.0 (name_at groups first.1) (name_at 
 -- the pairs of a district's first set with those after it, which stand next in the list
 abbrev pub crossings_with : ℕ → List ℕ × ℕ → List (List ℕ × ℕ) → List Finding
 crossings_with groups first [] = []
-crossings_with groups first (k ∷ ks) = if bytes_eq k.0 first.0 then crossing groups first k.1 ∷ crossings_with groups first ks else []
+crossings_with groups first (k ∷ ks) =
+    if bytes_eq k.0 first.0 then crossing groups first k.1 ∷ crossings_with groups first ks else []
 
 -- all pairs of the sets of a district
 abbrev pub crossings : ℕ → List (List ℕ × ℕ) → List Finding
@@ -90,4 +92,5 @@ number_finding name seats districts = if districts == seats then [] else WrongNu
 -- the findings of sets with another number of districts than seats, where the first set has this place
 abbrev pub numbers_from : List (List ℕ × ℕ) → ℕ → List DrawnSet → List Finding
 numbers_from keys place [] = []
-numbers_from keys place (d ∷ ds) = number_finding d.name d.seats (districts_at place keys) ++ numbers_from keys (place + 1) ds
+numbers_from keys place (d ∷ ds) =
+    number_finding d.name d.seats (districts_at place keys) ++ numbers_from keys (place + 1) ds

@@ -1,5 +1,6 @@
 -- The findings of an audit: all that is wrong with a plan's assignments.
-use Rattle.std.specs.Prelude.{◌≡◌, ◌≢◌, ◌↔◌, ◌⊎◌, ℕ, ◌+◌, ◌/◌, ◌≤◌, true, List, [], ◌∷◌, ◌++◌, length, Option, Some, Contains, AllPairs, find, ◌==◌}
+use Rattle.std.specs.Prelude.{◌≡◌, ◌≢◌, ◌↔◌, ◌⊎◌, ℕ, ◌+◌, ◌/◌, ◌≤◌, true, List, [], ◌∷◌, ◌++◌, length, Option, Some}
+use Rattle.std.specs.Prelude.{Contains, AllPairs, find, ◌==◌}
 use Rattle.std.specs.Ordering.{nat_cmp, ordering_then}
 use Rattle.std.specs.declared.cmp.Ordering.{Ordering}
 use Rattle.std.specs.Cmp.Lexicographic.{slice_cmp}
@@ -9,13 +10,13 @@ use Rattle.county_codes.specs.declared.withdrawn.Withdrawn as county
 use Rattle.grouping_laws.specs.Sets.{digit, total, member}
 use Rattle.grouping_laws.specs.Problem.{Suits}
 use Rattle.grouping_laws.specs.Grouping.{Grouping, Lawful}
-use Rattle.grouping_problem.specs.ProblemValue.{ProblemValue, problem_of}
-use Rattle.grouping_judge.specs.Judging.{IsFault}
-use Rattle.grouping_judge.specs.declared.grouping_fault.GroupingFault.{GroupingFault}
-use Rattle.grouping_judge.specs.declared.grouping_fault.GroupingFault.TheVariants as verdict
+use Rattle.county_problem.specs.ProblemValue.{ProblemValue, problem_of}
+use Rattle.county_problem.specs.Judging.{IsFault}
+use Rattle.county_problem.specs.declared.grouping_fault.GroupingFault.{GroupingFault}
+use Rattle.county_problem.specs.declared.grouping_fault.GroupingFault.TheVariants as verdict
 use Rattle.pl94_counties.specs.declared.blocks.Block.{Block}
-use Rattle.assignment_file.specs.Labels.{assigns}
-use Rattle.assignment_file.specs.declared.assignments.Assignment.{Assignment}
+use Rattle.baf_auditor.specs.Labels.{assigns}
+use Rattle.baf_auditor.specs.declared.assignments.Assignment.{Assignment}
 use Rattle.baf_auditor.specs.declared.finding.Set.{Set}
 use Rattle.baf_auditor.specs.declared.finding.Set.TheVariants as sets
 use Rattle.baf_auditor.specs.declared.finding.Finding.{Finding}
@@ -37,7 +38,8 @@ groups_from n (g ∷ gs) = record { name = sets.Group n; seats = g.seats; codes 
 -- withdrawn sets in their order, the first with this number
 abbrev pub withdrawn_from : ℕ → List county.Withdrawn → List DrawnSet
 withdrawn_from n [] = []
-withdrawn_from n (w ∷ ws) = record { name = sets.Withdrawn n; seats = w.seats; codes = w.codes } ∷ withdrawn_from (n + 1) ws
+withdrawn_from n (w ∷ ws) =
+    record { name = sets.Withdrawn n; seats = w.seats; codes = w.codes } ∷ withdrawn_from (n + 1) ws
 
 -- the groups, and then the withdrawn sets
 abbrev pub drawn_sets : ProblemValue → Grouping → List DrawnSet
@@ -56,23 +58,24 @@ plan_of problem grouping blocks lines = record { drawn = drawn_sets problem grou
 -- ---- blocks, labels and districts
 
 -- the county of a block: the first five of its fifteen digits
-abbrev pub county_of : ℕ → ℕ
-county_of block = block / 10000000000
+abbrev pub county_of_block : ℕ → ℕ
+county_of_block block = block / 10000000000
 
 -- the set that has a county
-abbrev pub set_of : List DrawnSet → ℕ → Option DrawnSet
-set_of drawn county = find (λ set. member set.codes county) drawn
+abbrev pub set_of_county : List DrawnSet → ℕ → Option DrawnSet
+set_of_county drawn county = find (λ set. member set.codes county) drawn
 
 -- a block is listed, and the set has its county
-abbrev pub StandsIn : Plan → Block → DrawnSet → Type 0
-StandsIn plan block set = Contains plan.blocks block × (set_of plan.drawn (county_of block.code) ≡ Some set)
+abbrev pub BlockStandsIn : Plan → Block → DrawnSet → Type 0
+BlockStandsIn plan block set =
+    Contains plan.blocks block × (set_of_county plan.drawn (county_of_block block.code) ≡ Some set)
 
 -- a block is listed; one whose county is in no set counts as not listed
-abbrev pub IsListed : Plan → Block → Type 0
-IsListed plan block = (set : DrawnSet) × StandsIn plan block set
+abbrev pub IsListedBlock : Plan → Block → Type 0
+IsListedBlock plan block = (set : DrawnSet) × BlockStandsIn plan block set
 
 -- some line gives the block to the district of the label
-pub record IsGiven (plan : Plan) (code : ℕ) (label : List ℕ) : Type 0 where
+pub record IsGivenTo (plan : Plan) (code : ℕ) (label : List ℕ) : Type 0 where
   pub line : Assignment
   pub stands : Contains plan.lines line
   pub names : line.block ≡ code
@@ -82,8 +85,8 @@ pub record IsGiven (plan : Plan) (code : ℕ) (label : List ℕ) : Type 0 where
 -- the district of the label has a listed block in the set
 pub record HasBlockIn (plan : Plan) (label : List ℕ) (set : DrawnSet) : Type 0 where
   pub block : Block
-  pub stands : StandsIn plan block set
-  pub given : IsGiven plan block.code label
+  pub stands : BlockStandsIn plan block set
+  pub given : IsGivenTo plan block.code label
 
 -- some line gives the label to a listed block
 abbrev pub IsDistrict : Plan → List ℕ → Type 0
@@ -96,11 +99,14 @@ pub record EachOnce {X : Type 0} (P : X → Type 0) (xs : List X) : Type 0 where
 
 -- how many districts have a block in the set
 abbrev pub HasDistricts : Plan → DrawnSet → ℕ → Type 0
-HasDistricts plan set count = (labels : List (List ℕ)) × EachOnce (λ label. HasBlockIn plan label set) labels × (length labels ≡ count)
+HasDistricts plan set count =
+    (labels : List (List ℕ)) × EachOnce (λ label. HasBlockIn plan label set) labels × (length labels ≡ count)
 
 -- the people of the district: those of its listed blocks, each once
 abbrev pub HasPeople : Plan → List ℕ → ℕ → Type 0
-HasPeople plan label people = (blocks : List Block) × EachOnce (λ block. IsListed plan block × IsGiven plan block.code label) blocks × (total (λ block. block.people) blocks ≡ people)
+HasPeople plan label people =
+    (blocks : List Block) × EachOnce (λ block. IsListedBlock plan block × IsGivenTo plan block.code label) blocks
+    × (total (λ block. block.people) blocks ≡ people)
 
 -- ---- each kind
 
@@ -109,7 +115,7 @@ pub record IsUnknown (plan : Plan) (code : ℕ) : Type 0 where
   pub line : Assignment
   pub stands : Contains plan.lines line
   pub names : line.block ≡ code
-  pub unlisted : (block : Block) → IsListed plan block → block.code ≢ code
+  pub unlisted : (block : Block) → IsListedBlock plan block → block.code ≢ code
 
 -- how many lines name the block
 abbrev pub times_named : List Assignment → ℕ → ℕ
@@ -122,10 +128,10 @@ IsTwice plan code = 2 ≤ times_named plan.lines code
 -- a listed block with people, which no line gives to a district
 pub record IsUnassigned (plan : Plan) (code : ℕ) : Type 0 where
   pub block : Block
-  pub listed : IsListed plan block
+  pub listed : IsListedBlock plan block
   pub code_is : block.code ≡ code
   pub some_people : 1 ≤ block.people
-  pub none : (label : List ℕ) → IsGiven plan code label → ⊥
+  pub none : (label : List ℕ) → IsGivenTo plan code label → ⊥
 
 -- The number of a set as a key: groups come before withdrawn sets.
 abbrev pub set_key : Set → List ℕ
@@ -133,8 +139,8 @@ set_key (sets.Group n) = 0 ∷ n ∷ []
 set_key (sets.Withdrawn n) = 1 ∷ n ∷ []
 
 -- the first of two keys, compared number by number, is the lesser one
-abbrev pub IsLesser : List ℕ → List ℕ → Type 0
-IsLesser x y = slice_cmp nat_cmp x y ≡ Less
+abbrev pub IsLesserKey : List ℕ → List ℕ → Type 0
+IsLesserKey x y = slice_cmp nat_cmp x y ≡ Less
 
 -- the district of the label has listed blocks in both sets
 pub record IsCrossing (plan : Plan) (label : List ℕ) (first second : Set) : Type 0 where
@@ -142,7 +148,7 @@ pub record IsCrossing (plan : Plan) (label : List ℕ) (first second : Set) : Ty
   pub other : DrawnSet
   pub one_is : one.name ≡ first
   pub other_is : other.name ≡ second
-  pub before : IsLesser (set_key first) (set_key second)
+  pub before : IsLesserKey (set_key first) (set_key second)
   pub in_one : HasBlockIn plan label one
   pub in_other : HasBlockIn plan label other
 
@@ -195,7 +201,7 @@ pub record AreAll (P : Finding → Type 0) (list : List Finding) : Type 0 where
   pub are : (f : Finding) → Contains list f ↔ P f
 
 -- a list has exactly the codes of which P holds, ascending
-pub record AreCodes (P : ℕ → Type 0) (codes : List ℕ) : Type 0 where
+pub record AreCodesWith (P : ℕ → Type 0) (codes : List ℕ) : Type 0 where
   pub ascending : IsStrictlySortedBy nat_cmp codes
   pub are : (code : ℕ) → Contains codes code ↔ P code
 

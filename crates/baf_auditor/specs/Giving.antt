@@ -6,8 +6,8 @@ use Rattle.std.specs.Option.{option_or}
 use Rattle.std.specs.Ordering.{nat_cmp, ordering_then}
 use Rattle.std.specs.declared.cmp.Ordering.{Ordering}
 use Rattle.std.specs.Cmp.Lexicographic.{slice_cmp}
-use Rattle.assignment_file.specs.Labels.{assigns}
-use Rattle.assignment_file.specs.declared.assignments.Assignment.{Assignment}
+use Rattle.baf_auditor.specs.Labels.{assigns}
+use Rattle.baf_auditor.specs.declared.assignments.Assignment.{Assignment}
 
 -- labels with blocks: by label, and then by code
 abbrev pub by_label : List ℕ × ℕ → List ℕ × ℕ → Ordering

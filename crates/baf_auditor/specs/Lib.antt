@@ -1,3 +1,5 @@
+pub mod Labels
+pub mod Assignments
 pub mod Findings
 pub mod Naming
 pub mod Listing

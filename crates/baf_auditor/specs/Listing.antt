@@ -4,7 +4,7 @@ use Rattle.std.specs.List.{position_from}
 use Rattle.std.specs.Option.{option_or}
 use Rattle.grouping_laws.specs.Sets.{member}
 use Rattle.pl94_counties.specs.declared.blocks.Block.{Block}
-use Rattle.baf_auditor.specs.Findings.{DrawnSet, county_of}
+use Rattle.baf_auditor.specs.Findings.{DrawnSet, county_of_block}
 
 -- a code, where it is kept
 abbrev pub kept : Bool → ℕ → Option ℕ
@@ -17,11 +17,12 @@ place_of drawn county = position_from (λ set. member set.codes county) 0 drawn
 
 -- the people of a listed block, if its county is in a set
 abbrev pub people_in_set : List DrawnSet → Block → Option ℕ
-people_in_set drawn block = if is_some (place_of drawn (county_of block.code)) then Some block.people else None
+people_in_set drawn block = if is_some (place_of drawn (county_of_block block.code)) then Some block.people else None
 
 -- the people of the block of a code after a further block
 abbrev pub after_block : List DrawnSet → ℕ → Option ℕ → Block → Option ℕ
-after_block drawn code before block = if block.code == code then option_or (people_in_set drawn block) before else before
+after_block drawn code before block =
+    if block.code == code then option_or (people_in_set drawn block) before else before
 
 -- the people of the block of a code after further blocks
 abbrev pub after_blocks : List DrawnSet → ℕ → Option ℕ → List Block → Option ℕ

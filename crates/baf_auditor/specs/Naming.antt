@@ -1,9 +1,9 @@
 -- What the lines of a file say of each block.
 use Rattle.std.specs.Prelude.{ℕ, nat_le, ◌==◌, ◌&&◌, ◌||◌, Bool, true, false, List, Option, Some, None, if◌then◌else◌}
 use Rattle.std.specs.List.{list_any}
-use Rattle.assignment_file.specs.Labels.{assigns}
+use Rattle.baf_auditor.specs.Labels.{assigns}
 use Rattle.baf_auditor.specs.Findings.{times_named}
-use Rattle.assignment_file.specs.declared.assignments.Assignment.{Assignment}
+use Rattle.baf_auditor.specs.declared.assignments.Assignment.{Assignment}
 use Rattle.baf_auditor.specs.declared.named.Named.{Named}
 
 -- whether some line gives the block to a district

@@ -5,25 +5,25 @@ ghost use Rattle.std.specs.List.Sorted.{IsStrictlyIncreasing};
 ghost use Rattle.std.specs.BTreeMap.{btree_map_len, keys};
 ghost use Rattle.county_codes.specs.Limits.{most_counties};
 ghost use Rattle.grouping_laws.specs.Grouping.{Lawful};
-ghost use Rattle.grouping_problem.specs.ProblemValue.{problem_of};
-ghost use Rattle.grouping_judge.specs.Judging.{IsFault};
-ghost use Rattle.grouping_judge.specs.declared.grouping_fault.GroupingFault.TheVariants.{Memory};
+ghost use Rattle.county_problem.specs.ProblemValue.{problem_of};
+ghost use Rattle.county_problem.specs.Judging.{IsFault};
+ghost use Rattle.county_problem.specs.declared.grouping_fault.GroupingFault.TheVariants.{Memory};
 ghost use Rattle.baf_auditor.specs.Findings.{drawn_sets, plan_of, IsFinding, AreAll, AreFindings};
 ghost use Rattle.baf_auditor.specs.Kinds.{AddsOfDistricts, IsClean};
 ghost use Rattle.baf_auditor.specs.declared.finding.Finding.TheVariants as findings;
 
+use crate::assignments::Assignment;
 use crate::block_kinds::block_kinds;
 use crate::codes::{CodeKind, add_codes};
 use crate::crossings::add_crossings;
 use crate::finding::{Finding, Findings};
 use crate::given::given_blocks;
+use crate::label::Label;
 use crate::numbers::{add_group_numbers, add_withdrawn_numbers};
 use crate::sizes::{add_sizes, people_by_label};
 use crate::standing::{listed_places, standing_places};
-use assignment_file::{Assignment, Label};
 use county_codes::Grouping;
-use grouping_judge::{GroupingFault, judge};
-use grouping_problem::Problem;
+use county_problem::{GroupingFault, Problem, judge};
 use pl94_counties::Block;
 use std::alloc::{AllocError, Global};
 use std::collections::BTreeMap;
@@ -80,7 +80,8 @@ fn plan_findings(
 /// The first fault of a grouping, if it isn't lawful.
 fn fault_of(alloc: Global, problem: &Problem, grouping: &Grouping) -> Option<GroupingFault>
     ensures lawful { MatchOption result (Lawful (problem_of problem.now) grouping.now.groups.items) (IsFault (problem_of problem.now) grouping.now.groups.items) }
-    ensures few { MatchOption result (length grouping.now.groups.items ≤ most_counties) (λ fault. fault ≢ Memory → ¬ Lawful (problem_of problem.now) grouping.now.groups.items) }
+    ensures few { MatchOption result (length grouping.now.groups.items ≤ most_counties) (λ fault. fault ≢ Memory
+        → ¬ Lawful (problem_of problem.now) grouping.now.groups.items) }
 {
     judge(alloc, problem, grouping).err()
 }
@@ -116,7 +117,8 @@ pub fn audit(
     requires ascending { IsStrictlyIncreasing (map (λ block. block.code) blocks.now) }
     requires few { length lines.now ≤ 4000000 }
     ensures findings { IfOk result (λ f. AreFindings problem.now grouping.now.groups.items blocks.now lines.now f.list.items) }
-    ensures clean { IfOk result (λ f. (f.list.items ≡ []) ↔ IsClean problem.now grouping.now.groups.items (plan_of problem.now grouping.now.groups.items blocks.now lines.now)) }
+    ensures clean { IfOk result (λ f. (f.list.items ≡ [])
+        ↔ IsClean problem.now grouping.now.groups.items (plan_of problem.now grouping.now.groups.items blocks.now lines.now)) }
 {
     match fault_of(alloc, problem, grouping) {
         None => Ok(Findings {

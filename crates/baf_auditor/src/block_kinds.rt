@@ -5,15 +5,15 @@ ghost use Rattle.std.specs.List.{filter_map};
 ghost use Rattle.std.specs.List.Sorted.{IsStrictlyIncreasing, IsStrictlySortedBy};
 ghost use Rattle.std.specs.Ordering.{nat_cmp};
 ghost use Rattle.std.specs.BTreeMap.{get};
-ghost use Rattle.baf_auditor.specs.Findings.{plan_of, drawn_sets, AreCodes, IsUnknown, IsTwice, IsUnassigned};
+ghost use Rattle.baf_auditor.specs.Findings.{plan_of, drawn_sets, AreCodesWith, IsUnknown, IsTwice, IsUnassigned};
 ghost use Rattle.baf_auditor.specs.Naming.{has_district};
 ghost use Rattle.baf_auditor.specs.Listing.{kept, listing};
 
+use crate::assignments::Assignment;
 use crate::listed::listed_blocks;
 use crate::named::{Named, named_blocks};
-use assignment_file::Assignment;
 use county_codes::Grouping;
-use grouping_problem::Problem;
+use county_problem::Problem;
 use pl94_counties::Block;
 use std::alloc::{AllocError, Global};
 use std::collections::BTreeMap;
@@ -46,7 +46,8 @@ fn unknown_codes(
     named: &BTreeMap<u64, Named>,
     listed: &BTreeMap<u64, u32>,
 ) -> Result<Vec<u64>, AllocError>
-    ensures codes { IfOk result (λ v. v.items ≡ filter_map (λ e. kept (is_none (get nat_cmp listed.now e.0)) e.0) named.now.entries) }
+    ensures codes { IfOk result (λ v. v.items
+        ≡ filter_map (λ e. kept (is_none (get nat_cmp listed.now e.0)) e.0) named.now.entries) }
     ensures ordered { IsStrictlySortedBy nat_cmp (map (λ e. e.0) named.now.entries) }
 {
     named
@@ -72,7 +73,9 @@ fn unassigned_codes(
     named: &BTreeMap<u64, Named>,
     listed: &BTreeMap<u64, u32>,
 ) -> Result<Vec<u64>, AllocError>
-    ensures codes { IfOk result (λ v. v.items ≡ filter_map (λ e. kept (nat_lt 0 e.1 && not (has_district (get nat_cmp named.now e.0))) e.0) listed.now.entries) }
+    ensures codes { IfOk result (λ v. v.items
+        ≡ filter_map (λ e. kept (nat_lt 0 e.1
+        && not (has_district (get nat_cmp named.now e.0))) e.0) listed.now.entries) }
     ensures ordered { IsStrictlySortedBy nat_cmp (map (λ e. e.0) listed.now.entries) }
 {
     listed
@@ -104,10 +107,11 @@ pub(crate) fn block_kinds(
 ) -> Result<BlockKinds, AllocError>
     requires fits { All (λ block. block.code < 1000000000000000) blocks.now }
     requires ascending { IsStrictlyIncreasing (map (λ block. block.code) blocks.now) }
-    ensures unknown { IfOk result (λ k. AreCodes (IsUnknown (plan_of problem.now grouping.now.groups.items blocks.now lines.now)) k.unknown.items) }
-    ensures twice { IfOk result (λ k. AreCodes (IsTwice (plan_of problem.now grouping.now.groups.items blocks.now lines.now)) k.twice.items) }
-    ensures unassigned { IfOk result (λ k. AreCodes (IsUnassigned (plan_of problem.now grouping.now.groups.items blocks.now lines.now)) k.unassigned.items) }
-    ensures listed { IfOk result (λ k. (code : ℕ) → get nat_cmp k.listed code ≡ listing (drawn_sets problem.now grouping.now.groups.items) blocks.now code) }
+    ensures unknown { IfOk result (λ k. AreCodesWith (IsUnknown (plan_of problem.now grouping.now.groups.items blocks.now lines.now)) k.unknown.items) }
+    ensures twice { IfOk result (λ k. AreCodesWith (IsTwice (plan_of problem.now grouping.now.groups.items blocks.now lines.now)) k.twice.items) }
+    ensures unassigned { IfOk result (λ k. AreCodesWith (IsUnassigned (plan_of problem.now grouping.now.groups.items blocks.now lines.now)) k.unassigned.items) }
+    ensures listed { IfOk result (λ k. (code : ℕ)
+        → get nat_cmp k.listed code ≡ listing (drawn_sets problem.now grouping.now.groups.items) blocks.now code) }
 {
     let named = named_blocks(alloc, lines)?;
     let listed = listed_blocks(alloc, problem, grouping, blocks)?;

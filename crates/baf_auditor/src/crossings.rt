@@ -4,7 +4,7 @@ ghost use Rattle.std.specs.Prelude.{◌≡◌, ◌<◌, ◌≤◌, ◌++◌, All
 ghost use Rattle.baf_auditor.specs.Districts.{name_at, crossings_with, crossings};
 
 use crate::finding::{Finding, Set};
-use assignment_file::Label;
+use crate::label::Label;
 use std::alloc::AllocError;
 
 /// The set at a place, counted from 0, after so many groups.

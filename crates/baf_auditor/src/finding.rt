@@ -1,7 +1,7 @@
 //! The kinds of findings, and the sets of counties that they name.
 
-use assignment_file::Label;
-use grouping_judge::GroupingFault;
+use crate::label::Label;
+use county_problem::GroupingFault;
 
 /// A set of counties in which districts are drawn. Both kinds are numbered from 1; each group comes before each
 /// withdrawn set.

@@ -6,7 +6,8 @@ ghost use Rattle.std.specs.List.Sorted.{IsStrictlySortedBy};
 ghost use Rattle.std.specs.BTreeMap.{get, btree_map_len, keys};
 ghost use Rattle.baf_auditor.specs.Giving.{by_label, after_given, giving};
 
-use assignment_file::{Assignment, Label};
+use crate::assignments::Assignment;
+use crate::label::Label;
 use std::alloc::{AllocError, Global};
 use std::collections::BTreeMap;
 
@@ -16,7 +17,9 @@ fn add_given(
     listed: &BTreeMap<u64, u32>,
     line: &Assignment,
 ) -> Result<(), AllocError>
-    ensures entries { OnOk result ((key : List ℕ × ℕ) → get by_label given.new key ≡ after_given (λ code. get nat_cmp listed.now code) key (get by_label given.old key) line.now) }
+    ensures entries { OnOk result ((key : List ℕ × ℕ)
+        → get by_label given.new key
+        ≡ after_given (λ code. get nat_cmp listed.now code) key (get by_label given.old key) line.now) }
     ensures few { OnOk result (btree_map_len given.new ≤ btree_map_len given.old + 1) }
     ensures ordered { IsStrictlySortedBy by_label (keys given.old) → IsStrictlySortedBy by_label (keys given.new) }
 {
@@ -35,7 +38,8 @@ pub(crate) fn given_blocks(
     listed: &BTreeMap<u64, u32>,
     lines: &[Assignment],
 ) -> Result<BTreeMap<(Label, u64), u32>, AllocError>
-    ensures entries { IfOk result (λ m. (key : List ℕ × ℕ) → get by_label m key ≡ giving (λ code. get nat_cmp listed.now code) lines.now key) }
+    ensures entries { IfOk result (λ m. (key : List ℕ × ℕ)
+        → get by_label m key ≡ giving (λ code. get nat_cmp listed.now code) lines.now key) }
     ensures few { IfOk result (λ m. btree_map_len m ≤ length lines.now) }
     ensures ordered { IfOk result (λ m. IsStrictlySortedBy by_label (keys m)) }
 {

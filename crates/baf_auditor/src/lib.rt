@@ -1,22 +1,28 @@
-//! The audit of a plan's block assignments against a grouping of counties.
+//! Block assignment files, which give census blocks to districts by their labels, and the audit of a plan's assignments
+//! against a grouping of counties.
 //!
 //! A further kind of finding begins with a variant of `Finding` in `finding.rt` and its definition in
 //! `specs/Findings.antt`. `grouping_report` writes the line of a finding (`findings.rt`, `specs/FindingsText.antt`),
-//! and `findings.rt` of `explanations` tells a person about it.
+//! and `findings.rt` of `cli_explanations` tells a person about it.
 #![tactic(auto)]
 
+mod assignments;
 mod auditing;
 mod block_kinds;
 mod codes;
 mod crossings;
+mod fault;
 mod finding;
 mod given;
+mod label;
 mod listed;
 mod named;
 mod numbers;
 mod sizes;
 mod standing;
 
-pub use assignment_file::{Assignment, AssignmentFault, AssignmentKind, Label, read_assignments};
+pub use assignments::{Assignment, read_assignments};
 pub use auditing::audit;
+pub use fault::{AssignmentFault, AssignmentKind};
 pub use finding::{Finding, Findings, Set};
+pub use label::Label;

@@ -5,11 +5,11 @@ ghost use Rattle.std.specs.List.{position_from};
 ghost use Rattle.std.specs.Ordering.{nat_cmp};
 ghost use Rattle.std.specs.BTreeMap.{get};
 ghost use Rattle.grouping_laws.specs.Sets.{member};
-ghost use Rattle.baf_auditor.specs.Findings.{county_of, drawn_sets};
+ghost use Rattle.baf_auditor.specs.Findings.{county_of_block, drawn_sets};
 ghost use Rattle.baf_auditor.specs.Listing.{place_of, after_block, listing};
 
 use county_codes::{CountyCode, Group, Grouping, Withdrawn, has_code};
-use grouping_problem::Problem;
+use county_problem::Problem;
 use pl94_counties::Block;
 use std::alloc::{AllocError, Global};
 use std::collections::BTreeMap;
@@ -39,7 +39,7 @@ fn withdrawn_place(sets: &[Withdrawn], county: CountyCode) -> Option<usize>
 #[tactic(auto, using(crate::proofs::ListingLemmas::place_in_sets))]
 pub(crate) fn place_of_block(problem: &Problem, grouping: &Grouping, code: u64) -> Option<usize>
     requires { code < 1000000000000000 }
-    ensures { result ≡ place_of (drawn_sets problem.now grouping.now.groups.items) (county_of code) }
+    ensures { result ≡ place_of (drawn_sets problem.now grouping.now.groups.items) (county_of_block code) }
 {
     let county = CountyCode::new((code / BLOCKS_OF_COUNTY) as u32)?;
     let groups = grouping.groups.as_slice();
@@ -60,7 +60,9 @@ fn add_block(
     block: &Block,
 ) -> Result<(), AllocError>
     requires { block.now.code < 1000000000000000 }
-    ensures { OnOk result ((code : ℕ) → get nat_cmp listed.new code ≡ after_block (drawn_sets problem.now grouping.now.groups.items) code (get nat_cmp listed.old code) block.now) }
+    ensures { OnOk result ((code : ℕ)
+        → get nat_cmp listed.new code
+        ≡ after_block (drawn_sets problem.now grouping.now.groups.items) code (get nat_cmp listed.old code) block.now) }
 {
     if place_of_block(problem, grouping, block.code).is_some() {
         listed.insert(block.code, block.people)?;
@@ -76,7 +78,8 @@ pub(crate) fn listed_blocks(
     blocks: &[Block],
 ) -> Result<BTreeMap<u64, u32>, AllocError>
     requires { All (λ block. block.code < 1000000000000000) blocks.now }
-    ensures { IfOk result (λ m. (code : ℕ) → get nat_cmp m code ≡ listing (drawn_sets problem.now grouping.now.groups.items) blocks.now code) }
+    ensures { IfOk result (λ m. (code : ℕ)
+        → get nat_cmp m code ≡ listing (drawn_sets problem.now grouping.now.groups.items) blocks.now code) }
 {
     let mut listed = BTreeMap::new(alloc);
     for block in blocks {

@@ -5,7 +5,8 @@ ghost use Rattle.std.specs.Ordering.{nat_cmp};
 ghost use Rattle.std.specs.BTreeMap.{get};
 ghost use Rattle.baf_auditor.specs.Naming.{naming, named_again, after_line};
 
-use assignment_file::{Assignment, Label};
+use crate::assignments::Assignment;
+use crate::label::Label;
 use std::alloc::{AllocError, Global};
 use std::collections::BTreeMap;
 
@@ -38,7 +39,8 @@ impl Named {
 
 /// Adds what a line says to what the lines before say.
 fn add_line(named: &mut BTreeMap<u64, Named>, line: &Assignment) -> Result<(), AllocError>
-    ensures { OnOk result ((code : ℕ) → get nat_cmp named.new code ≡ after_line code (get nat_cmp named.old code) line.now) }
+    ensures { OnOk result ((code : ℕ)
+        → get nat_cmp named.new code ≡ after_line code (get nat_cmp named.old code) line.now) }
 {
     let before = named.get(&line.block).copied();
     named.insert(line.block, Named::again(before, &line.label))?;

@@ -5,7 +5,7 @@ ghost use Rattle.baf_auditor.specs.Findings.{groups_from, withdrawn_from};
 ghost use Rattle.baf_auditor.specs.Districts.{districts_at, number_finding, numbers_from};
 
 use crate::finding::{Finding, Set};
-use assignment_file::Label;
+use crate::label::Label;
 use county_codes::{Group, Withdrawn};
 use std::alloc::AllocError;
 
@@ -46,7 +46,8 @@ pub(crate) fn add_group_numbers(
 ) -> Result<(), AllocError>
     requires few_groups { length groups.now ≤ 1000 }
     requires few { length standing.now ≤ 4000000 }
-    ensures { OnOk result (findings.new.items ≡ findings.old.items ++ numbers_from standing.now 0 (groups_from 1 groups.now)) }
+    ensures { OnOk result (findings.new.items
+        ≡ findings.old.items ++ numbers_from standing.now 0 (groups_from 1 groups.now)) }
 {
     for (i, group) in groups.iter().enumerate() {
         let name = Set::Group((i + 1) as u32);
@@ -66,7 +67,8 @@ pub(crate) fn add_withdrawn_numbers(
     requires few_groups { groups ≤ 1000 }
     requires few_sets { length sets.now ≤ 1000 }
     requires few { length standing.now ≤ 4000000 }
-    ensures { OnOk result (findings.new.items ≡ findings.old.items ++ numbers_from standing.now groups (withdrawn_from 1 sets.now)) }
+    ensures { OnOk result (findings.new.items
+        ≡ findings.old.items ++ numbers_from standing.now groups (withdrawn_from 1 sets.now)) }
 {
     for (i, set) in sets.iter().enumerate() {
         let name = Set::Withdrawn((i + 1) as u32);

@@ -10,14 +10,16 @@ ghost use Rattle.std.specs.BTreeMap.{get, btree_map_len, keys};
 ghost use Rattle.baf_auditor.specs.Districts.{with_people, district_people, size_finding};
 
 use crate::finding::Finding;
-use assignment_file::Label;
+use crate::label::Label;
 use std::alloc::{AllocError, Global};
 use std::collections::BTreeMap;
 
 /// Adds the people of a listed block of a district.
 fn add_people(sums: &mut BTreeMap<Label, u64>, label: &Label, people: u32) -> Result<(), AllocError>
     requires { unwrap_or (get (slice_cmp nat_cmp) sums.old label.now) 0 ≤ 2 ^ 60 }
-    ensures { OnOk result ((other : List ℕ) → get (slice_cmp nat_cmp) sums.new other ≡ with_people other label.now people (get (slice_cmp nat_cmp) sums.old other)) }
+    ensures { OnOk result ((other : List ℕ)
+        → get (slice_cmp nat_cmp) sums.new other
+        ≡ with_people other label.now people (get (slice_cmp nat_cmp) sums.old other)) }
 {
     let before = sums.get(label).copied().unwrap_or(0);
     sums.insert(label.copy()?, before + u64::from(people))?;
@@ -30,7 +32,8 @@ pub(crate) fn people_by_label(
     given: &BTreeMap<(Label, u64), u32>,
 ) -> Result<BTreeMap<Label, u64>, AllocError>
     requires { btree_map_len given.now ≤ 4000000 }
-    ensures { IfOk result (λ m. (label : List ℕ) → get (slice_cmp nat_cmp) m label ≡ district_people given.now.entries label) }
+    ensures { IfOk result (λ m. (label : List ℕ)
+        → get (slice_cmp nat_cmp) m label ≡ district_people given.now.entries label) }
 {
     let mut sums = BTreeMap::new(alloc);
     for (key, people) in given {
@@ -46,7 +49,8 @@ fn add_size(
     label: &Label,
     people: u64,
 ) -> Result<(), AllocError>
-    ensures { OnOk result (findings.new.items ≡ findings.old.items ++ option_to_list (size_finding bounds.0 bounds.1 (label.now, people))) }
+    ensures { OnOk result (findings.new.items
+        ≡ findings.old.items ++ option_to_list (size_finding bounds.0 bounds.1 (label.now, people))) }
 {
     if people < bounds.0 || people > bounds.1 {
         findings.push(Finding::DistrictSize(label.copy()?, people))?;
@@ -60,7 +64,8 @@ pub(crate) fn add_sizes(
     bounds: (u64, u64),
     sums: &BTreeMap<Label, u64>,
 ) -> Result<(), AllocError>
-    ensures findings { OnOk result (findings.new.items ≡ findings.old.items ++ filter_map (size_finding bounds.0 bounds.1) sums.now.entries) }
+    ensures findings { OnOk result (findings.new.items
+        ≡ findings.old.items ++ filter_map (size_finding bounds.0 bounds.1) sums.now.entries) }
     ensures ordered { IsStrictlySortedBy (slice_cmp nat_cmp) (keys sums.now) }
 {
     for (label, people) in sums {

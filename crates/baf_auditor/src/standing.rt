@@ -7,10 +7,10 @@ ghost use Rattle.baf_auditor.specs.Findings.{drawn_sets};
 ghost use Rattle.baf_auditor.specs.Giving.{by_label};
 ghost use Rattle.baf_auditor.specs.Districts.{after_shown, standing};
 
+use crate::label::Label;
 use crate::listed::place_of_block;
-use assignment_file::Label;
 use county_codes::Grouping;
-use grouping_problem::Problem;
+use county_problem::Problem;
 use std::alloc::{AllocError, Global};
 use std::collections::BTreeMap;
 
@@ -23,7 +23,9 @@ fn add_standing(
     code: u64,
 ) -> Result<(), AllocError>
     requires { code < 1000000000000000 }
-    ensures entries { OnOk result ((key : List ℕ × ℕ) → get by_label found.new key ≡ after_shown (drawn_sets problem.now grouping.now.groups.items) key (get by_label found.old key) (label.now, code)) }
+    ensures entries { OnOk result ((key : List ℕ × ℕ)
+        → get by_label found.new key
+        ≡ after_shown (drawn_sets problem.now grouping.now.groups.items) key (get by_label found.old key) (label.now, code)) }
     ensures few { OnOk result (btree_map_len found.new ≤ btree_map_len found.old + 1) }
 {
     if let Some(place) = place_of_block(problem, grouping, code) {
@@ -40,7 +42,8 @@ pub(crate) fn standing_places(
     given: &BTreeMap<(Label, u64), u32>,
 ) -> Result<BTreeMap<(Label, usize), ()>, AllocError>
     requires { All (λ k. k.1 < 1000000000000000) (keys given.now) }
-    ensures entries { IfOk result (λ m. (key : List ℕ × ℕ) → get by_label m key ≡ standing (drawn_sets problem.now grouping.now.groups.items) (keys given.now) key) }
+    ensures entries { IfOk result (λ m. (key : List ℕ × ℕ)
+        → get by_label m key ≡ standing (drawn_sets problem.now grouping.now.groups.items) (keys given.now) key) }
     ensures few { IfOk result (λ m. btree_map_len m ≤ btree_map_len given.now) }
 {
     let mut found = BTreeMap::new(alloc);

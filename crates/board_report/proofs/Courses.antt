@@ -1,17 +1,17 @@
 -- A board from its first round on, through all events.
 use Rattle.std.proofs.Common.{◌≡◌, ℕ, Bool, List, [], ◌++◌, sym, ap, ◌∙◌, subst, Option, IfSome}
 use Rattle.std.specs.List.{flat_map}
-use Rattle.grouping_problem.specs.ProblemValue.{problem_of}
-use Rattle.grouping_problem.specs.declared.problem.Problem.{Problem as ProblemHeld}
-use Rattle.certificate_languages.specs.declared.language.Language.{Language}
-use Rattle.proof_trees.specs.Round.{Round}
-use Rattle.shared_proofs.specs.Content.{Content, Event}
+use Rattle.county_problem.specs.ProblemValue.{problem_of}
+use Rattle.county_problem.specs.declared.problem.Problem.{Problem as ProblemHeld}
+use Rattle.certificate_data.specs.declared.language.Language.{Language}
+use Rattle.certificate_data.specs.Round.{Round}
+use Rattle.board_laws.specs.Content.{Content, Event}
 use Rattle.share_board.specs.declared.board.Board.{Board}
 use Rattle.share_board.specs.BoardValue.{IsOf, Keeps}
 use Rattle.share_board.specs.Rounds.{IsOpening}
-use Rattle.event_text.specs.Replies.{reply_line}
+use Rattle.board_events.specs.Replies.{reply_line}
 use Rattle.branch_bound.specs.declared.piece.Piece.{Piece}
-use Rattle.board_report.specs.Taking.{Takes, IsTaken, HasTaken, HasTold, HasHeard}
+use Rattle.board_report.specs.Taking.{TakesEvents, EventsAreTaken, HasTaken, HasTold, HasHeard}
 use Rattle.board_report.specs.Shared.{IsEnded, IsShared}
 use Rattle.board_report.specs.declared.shared.Shared.{Shared}
 use Rattle.board_report.specs.PieceText.{HasText}
@@ -19,14 +19,14 @@ use Rattle.board_report.specs.Proved.{IsAnswerAt, IsAnswered, piece_budget}
 use Rattle.board_report.proofs.InTurn.{same_language}
 
 module _ {C : Type 0} (test : C → ℕ → Bool) (problem : ProblemHeld) (depth budget : ℕ) (round : Round) (before later : Board C) (b : Content) (events : List Event) where
-  taken_from : before.problem ≡ problem → before.depth ≡ depth → before.budget ≡ budget → IsOpening (problem_of problem) depth round b → (taken : HasTaken test before b events later) → IsTaken (problem_of problem) depth budget round events taken.replies taken.last
+  taken_from : before.problem ≡ problem → before.depth ≡ depth → before.budget ≡ budget → IsOpening (problem_of problem) depth round b → (taken : HasTaken test before b events later) → EventsAreTaken (problem_of problem) depth budget round events taken.replies taken.last
   taken_from problem_is depth_is budget_is opening taken = record {
     first = b;
     opening = opening;
     takes =
-        subst (λ z. Takes (problem_of z) depth budget b events taken.replies taken.last) problem_is
-        (subst (λ z. Takes (problem_of before.problem) z budget b events taken.replies taken.last) depth_is
-        (subst (λ z. Takes (problem_of before.problem) before.depth z b events taken.replies taken.last) budget_is taken.takes));
+        subst (λ z. TakesEvents (problem_of z) depth budget b events taken.replies taken.last) problem_is
+        (subst (λ z. TakesEvents (problem_of before.problem) z budget b events taken.replies taken.last) depth_is
+        (subst (λ z. TakesEvents (problem_of before.problem) before.depth z b events taken.replies taken.last) budget_is taken.takes));
   }
 
   pub shared_so : before.problem ≡ problem → before.depth ≡ depth → before.budget ≡ budget → IsOpening (problem_of problem) depth round b → (start text : List ℕ) → start ≡ [] → HasTold test before b events later start text → Keeps before later
@@ -45,7 +45,7 @@ module _ {C : Type 0} (test : C → ℕ → Bool) (problem : ProblemHeld) (depth
   answered_so problem_is depth_is budget_is opening heard number answer is same = record {
     replies = (heard.0).replies;
     last = (heard.0).last;
-    taken = subst (λ z. IsTaken (problem_of problem) depth z round events (heard.0).replies (heard.0).last) same (taken_from problem_is depth_is (budget_is ∙ sym same) opening heard.0);
+    taken = subst (λ z. EventsAreTaken (problem_of problem) depth z round events (heard.0).replies (heard.0).last) same (taken_from problem_is depth_is (budget_is ∙ sym same) opening heard.0);
     none_refused = heard.1;
     answer_is = is (heard.0).last (heard.0).is;
   }

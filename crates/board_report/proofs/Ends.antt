@@ -2,17 +2,17 @@
 use Rattle.std.proofs.Common.{◌≡◌, ℕ, List, [], ◌∷◌, ◌++◌, length, codes, Vec, Global, refl, sym, ap, ◌∙◌, subst, inl, Option, Some, None, option_map}
 use Rattle.grouping_laws.specs.Problem.{Problem}
 use Rattle.grouping_laws.proofs.Elements.{Has, has_from_contains, contains_from_has}
-use Rattle.proof_trees.specs.Round.{Round}
-use Rattle.proof_trees.specs.Tree.{Tree}
-use Rattle.certificate_text.specs.Trees.{Certificate}
+use Rattle.certificate_data.specs.Round.{Round}
+use Rattle.certificate_data.specs.Tree.{Tree}
+use Rattle.certificate_data.specs.TreeValue.{Certificate}
 use Rattle.certificate_text.specs.Spelled.{IsSpelling}
-use Rattle.shared_proofs.specs.Skeleton.{Skeleton, joined, waiting}
-use Rattle.shared_proofs.specs.Content.{Content, IsContent}
-use Rattle.shared_proofs.proofs.Boards.{boards_keep}
-use Rattle.shared_proofs.proofs.Joining.{skeletons_join}
+use Rattle.board_laws.specs.Skeleton.{Skeleton, joined, waiting}
+use Rattle.board_laws.specs.Content.{Content, IsContent}
+use Rattle.board_laws.proofs.Boards.{boards_keep}
+use Rattle.board_laws.proofs.Joining.{skeletons_join}
 use Rattle.share_board.specs.OpenPieces.{AreOpen}
-use Rattle.certificate_languages.specs.declared.language.Language.{Language}
-use Rattle.board_report.specs.Shared.{IsJoined, AreJoined, IsEnded, left_lines, end_lines}
+use Rattle.certificate_data.specs.declared.language.Language.{Language}
+use Rattle.board_report.specs.Shared.{IsJoinedText, AreJoined, IsEnded, left_lines, board_end_lines}
 use Rattle.board_report.specs.declared.shared.Shared.{Shared}
 
 none_waits : (skeleton : Skeleton) → AreOpen skeleton [] → waiting skeleton ≡ []
@@ -30,7 +30,7 @@ waits skeleton n found tree are some =
     let none = (skeletons_join).waits skeleton n ((are.each n).0 (contains_from_has (n ∷ found) n (inl refl))) in
     let e : None ≡ Some tree = sym none ∙ some in absurd (cc)
 
-pub are_joined : (p : Problem) (b : Content) (found text : List ℕ) → AreOpen b.skeleton found → IsJoined p b text → AreJoined p b found (Some text)
+pub are_joined : (p : Problem) (b : Content) (found text : List ℕ) → AreOpen b.skeleton found → IsJoinedText p b text → AreJoined p b found (Some text)
 are_joined p b [] text are is = is
 are_joined p b (n ∷ found) text are is = absurd (waits b.skeleton n found is.tree are is.joins)
 
@@ -38,11 +38,11 @@ pub are_left : (p : Problem) (b : Content) (found : List ℕ) → AreOpen b.skel
 are_left p b [] are none = absurd (joins b.skeleton are none)
 are_left p b (n ∷ found) are none = none
 
-pub joined_end : (b : Content) (found : List ℕ) (tree : Tree) → AreOpen b.skeleton found → joined b.skeleton ≡ Some tree → end_lines b found ≡ end_lines b []
+pub joined_end : (b : Content) (found : List ℕ) (tree : Tree) → AreOpen b.skeleton found → joined b.skeleton ≡ Some tree → board_end_lines b found ≡ board_end_lines b []
 joined_end b [] tree are some = refl
 joined_end b (n ∷ found) tree are some = absurd (waits b.skeleton n found tree are some)
 
-pub left_end : (b : Content) (found : List ℕ) → AreOpen b.skeleton found → joined b.skeleton ≡ None → end_lines b found ≡ left_lines b.round.language b.number found
+pub left_end : (b : Content) (found : List ℕ) → AreOpen b.skeleton found → joined b.skeleton ≡ None → board_end_lines b found ≡ left_lines b.round.language b.number found
 left_end b [] are none = absurd (joins b.skeleton are none)
 left_end b (n ∷ found) are none = refl
 
@@ -58,7 +58,7 @@ some_joined round c None e = absurd (cc)
 some_joined round c (Some tree) e = (tree, refl, cc)
 
 -- the text of the certificate that the pieces join to
-pub text_joined : (p : Problem) (b : Content) (c : Certificate) (text : List ℕ) → IsContent p b → Some c ≡ option_map (λ tree. made b.round tree) (joined b.skeleton) → IsSpelling text c → IsJoined p b text
+pub text_joined : (p : Problem) (b : Content) (c : Certificate) (text : List ℕ) → IsContent p b → Some c ≡ option_map (λ tree. made b.round tree) (joined b.skeleton) → IsSpelling text c → IsJoinedText p b text
 text_joined p b c text content e spelled =
     let r = some_joined b.round c (joined b.skeleton) e in
     record {

@@ -7,8 +7,9 @@ use Rattle.county_codes.specs.declared.county.County.{County}
 use Rattle.grouping_laws.specs.Problem.{Problem, IsProblem}
 use Rattle.grouping_laws.specs.Grouping.{Grouping}
 use Rattle.grouping_laws.proofs.Digits.{often_member}
-use Rattle.proof_trees.specs.Round.{Language, Round}
-use Rattle.shared_proofs.specs.Content.{Content}
+use Rattle.certificate_data.specs.declared.language.Language.{Language}
+use Rattle.certificate_data.specs.Round.{Round}
+use Rattle.board_laws.specs.Content.{Content}
 use Rattle.share_board.specs.declared.board.Board.{Board}
 use Rattle.share_board.specs.declared.fault.BoardFault.{BoardFault}
 use Rattle.share_board.specs.BoardValue.{IsOf}

@@ -2,10 +2,10 @@
 use Rattle.std.proofs.Common.{◌≡◌, ◌≢◌, ℕ, List, sym, ◌∙◌, subst, arith, inl, inr, Contains}
 use Rattle.grouping_laws.specs.Problem.{Problem}
 use Rattle.grouping_laws.proofs.Elements.{Has, has_from_contains}
-use Rattle.proof_trees.specs.State.{State, empty_state}
-use Rattle.shared_proofs.specs.Skeleton.{waiting}
-use Rattle.shared_proofs.specs.Standing.{StandsAt}
-use Rattle.shared_proofs.specs.Content.{Content, hand, Reply, Piece, NothingLeft, Memory}
+use Rattle.certificate_laws.specs.State.{State, empty_state}
+use Rattle.board_laws.specs.Skeleton.{waiting}
+use Rattle.board_laws.specs.Standing.{StandsAt}
+use Rattle.board_laws.specs.Content.{Content, hand, Reply, Piece, NothingLeft, Memory}
 use Rattle.share_board.specs.Replies.{IsReply, IsHanded}
 
 -- what is said where a piece is handed out

@@ -2,27 +2,27 @@
 use Rattle.std.proofs.Common.{◌≡◌, ◌≢◌, ℕ, Bool, List, [], ◌∷◌, ◌++◌, refl, ap, ◌∙◌, subst, Result, Ok, Err, OnOk}
 use Rattle.std.proofs.lemmas.List.{flat_map_more}
 use Rattle.grouping_laws.specs.Problem.{Problem}
-use Rattle.grouping_problem.specs.ProblemValue.{problem_of}
-use Rattle.shared_proofs.specs.Content.{Content, Event, Reply, Leads}
-use Rattle.shared_proofs.specs.Content as reply
-use Rattle.shared_proofs.proofs.Boards.{boards_keep}
+use Rattle.county_problem.specs.ProblemValue.{problem_of}
+use Rattle.board_laws.specs.Content.{Content, Event, Reply, Leads}
+use Rattle.board_laws.specs.Content as reply
+use Rattle.board_laws.proofs.Boards.{boards_keep}
 use Rattle.share_board.specs.declared.board.Board.{Board}
 use Rattle.share_board.specs.declared.reply.Reply.{Reply as ReplyHeld}
 use Rattle.share_board.specs.declared.reply.Reply.TheVariants as held
 use Rattle.share_board.specs.BoardValue.{IsOf, Follows, Keeps, reply_of}
 use Rattle.share_board.specs.Replies.{IsReply}
-use Rattle.event_text.specs.Replies.{reply_line}
-use Rattle.board_report.specs.Taking.{Takes, NoneRefused, HasTaken, HasTold, HasHeard}
+use Rattle.board_events.specs.Replies.{reply_line}
+use Rattle.board_report.specs.Taking.{TakesEvents, NoneRefused, HasTaken, HasTold, HasHeard}
 
-takes_more : (p : Problem) (depth budget : ℕ) (b c d : Content) (events : List Event) (replies : List Reply) (event : Event) (answer : Reply) → Takes p depth budget b events replies c → IsReply p depth budget c event answer → Leads p depth c event answer d
-    → Takes p depth budget b (events ++ event ∷ []) (replies ++ answer ∷ []) d
+takes_more : (p : Problem) (depth budget : ℕ) (b c d : Content) (events : List Event) (replies : List Reply) (event : Event) (answer : Reply) → TakesEvents p depth budget b events replies c → IsReply p depth budget c event answer → Leads p depth c event answer d
+    → TakesEvents p depth budget b (events ++ event ∷ []) (replies ++ answer ∷ []) d
 takes_more p depth budget b c d [] [] event answer t says l = (subst (λ z. IsReply p depth budget z event answer) t says, (d, subst (λ z. Leads p depth z event answer d) t l, refl))
 takes_more p depth budget b c d [] (r ∷ replies) event answer t says l = absurd t
 takes_more p depth budget b c d (e ∷ events) [] event answer t says l = absurd t
 takes_more p depth budget b c d (e ∷ events) (r ∷ replies) event answer t says l = (t.0, (t.1.0, t.1.1, takes_more p depth budget t.1.0 c d events replies event answer t.1.2 says l))
 
 -- events leave the language
-pub same_language : (p : Problem) (depth budget : ℕ) (b c : Content) (events : List Event) (replies : List Reply) → Takes p depth budget b events replies c → c.round.language ≡ b.round.language
+pub same_language : (p : Problem) (depth budget : ℕ) (b c : Content) (events : List Event) (replies : List Reply) → TakesEvents p depth budget b events replies c → c.round.language ≡ b.round.language
 same_language p depth budget b c [] [] t = ap (λ (z : Content). z.round.language) t
 same_language p depth budget b c [] (r ∷ replies) t = absurd t
 same_language p depth budget b c (e ∷ events) [] t = absurd t

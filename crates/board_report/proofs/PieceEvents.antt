@@ -11,9 +11,9 @@ use Rattle.grouping_laws.specs.Grouping.{Grouping}
 use Rattle.grouping_laws.specs.GroupsFrom.{IsOrder}
 use Rattle.grouping_laws.specs.Sets.{member}
 use Rattle.grouping_laws.proofs.Digits.{true_digit, digit_true}
-use Rattle.proof_trees.specs.Round.{Round}
-use Rattle.proof_trees.specs.State.{State, IsState}
-use Rattle.certificate_text.specs.Trees.{tree_of}
+use Rattle.certificate_data.specs.Round.{Round}
+use Rattle.certificate_laws.specs.State.{State, IsState}
+use Rattle.certificate_data.specs.TreeValue.{tree_of}
 use Rattle.certificate_text.specs.TreeItems.{HasTargetLines}
 use Rattle.certificate_text.proofs.ItemsFit.{target_fits}
 use Rattle.certificate_text.proofs.Texts.{have_texts}
@@ -22,7 +22,7 @@ use Rattle.share_board.proofs.Spelling.{five_digits}
 use Rattle.branch_bound.specs.Pieces.{IsPiece}
 use Rattle.branch_bound.specs.declared.piece.Piece.{Piece}
 use Rattle.branch_bound.specs.declared.piece.Piece.TheVariants.{Proved, Better, Wider, Open}
-use Rattle.event_text.specs.Lines.{greatest}
+use Rattle.board_events.specs.Lines.{greatest}
 use Rattle.board_report.specs.PieceText.{HasText}
 
 groups_fit : (g : Grouping) → HasTargetLines g → AllFit (groups_wanted (length g)) (map Grouped g)

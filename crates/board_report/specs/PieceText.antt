@@ -1,12 +1,12 @@
 -- What is printed of the answer of a desk.
 use Rattle.std.specs.Prelude.{ℕ, ◌≤◌, List, codes, Option, Some, None, IfSome}
-use Rattle.certificate_languages.specs.declared.language.Language.{Language}
-use Rattle.certificate_text.specs.Trees.{tree_of}
-use Rattle.shared_proofs.specs.Content.{Event, result, split_piece, better, wider}
+use Rattle.certificate_data.specs.declared.language.Language.{Language}
+use Rattle.certificate_data.specs.TreeValue.{tree_of}
+use Rattle.board_laws.specs.Content.{Event, result, split_piece, better, wider}
 use Rattle.branch_bound.specs.declared.piece.Piece.{Piece}
 use Rattle.branch_bound.specs.declared.piece.Piece.TheVariants.{Proved, Better, Wider, Open}
-use Rattle.event_text.specs.Lines.{greatest}
-use Rattle.event_text.specs.Spelled.{text_of_event, HasSpelling}
+use Rattle.board_events.specs.Lines.{greatest}
+use Rattle.board_events.specs.Spelled.{text_of_event, HasSpelling}
 
 -- the event that gives the answer to a board, for a round and a piece of these numbers; none, if no branch is proposed
 abbrev pub event_in : ℕ → ℕ → Piece → Option Event
@@ -26,4 +26,5 @@ piece_text_of round number piece = told (event_in round number piece)
 
 -- whatever the number of the round, a text spells the event, if there is one
 abbrev pub HasText : Language → (counties number : ℕ) → Piece → Type 0
-HasText language counties number piece = (round : ℕ) → round ≤ greatest → IfSome (event_in round number piece) (HasSpelling language counties)
+HasText language counties number piece =
+    (round : ℕ) → round ≤ greatest → IfSome (event_in round number piece) (HasSpelling language counties)

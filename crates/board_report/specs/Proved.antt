@@ -1,18 +1,18 @@
 -- What a desk answers of a piece of a board that has taken events.
 use Rattle.std.specs.Prelude.{ℕ, Bool, List, length, Contains, Option, Some, None}
 use Rattle.grouping_laws.specs.Problem.{Problem}
-use Rattle.grouping_problem.specs.ProblemValue.{problem_of}
-use Rattle.proof_trees.specs.Round.{Round}
-use Rattle.proof_trees.specs.State.{State, empty_state}
-use Rattle.proof_trees.specs.declared.state.State.{State as StateHeld}
-use Rattle.line_verdicts.specs.Placed.{state_at, IsPlaced}
-use Rattle.shared_proofs.specs.Skeleton.{waiting}
-use Rattle.shared_proofs.specs.Standing.{StandsAt}
-use Rattle.shared_proofs.specs.Content.{Content, Event, Reply}
+use Rattle.county_problem.specs.ProblemValue.{problem_of}
+use Rattle.certificate_data.specs.Round.{Round}
+use Rattle.certificate_laws.specs.State.{State, empty_state}
+use Rattle.state_groups.specs.declared.state.State.{State as StateHeld}
+use Rattle.state_judge.specs.Placed.{state_at, IsPlaced}
+use Rattle.board_laws.specs.Skeleton.{waiting}
+use Rattle.board_laws.specs.Standing.{StandsAt}
+use Rattle.board_laws.specs.Content.{Content, Event, Reply}
 use Rattle.share_board.specs.declared.board.Board.{Board}
 use Rattle.branch_bound.specs.Pieces.{IsPiece}
 use Rattle.branch_bound.specs.declared.piece.Piece.{Piece}
-use Rattle.board_report.specs.Taking.{IsTaken, NoneRefused}
+use Rattle.board_report.specs.Taking.{EventsAreTaken, NoneRefused}
 
 -- how much an event may cost on such a board
 abbrev pub piece_budget : ℕ
@@ -34,9 +34,10 @@ IsAnswerAt p b number (Some piece) =
     × ((s : State) × StandsAt b.skeleton b.round (empty_state p) number s × IsPiece p b.round s piece)
 
 -- the piece of a board that has taken all events
-pub record IsAnswered (p : Problem) (depth : ℕ) (round : Round) (events : List Event) (number : ℕ) (answer : Option Piece) : Type 0 where
+pub record IsAnswered (p : Problem) (depth : ℕ) (round : Round) (events : List Event) (number : ℕ)
+    (answer : Option Piece) : Type 0 where
   pub replies : List Reply
   pub last : Content
-  pub taken : IsTaken p depth piece_budget round events replies last
+  pub taken : EventsAreTaken p depth piece_budget round events replies last
   pub none_refused : NoneRefused replies
   pub answer_is : IsAnswerAt p last number answer

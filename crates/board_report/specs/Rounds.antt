@@ -4,11 +4,13 @@ use Rattle.std.specs.List.Sorted.{IsStrictlyIncreasing}
 use Rattle.grouping_laws.specs.Problem.{Problem}
 use Rattle.grouping_laws.specs.Grouping.{Grouping}
 use Rattle.grouping_laws.specs.GroupsFrom.{IsOrder}
-use Rattle.proof_trees.specs.Round.{Language, Round}
+use Rattle.certificate_data.specs.declared.language.Language.{Language}
+use Rattle.certificate_data.specs.Round.{Round}
 use Rattle.share_board.specs.Rounds.{first_round}
 
 -- the first round of a board, of which there is one: its order has each county of the problem once, by ascending codes
-pub record IsFirstRound (p : Problem) (target : Grouping) (limit : ℕ) (language : Language) (round : Round) : Type 0 where
+pub record IsFirstRound (p : Problem) (target : Grouping) (limit : ℕ) (language : Language)
+    (round : Round) : Type 0 where
   pub order : IsOrder p round.order
   pub ascending : IsStrictlyIncreasing round.order
   pub is : round ≡ first_round p target round.order limit language

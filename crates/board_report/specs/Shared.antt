@@ -1,19 +1,19 @@
 -- What is said of a board when events were taken.
 use Rattle.std.specs.Prelude.{ℕ, ◌≡◌, List, [], ◌∷◌, ◌++◌, length, codes, decimal, Option, Some, None, option_map}
 use Rattle.std.specs.List.{flat_map}
-use Rattle.certificate_languages.specs.declared.language.Language.{Language}
-use Rattle.certificate_languages.specs.declared.language.Language.TheVariants.{Plain, Wide}
+use Rattle.certificate_data.specs.declared.language.Language.{Language}
+use Rattle.certificate_data.specs.declared.language.Language.TheVariants.{Plain, Wide}
 use Rattle.grouping_laws.specs.Problem.{Problem}
 use Rattle.grouping_laws.specs.Grouping.{Grouping, IsBest}
-use Rattle.proof_trees.specs.Round.{Round}
-use Rattle.proof_trees.specs.Tree.{Tree}
-use Rattle.proof_trees.specs.Certificate.{IsCertificate}
+use Rattle.certificate_data.specs.Round.{Round}
+use Rattle.certificate_data.specs.Tree.{Tree}
+use Rattle.certificate_laws.specs.Certificate.{IsCertificate}
 use Rattle.certificate_text.specs.Spelled.{IsSpelling}
-use Rattle.shared_proofs.specs.Skeleton.{joined}
-use Rattle.shared_proofs.specs.Content.{Content, Event, Reply}
+use Rattle.board_laws.specs.Skeleton.{joined}
+use Rattle.board_laws.specs.Content.{Content, Event, Reply}
 use Rattle.share_board.specs.OpenPieces.{AreOpen}
-use Rattle.event_text.specs.Replies.{reply_line}
-use Rattle.board_report.specs.Taking.{IsTaken}
+use Rattle.board_events.specs.Replies.{reply_line}
+use Rattle.board_report.specs.Taking.{EventsAreTaken}
 use Rattle.board_report.specs.declared.shared.Shared.{Shared}
 
 -- a piece that waits, with the number of its round
@@ -27,15 +27,16 @@ open_lines Wide number found = flat_map (open_line number) found
 
 -- how many pieces wait, and which
 abbrev pub left_lines : Language → ℕ → List ℕ → List ℕ
-left_lines language number found = codes "left " ++ decimal (length found) ++ codes "\n" ++ open_lines language number found
+left_lines language number found =
+    codes "left " ++ decimal (length found) ++ codes "\n" ++ open_lines language number found
 
 -- the last lines: `joined` if no piece waits, and else how many pieces wait, and which
-abbrev pub end_lines : Content → List ℕ → List ℕ
-end_lines b [] = codes "joined\n"
-end_lines b (piece ∷ found) = left_lines b.round.language b.number (piece ∷ found)
+abbrev pub board_end_lines : Content → List ℕ → List ℕ
+board_end_lines b [] = codes "joined\n"
+board_end_lines b (piece ∷ found) = left_lines b.round.language b.number (piece ∷ found)
 
 -- the text spells the certificate to which the pieces join, and its target is best
-pub record IsJoined (p : Problem) (b : Content) (text : List ℕ) : Type 0 where
+pub record IsJoinedText (p : Problem) (b : Content) (text : List ℕ) : Type 0 where
   pub tree : Tree
   pub joins : joined b.skeleton ≡ Some tree
   pub certifies : IsCertificate p b.round tree
@@ -46,7 +47,7 @@ pub record IsJoined (p : Problem) (b : Content) (text : List ℕ) : Type 0 where
 
 -- the text of a certificate is there exactly where no piece waits
 abbrev pub AreJoined : Problem → Content → List ℕ → Option (List ℕ) → Type 0
-AreJoined p b [] (Some text) = IsJoined p b text
+AreJoined p b [] (Some text) = IsJoinedText p b text
 AreJoined p b (piece ∷ found) None = joined b.skeleton ≡ None
 AreJoined p b found text = ⊥
 
@@ -55,12 +56,13 @@ pub record IsEnded (p : Problem) (b : Content) (before : List ℕ) (shared : Sha
   pub found : List ℕ
   pub found_are : AreOpen b.skeleton found
   pub left : shared.left ≡ length found
-  pub text : shared.text.items ≡ before ++ end_lines b found
+  pub text : shared.text.items ≡ before ++ board_end_lines b found
   pub certificate : AreJoined p b found (option_map (λ t. t.items) shared.certificate)
 
 -- a line for the reply to each event, and then how the board stands
-pub record IsShared (p : Problem) (depth budget : ℕ) (round : Round) (events : List Event) (shared : Shared) : Type 0 where
+pub record IsShared (p : Problem) (depth budget : ℕ) (round : Round) (events : List Event)
+    (shared : Shared) : Type 0 where
   pub replies : List Reply
   pub last : Content
-  pub taken : IsTaken p depth budget round events replies last
+  pub taken : EventsAreTaken p depth budget round events replies last
   pub ended : IsEnded p last (flat_map reply_line replies) shared

@@ -3,13 +3,13 @@
 ghost use Rattle.std.specs.Prelude.{◌≡◌, ◌≤◌, ℕ, [], ◌∷◌, IfOk, IfSome, option_map};
 ghost use Rattle.certificate_lines.specs.Lines.{most};
 ghost use Rattle.share_board.specs.Events.{event_of};
-ghost use Rattle.event_text.specs.Spelled.{text_of_event, HasSpelling, AreSpelled};
+ghost use Rattle.board_events.specs.Spelled.{text_of_event, HasSpelling, EventsAreSpelled};
 ghost use Rattle.board_report.specs.PieceText.{event_in, piece_text_of, HasText};
 
+use board_events::write_event;
 use branch_bound::Piece;
-use certificate_text::WriteFault;
-use event_text::write_event;
-use proof_trees::Language;
+use certificate_data::Language;
+use certificate_lines::WriteFault;
 use share_board::Event;
 use std::alloc::{AllocError, Global};
 
@@ -40,7 +40,7 @@ fn event_lines(
 ) -> Result<Vec<u8>, AllocError>
     requires few { counties ≤ most }
     requires spelled { HasSpelling language counties (event_of event.now) }
-    ensures spelled { IfOk result (λ text. AreSpelled language counties text.items (event_of event.now ∷ [])) }
+    ensures spelled { IfOk result (λ text. EventsAreSpelled language counties text.items (event_of event.now ∷ [])) }
     ensures text { IfOk result (λ text. text.items ≡ text_of_event (event_of event.now)) }
 {
     match write_event(alloc, event, language, counties) {
@@ -67,7 +67,7 @@ pub fn piece_text(
     requires few { counties ≤ most }
     requires spelled { HasText language counties number piece.now }
     ensures text { IfOk result (λ text. text.items ≡ piece_text_of round number piece.now) }
-    ensures spelled { IfOk result (λ text. IfSome (event_in round number piece.now) (λ event. AreSpelled language counties text.items (event ∷ []))) }
+    ensures spelled { IfOk result (λ text. IfSome (event_in round number piece.now) (λ event. EventsAreSpelled language counties text.items (event ∷ []))) }
 {
     match answer_event(piece, round, number)? {
         Some(event) => event_lines(alloc, &event, language, counties),

@@ -3,18 +3,18 @@
 ghost use Rattle.std.specs.Prelude.{◌≡◌, ℕ, ◌++◌, List, length, IfOk, OnOk};
 ghost use Rattle.std.specs.List.{flat_map};
 ghost use Rattle.certificate_text.specs.Spelled.{IsSpelling};
-ghost use Rattle.certificate_text.specs.Trees.{certificate_of};
-ghost use Rattle.grouping_problem.specs.ProblemValue.{problem_of};
-ghost use Rattle.shared_proofs.specs.Content.{Content};
+ghost use Rattle.certificate_data.specs.TreeValue.{certificate_of};
+ghost use Rattle.county_problem.specs.ProblemValue.{problem_of};
+ghost use Rattle.board_laws.specs.Content.{Content};
 ghost use Rattle.share_board.specs.BoardValue.{IsOf};
 ghost use Rattle.board_report.specs.Shared.{open_line, open_lines, left_lines, IsEnded};
 
 use crate::shared::Shared;
-use certificate_lines::push_number_line;
-use certificate_text::{Certificate, WriteFault, write};
+use certificate_data::{Certificate, Language};
+use certificate_lines::{WriteFault, push_number_line};
+use certificate_text::write;
 use grouping_report::push_words_number;
 use place_sets::CountySet;
-use proof_trees::Language;
 use share_board::Board;
 use std::alloc::{AllocError, Global};
 
@@ -84,7 +84,8 @@ pub(crate) fn ended<C: CountySet>(
     text: Vec<u8>,
 ) -> Result<Shared, AllocError>
     requires { (b : Content) × IsOf C.test board.now b }
-    ensures { (b : Content) → IsOf C.test board.now b → IfOk result (IsEnded (problem_of board.now.problem) b text.items) }
+    ensures { (b : Content) → IsOf C.test board.now b
+        → IfOk result (IsEnded (problem_of board.now.problem) b text.items) }
 {
     let mut text = text;
     let found = board.open_pieces(alloc)?;

@@ -1,15 +1,15 @@
 //! The board of a command before its events.
 
 ghost use Rattle.std.specs.Prelude.{◌≡◌, ℕ, ◌≤◌, length, IfOk, MatchResult};
-ghost use Rattle.grouping_problem.specs.ProblemValue.{problem_of};
-ghost use Rattle.shared_proofs.specs.Content.{Content};
+ghost use Rattle.county_problem.specs.ProblemValue.{problem_of};
+ghost use Rattle.board_laws.specs.Content.{Content};
 ghost use Rattle.share_board.specs.BoardValue.{IsOf};
 ghost use Rattle.share_board.specs.Rounds.{IsOpening, IsBoardFault};
 ghost use Rattle.board_report.specs.Rounds.{IsFirstRound, round_by_code};
 
 use crate::shape::BoardShape;
 use county_codes::{Grouping, listed_codes};
-use grouping_problem::Problem;
+use county_problem::Problem;
 use place_sets::CountySet;
 use share_board::{Board, BoardFault};
 use std::alloc::Global;

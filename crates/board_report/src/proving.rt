@@ -1,10 +1,10 @@
 //! What a desk answers of a piece that waits.
 
 ghost use Rattle.std.specs.Prelude.{◌≡◌, ℕ, ◌≤◌, length, map, IfOk, IfSome, MatchResult};
-ghost use Rattle.grouping_problem.specs.ProblemValue.{problem_of};
-ghost use Rattle.proof_trees.specs.Round.{Round as RoundValue};
-ghost use Rattle.proof_trees.specs.RoundValue.{round_of};
-ghost use Rattle.shared_proofs.specs.Content.{Content};
+ghost use Rattle.county_problem.specs.ProblemValue.{problem_of};
+ghost use Rattle.certificate_data.specs.Round.{Round as RoundValue};
+ghost use Rattle.certificate_data.specs.RoundValue.{round_of};
+ghost use Rattle.board_laws.specs.Content.{Content};
 ghost use Rattle.share_board.specs.BoardValue.{IsOf};
 ghost use Rattle.share_board.specs.Events.{event_of};
 ghost use Rattle.share_board.specs.Rounds.{IsBoardFault};
@@ -17,11 +17,10 @@ use crate::shape::BoardShape;
 use crate::taking::take_all;
 use branch_bound::{Piece, prove_piece};
 use county_codes::Grouping;
-use grouping_problem::Problem;
-use ordered_counties::Steps;
+use county_problem::{Problem, Steps};
 use place_sets::{CountySet, MaskSet, Places, fits_mask};
-use proof_trees::State;
 use share_board::{Board, BoardFault, Event, Reply};
+use state_groups::State;
 use std::alloc::{AllocError, Global};
 
 /// How much an event may cost on the board of a piece.
@@ -59,7 +58,8 @@ fn answer_at<C: CountySet>(
     requires board { (b : Content) × IsOf C.test board.now b }
     requires problem { board.now.problem ≡ problem.now }
     requires fits { length board.now.round.order ≤ C.PLACES }
-    ensures answer { (b : Content) → IsOf C.test board.now b → IfOk result (IsAnswerAt (problem_of problem.now) b number) }
+    ensures answer { (b : Content) → IsOf C.test board.now b
+        → IfOk result (IsAnswerAt (problem_of problem.now) b number) }
     ensures text { IfOk result (λ r. IfSome r (HasText board.now.round.language (length board.now.round.order) number)) }
 {
     let Some(state) = waiting_state(alloc, board, number)? else {

@@ -1,6 +1,6 @@
 //! The language, the limit and the depth of a board's first round.
 
-use proof_trees::Language;
+use certificate_data::Language;
 
 /// How the first round of a board is.
 #[derive(Clone, Copy, Debug)]

@@ -1,8 +1,8 @@
 //! What a board comes to by a list of events.
 
 ghost use Rattle.std.specs.Prelude.{◌≡◌, ℕ, ◌≤◌, length, map, MatchResult};
-ghost use Rattle.grouping_problem.specs.ProblemValue.{problem_of};
-ghost use Rattle.proof_trees.specs.Round.{Round as RoundValue};
+ghost use Rattle.county_problem.specs.ProblemValue.{problem_of};
+ghost use Rattle.certificate_data.specs.Round.{Round as RoundValue};
 ghost use Rattle.share_board.specs.Events.{event_of};
 ghost use Rattle.share_board.specs.Rounds.{IsBoardFault};
 ghost use Rattle.board_report.specs.Rounds.{IsFirstRound};
@@ -14,7 +14,7 @@ use crate::shape::BoardShape;
 use crate::shared::Shared;
 use crate::taking::take_and_tell;
 use county_codes::Grouping;
-use grouping_problem::Problem;
+use county_problem::Problem;
 use place_sets::{CountySet, MaskSet, Places, fits_mask};
 use share_board::{Board, BoardFault, Event};
 use std::alloc::Global;

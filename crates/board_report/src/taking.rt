@@ -1,15 +1,15 @@
 //! Events, taken by a board in turn.
 
 ghost use Rattle.std.specs.Prelude.{◌≡◌, ◌≢◌, ℕ, ◌++◌, ◌≤◌, Bool, false, List, length, map, OnOk};
-ghost use Rattle.grouping_problem.specs.ProblemValue.{problem_of};
-ghost use Rattle.shared_proofs.specs.Content.{Content, Reply as ReplyValue, Memory};
+ghost use Rattle.county_problem.specs.ProblemValue.{problem_of};
+ghost use Rattle.board_laws.specs.Content.{Content, Reply as ReplyValue, Memory};
 ghost use Rattle.share_board.specs.BoardValue.{IsOf, Follows, Keeps, reply_of};
 ghost use Rattle.share_board.specs.Events.{event_of};
 ghost use Rattle.share_board.specs.Replies.{IsReply};
-ghost use Rattle.event_text.specs.Replies.{reply_line};
+ghost use Rattle.board_events.specs.Replies.{reply_line};
 ghost use Rattle.board_report.specs.Taking.{HasTold, HasHeard};
 
-use event_text::push_reply;
+use board_events::push_reply;
 use place_sets::CountySet;
 use share_board::{Board, Event, Reply};
 use std::alloc::{AllocError, Global};
@@ -46,7 +46,8 @@ pub(crate) fn take_and_tell<C: CountySet>(
 ) -> Result<(), AllocError>
     requires board { (b : Content) × IsOf C.test board.old b }
     requires fits { length board.old.round.order ≤ C.PLACES }
-    ensures told { OnOk result ((b : Content) → IsOf C.test board.old b → HasTold C.test board.old b (map event_of events.items) board.new text.old.items text.new.items) }
+    ensures told { OnOk result ((b : Content) → IsOf C.test board.old b
+        → HasTold C.test board.old b (map event_of events.items) board.new text.old.items text.new.items) }
     ensures keeps { Keeps board.old board.new }
 {
     for event in events {
@@ -106,7 +107,8 @@ pub(crate) fn take_all<C: CountySet>(
 ) -> Result<(), AllocError>
     requires board { (b : Content) × IsOf C.test board.old b }
     requires fits { length board.old.round.order ≤ C.PLACES }
-    ensures heard { OnOk result ((b : Content) → IsOf C.test board.old b → HasHeard C.test board.old b (map event_of events.items) board.new) }
+    ensures heard { OnOk result ((b : Content) → IsOf C.test board.old b
+        → HasHeard C.test board.old b (map event_of events.items) board.new) }
     ensures keeps { Keeps board.old board.new }
 {
     for event in events {

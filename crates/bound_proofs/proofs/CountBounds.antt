@@ -3,12 +3,12 @@ use Rattle.std.proofs.Common.{◌≡◌, ℕ, ◌+◌, ◌*◌, ◌≤◌, ◌<�
 use Rattle.std.proofs.lemmas.List.{map-append, length-map}
 use Rattle.grouping_laws.specs.Problem.{Problem}
 use Rattle.grouping_laws.specs.Grouping.{counts}
-use Rattle.certificate_languages.specs.declared.language.Language.{Language}
-use Rattle.proof_trees.specs.Round.{Round}
-use Rattle.proof_trees.specs.State.{State}
-use Rattle.proof_trees.specs.Tree.{Allowance}
-use Rattle.proof_trees.specs.BoundLines.{allowance, Bounds}
-use Rattle.proof_trees.specs.Search.{IsCountLine, AreCountLines}
+use Rattle.certificate_data.specs.declared.language.Language.{Language}
+use Rattle.certificate_data.specs.Round.{Round}
+use Rattle.certificate_laws.specs.State.{State}
+use Rattle.certificate_data.specs.Tree.{Allowance}
+use Rattle.certificate_laws.specs.BoundLines.{allowance, Bounds}
+use Rattle.certificate_laws.specs.Search.{IsCountLine, AreCountLines}
 use Rattle.bound_proofs.specs.CountLeaves.{BoundBy, BoundByNone}
 use Rattle.bound_proofs.proofs.CountWeights.{count_fair}
 

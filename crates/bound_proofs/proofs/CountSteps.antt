@@ -9,13 +9,13 @@ use Rattle.grouping_laws.specs.GroupsFrom.{place}
 use Rattle.grouping_laws.specs.PlaceProblem.{code_at}
 use Rattle.grouping_laws.proofs.Elements.{has_get}
 use Rattle.grouping_laws.proofs.Places.{has_member, place_at}
-use Rattle.proof_trees.specs.Round.{Round}
-use Rattle.proof_trees.specs.State.{State}
-use Rattle.proof_trees.specs.Tree.{Weight, weigh}
-use Rattle.certificate_languages.specs.declared.language.Language.{Language}
-use Rattle.proof_trees.specs.Search.{IsCounted, IsCountLine}
-use Rattle.certificate_lines.specs.declared.weights.Weight.{Weight as WeightHeld}
-use Rattle.certificate_text.specs.Trees.{weight_of as held_weight}
+use Rattle.certificate_data.specs.Round.{Round}
+use Rattle.certificate_laws.specs.State.{State}
+use Rattle.certificate_data.specs.Tree.{Weight, weigh}
+use Rattle.certificate_data.specs.declared.language.Language.{Language}
+use Rattle.certificate_laws.specs.Search.{IsInFittingGroup, IsCountLine}
+use Rattle.certificate_data.specs.declared.weights.Weight.{Weight as WeightHeld}
+use Rattle.certificate_data.specs.TreeValue.{weight_of as held_weight}
 use Rattle.bound_proofs.specs.CountLeaves.{has_county, IsListOf, AreListsFrom}
 use Rattle.bound_proofs.proofs.CountWeights.{one_for, made_line}
 
@@ -60,7 +60,7 @@ module _ (counted : ℕ → Bool) where
   weights_for counties = map one_for (filter counted (codes_of counties))
 
 -- where all counties were gone over, the weights make the count line
-pub made_of_weights : (language : Language) (p : Problem) (s : State) (i : ℕ) (counted : ℕ → Bool) → ((c : ℕ) → (counted c ≡ true) ↔ IsCounted language p s i c) → (counties : List County) → codes_of counties ≡ p.counties → AllPairs (λ x y. x < y) (codes_of counties)
+pub made_of_weights : (language : Language) (p : Problem) (s : State) (i : ℕ) (counted : ℕ → Bool) → ((c : ℕ) → (counted c ≡ true) ↔ IsInFittingGroup language p s i c) → (counties : List County) → codes_of counties ≡ p.counties → AllPairs (λ x y. x < y) (codes_of counties)
     → (k : ℕ) → length counties ≤ k → (ws held : List WeightHeld) → map held_weight ws ++ weights_for counted (drop k counties) ≡ weights_for counted counties → held ≡ ws → (quota : ℕ) → quota ≡ i → IsCountLine language p s i (weigh quota (map held_weight held))
 made_of_weights language p s i counted tests counties known up k over ws held same e quota f =
     let all : map held_weight held ≡ map one_for (filter counted p.counties) =

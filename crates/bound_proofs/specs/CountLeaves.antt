@@ -4,35 +4,39 @@ use Rattle.std.specs.Prelude.{ℕ, ◌+◌, ◌≡◌, ◌≤◌, Bool, ◌&&◌
 use Rattle.grouping_laws.specs.Sets.{member}
 use Rattle.grouping_laws.specs.Problem.{Problem}
 use Rattle.grouping_laws.specs.GroupsFrom.{place}
-use Rattle.growing_sets.specs.Listing.{AreBelow}
-use Rattle.proof_trees.specs.Round.{Round}
-use Rattle.proof_trees.specs.State.{State}
-use Rattle.proof_trees.specs.Tree.{Allowance}
-use Rattle.proof_trees.specs.Groups.{AreGroupsOf}
-use Rattle.proof_trees.specs.BoundLines.{Bounds}
-use Rattle.proof_trees.specs.Search.{AreCountLines}
-use Rattle.line_verdicts.specs.Placed.{codes_of_sets}
+use Rattle.connected_laws.specs.Listing.{AreBelow}
+use Rattle.certificate_data.specs.Round.{Round}
+use Rattle.certificate_laws.specs.State.{State}
+use Rattle.certificate_data.specs.Tree.{Allowance}
+use Rattle.certificate_laws.specs.Groups.{AreGroupsOf}
+use Rattle.certificate_laws.specs.BoundLines.{Bounds}
+use Rattle.certificate_laws.specs.Search.{AreCountLines}
+use Rattle.state_judge.specs.Placed.{codes_of_sets}
 
 -- whether a set of places has the county's
 abbrev pub has_county : {C : Type 0} → List ℕ → (C → ℕ → Bool) → C → ℕ → Bool
 has_county order test set c = member order c && test set (place order c)
 
 -- the groups of i counties that fit, each as a set of places of the order
-pub record IsListOf {C : Type 0} (test : C → ℕ → Bool) (order : List ℕ) (p : Problem) (round : Round) (s : State) (i : ℕ) (sets : List C) : Type 0 where
+pub record IsListOf {C : Type 0} (test : C → ℕ → Bool) (order : List ℕ) (p : Problem) (round : Round) (s : State)
+    (i : ℕ) (sets : List C) : Type 0 where
   pub groups : AreGroupsOf p round s i (codes_of_sets order test sets)
   pub below : AreBelow (length order) test sets
 
 -- for the sizes i, i + 1 and so on, the groups of each size that fit, as sets of places of the order
 abbrev pub AreListsFrom : {C : Type 0} → (C → ℕ → Bool) → List ℕ → Problem → Round → State → ℕ → List (List C) → Type 0
 AreListsFrom test order p round s i [] = ⊤
-AreListsFrom test order p round s i (sets ∷ lists) = IsListOf test order p round s i sets × AreListsFrom test order p round s (i + 1) lists
+AreListsFrom test order p round s i (sets ∷ lists) =
+    IsListOf test order p round s i sets × AreListsFrom test order p round s (i + 1) lists
 
 -- the bound leaf of so many count lines keeps below the counts that are wanted or comes to them
 abbrev pub BoundBy : Problem → Round → State → (ℕ → ℕ) → ℕ → Type 0
 BoundBy p round s wanted count =
-    (lines : List Allowance) → length lines ≡ count → AreCountLines round.language p s 1 lines → Bounds round.language p round.limit s wanted 1 0 lines
+    (lines : List Allowance) → length lines ≡ count → AreCountLines round.language p s 1 lines
+    → Bounds round.language p round.limit s wanted 1 0 lines
 
 -- no bound leaf of at most so many count lines keeps below the counts that are wanted or comes to them
 abbrev pub BoundByNone : Problem → Round → State → (ℕ → ℕ) → ℕ → Type 0
 BoundByNone p round s wanted most =
-    (lines : List Allowance) → length lines ≤ most → AreCountLines round.language p s 1 lines → Bounds round.language p round.limit s wanted 1 0 lines → ⊥
+    (lines : List Allowance) → length lines ≤ most → AreCountLines round.language p s 1 lines
+    → Bounds round.language p round.limit s wanted 1 0 lines → ⊥

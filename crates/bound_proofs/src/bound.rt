@@ -4,23 +4,23 @@ ghost use Rattle.std.specs.Prelude.{◌≡◌, ℕ, ◌+◌, ◌*◌, ◌≤◌,
 ghost use Rattle.std.specs.Vec.{vec_items};
 ghost use Rattle.county_codes.specs.Limits.{most_counties};
 ghost use Rattle.grouping_laws.specs.Grouping.{counts, sets_of};
-ghost use Rattle.grouping_problem.specs.ProblemValue.{problem_of};
-ghost use Rattle.proof_trees.specs.Tree.{Allowance as AllowanceValue};
-ghost use Rattle.proof_trees.specs.RoundValue.{round_of};
-ghost use Rattle.proof_trees.specs.BoundLines.{allowance, IsBound};
-ghost use Rattle.proof_trees.specs.Search.{IsCountLine, AreCountLines};
-ghost use Rattle.certificate_text.specs.Trees.{allowance_of};
-ghost use Rattle.line_verdicts.specs.Placed.{state_at, IsPlaced};
+ghost use Rattle.county_problem.specs.ProblemValue.{problem_of};
+ghost use Rattle.certificate_data.specs.Tree.{Allowance as AllowanceValue};
+ghost use Rattle.certificate_data.specs.RoundValue.{round_of};
+ghost use Rattle.certificate_laws.specs.BoundLines.{allowance, IsBound};
+ghost use Rattle.certificate_laws.specs.Search.{IsCountLine, AreCountLines};
+ghost use Rattle.certificate_data.specs.TreeValue.{allowance_of};
+ghost use Rattle.state_judge.specs.Placed.{state_at, IsPlaced};
 ghost use Rattle.bound_proofs.specs.CountLeaves.{IsListOf, AreListsFrom, BoundBy, BoundByNone};
 
 use crate::lines::{count_lines, places_in};
-use bound_leaves::groups_of_size;
-use bound_verdicts::{closed_of_size, room_left};
-use certificate_lines::Allowance;
+use certificate_data::{Allowance, Round};
 use county_codes::Grouping;
-use ordered_counties::Ordered;
+use county_problem::Ordered;
 use place_sets::CountySet;
-use proof_trees::{Round, State};
+use search_ends::groups_of_size;
+use state_groups::State;
+use state_judge::{closed_of_size, room_left};
 use std::alloc::{AllocError, Global};
 
 /// How many groups of a size, in counties, the count line for it allows, where smaller groups use up so many counties,
@@ -44,7 +44,8 @@ fn count_allowance<C: CountySet>(
         result
         (λ allowed. (line : AllowanceValue)
         → IsCountLine round.now.language (problem_of ordered.now.problem) (state_at ordered.now.order C.test state.now) size line
-        → allowance (problem_of ordered.now.problem) (state_at ordered.now.order C.test state.now) size used line ≡ allowed) }
+        → allowance (problem_of ordered.now.problem) (state_at ordered.now.order C.test state.now) size used line
+        ≡ allowed) }
     ensures few { IfOk result (λ allowed. (allowed ≤ most_counties) × (used + size * allowed ≤ most_counties)) }
 {
     let _places = ordered.places();

@@ -2,23 +2,23 @@
 
 ghost use Rattle.std.specs.Prelude.{◌≡◌, ◌≤◌, map, length, IfOk, MatchOption};
 ghost use Rattle.std.specs.Vec.{vec_items};
-ghost use Rattle.grouping_problem.specs.ProblemValue.{problem_of};
-ghost use Rattle.ordered_counties.specs.OrderedValue.{problem_at};
-ghost use Rattle.county_regions.specs.Rows.{AreRows};
-ghost use Rattle.proof_trees.specs.RoundValue.{round_of};
-ghost use Rattle.proof_trees.specs.Leaves.{IsValidLeaf};
-ghost use Rattle.proof_trees.specs.Search.{HasNoLeaf};
-ghost use Rattle.certificate_text.specs.Trees.{leaf_of};
-ghost use Rattle.line_verdicts.specs.Placed.{state_at, IsPlaced};
+ghost use Rattle.county_problem.specs.ProblemValue.{problem_of};
+ghost use Rattle.county_problem.specs.OrderedValue.{problem_at};
+ghost use Rattle.connected_sets.specs.Rows.{AreRows};
+ghost use Rattle.certificate_data.specs.RoundValue.{round_of};
+ghost use Rattle.certificate_laws.specs.Leaves.{IsValidLeaf};
+ghost use Rattle.certificate_laws.specs.Search.{HasNoLeaf};
+ghost use Rattle.certificate_data.specs.TreeValue.{leaf_of};
+ghost use Rattle.state_judge.specs.Placed.{state_at, IsPlaced};
 ghost use Rattle.bound_proofs.specs.CountLeaves.{AreListsFrom};
 
 use crate::bound::bounding_lines;
-use bound_leaves::stuck_county;
-use certificate_text::Leaf;
-use line_verdicts::judge_seats;
-use ordered_counties::Ordered;
+use certificate_data::{Leaf, Round};
+use county_problem::Ordered;
 use place_sets::CountySet;
-use proof_trees::{Round, State};
+use search_ends::stuck_county;
+use state_groups::State;
+use state_judge::judge_seats;
 use std::alloc::{AllocError, Global};
 
 /// A leaf that is valid at the state: a stuck one, where there is one, else the seats leaf, where it is valid, else a

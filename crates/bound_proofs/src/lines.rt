@@ -3,16 +3,16 @@
 ghost use Rattle.std.specs.Prelude.{◌≡◌, ℕ, ◌≤◌, map, length, IfOk};
 ghost use Rattle.std.specs.Vec.{vec_items};
 ghost use Rattle.std.specs.List.{list_any};
-ghost use Rattle.grouping_problem.specs.ProblemValue.{problem_of};
-ghost use Rattle.proof_trees.specs.Round.{Round as RoundValue};
-ghost use Rattle.proof_trees.specs.State.{State as StateValue};
-ghost use Rattle.proof_trees.specs.Search.{IsCountLine, AreCountLines};
-ghost use Rattle.certificate_text.specs.Trees.{allowance_of};
+ghost use Rattle.county_problem.specs.ProblemValue.{problem_of};
+ghost use Rattle.certificate_data.specs.Round.{Round as RoundValue};
+ghost use Rattle.certificate_laws.specs.State.{State as StateValue};
+ghost use Rattle.certificate_laws.specs.Search.{IsCountLine, AreCountLines};
+ghost use Rattle.certificate_data.specs.TreeValue.{allowance_of};
 ghost use Rattle.bound_proofs.specs.CountLeaves.{has_county, IsListOf, AreListsFrom};
 
-use certificate_lines::{Allowance, Weight, Weights};
+use certificate_data::{Allowance, Weight, Weights};
 use county_codes::CountyCode;
-use ordered_counties::Ordered;
+use county_problem::Ordered;
 use place_sets::CountySet;
 use std::alloc::{AllocError, Global};
 
@@ -32,12 +32,11 @@ fn is_among<C: CountySet>(ordered: &Ordered, set: &C, code: CountyCode) -> bool
     requires { length ordered.now.order ≤ C.PLACES }
     ensures { result ≡ has_county ordered.now.order C.test set.now code }
 {
-    for place in 0..ordered.places() {
-        if ordered.code(place) == code {
-            return set.has(place);
-        }
+    let _places = ordered.places();
+    match ordered.place_of(code) {
+        Some(place) => set.has(place),
+        None => false,
     }
-    false
 }
 
 /// The count line for a size, in counties, of which these are the groups that fit: the quota is the size, and each

@@ -1,31 +1,32 @@
 -- A branch behind those of a search so far.
 use Rattle.std.proofs.Common.{◌≡◌, ℕ, ◌≤◌, List, [], ◌∷◌, ◌++◌, filter, All, AllPairs, Option, Some, None, refl, ap, sym, ◌∙◌, subst, arith}
 use Rattle.std.specs.List.{AllByRecursion}
+use Rattle.place_laws.proofs.AllLists.{all_append}
 use Rattle.grouping_laws.specs.Problem.{Problem}
 use Rattle.grouping_laws.specs.Sets.{member}
 use Rattle.grouping_laws.specs.Grouping.{Grouping, sets_of}
 use Rattle.grouping_laws.specs.GroupsFrom.{IsBefore}
-use Rattle.grouping_laws.specs.Places.{codes_at}
-use Rattle.ordered_counties.specs.OrderedValue.{code_at}
-use Rattle.proof_trees.specs.Round.{Round}
-use Rattle.certificate_languages.specs.declared.language.Language.{Language}
-use Rattle.certificate_languages.specs.declared.language.Language.TheVariants.{Plain, Wide}
-use Rattle.proof_trees.specs.State.{State, raise}
-use Rattle.proof_trees.specs.Tree.{Tree, branch, Takes, no_take, groups_of}
-use Rattle.proof_trees.specs.Groups.{AreGroupsAt}
-use Rattle.proof_trees.specs.Proving.{limit_of, NamesLimit, CanBranch, Proves, EachProves}
-use Rattle.proof_trees.specs.Certificate.{TargetFits}
-use Rattle.complete_lists.specs.Complete.{IsComplete, EachIsComplete}
+use Rattle.certificate_data.specs.Round.{Round}
+use Rattle.certificate_data.specs.declared.language.Language.{Language}
+use Rattle.certificate_data.specs.declared.language.Language.TheVariants.{Plain, Wide}
+use Rattle.certificate_laws.specs.State.{State, raise}
+use Rattle.certificate_data.specs.Tree.{Tree, branch, Takes, no_take, groups_of}
+use Rattle.certificate_laws.specs.Groups.{AreGroupsAt}
+use Rattle.certificate_laws.specs.Proving.{limit_of, NamesLimit, CanBranch, Proves, EachProves}
+use Rattle.certificate_laws.specs.Certificate.{TargetFits}
+use Rattle.list_laws.specs.Complete.{IsComplete, EachIsComplete}
 use Rattle.certificate_lines.specs.Lines.{most}
-use Rattle.certificate_lines.specs.Fits.{Fits}
+use Rattle.certificate_lines.specs.Fits.{IsWanted}
 use Rattle.certificate_lines.specs.declared.item.Item.{Item}
 use Rattle.certificate_lines.specs.declared.item.Item.TheVariants as item
 use Rattle.certificate_lines.specs.declared.item.Opening.TheVariants as opening
 use Rattle.certificate_lines.specs.declared.item.Wanted.TheVariants as want
-use Rattle.certificate_text.specs.declared.tree.Branch.{Branch}
-use Rattle.certificate_text.specs.declared.tree.Take.{Take, Take'}
-use Rattle.certificate_text.specs.Trees.{tree_of, branch_onto, list_of_takes, items_of_tree, items_of_takes}
-use Rattle.certificate_text.proofs.TreeViews.{list_onto, items_of_branch, items_of_branches, branches_more}
+use Rattle.certificate_data.specs.declared.tree.Branch.{Branch}
+use Rattle.certificate_data.specs.declared.tree.Take.{Take, Take'}
+use Rattle.certificate_data.specs.TreeValue.{tree_of, branch_onto, list_of_takes}
+use Rattle.certificate_text.specs.Trees.{items_of_tree, items_of_takes}
+use Rattle.certificate_data.proofs.TreeLists.{list_onto}
+use Rattle.certificate_text.proofs.TreeViews.{items_of_branch, items_of_branches, branches_more}
 use Rattle.certificate_text.specs.TreeItems.{FitsInTree}
 use Rattle.branch_bound.specs.Searching.{IsSorted, AreTakesOf, IsTakeOf}
 
@@ -57,19 +58,15 @@ pub complete_step : (p : Problem) (round : Round) (first s : State) (county : �
 complete_step p round first s county limit bs news b takes each made pushed whole tree complete =
     behind_one (λ t. IsComplete t p round s) (λ t. IsComplete t p round first) bs news b (branch county limit takes tree) tree (made tree) pushed whole (each, complete)
 
-pub all_append : {X : Type 0} (P : X → Type 0) (xs ys : List X) → AllByRecursion P xs → AllByRecursion P ys → AllByRecursion P (xs ++ ys)
-all_append P [] ys a b = b
-all_append P (x ∷ xs) ys a b = (a.0, all_append P xs ys a.1 b)
-
 pub all_parts : {X : Type 0} (P : X → Type 0) (xs ys : List X) → AllByRecursion P (xs ++ ys) → AllByRecursion P xs × AllByRecursion P ys
 all_parts P [] ys a = (tt, a)
 all_parts P (x ∷ xs) ys a = let rest = all_parts P xs ys a.1 in ((a.0, rest.0), rest.1)
 
 pub wide_fits : (language : Language) (county size : ℕ) → language ≡ Wide → county ≤ 99999 → 1 ≤ size → size ≤ most → FitsInTree language (item.Opens (opening.Branch county (Some size)))
-wide_fits language county size e c from to = subst (λ l. Fits (want.Tree l 1) (item.Opens (opening.Branch county (Some size)))) (sym e) (c, from, to, omega arith)
+wide_fits language county size e c from to = subst (λ l. IsWanted (want.Tree l 1) (item.Opens (opening.Branch county (Some size)))) (sym e) (c, from, to, omega arith)
 
 pub plain_fits : (language : Language) (county : ℕ) → language ≡ Plain → county ≤ 99999 → FitsInTree language (item.Opens (opening.Branch county None))
-plain_fits language county e c = subst (λ l. Fits (want.Tree l 1) (item.Opens (opening.Branch county None))) (sym e) (c, omega arith)
+plain_fits language county e c = subst (λ l. IsWanted (want.Tree l 1) (item.Opens (opening.Branch county None))) (sym e) (c, omega arith)
 
 pub lines_step : (language : Language) (county : ℕ) (limit : Option ℕ) (bs news : List Branch) (b : Branch) (takes : Takes) → FitsInTree language (item.Opens (opening.Branch county limit)) → AllByRecursion (FitsInTree language) (items_of_takes takes)
     → items_of_branch b ≡ item.Opens (opening.Branch county limit) ∷ (items_of_takes takes ++ item.Mark ∷ []) → news ≡ bs ++ b ∷ [] → AllByRecursion (FitsInTree language) (items_of_branches bs) → AllByRecursion (FitsInTree language) (items_of_branches news)
@@ -105,11 +102,6 @@ take_step p round s groups group ts t are is = record {
     lines_behind (Take' codes tree ∷ us) e =
         let parts = all_parts (FitsInTree round.language) (items_of_tree (tree_of tree)) (items_of_takes (list_of_takes us)) e.1 in
         (e.0, all_append (FitsInTree round.language) (items_of_tree (tree_of tree)) (items_of_takes (list_of_takes (us ++ t ∷ []))) parts.0 (lines_behind us parts.1))
-
--- the codes at one place more
-pub codes_end : (order places : List ℕ) (i : ℕ) → codes_at order (places ++ i ∷ []) ≡ codes_at order places ++ code_at order i ∷ []
-codes_end order [] i = refl
-codes_end order (x ∷ xs) i = ap (λ l. code_at order x ∷ l) (codes_end order xs i)
 
 -- groups that stand in one order stand in an equal one
 pub sorted_as : (order other : List ℕ) (groups : Grouping) → order ≡ other → AllPairs (IsBefore order) (sets_of groups) → All (λ m. filter (member m.codes) order ≡ m.codes) groups → IsSorted other groups

@@ -2,17 +2,17 @@
 use Rattle.std.proofs.Common.{◌⊎◌, inl, inr, Option, Some, None, Result, Ok, Err, IfOk, MatchOption}
 use Rattle.std.specs.Prelude.{⊤}
 use Rattle.grouping_laws.specs.Problem.{Problem, IsProblem}
-use Rattle.proof_trees.specs.Round.{Round}
-use Rattle.proof_trees.specs.State.{State, IsState}
-use Rattle.proof_trees.specs.Leaves.{IsOffSeats}
-use Rattle.proof_trees.specs.Certificate.{TargetFits}
-use Rattle.proof_trees.specs.Tree.{Leaf, stuck, seats, bound}
-use Rattle.complete_lists.specs.Complete.{IsFilled, IsCompleteLeaf}
-use Rattle.complete_lists.proofs.Level.{level_states}
-use Rattle.certificate_text.specs.declared.tree.Leaf.{Leaf as LeafHeld}
-use Rattle.certificate_text.specs.Trees.{leaf_of}
-use Rattle.bound_leaves.specs.GivenLeaf.{IsGiven}
-use Rattle.bound_leaves.specs.Missing.{StandsLevel}
+use Rattle.certificate_data.specs.Round.{Round}
+use Rattle.certificate_laws.specs.State.{State, IsState}
+use Rattle.certificate_laws.specs.Leaves.{IsOffSeats}
+use Rattle.certificate_laws.specs.Certificate.{TargetFits}
+use Rattle.certificate_data.specs.Tree.{Leaf, stuck, seats, bound}
+use Rattle.list_laws.specs.Complete.{IsFilled, IsCompleteLeaf}
+use Rattle.list_laws.proofs.Level.{level_states}
+use Rattle.certificate_data.specs.declared.tree.Leaf.{Leaf as LeafHeld}
+use Rattle.certificate_data.specs.TreeValue.{leaf_of}
+use Rattle.search_ends.specs.GivenLeaf.{IsGivenLeaf}
+use Rattle.search_ends.specs.Missing.{StandsLevel}
 use Rattle.branch_bound.specs.Searching.{IsEnd}
 
 module _ (p : Problem) (round : Round) (s : State) where
@@ -27,7 +27,7 @@ module _ (p : Problem) (round : Round) (s : State) where
   leaf_complete leaf is state no_seats (inr level) fits =
       filled_leaf (leaf_of leaf) (level_states.filled p round s is state (level_states.none_left p round s level.0 is level.1 fits state level.2) no_seats)
 
-  pub leaf_end_of : {E : Type 0} (r : Result (Option LeafHeld) E) → IfOk r (λ found. MatchOption found ⊤ (IsGiven p round s)) → IfOk r (λ found. MatchOption found ⊤ (λ leaf. IsCompleteLeaf (leaf_of leaf) p round s)) → IfOk r (λ found. MatchOption found ⊤ (IsEnd p round s))
+  pub leaf_end_of : {E : Type 0} (r : Result (Option LeafHeld) E) → IfOk r (λ found. MatchOption found ⊤ (IsGivenLeaf p round s)) → IfOk r (λ found. MatchOption found ⊤ (λ leaf. IsCompleteLeaf (leaf_of leaf) p round s)) → IfOk r (λ found. MatchOption found ⊤ (IsEnd p round s))
   leaf_end_of (Ok None) given complete = tt
   leaf_end_of (Ok (Some leaf)) given complete = (given, λ fits. complete)
   leaf_end_of (Err f) given complete = tt

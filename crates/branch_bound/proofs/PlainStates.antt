@@ -2,12 +2,12 @@
 use Rattle.std.proofs.Common.{length, sym, ◌∙◌, arith}
 use Rattle.std.proofs.lemmas.Bool.{false≢true}
 use Rattle.grouping_laws.specs.Problem.{Problem}
-use Rattle.growing_sets.proofs.PlaceLists.{some_member}
-use Rattle.proof_trees.specs.Round.{Round}
-use Rattle.proof_trees.specs.State.{State}
-use Rattle.proof_trees.specs.Fitting.{NoGroupFits}
-use Rattle.proof_trees.proofs.Completion.{open_rest, open_least, is_open}
-use Rattle.verdicts.specs.Branches.{NoneOpen}
+use Rattle.connected_laws.proofs.PlaceLists.{some_member}
+use Rattle.certificate_data.specs.Round.{Round}
+use Rattle.certificate_laws.specs.State.{State}
+use Rattle.certificate_laws.specs.Fitting.{NoGroupFits}
+use Rattle.certificate_laws.proofs.Completion.{open_rest, open_least, is_open}
+use Rattle.checker_laws.specs.Branches.{NoneOpen}
 
 pub none_fits : (p : Problem) (round : Round) (s : State) → NoneOpen s round.limit → NoGroupFits p round s
 none_fits p round s none group fits small =

@@ -11,27 +11,27 @@ use Rattle.grouping_laws.specs.GroupsFrom.{IsOrder}
 use Rattle.grouping_laws.specs.Allowance.{HasWindow}
 use Rattle.grouping_laws.proofs.AllowanceLemmas.{names_its_own}
 use Rattle.grouping_laws.proofs.Digits.{often_member}
-use Rattle.proof_trees.specs.Round.{Round}
-use Rattle.certificate_languages.specs.declared.language.Language.{Language}
-use Rattle.certificate_languages.specs.declared.language.Language.TheVariants.{Plain, Wide}
-use Rattle.proof_trees.specs.declared.round.Round.{Round as RoundHeld}
-use Rattle.proof_trees.specs.RoundValue.{round_of}
-use Rattle.proof_trees.specs.State.{State, empty_state}
-use Rattle.proof_trees.specs.Certificate.{IsCertificate, TargetFits, Conclusion}
-use Rattle.proof_trees.specs.Tree.{leaf, Tree as TreeValue}
-use Rattle.proof_trees.specs.Proving.{Proves}
-use Rattle.proof_trees.proofs.Agreement.{certificate_shows}
-use Rattle.complete_lists.specs.Complete.{IsComplete}
+use Rattle.certificate_data.specs.Round.{Round}
+use Rattle.certificate_data.specs.declared.language.Language.{Language}
+use Rattle.certificate_data.specs.declared.language.Language.TheVariants.{Plain, Wide}
+use Rattle.certificate_data.specs.declared.round.Round.{Round as RoundHeld}
+use Rattle.certificate_data.specs.RoundValue.{round_of}
+use Rattle.certificate_laws.specs.State.{State, empty_state}
+use Rattle.certificate_laws.specs.Certificate.{IsCertificate, TargetFits, Conclusion}
+use Rattle.certificate_data.specs.Tree.{leaf, Tree as TreeValue}
+use Rattle.certificate_laws.specs.Proving.{Proves}
+use Rattle.certificate_laws.proofs.Agreement.{certificate_shows}
+use Rattle.list_laws.specs.Complete.{IsComplete}
 use Rattle.certificate_lines.specs.Fits.{AreCodes}
-use Rattle.certificate_text.specs.declared.tree.Leaf.{Leaf}
-use Rattle.certificate_text.specs.declared.tree.Tree.{Tree, roll-Tree}
-use Rattle.certificate_text.specs.declared.tree.Branch.{Branch}
-use Rattle.certificate_text.specs.declared.certificate.Certificate.{Certificate as CertificateHeld}
-use Rattle.certificate_text.specs.Trees.{leaf_of, tree_of, certificate_of}
-use Rattle.certificate_text.proofs.TreeViews.{list_onto, made_tree}
+use Rattle.certificate_data.specs.declared.tree.Leaf.{Leaf}
+use Rattle.certificate_data.specs.declared.tree.Tree.{Tree, roll-Tree}
+use Rattle.certificate_data.specs.declared.tree.Branch.{Branch}
+use Rattle.certificate_data.specs.declared.certificate.Certificate.{Certificate as CertificateHeld}
+use Rattle.certificate_data.specs.TreeValue.{leaf_of, tree_of, certificate_of}
+use Rattle.certificate_data.proofs.TreeLists.{list_onto, made_tree}
 use Rattle.certificate_text.specs.TreeItems.{HasLines, TargetHasLines}
 use Rattle.certificate_text.proofs.Texts.{have_texts}
-use Rattle.bound_leaves.specs.GivenLeaf.{IsGiven}
+use Rattle.search_ends.specs.GivenLeaf.{IsGivenLeaf}
 use Rattle.branch_bound.specs.Searching.{IsProof}
 use Rattle.branch_bound.specs.Solving.{round_over, IsTarget}
 use Rattle.branch_bound.specs.Answered.{Certifies, IsFoundOpen, IsSolveAnswer, SolveIsRight, HasCompleteTree, SaysWhether}
@@ -75,7 +75,7 @@ pub best_complete : (p : Problem) (order : List ℕ) (limit : ℕ) (g : Grouping
 best_complete p order limit g round tree target large e proof = subst (λ (x : Round). IsComplete (tree_of tree) p x (empty_state p)) (sym e) (proof.2 (target.lawful, large))
 
 -- a leaf alone
-leaf_proof : (p : Problem) (r : Round) (s : State) (branches : Vec Branch Global) (last : Leaf) → branches.items ≡ [] → IsGiven p r s last
+leaf_proof : (p : Problem) (r : Round) (s : State) (branches : Vec Branch Global) (last : Leaf) → branches.items ≡ [] → IsGivenLeaf p r s last
     → Proves (tree_of (roll-Tree (record { branches = branches; leaf = last }))) p r s × HasLines r.language (tree_of (roll-Tree (record { branches = branches; leaf = last })))
 leaf_proof p r s branches last none given =
     let made : tree_of (roll-Tree (record { branches = branches; leaf = last })) ≡ leaf (leaf_of last) = made_tree branches last ∙ alone branches.items none in
@@ -86,10 +86,10 @@ leaf_proof p r s branches last none given =
 
 -- the certificate that no grouping is lawful
 pub impossible_certified : (p : Problem) (order : List ℕ) (round : RoundHeld) (branches : Vec Branch Global) (last : Leaf) → IsOrder p order → length order ≤ most_counties → round_of round ≡ round_over p order 0 None Plain → AreCodes round.order → FitsRange round.window
-    → branches.items ≡ [] → IsGiven p (round_of round) (empty_state p) last → Certifies p Plain None (record { round = round; tree = roll-Tree (record { branches = branches; leaf = last }) })
+    → branches.items ≡ [] → IsGivenLeaf p (round_of round) (empty_state p) last → Certifies p Plain None (record { round = round; tree = roll-Tree (record { branches = branches; leaf = last }) })
 impossible_certified p order round branches last whole few e codes range none given =
     let r : Round = round_over p order 0 None Plain in
-    certified p r round (roll-Tree (record { branches = branches; leaf = last })) e (names_its_own p) whole tt few (omega arith) codes range tt (leaf_proof p r (empty_state p) branches last none (subst (λ (x : Round). IsGiven p x (empty_state p) last) e given))
+    certified p r round (roll-Tree (record { branches = branches; leaf = last })) e (names_its_own p) whole tt few (omega arith) codes range tt (leaf_proof p r (empty_state p) branches last none (subst (λ (x : Round). IsGivenLeaf p x (empty_state p) last) e given))
 
 -- what a certificate shows of the target that it names
 shown : (p : Problem) (language : Language) (target : Option Grouping) (c : CertificateHeld) → Certifies p language target c → Conclusion p target

@@ -11,34 +11,37 @@ use Rattle.certificate_lines.specs.Fits.{IsSet}
 use Rattle.certificate_lines.specs.declared.item.Item.{Item}
 use Rattle.certificate_lines.specs.declared.item.Item.TheVariants as item
 use Rattle.certificate_lines.specs.declared.item.Opening.TheVariants as opening
-use Rattle.certificate_text.specs.declared.tree.Leaf.{Leaf as DeclaredLeaf}
-use Rattle.certificate_text.specs.declared.tree.Branch.{Branch, roll-Branch}
-use Rattle.certificate_text.specs.declared.tree.Take.{Take, roll-Take}
-use Rattle.certificate_text.specs.declared.tree.Tree.{Tree as DeclaredTree, roll-Tree}
-use Rattle.certificate_text.specs.Trees.{tree_of, leaf_of, leaf_items, take_onto, list_of_takes}
-use Rattle.certificate_text.proofs.TreeViews.{list_onto, items_of_branches, made_tree, tree_items, made_takes, made_branch}
-use Rattle.line_verdicts.specs.Placed.{codes_of_set, codes_of_sets}
-use Rattle.proof_trees.specs.Agreement.{Agrees}
-use Rattle.proof_trees.specs.Fitting.{Fits}
-use Rattle.proof_trees.specs.Groups.{IsGroupAt, AreGroupsAt}
-use Rattle.proof_trees.specs.Proving.{limit_of, NamesLimit, Proves, CanBranch}
-use Rattle.proof_trees.specs.Certificate.{TargetFits}
-use Rattle.complete_lists.specs.Complete.{IsComplete}
-use Rattle.proof_trees.specs.Round.{Round}
-use Rattle.proof_trees.specs.State.{State, close, raise}
-use Rattle.proof_trees.specs.Tree.{Tree, leaf, Takes}
-use Rattle.proof_trees.specs.Tree as tree
-use Rattle.proof_trees.proofs.Branches.{branch_keeps_state}
-use Rattle.proof_trees.proofs.Completion.{open_least}
+use Rattle.certificate_data.specs.declared.tree.Leaf.{Leaf as DeclaredLeaf}
+use Rattle.certificate_data.specs.declared.tree.Branch.{Branch, roll-Branch}
+use Rattle.certificate_data.specs.declared.tree.Take.{Take, roll-Take}
+use Rattle.certificate_data.specs.declared.tree.Tree.{Tree as DeclaredTree, roll-Tree}
+use Rattle.certificate_data.specs.TreeValue.{tree_of, leaf_of, take_onto, list_of_takes}
+use Rattle.certificate_text.specs.Trees.{leaf_items}
+use Rattle.certificate_data.proofs.TreeLists.{list_onto, made_tree, made_takes}
+use Rattle.certificate_text.proofs.TreeViews.{items_of_branches, tree_items, made_branch}
+use Rattle.state_judge.specs.Placed.{codes_of_set, codes_of_sets}
+use Rattle.certificate_laws.specs.Agreement.{Agrees}
+use Rattle.certificate_laws.specs.Fitting.{Fits}
+use Rattle.certificate_laws.specs.Groups.{IsGroupAt, AreGroupsAt}
+use Rattle.certificate_laws.specs.Proving.{limit_of, NamesLimit, Proves, CanBranch}
+use Rattle.certificate_laws.specs.Certificate.{TargetFits}
+use Rattle.list_laws.specs.Complete.{IsComplete}
+use Rattle.certificate_data.specs.Round.{Round}
+use Rattle.certificate_laws.specs.State.{State, close, raise}
+use Rattle.certificate_data.specs.Tree.{Tree, leaf, Takes}
+use Rattle.certificate_data.specs.Tree as tree
+use Rattle.certificate_laws.proofs.Branches.{branch_keeps_state}
+use Rattle.certificate_laws.proofs.Completion.{open_least}
 use Rattle.certificate_text.specs.TreeItems.{FitsInTree}
-use Rattle.branch_bound.specs.Searching.{state_in, IsAt, IsEnd, IsProof, IsBetter, IsTakeOf, AreTakesOf, IsChoice}
-use Rattle.branch_bound.specs.declared.ground.Ground.{Ground}
+use Rattle.branch_bound.specs.Searching.{search_state, IsPositionAt, IsEnd, IsProof, IsBetter, IsTakeOf, AreTakesOf, IsChoice}
+use Rattle.branch_bound.specs.declared.input.SearchInput.{SearchInput}
 use Rattle.branch_bound.specs.declared.position.Position.{Position}
-use Rattle.branch_bound.proofs.Joining.{all_append, take_step, branch_step, complete_step, lines_step}
+use Rattle.place_laws.proofs.AllLists.{all_append}
+use Rattle.branch_bound.proofs.Joining.{take_step, branch_step, complete_step, lines_step}
 
 -- a position is at its own state
-pub own : (C : Type 0) (test : C → ℕ → Bool) (g : Ground C) (s : State) (at : Position C) → IsAt test g s at → IsAt test g (state_in g test at.state) at
-own C test g s at is = subst (λ z. IsAt test g z at) (sym is.is) is
+pub own : (C : Type 0) (test : C → ℕ → Bool) (g : SearchInput C) (s : State) (at : Position C) → IsPositionAt test g s at → IsPositionAt test g (search_state g test at.state) at
+own C test g s at is = subst (λ z. IsPositionAt test g z at) (sym is.is) is
 
 -- a take that is made of codes and a tree
 made_take_onto : (codes : List ℕ) (t : DeclaredTree) (others : Takes) → take_onto (roll-Take (record { codes = codes; tree = t })) others ≡ tree.take codes (tree_of t) others
@@ -124,5 +127,5 @@ pub raised_agrees : (round : Round) (s next : State) (county size : ℕ) (h : Gr
 raised_agrees round s next county size h can raised a = (branch_keeps_state).raised_agrees s county size h (omega (arith, open_least s size county can.is_open)) (subst (λ z. Agrees z h) raised a)
 
 -- a county to branch at is in a group of a county or more
-pub choice_size : (C : Type 0) (test : C → ℕ → Bool) (g : Ground C) (s : State) (at : Position C) (place : ℕ) → IsAt test g s at → IsChoice test g.ordered.now.order at.groups.items place → 1 ≤ at.size
+pub choice_size : (C : Type 0) (test : C → ℕ → Bool) (g : SearchInput C) (s : State) (at : Position C) (place : ℕ) → IsPositionAt test g s at → IsChoice test g.ordered.now.order at.groups.items place → 1 ≤ at.size
 choice_size C test g s at place is choice = let c = is.known.each choice.group choice.known in omega (arith, c.size, c.lawful.connected.some_county)

@@ -5,13 +5,13 @@ use Rattle.grouping_laws.specs.Problem.{Problem}
 use Rattle.grouping_laws.specs.Grouping.{Grouping, Lawful, sets_of, IsBest, IsImpossible}
 use Rattle.grouping_laws.specs.GroupsFrom.{IsLesser}
 use Rattle.county_codes.specs.declared.group.Grouping.{Grouping as GroupingHeld}
-use Rattle.certificate_languages.specs.declared.language.Language.{Language}
-use Rattle.certificate_languages.specs.declared.language.Language.TheVariants.{Plain, Wide}
-use Rattle.proof_trees.specs.State.{empty_state}
-use Rattle.proof_trees.specs.Certificate.{IsCertificate}
-use Rattle.complete_lists.specs.Complete.{IsComplete}
-use Rattle.certificate_text.specs.declared.certificate.Certificate.{Certificate as CertificateHeld}
-use Rattle.certificate_text.specs.Trees.{certificate_of}
+use Rattle.certificate_data.specs.declared.language.Language.{Language}
+use Rattle.certificate_data.specs.declared.language.Language.TheVariants.{Plain, Wide}
+use Rattle.certificate_laws.specs.State.{empty_state}
+use Rattle.certificate_laws.specs.Certificate.{IsCertificate}
+use Rattle.list_laws.specs.Complete.{IsComplete}
+use Rattle.certificate_data.specs.declared.certificate.Certificate.{Certificate as CertificateHeld}
+use Rattle.certificate_data.specs.TreeValue.{certificate_of}
 use Rattle.certificate_text.specs.Spelled.{IsSpelling}
 use Rattle.branch_bound.specs.declared.answer.Answer.{Answer}
 use Rattle.branch_bound.specs.declared.answer.Answer.TheVariants.{Best, Impossible, Open}

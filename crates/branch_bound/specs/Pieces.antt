@@ -2,11 +2,12 @@
 use Rattle.std.specs.Prelude.{ℕ, ◌≡◌, ◌≤◌, length, All, Option, Some, None, ⊤}
 use Rattle.grouping_laws.specs.Problem.{Problem}
 use Rattle.grouping_laws.specs.Grouping.{Grouping}
-use Rattle.certificate_text.specs.Trees.{tree_of}
-use Rattle.proof_trees.specs.Round.{Wide, Round}
-use Rattle.proof_trees.specs.State.{State}
-use Rattle.proof_trees.specs.Proving.{Proves, CanBranch}
-use Rattle.proof_trees.specs.Search.{IsFound}
+use Rattle.certificate_data.specs.TreeValue.{tree_of}
+use Rattle.certificate_data.specs.declared.language.Language.TheVariants.{Wide}
+use Rattle.certificate_data.specs.Round.{Round}
+use Rattle.certificate_laws.specs.State.{State}
+use Rattle.certificate_laws.specs.Proving.{Proves, CanBranch}
+use Rattle.certificate_laws.specs.Search.{IsFound}
 use Rattle.certificate_text.specs.TreeItems.{HasLines, HasTargetLines}
 use Rattle.branch_bound.specs.declared.piece.Piece.{Piece}
 use Rattle.branch_bound.specs.declared.piece.Piece.TheVariants.{Proved, Better, Wider, Open}
@@ -25,7 +26,8 @@ IsSplit round s (Some split) = (round.language ≡ Wide) × (1 ≤ split.limit) 
 -- target, or a branch that the state may be split at. A grouping that is within the limit is one that a text spells.
 abbrev pub IsPiece : Problem → Round → State → Piece → Type 0
 IsPiece p round s (Proved tree) = Proves (tree_of tree) p round s × HasLines round.language (tree_of tree)
-IsPiece p round s (Better g) = IsFound p round s g.groups.items × IsWithin round.limit g.groups.items × HasTargetLines g.groups.items
+IsPiece p round s (Better g) =
+    IsFound p round s g.groups.items × IsWithin round.limit g.groups.items × HasTargetLines g.groups.items
 IsPiece p round s (Wider g) = IsFound p round s g.groups.items × ¬ IsWithin round.limit g.groups.items
 IsPiece p round s (Open split) = IsSplit round s split
 

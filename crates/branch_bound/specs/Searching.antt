@@ -7,31 +7,32 @@ use Rattle.grouping_laws.specs.Sets.{member}
 use Rattle.grouping_laws.specs.Problem.{Problem}
 use Rattle.grouping_laws.specs.Grouping.{Grouping, sets_of}
 use Rattle.grouping_laws.specs.GroupsFrom.{IsBefore}
-use Rattle.grouping_problem.specs.ProblemValue.{problem_of}
-use Rattle.ordered_counties.specs.OrderedValue.{problem_at, code_at}
-use Rattle.county_regions.specs.Rows.{AreRows}
-use Rattle.growing_sets.specs.Listing.{AreBelow}
-use Rattle.proof_trees.specs.Round.{Round}
-use Rattle.certificate_languages.specs.declared.language.Language.TheVariants.{Wide}
-use Rattle.proof_trees.specs.RoundValue.{round_of}
-use Rattle.proof_trees.specs.State.{State, IsState, close}
-use Rattle.proof_trees.specs.declared.state.State.{State as StateHeld}
-use Rattle.proof_trees.specs.Groups.{AreGroupsAt, AreGroupsOf}
-use Rattle.proof_trees.specs.Tree.{groups_of, take, Tree as TreeValue, Takes as TakesValue}
-use Rattle.proof_trees.specs.Proving.{Proves, EachProves}
-use Rattle.proof_trees.specs.Certificate.{TargetFits}
-use Rattle.proof_trees.specs.Search.{IsFound}
-use Rattle.complete_lists.specs.Complete.{IsCompleteLeaf, IsComplete, EachIsComplete}
-use Rattle.certificate_text.specs.declared.tree.Leaf.{Leaf}
-use Rattle.certificate_text.specs.declared.tree.Tree.{Tree}
-use Rattle.certificate_text.specs.declared.tree.Take.{Take}
-use Rattle.certificate_text.specs.Trees.{leaf_of, tree_of, take_onto, list_of_takes, items_of_takes, items_of_tree}
+use Rattle.county_problem.specs.ProblemValue.{problem_of}
+use Rattle.county_problem.specs.OrderedValue.{problem_at, code_at}
+use Rattle.connected_sets.specs.Rows.{AreRows}
+use Rattle.connected_laws.specs.Listing.{AreBelow}
+use Rattle.certificate_data.specs.Round.{Round}
+use Rattle.certificate_data.specs.declared.language.Language.TheVariants.{Wide}
+use Rattle.certificate_data.specs.RoundValue.{round_of}
+use Rattle.certificate_laws.specs.State.{State, IsState, close}
+use Rattle.state_groups.specs.declared.state.State.{State as StateHeld}
+use Rattle.certificate_laws.specs.Groups.{AreGroupsAt, AreGroupsOf}
+use Rattle.certificate_data.specs.Tree.{groups_of, take, Tree as TreeValue, Takes as TakesValue}
+use Rattle.certificate_laws.specs.Proving.{Proves, EachProves}
+use Rattle.certificate_laws.specs.Certificate.{TargetFits}
+use Rattle.certificate_laws.specs.Search.{IsFound}
+use Rattle.list_laws.specs.Complete.{IsCompleteLeaf, IsComplete, EachIsComplete}
+use Rattle.certificate_data.specs.declared.tree.Leaf.{Leaf}
+use Rattle.certificate_data.specs.declared.tree.Tree.{Tree}
+use Rattle.certificate_data.specs.declared.tree.Take.{Take}
+use Rattle.certificate_data.specs.TreeValue.{leaf_of, tree_of, take_onto, list_of_takes}
+use Rattle.certificate_text.specs.Trees.{items_of_takes, items_of_tree}
 use Rattle.certificate_lines.specs.declared.item.Item.TheVariants as item
-use Rattle.line_verdicts.specs.Placed.{state_at, codes_of_sets, IsPlaced}
+use Rattle.state_judge.specs.Placed.{state_at, codes_of_sets, IsPlaced}
 use Rattle.certificate_text.specs.TreeItems.{FitsInTree, HasLines, HasTargetLines}
-use Rattle.known_groups.specs.Known.{AreCandidates, IsKnown}
-use Rattle.bound_leaves.specs.GivenLeaf.{IsGiven}
-use Rattle.branch_bound.specs.declared.ground.Ground.{Ground}
+use Rattle.search_groups.specs.Known.{AreCandidates, IsKnown}
+use Rattle.search_ends.specs.GivenLeaf.{IsGivenLeaf}
+use Rattle.branch_bound.specs.declared.input.SearchInput.{SearchInput}
 use Rattle.branch_bound.specs.declared.position.Position.{Position}
 use Rattle.branch_bound.specs.declared.outcome.SearchOutcome.{SearchOutcome}
 use Rattle.branch_bound.specs.declared.outcome.SearchOutcome.TheVariants as outcome
@@ -45,34 +46,37 @@ use Rattle.branch_bound.specs.declared.outcome.Takes.{Takes}
 use Rattle.branch_bound.specs.declared.outcome.Takes.TheVariants as takes
 
 -- the problem, the round and the order that a search goes by, and a state by its codes
-abbrev pub problem_in : {C : Type 0} → Ground C → Problem
-problem_in g = problem_of g.ordered.now.problem
+abbrev pub search_problem : {C : Type 0} → SearchInput C → Problem
+search_problem g = problem_of g.ordered.now.problem
 
-abbrev pub round_in : {C : Type 0} → Ground C → Round
-round_in g = round_of g.round.now
+abbrev pub search_round : {C : Type 0} → SearchInput C → Round
+search_round g = round_of g.round.now
 
-abbrev pub state_in : {C : Type 0} → Ground C → (C → ℕ → Bool) → StateHeld C → State
-state_in g test s = state_at g.ordered.now.order test s
+abbrev pub search_state : {C : Type 0} → SearchInput C → (C → ℕ → Bool) → StateHeld C → State
+search_state g test s = state_at g.ordered.now.order test s
 
 -- the rows are those of the order, which is the round's, the sets have room for its places, and the round is a wide one
-pub record IsGround {C : Type 0} (places : ℕ) (test : C → ℕ → Bool) (g : Ground C) : Type 0 where
+pub record IsSearchInput {C : Type 0} (places : ℕ) (test : C → ℕ → Bool) (g : SearchInput C) : Type 0 where
   pub fits : length g.ordered.now.order ≤ places
   pub rows : AreRows C test (problem_at g.ordered.now) (length g.ordered.now.order) g.near.now
   pub order : g.ordered.now.order ≡ g.round.now.order
   pub small : g.round.now.limit ≤ most_counties
   pub wide : g.round.now.language ≡ Wide
 
--- A position is at a state of the round, of which the groups of so many counties, at most the limit, are known, and maybe those of one
--- county more.
-pub record IsAt {C : Type 0} (test : C → ℕ → Bool) (g : Ground C) (s : State) (at : Position C) : Type 0 where
+-- A position is at a state of the round, of which the groups of so many counties, at most the limit, are known, and
+-- maybe those of one county more.
+pub record IsPositionAt {C : Type 0} (test : C → ℕ → Bool) (g : SearchInput C) (s : State)
+    (at : Position C) : Type 0 where
   pub placed : IsPlaced (length g.ordered.now.order) test at.state
-  pub is : state_in g test at.state ≡ s
-  pub state : IsState (problem_in g) (round_in g) s
+  pub is : search_state g test at.state ≡ s
+  pub state : IsState (search_problem g) (search_round g) s
   pub small : at.size ≤ g.round.now.limit
   pub below : AreBelow (length g.ordered.now.order) test at.groups.items
-  pub known : IsKnown (problem_in g) (round_in g) s at.size (codes_of_sets g.ordered.now.order test at.groups.items)
+  pub known : IsKnown (search_problem g) (search_round g) s at.size (codes_of_sets g.ordered.now.order test at.groups.items)
   pub larger_below : AreBelow (length g.ordered.now.order) test at.larger.items
-  pub larger : at.has_larger ≡ true → AreCandidates (problem_in g) (round_in g) s (at.size + 1) (codes_of_sets g.ordered.now.order test at.larger.items)
+  pub larger : at.has_larger ≡ true
+      → AreCandidates (search_problem g) (search_round g) s (at.size
+      + 1) (codes_of_sets g.ordered.now.order test at.larger.items)
 
 -- the groups stand by size and then by places, and the codes of each in the order of places
 pub record IsSorted (order : List ℕ) (g : Grouping) : Type 0 where
@@ -81,11 +85,14 @@ pub record IsSorted (order : List ℕ) (g : Grouping) : Type 0 where
 
 -- A leaf that is valid, its numbers in the ranges of its lines. It is complete if the target fits the limit.
 abbrev pub IsEnd : Problem → Round → State → Leaf → Type 0
-IsEnd p round s leaf = IsGiven p round s leaf × (TargetFits p round.limit round.target → IsCompleteLeaf (leaf_of leaf) p round s)
+IsEnd p round s leaf =
+    IsGivenLeaf p round s leaf × (TargetFits p round.limit round.target → IsCompleteLeaf (leaf_of leaf) p round s)
 
 -- A proof tree, its numbers in the ranges of its lines. It is complete if the target fits the limit.
 abbrev pub IsProof : Problem → Round → State → Tree → Type 0
-IsProof p round s tree = Proves (tree_of tree) p round s × HasLines round.language (tree_of tree) × (TargetFits p round.limit round.target → IsComplete (tree_of tree) p round s)
+IsProof p round s tree =
+    Proves (tree_of tree) p round s × HasLines round.language (tree_of tree)
+    × (TargetFits p round.limit round.target → IsComplete (tree_of tree) p round s)
 
 -- a lawful grouping that agrees with the state and is greater than the target, sorted
 pub record IsBetter (p : Problem) (round : Round) (s : State) (g : GroupingHeld) : Type 0 where
@@ -105,12 +112,13 @@ pub record IsTakeOf (p : Problem) (round : Round) (s : State) (group : List ℕ)
   pub lines : AllByRecursion (FitsInTree round.language) (item.Takes group ∷ items_of_tree tree)
   pub complete : TargetFits p round.limit round.target → IsComplete tree p round (close group s)
 
-abbrev pub IsTaken : Problem → Round → State → List ℕ → Taken → Type 0
-IsTaken p round s group (taken.Proved t) = IsTakeOf p round s group t
-IsTaken p round s group (taken.Better g) = IsBetter p round s g
+abbrev pub IsTakenGroup : Problem → Round → State → List ℕ → Taken → Type 0
+IsTakenGroup p round s group (taken.Proved t) = IsTakeOf p round s group t
+IsTakenGroup p round s group (taken.Better g) = IsBetter p round s g
 
 -- takes of these groups, each with its proof tree
-pub record AreTakesOf (p : Problem) (round : Round) (s : State) (groups : List (List ℕ)) (list : List Take) : Type 0 where
+pub record AreTakesOf (p : Problem) (round : Round) (s : State) (groups : List (List ℕ))
+    (list : List Take) : Type 0 where
   pub groups_are : groups_of (list_of_takes list) ≡ groups
   pub each : EachProves (list_of_takes list) p round s
   pub lines : AllByRecursion (FitsInTree round.language) (items_of_takes (list_of_takes list))
@@ -118,7 +126,8 @@ pub record AreTakesOf (p : Problem) (round : Round) (s : State) (groups : List (
 
 -- all takes of a branch, each with its proof tree
 abbrev pub AreTakesAt : Problem → Round → State → ℕ → ℕ → Takes → Type 0
-AreTakesAt p round s county limit (takes.Proved list) = (groups : List (List ℕ)) × AreGroupsAt p round s county limit groups × AreTakesOf p round s groups list.items
+AreTakesAt p round s county limit (takes.Proved list) =
+    (groups : List (List ℕ)) × AreGroupsAt p round s county limit groups × AreTakesOf p round s groups list.items
 AreTakesAt p round s county limit (takes.Better g) = IsBetter p round s g
 
 -- a county of a group that is known
@@ -129,17 +138,18 @@ pub record IsChoice {C : Type 0} (test : C → ℕ → Bool) (order : List ℕ) 
   pub has : member group (code_at order place) ≡ true
 
 -- a leaf that is valid, a grouping that is better, or a county to branch at
-abbrev pub IsNextMove : {C : Type 0} → (C → ℕ → Bool) → Ground C → State → Move C → Type 0
-IsNextMove test g s (next_move.Leaf leaf) = IsEnd (problem_in g) (round_in g) s leaf
-IsNextMove test g s (next_move.Better found) = IsBetter (problem_in g) (round_in g) s found
-IsNextMove test g s (next_move.Branch place at) = IsAt test g s at × IsChoice test g.ordered.now.order at.groups.items place
+abbrev pub IsNextMove : {C : Type 0} → (C → ℕ → Bool) → SearchInput C → State → Move C → Type 0
+IsNextMove test g s (next_move.Leaf leaf) = IsEnd (search_problem g) (search_round g) s leaf
+IsNextMove test g s (next_move.Better found) = IsBetter (search_problem g) (search_round g) s found
+IsNextMove test g s (next_move.Branch place at) =
+    IsPositionAt test g s at × IsChoice test g.ordered.now.order at.groups.items place
 
 -- where no group of at most so many counties fits: a leaf that is valid, a grouping that is better, or the groups of
 -- one county more
-abbrev pub IsNextSize : {C : Type 0} → (C → ℕ → Bool) → Ground C → State → ℕ → Next C → Type 0
-IsNextSize test g s size (next.Leaf leaf) = IsEnd (problem_in g) (round_in g) s leaf
-IsNextSize test g s size (next.Better found) = IsBetter (problem_in g) (round_in g) s found
+abbrev pub IsNextSize : {C : Type 0} → (C → ℕ → Bool) → SearchInput C → State → ℕ → Next C → Type 0
+IsNextSize test g s size (next.Leaf leaf) = IsEnd (search_problem g) (search_round g) s leaf
+IsNextSize test g s size (next.Better found) = IsBetter (search_problem g) (search_round g) s found
 IsNextSize test g s size (next.Groups groups) =
     (size < g.round.now.limit)
     × AreBelow (length g.ordered.now.order) test groups.items
-    × AreGroupsOf (problem_in g) (round_in g) s (size + 1) (codes_of_sets g.ordered.now.order test groups.items)
+    × AreGroupsOf (search_problem g) (search_round g) s (size + 1) (codes_of_sets g.ordered.now.order test groups.items)

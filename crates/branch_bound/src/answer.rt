@@ -1,6 +1,6 @@
 //! What a desk answers of a problem.
 
-use certificate_text::Certificate;
+use certificate_data::Certificate;
 use county_codes::Grouping;
 
 /// What a desk answers of a problem.

@@ -4,22 +4,22 @@
 //! left there are tested. That spares steps where many groups of the present size are still wanted.
 
 ghost use Rattle.std.specs.Prelude.{◌≡◌, ℕ, ◌+◌, ◌≤◌, length, [], IfOk, IsErrOf};
-ghost use Rattle.ordered_counties.specs.OrderedValue.{problem_at};
-ghost use Rattle.growing_sets.specs.Listing.{AreBelow};
-ghost use Rattle.proof_trees.specs.Groups.{AreGroupsOf};
-ghost use Rattle.proof_trees.specs.Leaves.{IsStuck};
-ghost use Rattle.line_verdicts.specs.Placed.{codes_of_sets};
-ghost use Rattle.known_groups.specs.PartLists.{AreListsOf};
-ghost use Rattle.county_regions.specs.declared.stop.Stop.{Stop};
-ghost use Rattle.branch_bound.specs.Searching.{problem_in, round_in, state_in, IsGround, IsAt};
+ghost use Rattle.county_problem.specs.OrderedValue.{problem_at};
+ghost use Rattle.connected_laws.specs.Listing.{AreBelow};
+ghost use Rattle.certificate_laws.specs.Groups.{AreGroupsOf};
+ghost use Rattle.certificate_laws.specs.Leaves.{IsStuck};
+ghost use Rattle.state_judge.specs.Placed.{codes_of_sets};
+ghost use Rattle.search_groups.specs.PartLists.{AreListsOf};
+ghost use Rattle.connected_sets.specs.declared.stop.Stop.{Stop};
+ghost use Rattle.branch_bound.specs.Searching.{search_problem, search_round, search_state, IsSearchInput, IsPositionAt};
 
-use crate::ground::Ground;
+use crate::input::SearchInput;
 use crate::position::Position;
-use bound_leaves::wanted_more;
-use fitting_groups::Stop;
-use known_groups::{PartLists, all_groups_of_size, groups_of_size, live_groups};
-use ordered_counties::Steps;
+use connected_sets::Stop;
+use county_problem::Steps;
 use place_sets::CountySet;
+use search_ends::wanted_more;
+use search_groups::{PartLists, all_groups_of_size, groups_of_size, live_groups};
 
 /// Before so many steps none are listed ahead.
 const FIRST_STEPS: u64 = 100_000;
@@ -32,36 +32,37 @@ const TEST_WANTED: u32 = 2;
 
 /// The groups of one county more that fit, where no group of at most the size that is known does.
 pub(crate) fn next_groups<C: CountySet>(
-    ground: &Ground<C>,
+    input: &SearchInput<C>,
     position: &Position<C>,
     lists: &mut PartLists<C>,
     steps: &mut Steps,
 ) -> Result<Vec<C>, Stop>
-    requires ground { IsGround C.PLACES C.test ground.now }
-    requires at { IsAt C.test ground.now (state_in ground.now C.test position.now.state) position.now }
+    requires input { IsSearchInput C.PLACES C.test input.now }
+    requires at { IsPositionAt C.test input.now (search_state input.now C.test position.now.state) position.now }
     requires none { position.now.groups.items ≡ [] }
-    requires no_stuck { (c : ℕ) → ¬ IsStuck (problem_in ground.now) (state_in ground.now C.test position.now.state) c }
-    requires lists { AreListsOf C.test (problem_at ground.now.ordered.now) (length ground.now.ordered.now.order) lists.old }
+    requires no_stuck { (c : ℕ)
+        → ¬ IsStuck (search_problem input.now) (search_state input.now C.test position.now.state) c }
+    requires lists { AreListsOf C.test (problem_at input.now.ordered.now) (length input.now.ordered.now.order) lists.old }
     ensures groups { IfOk
         result
         (λ v. AreGroupsOf
-        (problem_in ground.now)
-        (round_in ground.now)
-        (state_in ground.now C.test position.now.state)
+        (search_problem input.now)
+        (search_round input.now)
+        (search_state input.now C.test position.now.state)
         (position.now.size + 1)
-        (codes_of_sets ground.now.ordered.now.order C.test v.items)) }
-    ensures below { IfOk result (λ v. AreBelow (length ground.now.ordered.now.order) C.test v.items) }
-    ensures lists { AreListsOf C.test (problem_at ground.now.ordered.now) (length ground.now.ordered.now.order) lists.new }
+        (codes_of_sets input.now.ordered.now.order C.test v.items)) }
+    ensures below { IfOk result (λ v. AreBelow (length input.now.ordered.now.order) C.test v.items) }
+    ensures lists { AreListsOf C.test (problem_at input.now.ordered.now) (length input.now.ordered.now.order) lists.new }
     ensures more { steps.old.used ≤ steps.new.used }
     ensures limit { steps.new.limit ≡ steps.old.limit }
     ensures stopped { IsErrOf result Stop.StepLimit → steps.new.used ≡ steps.new.limit }
 {
-    let Ground {
+    let SearchInput {
         alloc,
         ordered,
         near,
         round,
-    } = ground;
+    } = input;
     let Position {
         state,
         size,
@@ -80,23 +81,24 @@ pub(crate) fn next_groups<C: CountySet>(
 
 /// The position, with the groups of one county more listed.
 fn listed_ahead<C: CountySet>(
-    ground: &Ground<C>,
+    input: &SearchInput<C>,
     position: Position<C>,
     steps: &mut Steps,
 ) -> Result<Position<C>, Stop>
-    requires ground { IsGround C.PLACES C.test ground.now }
-    requires at { IsAt C.test ground.now (state_in ground.now C.test position.state) position }
-    ensures at { IfOk result (λ at. IsAt C.test ground.now (state_in ground.now C.test position.state) at × (at.groups ≡ position.groups)) }
+    requires input { IsSearchInput C.PLACES C.test input.now }
+    requires at { IsPositionAt C.test input.now (search_state input.now C.test position.state) position }
+    ensures at { IfOk result (λ at. IsPositionAt C.test input.now (search_state input.now C.test position.state) at
+        × (at.groups ≡ position.groups)) }
     ensures more { steps.old.used ≤ steps.new.used }
     ensures limit { steps.new.limit ≡ steps.old.limit }
     ensures stopped { IsErrOf result Stop.StepLimit → steps.new.used ≡ steps.new.limit }
 {
-    let Ground {
+    let SearchInput {
         alloc,
         ordered,
         near,
         round,
-    } = ground;
+    } = input;
     let _places = ordered.places();
     let mut position = position;
     match all_groups_of_size(
@@ -120,23 +122,24 @@ fn listed_ahead<C: CountySet>(
 
 /// The position, without dead ones of the groups of one county more that are listed. A step is taken for each.
 fn tested_ahead<C: CountySet>(
-    ground: &Ground<C>,
+    input: &SearchInput<C>,
     position: Position<C>,
     steps: &mut Steps,
 ) -> Result<Position<C>, Stop>
-    requires ground { IsGround C.PLACES C.test ground.now }
-    requires at { IsAt C.test ground.now (state_in ground.now C.test position.state) position }
-    ensures at { IfOk result (λ at. IsAt C.test ground.now (state_in ground.now C.test position.state) at × (at.groups ≡ position.groups)) }
+    requires input { IsSearchInput C.PLACES C.test input.now }
+    requires at { IsPositionAt C.test input.now (search_state input.now C.test position.state) position }
+    ensures at { IfOk result (λ at. IsPositionAt C.test input.now (search_state input.now C.test position.state) at
+        × (at.groups ≡ position.groups)) }
     ensures more { steps.old.used ≤ steps.new.used }
     ensures limit { steps.new.limit ≡ steps.old.limit }
     ensures stopped { IsErrOf result Stop.StepLimit → steps.new.used ≡ steps.new.limit }
 {
-    let Ground {
+    let SearchInput {
         alloc,
         ordered,
         near,
         ..
-    } = ground;
+    } = input;
     let _places = ordered.places();
     let mut position = position;
     match live_groups(
@@ -159,29 +162,30 @@ fn tested_ahead<C: CountySet>(
 /// The position of a branch. If many groups of its size are wanted, those of one county more are listed, and if few
 /// are, those that are listed are tested.
 pub(crate) fn with_larger<C: CountySet>(
-    ground: &Ground<C>,
+    input: &SearchInput<C>,
     position: Position<C>,
     steps: &mut Steps,
 ) -> Result<Position<C>, Stop>
-    requires ground { IsGround C.PLACES C.test ground.now }
-    requires at { IsAt C.test ground.now (state_in ground.now C.test position.state) position }
-    ensures at { IfOk result (λ at. IsAt C.test ground.now (state_in ground.now C.test position.state) at × (at.groups ≡ position.groups)) }
+    requires input { IsSearchInput C.PLACES C.test input.now }
+    requires at { IsPositionAt C.test input.now (search_state input.now C.test position.state) position }
+    ensures at { IfOk result (λ at. IsPositionAt C.test input.now (search_state input.now C.test position.state) at
+        × (at.groups ≡ position.groups)) }
     ensures more { steps.old.used ≤ steps.new.used }
     ensures limit { steps.new.limit ≡ steps.old.limit }
     ensures stopped { IsErrOf result Stop.StepLimit → steps.new.used ≡ steps.new.limit }
 {
-    let Some(wanted) = wanted_more(ground.ordered, ground.round, &position.state, position.size)
+    let Some(wanted) = wanted_more(input.ordered, input.round, &position.state, position.size)
     else {
         return Ok(position);
     };
     if position.has_larger {
         if wanted == TEST_WANTED && !position.larger_tested {
-            return tested_ahead(ground, position, steps);
+            return tested_ahead(input, position, steps);
         }
         return Ok(position);
     }
-    if wanted >= LEAST_WANTED && position.size < ground.round.limit && steps.used() >= FIRST_STEPS {
-        return listed_ahead(ground, position, steps);
+    if wanted >= LEAST_WANTED && position.size < input.round.limit && steps.used() >= FIRST_STEPS {
+        return listed_ahead(input, position, steps);
     }
     Ok(position)
 }

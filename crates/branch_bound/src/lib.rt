@@ -17,7 +17,7 @@
 #![tactic(auto)]
 
 mod answer;
-mod ground;
+mod input;
 mod judging;
 mod larger;
 mod moves;

@@ -1,7 +1,7 @@
 //! What a search says of a state, of a take, and of all takes of a branch.
 
 use crate::position::Position;
-use certificate_text::{Certificate, Leaf, Take, Tree};
+use certificate_data::{Certificate, Leaf, Take, Tree};
 use county_codes::Grouping;
 
 /// What a search says of a state.

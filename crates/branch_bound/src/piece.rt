@@ -1,6 +1,6 @@
 //! What a desk answers of a piece of a shared proof, and the branch at which a piece may be split.
 
-use certificate_text::Tree;
+use certificate_data::Tree;
 use county_codes::{CountyCode, Grouping};
 
 /// A branch at which a piece may be split: into one piece for each group that fits, has the county and has at most

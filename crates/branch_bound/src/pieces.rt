@@ -2,20 +2,21 @@
 
 ghost use Rattle.std.specs.Prelude.{◌≡◌, ℕ, ◌≤◌, ◌↔◌, IsTrue, length, IfOk, IsErrOf};
 ghost use Rattle.county_codes.specs.Limits.{most_counties};
-ghost use Rattle.proof_trees.specs.State.{IsState};
-ghost use Rattle.proof_trees.specs.RoundValue.{round_of};
-ghost use Rattle.proof_trees.specs.State.{State as StateValue};
+ghost use Rattle.certificate_laws.specs.State.{IsState};
+ghost use Rattle.certificate_data.specs.RoundValue.{round_of};
+ghost use Rattle.certificate_laws.specs.State.{State as StateValue};
 ghost use Rattle.grouping_laws.specs.Problem.{Problem as ProblemLaw};
 ghost use Rattle.grouping_laws.specs.GroupsFrom.{IsOrder};
-ghost use Rattle.grouping_problem.specs.ProblemValue.{problem_of};
-ghost use Rattle.ordered_counties.specs.OrderedValue.{problem_at};
-ghost use Rattle.known_groups.specs.PartLists.{AreListsOf};
-ghost use Rattle.line_verdicts.specs.Placed.{state_at, IsPlaced};
+ghost use Rattle.county_problem.specs.ProblemValue.{problem_of};
+ghost use Rattle.county_problem.specs.OrderedValue.{problem_at};
+ghost use Rattle.search_groups.specs.PartLists.{AreListsOf};
+ghost use Rattle.state_judge.specs.Placed.{state_at, IsPlaced};
 ghost use Rattle.branch_bound.specs.PlainRounds.{IsPlainGround, IsStateOf};
-ghost use Rattle.branch_bound.specs.Searching.{problem_in, round_in, state_in, IsGround, IsAt, IsBetter, IsChoice, IsOutcome};
+ghost use Rattle.branch_bound.specs.Searching.{search_problem, search_round, search_state, IsSearchInput, IsPositionAt};
+ghost use Rattle.branch_bound.specs.Searching.{IsBetter, IsChoice, IsOutcome};
 ghost use Rattle.branch_bound.specs.Pieces.{IsWithin, IsPiece, IsOpen};
 
-use crate::ground::Ground;
+use crate::input::SearchInput;
 use crate::judging::next_move;
 use crate::outcome::{Move, SearchOutcome};
 use crate::piece::{Piece, Split};
@@ -23,16 +24,14 @@ use crate::plain_search::prove_plain;
 use crate::position::Position;
 use crate::search::prove;
 use crate::watcher::NoWatcher;
-use certificate_text::Tree;
+use certificate_data::{Language, Round, Tree};
+use connected_sets::{Stop, neighbour_rows};
 use county_codes::Grouping;
-use county_regions::neighbour_rows;
-use fitting_groups::Stop;
-use grouping_problem::Problem;
-use known_groups::PartLists;
-use line_verdicts::copied_state;
-use ordered_counties::{OrderFault, Ordered, Steps};
+use county_problem::{OrderFault, Ordered, Problem, Steps};
 use place_sets::CountySet;
-use proof_trees::{Language, Round, State};
+use search_groups::PartLists;
+use state_groups::State;
+use state_judge::copied_state;
 use std::alloc::{AllocError, Global};
 
 /// Whether no group has more counties than the limit.
@@ -49,7 +48,8 @@ fn is_within(grouping: &Grouping, limit: u16) -> bool
 
 /// The piece of a greater grouping.
 fn found_piece(round: &Round, found: Grouping) -> Piece
-    ensures piece { (p : ProblemLaw) (s : StateValue) → IsBetter p (round_of round.now) s found → IsPiece p (round_of round.now) s result }
+    ensures piece { (p : ProblemLaw) (s : StateValue) → IsBetter p (round_of round.now) s found
+        → IsPiece p (round_of round.now) s result }
     ensures closed { ¬ IsOpen result }
 {
     if is_within(&found, round.limit) {
@@ -61,7 +61,8 @@ fn found_piece(round: &Round, found: Grouping) -> Piece
 
 /// The piece of an outcome.
 fn piece_of(round: &Round, outcome: SearchOutcome) -> Piece
-    ensures piece { (p : ProblemLaw) (s : StateValue) → IsOutcome p (round_of round.now) s outcome → IsPiece p (round_of round.now) s result }
+    ensures piece { (p : ProblemLaw) (s : StateValue) → IsOutcome p (round_of round.now) s outcome
+        → IsPiece p (round_of round.now) s result }
     ensures closed { ¬ IsOpen result }
 {
     match outcome {
@@ -71,19 +72,19 @@ fn piece_of(round: &Round, outcome: SearchOutcome) -> Piece
 }
 
 /// The position at which the search of a piece begins: nothing is known of any group.
-fn begun<C: CountySet>(ground: &Ground<C>, state: &State<C>) -> Result<Position<C>, AllocError>
-    requires ground { IsGround C.PLACES C.test ground.now }
-    requires placed { IsPlaced (length ground.now.ordered.now.order) C.test state.now }
-    requires state { IsState (problem_in ground.now) (round_in ground.now) (state_in ground.now C.test state.now) }
-    ensures at { IfOk result (IsAt C.test ground.now (state_in ground.now C.test state.now)) }
+fn begun<C: CountySet>(input: &SearchInput<C>, state: &State<C>) -> Result<Position<C>, AllocError>
+    requires input { IsSearchInput C.PLACES C.test input.now }
+    requires placed { IsPlaced (length input.now.ordered.now.order) C.test state.now }
+    requires state { IsState (search_problem input.now) (search_round input.now) (search_state input.now C.test state.now) }
+    ensures at { IfOk result (IsPositionAt C.test input.now (search_state input.now C.test state.now)) }
 {
-    let _places = ground.ordered.places();
+    let _places = input.ordered.places();
     Ok(Position {
-        state: copied_state(ground.alloc, ground.ordered, state)?,
+        state: copied_state(input.alloc, input.ordered, state)?,
         size: 0,
-        groups: Vec::new(ground.alloc),
+        groups: Vec::new(input.alloc),
         tested: true,
-        larger: Vec::new(ground.alloc),
+        larger: Vec::new(input.alloc),
         has_larger: false,
         larger_tested: false,
     })
@@ -91,27 +92,27 @@ fn begun<C: CountySet>(ground: &Ground<C>, state: &State<C>) -> Result<Position<
 
 /// What is answered of a piece at whose state the search branches at the county at the place.
 fn branched_piece<C: CountySet>(
-    ground: &Ground<C>,
+    input: &SearchInput<C>,
     place: u16,
     at: Position<C>,
     lists: &mut PartLists<C>,
     steps: &mut Steps,
 ) -> Result<Piece, AllocError>
-    requires ground { IsGround C.PLACES C.test ground.now }
-    requires at { IsAt C.test ground.now (state_in ground.now C.test at.state) at }
-    requires choice { IsChoice C.test ground.now.ordered.now.order at.groups.items place }
-    requires lists { AreListsOf C.test (problem_at ground.now.ordered.now) (length ground.now.ordered.now.order) lists.old }
-    ensures piece { IfOk result (IsPiece (problem_in ground.now) (round_in ground.now) (state_in ground.now C.test at.state)) }
+    requires input { IsSearchInput C.PLACES C.test input.now }
+    requires at { IsPositionAt C.test input.now (search_state input.now C.test at.state) at }
+    requires choice { IsChoice C.test input.now.ordered.now.order at.groups.items place }
+    requires lists { AreListsOf C.test (problem_at input.now.ordered.now) (length input.now.ordered.now.order) lists.old }
+    ensures piece { IfOk result (IsPiece (search_problem input.now) (search_round input.now) (search_state input.now C.test at.state)) }
     ensures limit { steps.new.limit ≡ steps.old.limit }
     ensures more { steps.old.used ≤ steps.new.used }
     ensures open { IfOk result (λ piece. IsOpen piece → steps.new.used ≡ steps.new.limit) }
 {
     let split = Split {
-        county: ground.ordered.code(place),
+        county: input.ordered.code(place),
         limit: at.size,
     };
-    match prove(ground, at, lists, &mut NoWatcher, steps) {
-        Ok(outcome) => Ok(piece_of(ground.round, outcome)),
+    match prove(input, at, lists, &mut NoWatcher, steps) {
+        Ok(outcome) => Ok(piece_of(input.round, outcome)),
         Err(Stop::StepLimit) => Ok(Piece::Open(Some(split))),
         Err(Stop::Memory) => Err(AllocError),
     }
@@ -119,27 +120,27 @@ fn branched_piece<C: CountySet>(
 
 /// What a desk answers of a piece of a wide round.
 fn wide_piece<C: CountySet>(
-    ground: &Ground<C>,
+    input: &SearchInput<C>,
     state: &State<C>,
     steps: &mut Steps,
 ) -> Result<Piece, AllocError>
-    requires ground { IsGround C.PLACES C.test ground.now }
-    requires placed { IsPlaced (length ground.now.ordered.now.order) C.test state.now }
-    requires state { IsState (problem_in ground.now) (round_in ground.now) (state_in ground.now C.test state.now) }
-    ensures piece { IfOk result (IsPiece (problem_in ground.now) (round_in ground.now) (state_in ground.now C.test state.now)) }
+    requires input { IsSearchInput C.PLACES C.test input.now }
+    requires placed { IsPlaced (length input.now.ordered.now.order) C.test state.now }
+    requires state { IsState (search_problem input.now) (search_round input.now) (search_state input.now C.test state.now) }
+    ensures piece { IfOk result (IsPiece (search_problem input.now) (search_round input.now) (search_state input.now C.test state.now)) }
     ensures limit { steps.new.limit ≡ steps.old.limit }
     ensures more { steps.old.used ≤ steps.new.used }
     ensures open { IfOk result (λ piece. IsOpen piece → steps.new.used ≡ steps.new.limit) }
 {
-    let position = begun(ground, state)?;
-    let mut lists = PartLists::new(ground.alloc);
-    match next_move(ground, position, &mut lists, steps) {
+    let position = begun(input, state)?;
+    let mut lists = PartLists::new(input.alloc);
+    match next_move(input, position, &mut lists, steps) {
         Ok(Move::Leaf(leaf)) => {
-            let branches = Vec::new(ground.alloc);
+            let branches = Vec::new(input.alloc);
             Ok(Piece::Proved(Tree { branches, leaf }))
         }
-        Ok(Move::Better(found)) => Ok(found_piece(ground.round, found)),
-        Ok(Move::Branch(place, at)) => branched_piece(ground, place, at, &mut lists, steps),
+        Ok(Move::Better(found)) => Ok(found_piece(input.round, found)),
+        Ok(Move::Branch(place, at)) => branched_piece(input, place, at, &mut lists, steps),
         Err(Stop::StepLimit) => Ok(Piece::Open(None)),
         Err(Stop::Memory) => Err(AllocError),
     }
@@ -147,20 +148,20 @@ fn wide_piece<C: CountySet>(
 
 /// What is answered of a piece of a plain round.
 fn plain_piece<C: CountySet>(
-    ground: &Ground<C>,
+    input: &SearchInput<C>,
     state: &State<C>,
     steps: &mut Steps,
 ) -> Result<Piece, AllocError>
-    requires ground { IsPlainGround C.PLACES C.test ground.now }
-    requires at { IsStateOf C.test ground.now state.now }
-    ensures piece { IfOk result (IsPiece (problem_in ground.now) (round_in ground.now) (state_in ground.now C.test state.now)) }
+    requires input { IsPlainGround C.PLACES C.test input.now }
+    requires at { IsStateOf C.test input.now state.now }
+    ensures piece { IfOk result (IsPiece (search_problem input.now) (search_round input.now) (search_state input.now C.test state.now)) }
     ensures limit { steps.new.limit ≡ steps.old.limit }
     ensures more { steps.old.used ≤ steps.new.used }
     ensures open { IfOk result (λ piece. IsOpen piece → steps.new.used ≡ steps.new.limit) }
 {
-    let copy = copied_state(ground.alloc, ground.ordered, state)?;
-    match prove_plain(ground, copy, steps) {
-        Ok(outcome) => Ok(piece_of(ground.round, outcome)),
+    let copy = copied_state(input.alloc, input.ordered, state)?;
+    match prove_plain(input, copy, steps) {
+        Ok(outcome) => Ok(piece_of(input.round, outcome)),
         Err(Stop::StepLimit) => Ok(Piece::Open(None)),
         Err(Stop::Memory) => Err(AllocError),
     }
@@ -185,15 +186,15 @@ fn ordered_piece<C: CountySet>(
     ensures open { IfOk result (λ piece. IsOpen piece → steps.new.used ≡ steps.new.limit) }
 {
     let near: Vec<C> = neighbour_rows(alloc, ordered)?;
-    let ground = Ground {
+    let input = SearchInput {
         alloc,
         ordered,
         near: &near,
         round,
     };
     match round.language {
-        Language::Wide => wide_piece(&ground, state, steps),
-        Language::Plain => plain_piece(&ground, state, steps),
+        Language::Wide => wide_piece(&input, state, steps),
+        Language::Plain => plain_piece(&input, state, steps),
     }
 }
 

@@ -1,40 +1,41 @@
 //! How a state of a plain round ends, or at which county a search branches there: the first that is open to the limit.
 
 ghost use Rattle.std.specs.Prelude.{◌≡◌, ℕ, ◌≤◌, ◌<◌, length, IfOk, OnOk, IsErrOf, MatchOption, ⊤};
-ghost use Rattle.ordered_counties.specs.OrderedValue.{code_at};
-ghost use Rattle.proof_trees.specs.Fitting.{NoGroupFits};
-ghost use Rattle.proof_trees.specs.Leaves.{IsStuck, IsOffSeats};
-ghost use Rattle.proof_trees.specs.Proving.{CanBranch};
-ghost use Rattle.county_regions.specs.declared.stop.Stop.{Stop};
-ghost use Rattle.branch_bound.specs.Searching.{problem_in, round_in, state_in, IsEnd};
+ghost use Rattle.county_problem.specs.OrderedValue.{code_at};
+ghost use Rattle.certificate_laws.specs.Fitting.{NoGroupFits};
+ghost use Rattle.certificate_laws.specs.Leaves.{IsStuck, IsOffSeats};
+ghost use Rattle.certificate_laws.specs.Proving.{CanBranch};
+ghost use Rattle.connected_sets.specs.declared.stop.Stop.{Stop};
+ghost use Rattle.branch_bound.specs.Searching.{search_problem, search_round, search_state, IsEnd};
 ghost use Rattle.branch_bound.specs.PlainRounds.{IsPlainGround, IsStateOf, IsNextPlainMove};
 
-use crate::ground::Ground;
+use crate::input::SearchInput;
 use crate::outcome::PlainMove;
-use bound_leaves::{empty_leaf, room_leaf, whole_leaf};
-use certificate_text::Leaf;
-use finished_groupings::finished_grouping;
-use fitting_groups::Stop;
-use ordered_counties::Steps;
+use certificate_data::Leaf;
+use connected_sets::Stop;
+use county_problem::Steps;
 use place_sets::CountySet;
-use proof_trees::State;
-use state_tests::open_places;
+use search_ends::{empty_leaf, finished_grouping, room_leaf, whole_leaf};
+use state_groups::{State, open_places};
 use std::alloc::AllocError;
 
 /// The place of the first county that is open to the limit; none where no group of at most the limit fits.
-fn first_open<C: CountySet>(ground: &Ground<C>, state: &State<C>) -> Result<Option<u16>, AllocError>
-    requires ground { IsPlainGround C.PLACES C.test ground.now }
-    requires at { IsStateOf C.test ground.now state.now }
+fn first_open<C: CountySet>(
+    input: &SearchInput<C>,
+    state: &State<C>,
+) -> Result<Option<u16>, AllocError>
+    requires input { IsPlainGround C.PLACES C.test input.now }
+    requires at { IsStateOf C.test input.now state.now }
     ensures { IfOk
         result
         (λ found. MatchOption
         found
-        (NoGroupFits (problem_in ground.now) (round_in ground.now) (state_in ground.now C.test state.now))
-        (λ place. (place < length ground.now.ordered.now.order)
-        × CanBranch (round_in ground.now) (state_in ground.now C.test state.now) (code_at ground.now.ordered.now.order place) ground.now.round.now.limit)) }
+        (NoGroupFits (search_problem input.now) (search_round input.now) (search_state input.now C.test state.now))
+        (λ place. (place < length input.now.ordered.now.order)
+        × CanBranch (search_round input.now) (search_state input.now C.test state.now) (code_at input.now.ordered.now.order place) input.now.round.now.limit)) }
 {
-    let _places = ground.ordered.places();
-    let open = open_places(ground.alloc, state, ground.round.limit)?;
+    let _places = input.ordered.places();
+    let open = open_places(input.alloc, state, input.round.limit)?;
     match open.next(0) {
         Some(place) => Ok(Some(place)),
         None => Ok(None),
@@ -43,25 +44,25 @@ fn first_open<C: CountySet>(ground: &Ground<C>, state: &State<C>) -> Result<Opti
 
 /// A leaf that is valid at the state, found without a look at its groups.
 fn first_leaf<C: CountySet>(
-    ground: &Ground<C>,
+    input: &SearchInput<C>,
     state: &State<C>,
 ) -> Result<Option<Leaf>, AllocError>
-    requires ground { IsPlainGround C.PLACES C.test ground.now }
-    requires at { IsStateOf C.test ground.now state.now }
+    requires input { IsPlainGround C.PLACES C.test input.now }
+    requires at { IsStateOf C.test input.now state.now }
     ensures { IfOk
         result
         (λ found. MatchOption
         found
-        (((c : ℕ) → ¬ IsStuck (problem_in ground.now) (state_in ground.now C.test state.now) c)
-        × ¬ IsOffSeats (problem_in ground.now) (state_in ground.now C.test state.now))
-        (IsEnd (problem_in ground.now) (round_in ground.now) (state_in ground.now C.test state.now))) }
+        (((c : ℕ) → ¬ IsStuck (search_problem input.now) (search_state input.now C.test state.now) c)
+        × ¬ IsOffSeats (search_problem input.now) (search_state input.now C.test state.now))
+        (IsEnd (search_problem input.now) (search_round input.now) (search_state input.now C.test state.now))) }
 {
-    let Ground {
+    let SearchInput {
         alloc,
         ordered,
         near,
         round,
-    } = ground;
+    } = input;
     if let Some(leaf) = whole_leaf(*alloc, ordered, near, round, state)? {
         return Ok(Some(leaf));
     }
@@ -72,20 +73,20 @@ fn first_leaf<C: CountySet>(
 }
 
 /// What a state ends with at which no group of at most the limit fits.
-fn last_end<C: CountySet>(ground: &Ground<C>, state: &State<C>) -> Result<PlainMove, AllocError>
-    requires ground { IsPlainGround C.PLACES C.test ground.now }
-    requires at { IsStateOf C.test ground.now state.now }
-    requires none { NoGroupFits (problem_in ground.now) (round_in ground.now) (state_in ground.now C.test state.now) }
-    requires no_stuck { (c : ℕ) → ¬ IsStuck (problem_in ground.now) (state_in ground.now C.test state.now) c }
-    requires no_seats { ¬ IsOffSeats (problem_in ground.now) (state_in ground.now C.test state.now) }
-    ensures { IfOk result (IsNextPlainMove C.test ground.now (state_in ground.now C.test state.now)) }
+fn last_end<C: CountySet>(input: &SearchInput<C>, state: &State<C>) -> Result<PlainMove, AllocError>
+    requires input { IsPlainGround C.PLACES C.test input.now }
+    requires at { IsStateOf C.test input.now state.now }
+    requires none { NoGroupFits (search_problem input.now) (search_round input.now) (search_state input.now C.test state.now) }
+    requires no_stuck { (c : ℕ) → ¬ IsStuck (search_problem input.now) (search_state input.now C.test state.now) c }
+    requires no_seats { ¬ IsOffSeats (search_problem input.now) (search_state input.now C.test state.now) }
+    ensures { IfOk result (IsNextPlainMove C.test input.now (search_state input.now C.test state.now)) }
 {
-    let Ground {
+    let SearchInput {
         alloc,
         ordered,
         near,
         round,
-    } = ground;
+    } = input;
     let _places = ordered.places();
     let _problem = ordered.problem();
     if let Some(leaf) = empty_leaf(*alloc, ordered, round, state, round.limit)? {
@@ -97,30 +98,30 @@ fn last_end<C: CountySet>(ground: &Ground<C>, state: &State<C>) -> Result<PlainM
 
 /// How a state ends at which no early leaf is valid, or where the search branches.
 fn end_or_branch<C: CountySet>(
-    ground: &Ground<C>,
+    input: &SearchInput<C>,
     state: &State<C>,
 ) -> Result<PlainMove, AllocError>
-    requires ground { IsPlainGround C.PLACES C.test ground.now }
-    requires at { IsStateOf C.test ground.now state.now }
-    requires no_stuck { (c : ℕ) → ¬ IsStuck (problem_in ground.now) (state_in ground.now C.test state.now) c }
-    requires no_seats { ¬ IsOffSeats (problem_in ground.now) (state_in ground.now C.test state.now) }
-    ensures { IfOk result (IsNextPlainMove C.test ground.now (state_in ground.now C.test state.now)) }
+    requires input { IsPlainGround C.PLACES C.test input.now }
+    requires at { IsStateOf C.test input.now state.now }
+    requires no_stuck { (c : ℕ) → ¬ IsStuck (search_problem input.now) (search_state input.now C.test state.now) c }
+    requires no_seats { ¬ IsOffSeats (search_problem input.now) (search_state input.now C.test state.now) }
+    ensures { IfOk result (IsNextPlainMove C.test input.now (search_state input.now C.test state.now)) }
 {
-    match first_open(ground, state)? {
+    match first_open(input, state)? {
         Some(place) => Ok(PlainMove::Branch(place)),
-        None => last_end(ground, state),
+        None => last_end(input, state),
     }
 }
 
 /// How the state ends, or at which place the search branches there. A step is taken for the state.
 pub(crate) fn next_plain_move<C: CountySet>(
-    ground: &Ground<C>,
+    input: &SearchInput<C>,
     state: &State<C>,
     steps: &mut Steps,
 ) -> Result<PlainMove, Stop>
-    requires ground { IsPlainGround C.PLACES C.test ground.now }
-    requires at { IsStateOf C.test ground.now state.now }
-    ensures next_move { IfOk result (IsNextPlainMove C.test ground.now (state_in ground.now C.test state.now)) }
+    requires input { IsPlainGround C.PLACES C.test input.now }
+    requires at { IsStateOf C.test input.now state.now }
+    ensures next_move { IfOk result (IsNextPlainMove C.test input.now (search_state input.now C.test state.now)) }
     ensures counted { OnOk result (steps.old.used < steps.new.used) }
     ensures left { OnOk result (steps.old.used < steps.old.limit) }
     ensures more { steps.old.used ≤ steps.new.used }
@@ -130,9 +131,9 @@ pub(crate) fn next_plain_move<C: CountySet>(
     if !steps.tick() {
         return Err(Stop::StepLimit);
     }
-    match first_leaf(ground, state) {
+    match first_leaf(input, state) {
         Ok(Some(leaf)) => Ok(PlainMove::Leaf(leaf)),
-        Ok(None) => match end_or_branch(ground, state) {
+        Ok(None) => match end_or_branch(input, state) {
             Ok(next_move) => Ok(next_move),
             Err(refused) => Err(refused.into()),
         },

@@ -2,58 +2,59 @@
 //! county that is open to the limit, and its takes are all groups up to the limit.
 
 ghost use Rattle.std.specs.Prelude.{◌≡◌, ℕ, ◌≤◌, ◌<◌, ◌∷◌, [], ◌++◌, None, All, length, IfOk, OnOk, IsErrOf};
-ghost use Rattle.certificate_text.specs.declared.tree.Branch.{roll-Branch};
-ghost use Rattle.ordered_counties.specs.OrderedValue.{code_at};
-ghost use Rattle.proof_trees.specs.Groups.{IsGroupAt, AreGroupsAt};
-ghost use Rattle.proof_trees.specs.Proving.{CanBranch};
-ghost use Rattle.county_regions.specs.declared.stop.Stop.{Stop};
-ghost use Rattle.line_verdicts.specs.Placed.{codes_of_set, codes_of_sets, IsClosable};
-ghost use Rattle.branch_bound.specs.Searching.{problem_in, round_in, state_in, IsOutcome, IsTaken, AreTakesAt};
+ghost use Rattle.certificate_data.specs.declared.tree.Branch.{roll-Branch};
+ghost use Rattle.county_problem.specs.OrderedValue.{code_at};
+ghost use Rattle.certificate_laws.specs.Groups.{IsGroupAt, AreGroupsAt};
+ghost use Rattle.certificate_laws.specs.Proving.{CanBranch};
+ghost use Rattle.connected_sets.specs.declared.stop.Stop.{Stop};
+ghost use Rattle.state_judge.specs.Placed.{codes_of_set, codes_of_sets, IsClosable};
+ghost use Rattle.branch_bound.specs.Searching.{search_problem, search_round, search_state, IsOutcome, IsTakenGroup};
+ghost use Rattle.branch_bound.specs.Searching.{AreTakesAt};
 ghost use Rattle.branch_bound.specs.PlainRounds.{IsPlainGround, IsStateOf};
 
-use crate::ground::Ground;
+use crate::input::SearchInput;
 use crate::outcome::{PlainMove, SearchOutcome, Taken, Takes};
 use crate::plain_judging::next_plain_move;
 use crate::search::{taken_of, with_take};
-use certificate_text::{Branch, Take, Tree};
-use fitting_groups::{Stop, groups_at};
-use line_verdicts::{closed_state, raise_place};
-use ordered_counties::Steps;
+use certificate_data::{Branch, Take, Tree};
+use connected_sets::Stop;
+use county_problem::Steps;
 use place_sets::CountySet;
-use proof_trees::State;
+use state_groups::{State, groups_at};
+use state_judge::{closed_state, raise_place};
 use std::alloc::AllocError;
 
 /// The groups of the takes of a branch at the county at the place: all up to the limit.
 fn plain_groups<C: CountySet>(
-    ground: &Ground<C>,
+    input: &SearchInput<C>,
     state: &State<C>,
     place: u16,
     steps: &mut Steps,
 ) -> Result<Vec<C>, Stop>
-    requires ground { IsPlainGround C.PLACES C.test ground.now }
-    requires at { IsStateOf C.test ground.now state.now }
-    requires place { place < length ground.now.ordered.now.order }
-    requires can { CanBranch (round_in ground.now) (state_in ground.now C.test state.now) (code_at ground.now.ordered.now.order place) ground.now.round.now.limit }
+    requires input { IsPlainGround C.PLACES C.test input.now }
+    requires at { IsStateOf C.test input.now state.now }
+    requires place { place < length input.now.ordered.now.order }
+    requires can { CanBranch (search_round input.now) (search_state input.now C.test state.now) (code_at input.now.ordered.now.order place) input.now.round.now.limit }
     ensures groups { IfOk
         result
         (λ v. AreGroupsAt
-        (problem_in ground.now)
-        (round_in ground.now)
-        (state_in ground.now C.test state.now)
-        (code_at ground.now.ordered.now.order place)
-        ground.now.round.now.limit
-        (codes_of_sets ground.now.ordered.now.order C.test v.items)) }
+        (search_problem input.now)
+        (search_round input.now)
+        (search_state input.now C.test state.now)
+        (code_at input.now.ordered.now.order place)
+        input.now.round.now.limit
+        (codes_of_sets input.now.ordered.now.order C.test v.items)) }
     ensures closable { IfOk result (λ v. All (IsClosable C.test state.now) v.items) }
     ensures more { steps.old.used ≤ steps.new.used }
     ensures limit { steps.new.limit ≡ steps.old.limit }
     ensures stopped { IsErrOf result Stop.StepLimit → steps.new.used ≡ steps.new.limit }
 {
-    let Ground {
+    let SearchInput {
         alloc,
         ordered,
         near,
         round,
-    } = ground;
+    } = input;
     let _places = ordered.places();
     if round.limit == 0 {
         return Ok(Vec::new(*alloc));
@@ -75,18 +76,18 @@ fn plain_groups<C: CountySet>(
 
 /// Puts a branch at the county at the place, with its takes, behind the others.
 fn push_branch<C: CountySet>(
-    ground: &Ground<C>,
+    input: &SearchInput<C>,
     place: u16,
     takes: Vec<Take>,
     branches: &mut Vec<Branch>,
 ) -> Result<(), AllocError>
-    requires place { place < length ground.now.ordered.now.order }
+    requires place { place < length input.now.ordered.now.order }
     ensures pushed { OnOk
         result
-        (branches.new.items ≡ branches.old.items ++ roll-Branch (record { county = code_at ground.now.ordered.now.order place; limit = None; takes = takes }) ∷ []) }
-    ensures county { code_at ground.now.ordered.now.order place ≤ 99999 }
+        (branches.new.items ≡ branches.old.items ++ roll-Branch (record { county = code_at input.now.ordered.now.order place; limit = None; takes = takes }) ∷ []) }
+    ensures county { code_at input.now.ordered.now.order place ≤ 99999 }
 {
-    let county = ground.ordered.code(place);
+    let county = input.ordered.code(place);
     let _small = county.get();
     branches.push(Branch {
         county,
@@ -99,62 +100,62 @@ fn push_branch<C: CountySet>(
 /// The take of a group with its proof tree, or a better grouping found where the group is closed.
 #[cycle(proving_plain)]
 fn prove_plain_take<C: CountySet>(
-    ground: &Ground<C>,
+    input: &SearchInput<C>,
     state: &State<C>,
     group: &C,
     steps: &mut Steps,
 ) -> Result<Taken, Stop>
-    requires ground { IsPlainGround C.PLACES C.test ground.now }
-    requires at { IsStateOf C.test ground.now state.now }
+    requires input { IsPlainGround C.PLACES C.test input.now }
+    requires at { IsStateOf C.test input.now state.now }
     requires closable { IsClosable C.test state.now group.now }
     requires group { (c : ℕ)
         × IsGroupAt
-        (problem_in ground.now)
-        (round_in ground.now)
-        (state_in ground.now C.test state.now)
+        (search_problem input.now)
+        (search_round input.now)
+        (search_state input.now C.test state.now)
         c
-        ground.now.round.now.limit
-        (codes_of_set ground.now.ordered.now.order C.test group.now) }
-    ensures taken { IfOk result (IsTaken (problem_in ground.now) (round_in ground.now) (state_in ground.now C.test state.now) (codes_of_set ground.now.ordered.now.order C.test group.now)) }
+        input.now.round.now.limit
+        (codes_of_set input.now.ordered.now.order C.test group.now) }
+    ensures taken { IfOk result (IsTakenGroup (search_problem input.now) (search_round input.now) (search_state input.now C.test state.now) (codes_of_set input.now.ordered.now.order C.test group.now)) }
     ensures more { steps.old.used ≤ steps.new.used }
     ensures limit { steps.new.limit ≡ steps.old.limit }
     ensures stopped { IsErrOf result Stop.StepLimit → steps.new.used ≡ steps.new.limit }
 {
-    let _places = ground.ordered.places();
-    let _problem = ground.ordered.problem();
-    let closed = closed_state(ground.alloc, ground.ordered, state, group)?;
-    let outcome = prove_plain(ground, closed, steps);
-    taken_of(ground, group, outcome)
+    let _places = input.ordered.places();
+    let _problem = input.ordered.problem();
+    let closed = closed_state(input.alloc, input.ordered, state, group)?;
+    let outcome = prove_plain(input, closed, steps);
+    taken_of(input, group, outcome)
 }
 
 /// The takes of a branch at the county at the place, or a better grouping found where the group of one is closed.
 #[cycle(proving_plain)]
 fn prove_plain_takes<C: CountySet>(
-    ground: &Ground<C>,
+    input: &SearchInput<C>,
     state: &State<C>,
     place: u16,
     steps: &mut Steps,
 ) -> Result<Takes, Stop>
-    requires ground { IsPlainGround C.PLACES C.test ground.now }
-    requires at { IsStateOf C.test ground.now state.now }
-    requires place { place < length ground.now.ordered.now.order }
-    requires can { CanBranch (round_in ground.now) (state_in ground.now C.test state.now) (code_at ground.now.ordered.now.order place) ground.now.round.now.limit }
+    requires input { IsPlainGround C.PLACES C.test input.now }
+    requires at { IsStateOf C.test input.now state.now }
+    requires place { place < length input.now.ordered.now.order }
+    requires can { CanBranch (search_round input.now) (search_state input.now C.test state.now) (code_at input.now.ordered.now.order place) input.now.round.now.limit }
     ensures takes { IfOk
         result
         (AreTakesAt
-        (problem_in ground.now)
-        (round_in ground.now)
-        (state_in ground.now C.test state.now)
-        (code_at ground.now.ordered.now.order place)
-        ground.now.round.now.limit) }
+        (search_problem input.now)
+        (search_round input.now)
+        (search_state input.now C.test state.now)
+        (code_at input.now.ordered.now.order place)
+        input.now.round.now.limit) }
     ensures more { steps.old.used ≤ steps.new.used }
     ensures limit { steps.new.limit ≡ steps.old.limit }
     ensures stopped { IsErrOf result Stop.StepLimit → steps.new.used ≡ steps.new.limit }
 {
-    let groups = plain_groups(ground, state, place, steps)?;
-    let mut takes = Vec::new(ground.alloc);
+    let groups = plain_groups(input, state, place, steps)?;
+    let mut takes = Vec::new(input.alloc);
     'taking: for group in &groups {
-        let taken = prove_plain_take(ground, state, group, steps);
+        let taken = prove_plain_take(input, state, group, steps);
         match with_take(takes, taken) {
             Ok(Takes::Proved(more)) => takes = more,
             Ok(Takes::Better(found)) => return Ok(Takes::Better(found)),
@@ -172,28 +173,28 @@ fn prove_plain_takes<C: CountySet>(
 /// `StepLimit` only where all steps are used, `Memory` only where a growth was refused.
 #[cycle(proving_plain)]
 pub(crate) fn prove_plain<C: CountySet>(
-    ground: &Ground<C>,
+    input: &SearchInput<C>,
     state: State<C>,
     steps: &mut Steps,
 ) -> Result<SearchOutcome, Stop>
-    requires ground { IsPlainGround C.PLACES C.test ground.now }
-    requires at { IsStateOf C.test ground.now state }
-    ensures outcome { IfOk result (IsOutcome (problem_in ground.now) (round_in ground.now) (state_in ground.now C.test state)) }
+    requires input { IsPlainGround C.PLACES C.test input.now }
+    requires at { IsStateOf C.test input.now state }
+    ensures outcome { IfOk result (IsOutcome (search_problem input.now) (search_round input.now) (search_state input.now C.test state)) }
     ensures more { steps.old.used ≤ steps.new.used }
     ensures limit { steps.new.limit ≡ steps.old.limit }
     ensures stopped { IsErrOf result Stop.StepLimit → steps.new.used ≡ steps.new.limit }
 {
     let mut state = state;
-    let mut branches = Vec::new(ground.alloc);
+    let mut branches = Vec::new(input.alloc);
     'branching: loop {
-        match next_plain_move(ground, &state, steps) {
+        match next_plain_move(input, &state, steps) {
             Ok(PlainMove::Leaf(leaf)) => return Ok(SearchOutcome::Proved(Tree { branches, leaf })),
             Ok(PlainMove::Better(found)) => return Ok(SearchOutcome::Better(found)),
             Ok(PlainMove::Branch(place)) => {
-                match prove_plain_takes(ground, &state, place, steps) {
+                match prove_plain_takes(input, &state, place, steps) {
                     Ok(Takes::Proved(takes)) => {
-                        push_branch(ground, place, takes, &mut branches)?;
-                        raise_place(ground.ordered, &mut state, place, ground.round.limit);
+                        push_branch(input, place, takes, &mut branches)?;
+                        raise_place(input.ordered, &mut state, place, input.round.limit);
                     }
                     Ok(Takes::Better(found)) => return Ok(SearchOutcome::Better(found)),
                     Err(stop) => return Err(stop),

@@ -1,6 +1,6 @@
 //! Where a search stands.
 
-use proof_trees::State;
+use state_groups::State;
 
 /// Where a search stands: a state, and what is known of its groups. None of fewer than `size` counties fits, and
 /// `groups` has all of `size` counties that fit, by their lists of places, and maybe dead ones. If `has_larger`, then

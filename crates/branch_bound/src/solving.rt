@@ -5,39 +5,36 @@ ghost use Rattle.std.specs.List.Sorted.{IsStrictlyIncreasing};
 ghost use Rattle.county_codes.specs.Limits.{most_counties};
 ghost use Rattle.county_codes.specs.Windows.{FitsRange};
 ghost use Rattle.certificate_lines.specs.Fits.{AreCodes};
-ghost use Rattle.county_regions.specs.Rows.{AreRows};
-ghost use Rattle.grouping_problem.specs.ProblemValue.{problem_of};
-ghost use Rattle.ordered_counties.specs.OrderedValue.{problem_at};
-ghost use Rattle.certificate_languages.specs.declared.language.Language.TheVariants.{Plain, Wide};
-ghost use Rattle.proof_trees.specs.RoundValue.{round_of, target_of};
-ghost use Rattle.proof_trees.specs.Leaves.{IsStuck, IsOffSeats};
-ghost use Rattle.proof_trees.specs.State.{empty_state};
-ghost use Rattle.line_verdicts.specs.Placed.{state_at, IsPlaced};
-ghost use Rattle.county_regions.specs.declared.stop.Stop.{Stop};
-ghost use Rattle.known_groups.specs.PartLists.{AreListsOf};
+ghost use Rattle.connected_sets.specs.Rows.{AreRows};
+ghost use Rattle.county_problem.specs.ProblemValue.{problem_of};
+ghost use Rattle.county_problem.specs.OrderedValue.{problem_at};
+ghost use Rattle.certificate_data.specs.declared.language.Language.TheVariants.{Plain, Wide};
+ghost use Rattle.certificate_data.specs.RoundValue.{round_of, target_of};
+ghost use Rattle.certificate_laws.specs.Leaves.{IsStuck, IsOffSeats};
+ghost use Rattle.certificate_laws.specs.State.{empty_state};
+ghost use Rattle.state_judge.specs.Placed.{state_at, IsPlaced};
+ghost use Rattle.connected_sets.specs.declared.stop.Stop.{Stop};
+ghost use Rattle.search_groups.specs.PartLists.{AreListsOf};
 ghost use Rattle.branch_bound.specs.Searching.{IsOutcome, IsProof};
 ghost use Rattle.branch_bound.specs.Solving.{round_over, IsTarget, IsFirst};
-ghost use Rattle.bound_leaves.specs.GivenLeaf.{IsGiven};
+ghost use Rattle.search_ends.specs.GivenLeaf.{IsGivenLeaf};
 ghost use Rattle.branch_bound.specs.Answered.{IsSolveAnswer, Certifies, SolveIsRight, HasCompleteTree, SaysWhether};
 
 use crate::answer::Answer;
-use crate::ground::Ground;
+use crate::input::SearchInput;
 use crate::moves::first_position;
 use crate::outcome::{First, SearchOutcome};
 use crate::search::prove;
 use crate::watcher::{NoWatcher, Watcher};
-use bound_leaves::whole_leaf;
-use certificate_text::{Certificate, Leaf, Tree};
+use certificate_data::{Certificate, Language, Leaf, Round, Tree};
+use connected_sets::{Stop, neighbour_rows};
 use county_codes::{Codes, Grouping, listed_codes};
-use county_regions::neighbour_rows;
-use finished_groupings::finished_grouping;
-use fitting_groups::Stop;
-use grouping_problem::Problem;
-use known_groups::PartLists;
-use line_verdicts::first_state;
-use ordered_counties::{OrderFault, Ordered, Steps};
+use county_problem::{OrderFault, Ordered, Problem, Steps};
 use place_sets::{CountySet, MaskSet, Places, fits_mask};
-use proof_trees::{Language, Round, State};
+use search_ends::{finished_grouping, whole_leaf};
+use search_groups::PartLists;
+use state_groups::State;
+use state_judge::first_state;
 use std::alloc::{AllocError, Global};
 
 /// The limit of the first round, in counties.
@@ -89,7 +86,8 @@ fn round_for(
     target: Option<Grouping>,
     language: Language,
 ) -> Result<Round, AllocError>
-    ensures value { IfOk result (λ round. round_of round ≡ round_over (problem_of ordered.now.problem) ordered.now.order limit (target_of target) language) }
+    ensures value { IfOk result (λ round. round_of round
+        ≡ round_over (problem_of ordered.now.problem) ordered.now.order limit (target_of target) language) }
     ensures codes { IfOk result (λ round. AreCodes round.order) }
     ensures range { IfOk result (λ round. FitsRange round.window) }
 {
@@ -124,14 +122,14 @@ fn prove_first<C: CountySet, W: Watcher>(
     ensures limit { steps.new.limit ≡ steps.old.limit }
     ensures stopped { IsErrOf result Stop.StepLimit → steps.new.used ≡ steps.new.limit }
 {
-    let ground = Ground {
+    let input = SearchInput {
         alloc,
         ordered,
         near,
         round,
     };
-    let first = first_position(&ground)?;
-    prove(&ground, first, lists, watcher, steps)
+    let first = first_position(&input)?;
+    prove(&input, first, lists, watcher, steps)
 }
 
 /// A round of the search: a proof tree of it, or a greater grouping.
@@ -184,7 +182,8 @@ fn best(
         (round_over (problem_of ordered.now.problem) ordered.now.order limit (Some target.groups.items) Wide)
         (empty_state (problem_of ordered.now.problem))
         tree }
-    ensures answer { IfOk result (λ answer. (allowed : ℕ) → 1 ≤ allowed → IsSolveAnswer (problem_of ordered.now.problem) allowed answer) }
+    ensures answer { IfOk result (λ answer. (allowed : ℕ) → 1 ≤ allowed
+        → IsSolveAnswer (problem_of ordered.now.problem) allowed answer) }
     ensures complete { IfOk result (HasCompleteTree (problem_of ordered.now.problem)) }
 {
     let _places = ordered.places();
@@ -244,7 +243,7 @@ fn impossible(alloc: Global, ordered: &Ordered, round: Round, leaf: Leaf) -> Cer
     requires value { round_of round ≡ round_over (problem_of ordered.now.problem) ordered.now.order 0 None Plain }
     requires codes { AreCodes round.order }
     requires range { FitsRange round.window }
-    requires leaf { IsGiven (problem_of ordered.now.problem) (round_of round) (empty_state (problem_of ordered.now.problem)) leaf }
+    requires leaf { IsGivenLeaf (problem_of ordered.now.problem) (round_of round) (empty_state (problem_of ordered.now.problem)) leaf }
     ensures { Certifies (problem_of ordered.now.problem) Plain None result }
 {
     let _places = ordered.places();
@@ -266,7 +265,8 @@ fn parts_found<C: CountySet>(
     requires placed { IsPlaced (length ordered.now.order) C.test state.now }
     requires empty { state_at ordered.now.order C.test state.now ≡ empty_state (problem_of ordered.now.problem) }
     requires value { round_of round.now ≡ round_over (problem_of ordered.now.problem) ordered.now.order 0 None Plain }
-    requires no_stuck { (c : ℕ) → ¬ IsStuck (problem_of ordered.now.problem) (state_at ordered.now.order C.test state.now) c }
+    requires no_stuck { (c : ℕ)
+        → ¬ IsStuck (problem_of ordered.now.problem) (state_at ordered.now.order C.test state.now) c }
     requires no_seats { ¬ IsOffSeats (problem_of ordered.now.problem) (state_at ordered.now.order C.test state.now) }
     ensures { IfOk result (IsFirst (problem_of ordered.now.problem) ordered.now.order) }
 {
@@ -391,10 +391,10 @@ pub fn solve_watched<W: Watcher>(
 ///
 /// A step is a state that is entered, a set that is grown, a group that is tested for being live, or a look for the
 /// list of a part. With a limit of 0 the answer is always open; with a limit of 1 or more `Impossible` is answered
-/// exactly where no grouping is lawful.
-/// Best is the grouping whose counts of groups by size are the greatest, the count of the smallest size first
-/// (Stephenson v. Bartlett, in the form of Carter et al.). The certificate of Best is a wide one, that of Impossible
-/// a plain one; a text spells each. The certificate of Best is complete: its ends are the sets of all best groupings.
+/// exactly where no grouping is lawful. Best is the grouping whose counts of groups by size are the greatest, the count
+/// of the smallest size first (Stephenson v. Bartlett, in the form of Carter et al.). The certificate of Best is a wide
+/// one, that of Impossible a plain one; a text spells each. The certificate of Best is complete: its ends are the sets
+/// of all best groupings.
 ///
 /// # Errors
 ///

@@ -1,7 +1,7 @@
 //! Who is told how far a search is.
 
 use county_codes::Grouping;
-use ordered_counties::Steps;
+use county_problem::Steps;
 
 /// Who is told how far a search is. It changes nothing of the answer: what is promised of a search holds for each
 /// watcher.

@@ -3,24 +3,25 @@ use Rattle.std.proofs.Common.{◌≡◌, ℕ, ◌+◌, ◌≤◌, List, [], ◌�
 use Rattle.std.proofs.Math.Seq.{drop-append_seam}
 use Rattle.county_codes.specs.declared.group.Grouping.{Grouping as GroupingHeld}
 use Rattle.grouping_laws.specs.Problem.{Problem}
-use Rattle.certificate_lines.specs.Courses.{Course, certificate_course}
+use Rattle.certificate_lines.specs.Courses.{Unread, certificate_course}
 use Rattle.certificate_lines.specs.ItemsLeft.{ItemsHeld, in_memory, left_of_reader, nothing_taken}
 use Rattle.certificate_lines.specs.Fits.{AllFit}
 use Rattle.certificate_lines.specs.declared.fault.TextFault.{TextFault}
 use Rattle.certificate_lines.specs.declared.item.Wanted.TheVariants as want
-use Rattle.certificate_text.specs.Trees.{Certificate, items_of_certificate}
-use Rattle.verdicts.specs.End.{fine, faulty}
-use Rattle.verdicts.specs.Verdict as said
-use Rattle.text_verdicts.specs.TextVerdict.{HasTextFault}
-use Rattle.text_verdicts.proofs.Spelling.{spelled, spelling}
-use Rattle.text_verdicts.proofs.Lengths.{certificate_length}
-use Rattle.text_verdicts.proofs.LineFeeds.{lines}
-use Rattle.text_verdicts.proofs.Verdicts.{best, impossible}
+use Rattle.certificate_data.specs.TreeValue.{Certificate}
+use Rattle.certificate_text.specs.Trees.{items_of_certificate}
+use Rattle.checker_laws.specs.End.{fine, faulty}
+use Rattle.checker_laws.specs.Verdict as said
+use Rattle.checker_laws.specs.TextVerdict.{HasTextFault}
+use Rattle.checker_laws.proofs.Spelling.{spelled, spelling}
+use Rattle.checker_laws.proofs.Lengths.{certificate_length}
+use Rattle.checker_laws.proofs.LineFeeds.{lines}
+use Rattle.checker_laws.proofs.TextVerdicts.{best, impossible}
 use Rattle.certificate_checker.specs.Feeding.{FeedValue, Fed}
 use Rattle.certificate_checker.specs.Certificates.{IsCertificateJudged}
 use Rattle.certificate_checker.specs.Answered.{IsCheckAnswer, CheckIsRight, ShowsImpossible, ChecksItems, ChecksBytes}
-use Rattle.line_verdicts.specs.declared.fault.CheckFault.{CheckFault}
-use Rattle.line_verdicts.specs.declared.fault.CheckFault.TheVariants.{Text}
+use Rattle.state_judge.specs.declared.fault.CheckFault.{CheckFault}
+use Rattle.state_judge.specs.declared.fault.CheckFault.TheVariants.{Text}
 use Rattle.std.specs.declared.alloc.AllocError.{AllocError}
 use Rattle.certificate_checker.specs.declared.feed.Halt.{Halt}
 use Rattle.certificate_checker.specs.declared.feed.Halt.TheVariants as stop
@@ -84,7 +85,7 @@ shows_impossible p text budget (Ok Budget) h = tt
 shows_impossible p text budget (Err e) h = tt
 
 -- of a text in memory
-pub checked_text : (p : Problem) (course : Course) (text : List ℕ) (budget : ℕ) (r : Result Verdict AllocError) → ChecksItems p (in_memory course) [] budget r [] → course ≡ certificate_course text → IfOk r (IsCheckAnswer p text budget)
+pub checked_text : (p : Problem) (course : Unread) (text : List ℕ) (budget : ℕ) (r : Result Verdict AllocError) → ChecksItems p (in_memory course) [] budget r [] → course ≡ certificate_course text → IfOk r (IsCheckAnswer p text budget)
 checked_text p course text budget r h is = (h.answers [] (record { later = []; text = refl; may = λ ended. refl })).1 text is
 
 -- of bytes that were pulled

@@ -2,32 +2,32 @@
 use Rattle.std.proofs.Common.{◌≡◌, ◌≢◌, ℕ, suc, ◌+◌, ◌*◌, ◌≤◌, ◌<◌, List, [], ◌∷◌, ◌++◌, Bool, true, false, length, Option, None, Some, Result, Ok, Err, refl, sym, ◌∙◌, ap, subst, arith, inl}
 use Rattle.std.proofs.lemmas.List.{length-append}
 use Rattle.std.specs.Borrow.{Bor}
-use Rattle.grouping_judge.specs.CountList.{count_at}
+use Rattle.county_problem.specs.CountList.{count_at}
 use Rattle.grouping_laws.specs.Problem.{Problem}
 use Rattle.grouping_laws.specs.Grouping.{Grouping, counts, sets_of}
-use Rattle.proof_trees.specs.Round.{Round}
-use Rattle.proof_trees.specs.State.{State}
-use Rattle.proof_trees.specs.Tree.{Allowance, bound}
-use Rattle.proof_trees.specs.BoundLines.{allowance}
+use Rattle.certificate_data.specs.Round.{Round}
+use Rattle.certificate_laws.specs.State.{State}
+use Rattle.certificate_data.specs.Tree.{Allowance, bound}
+use Rattle.certificate_laws.specs.BoundLines.{allowance}
 use Rattle.certificate_lines.specs.declared.item.Item.{Item}
-use Rattle.verdicts.specs.End.{End, fine, faulty}
-use Rattle.verdicts.specs.Leaves.{BoundedEnds, BoundEnds, LeafEnds}
-use Rattle.verdicts.specs.Cost.{AllowancesLook, LeafLooks}
-use Rattle.verdicts.proofs.BoundWork.{bound_lines_carry, bound_lines_cost}
-use Rattle.certificate_checker.specs.Readable.{AreSpelled}
-use Rattle.bound_verdicts.specs.declared.bound.Allowed.{Allowed}
-use Rattle.bound_verdicts.specs.declared.bound.Allowed.TheVariants.{Loss, Even}
+use Rattle.checker_laws.specs.End.{End, fine, faulty}
+use Rattle.checker_laws.specs.Leaves.{BoundedEnds, BoundEnds, LeafEnds}
+use Rattle.checker_laws.specs.Cost.{AllowancesLook, LeafLooks}
+use Rattle.checker_laws.proofs.BoundWork.{bound_lines_carry, bound_lines_cost}
+use Rattle.certificate_checker.specs.Readable.{AllowancesAreSpelled}
+use Rattle.state_judge.specs.declared.bound.Allowed.{Allowed}
+use Rattle.state_judge.specs.declared.bound.Allowed.TheVariants.{Loss, Even}
 use Rattle.certificate_checker.specs.Feeding.{FeedValue, Fed}
 use Rattle.certificate_checker.specs.Judging.{AreWanted, line_items, IsLineJudged, IsLeafJudged, IsEndOf}
-use Rattle.line_verdicts.specs.declared.fault.CheckFault.TheVariants.{BoundLength}
+use Rattle.state_judge.specs.declared.fault.CheckFault.TheVariants.{BoundLength}
 use Rattle.certificate_checker.specs.declared.feed.Halt.{Halt}
 use Rattle.certificate_checker.specs.declared.feed.Halt.TheVariants as stop
-use Rattle.verdicts.specs.Fault as fault
+use Rattle.checker_laws.specs.Fault as fault
 
 -- what is left of the lines of a bound leaf, after so many of them, where so many counties are used up
 pub record LinesLeft (p : Problem) (round : Round) (s : State) (target : Grouping) (old now : FeedValue) (lines : List Allowance) (rest : List Item) (judged used : ℕ) : Type 0 where
   pub left : List Allowance
-  pub spelled : AreSpelled left
+  pub spelled : AllowancesAreSpelled left
   pub count : judged + length left ≡ length lines
   pub items : now.course.items ≡ line_items left ++ rest
   pub ends : (end : End) → BoundedEnds left p round s (counts (sets_of target)) (judged + 1) used old.line (now.line + 1) end → LeafEnds (bound lines) p round s old.line end
@@ -35,7 +35,7 @@ pub record LinesLeft (p : Problem) (round : Round) (s : State) (target : Groupin
 
 -- before the first line is judged
 pub no_line_judged : (p : Problem) (round : Round) (s : State) (target : Grouping) (old : FeedValue) (lines : List Allowance) (rest : List Item) → round.target ≡ Some target → length lines ≤ round.limit
-    → AreSpelled lines → old.course.items ≡ line_items lines ++ rest → LinesLeft p round s target old old lines rest 0 0
+    → AllowancesAreSpelled lines → old.course.items ≡ line_items lines ++ rest → LinesLeft p round s target old old lines rest 0 0
 no_line_judged p round s target old lines rest is few spelled items = record {
   left = lines;
   spelled = spelled;
@@ -50,7 +50,7 @@ wanted_of target = counts (sets_of target)
 
 -- a line that allows as many groups as the target has
 even_from : (p : Problem) (round : Round) (s : State) (target : Grouping) (old now new : FeedValue) (lines : List Allowance) (rest : List Item) (judged used more : ℕ) (left : List Allowance)
-    → judged < length lines → AreSpelled left → judged + length left ≡ length lines
+    → judged < length lines → AllowancesAreSpelled left → judged + length left ≡ length lines
     → ((end : End) → BoundedEnds left p round s (wanted_of target) (judged + 1) used old.line (now.line + 1) end → LeafEnds (bound lines) p round s old.line end)
     → ((n : ℕ) → LeafLooks (bound lines) p round s n → (m : ℕ) × AllowancesLook left p round s (wanted_of target) (judged + 1) used m × (now.used + old.line + 2 * m ≤ old.used + now.line + 2 * n))
     → IsLineJudged p round s (wanted_of target) (judged + 1) used left rest now (Ok (Even more)) new → LinesLeft p round s target old new lines rest (judged + 1) more

@@ -2,25 +2,25 @@
 use Rattle.std.proofs.Common.{◌≡◌, ℕ, suc, ◌+◌, ◌*◌, ◌≤◌, List, [], ◌∷◌, ◌++◌, length, Option, Result, Ok, Err, refl, sym, ◌∙◌, ap, subst, arith}
 use Rattle.std.proofs.lemmas.List.{length-append}
 use Rattle.grouping_laws.specs.Problem.{Problem}
-use Rattle.proof_trees.specs.Round.{Round}
-use Rattle.proof_trees.specs.State.{State, close, raise}
-use Rattle.proof_trees.specs.Groups.{AreGroupsAt, IsSetAt}
-use Rattle.proof_trees.specs.Tree.{Leaf, Tree, leaf, branch, Takes, no_take, take, groups_of}
-use Rattle.proof_trees.specs.Proving.{limit_of, NamesLimit, CanBranch, EachProves}
+use Rattle.certificate_data.specs.Round.{Round}
+use Rattle.certificate_laws.specs.State.{State, close, raise}
+use Rattle.certificate_laws.specs.Groups.{AreGroupsAt, IsSetAt}
+use Rattle.certificate_data.specs.Tree.{Leaf, Tree, leaf, branch, Takes, no_take, take, groups_of}
+use Rattle.certificate_laws.specs.Proving.{limit_of, NamesLimit, CanBranch, EachProves}
 use Rattle.certificate_text.specs.Trees.{items_of_tree}
 use Rattle.certificate_lines.specs.declared.item.Item.{Item}
-use Rattle.verdicts.specs.End.{fine, faulty}
-use Rattle.verdicts.specs.Branches.{IsBranchFault, IsNext, behind}
-use Rattle.verdicts.specs.Leaves.{LeafEnds}
-use Rattle.verdicts.specs.Cost.{AreSoMany, LeafLooks, Both, Where, TreeLooks, TakesLook}
-use Rattle.verdicts.specs.Work.{Open, a_tree, some_takes, WorkEnds}
-use Rattle.verdicts.specs.WorkCost.{WorkLooks}
-use Rattle.verdicts.proofs.Work.{lines_carry}
-use Rattle.verdicts.proofs.WorkCost.{where_fine, lines_cost}
-use Rattle.verdicts.proofs.Leaves.{leaf_valid}
-use Rattle.line_verdicts.specs.LineStops.{Stops}
-use Rattle.line_verdicts.specs.declared.fault.LineStop.{LineStop}
-use Rattle.line_verdicts.specs.declared.fault.LineStop.TheVariants as line_stop
+use Rattle.checker_laws.specs.End.{fine, faulty}
+use Rattle.checker_laws.specs.Branches.{IsBranchFault, IsNextTake, behind}
+use Rattle.checker_laws.specs.Leaves.{LeafEnds}
+use Rattle.checker_laws.specs.Cost.{AreSoMany, LeafLooks, Both, Where, TreeLooks, TakesLook}
+use Rattle.checker_laws.specs.Work.{Open, a_tree, some_takes, WorkEnds}
+use Rattle.checker_laws.specs.WorkCost.{WorkLooks}
+use Rattle.checker_laws.proofs.Work.{lines_carry}
+use Rattle.checker_laws.proofs.WorkCost.{where_fine, lines_cost}
+use Rattle.checker_laws.proofs.Leaves.{leaf_valid}
+use Rattle.state_judge.specs.LineStops.{StopsAt}
+use Rattle.state_judge.specs.declared.fault.LineStop.{LineStop}
+use Rattle.state_judge.specs.declared.fault.LineStop.TheVariants as line_stop
 use Rattle.certificate_checker.specs.Feeding.{FeedValue, TookLine, Reaches, Halts}
 use Rattle.certificate_checker.specs.Judging.{IsLeafJudged, IsJudged, IsStopAt}
 use Rattle.certificate_checker.specs.declared.feed.Halt.{Halt}
@@ -78,7 +78,7 @@ branch_reaches p round s county limit takes raised groups more old mid used x to
 -- the judging of a branch's line stopped
 pub branch_halts : (p : Problem) (round : Round) (s : State) (county : ℕ) (limit : Option ℕ) (takes : Takes) (raised : Tree) (more : List Open) (old mid : FeedValue) (rest : List Item) (x : Item) (st : LineStop) (found : Halt) → TookLine old (Ok x) mid → mid.limit ≡ old.limit
     → NamesLimit round.language limit → old.course.items ≡ items_of_tree (branch county limit takes raised) ++ rest
-    → Stops st (IsBranchFault round s county (limit_of round limit)) (NamesLimit round.language limit → ⊥)
+    → StopsAt st (IsBranchFault round s county (limit_of round limit)) (NamesLimit round.language limit → ⊥)
     → (st ≡ line_stop.StepLimit → CanBranch round s county (limit_of round limit) × ((m : ℕ) → AreSoMany round.order (IsSetAt p round.order s county (limit_of round limit)) m → mid.limit ≤ mid.used + 2 * m))
     → IsStopAt mid.line st found → Halts p round old (a_tree (branch county limit takes raised) s ∷ more) rest found
 branch_halts p round s county limit takes raised more old mid rest x (line_stop.Fault f) found took same names items stops looks at =
@@ -96,7 +96,7 @@ branch_halts p round s county limit takes raised more old mid rest x line_stop.M
     subst (Halts p round old (a_tree (branch county limit takes raised) s ∷ more) rest) (sym at) tt
 
 -- the next group is taken
-pub take_reaches : (p : Problem) (round : Round) (s : State) (codes : List ℕ) (tree : Tree) (others : Takes) (groups : List (List ℕ)) (more : List Open) (old mid : FeedValue) (x : Item) → TookLine old (Ok x) mid → IsNext groups codes
+pub take_reaches : (p : Problem) (round : Round) (s : State) (codes : List ℕ) (tree : Tree) (others : Takes) (groups : List (List ℕ)) (more : List Open) (old mid : FeedValue) (x : Item) → TookLine old (Ok x) mid → IsNextTake groups codes
     → Reaches p round old mid (some_takes (take codes tree others) s groups ∷ more) (a_tree tree (close codes s) ∷ some_takes others s (behind groups) ∷ more)
 take_reaches p round s codes tree others groups more old mid x took next = record {
   ends = λ end e. lines_carry.take_fine codes tree others p round s groups more (old.line + 1) end next (subst (λ n. WorkEnds (a_tree tree (close codes s) ∷ some_takes others s (behind groups) ∷ more) p round (n + 1) end) took.1 e);

@@ -3,14 +3,15 @@ use Rattle.std.proofs.Common.{◌≡◌, ℕ, ◌+◌, ◌*◌, ◌≤◌, ◌<�
 use Rattle.std.proofs.lemmas.List.{length-append}
 use Rattle.grouping_laws.specs.Problem.{Problem}
 use Rattle.county_codes.specs.declared.group.Grouping.{Grouping as GroupingHeld}
-use Rattle.proof_trees.specs.Round.{Round}
-use Rattle.proof_trees.specs.RoundValue.{target_of}
+use Rattle.certificate_data.specs.Round.{Round}
+use Rattle.certificate_data.specs.RoundValue.{target_of}
 use Rattle.certificate_lines.specs.declared.item.Item.{Item}
 use Rattle.certificate_lines.specs.declared.item.Item.TheVariants as item
-use Rattle.certificate_text.specs.Trees.{Certificate, items_of_head, items_of_target, items_of_tree, items_of_certificate}
-use Rattle.verdicts.specs.Lines.{window_line, group_lines}
-use Rattle.verdicts.specs.Cost.{CertificateCosts}
-use Rattle.text_verdicts.proofs.Lengths.{head_length, target_length, certificate_length}
+use Rattle.certificate_data.specs.TreeValue.{Certificate}
+use Rattle.certificate_text.specs.Trees.{items_of_head, items_of_target, items_of_tree, items_of_certificate}
+use Rattle.checker_laws.specs.Lines.{window_line, target_lines}
+use Rattle.checker_laws.specs.Cost.{CertificateCosts}
+use Rattle.checker_laws.proofs.Lengths.{head_length, target_length, certificate_length}
 use Rattle.certificate_checker.specs.Feeding.{FeedValue, Fed}
 use Rattle.certificate_checker.specs.Judging.{TookForm}
 use Rattle.certificate_checker.specs.Certificates.{AreTaken, round_items, FirstLooks, IsRoundJudged, IsCertificateJudged}
@@ -19,7 +20,7 @@ use Rattle.certificate_checker.specs.declared.feed.Halt.TheVariants as stop
 use Rattle.certificate_checker.proofs.Taken.{form_taken}
 
 -- the lines in front of a tree
-pub round_lines : (c : Certificate) → length (round_items c) ≡ window_line c.round.window + 3 + group_lines c.round.target
+pub round_lines : (c : Certificate) → length (round_items c) ≡ window_line c.round.window + 3 + target_lines c.round.target
 round_lines c = omega (arith, target_length c.round.target, head_length c.round.language c.round.window, length-append (items_of_head c.round.language c.round.window) (item.Order c.round.order ∷ item.Limit c.round.limit ∷ items_of_target c.round.target))
 
 -- the items of a certificate are those of its round and those behind

@@ -16,3 +16,4 @@ pub mod Answering
 pub mod TreeAnswering
 pub mod HeadsRead
 pub mod TargetsRead
+pub mod Agrees

@@ -1,24 +1,24 @@
 -- One line of a bound leaf, read and judged.
 use Rattle.std.proofs.Common.{◌≡◌, ℕ, ◌+◌, ◌*◌, ◌≤◌, List, [], ◌∷◌, ◌++◌, Result, Ok, Err, MatchResult, IfOk, IsErrOf, refl, sym, ◌∙◌, ap, subst, arith}
 use Rattle.grouping_laws.specs.Problem.{Problem}
-use Rattle.certificate_languages.specs.declared.language.Language.{Language}
-use Rattle.proof_trees.specs.Round.{Round}
-use Rattle.proof_trees.specs.State.{State}
-use Rattle.proof_trees.specs.Tree.{Allowance}
-use Rattle.certificate_text.specs.Trees.{allowance_of, declared_allowance}
+use Rattle.certificate_data.specs.declared.language.Language.{Language}
+use Rattle.certificate_data.specs.Round.{Round}
+use Rattle.certificate_laws.specs.State.{State}
+use Rattle.certificate_data.specs.Tree.{Allowance}
+use Rattle.certificate_data.specs.TreeValue.{allowance_of, declared_allowance}
 use Rattle.certificate_lines.specs.Courses.{first}
-use Rattle.certificate_lines.specs.declared.item.Allowance.{Allowance as DeclaredAllowance}
+use Rattle.certificate_data.specs.declared.allowance.Allowance.{Allowance as DeclaredAllowance}
 use Rattle.certificate_lines.specs.declared.item.Item.{Item}
 use Rattle.certificate_lines.specs.declared.item.Item.TheVariants.{Allows}
-use Rattle.verdicts.specs.Leaves.{IsAllowanceFault}
-use Rattle.verdicts.specs.Cost.{LineLooks}
-use Rattle.line_verdicts.specs.LineStops.{Stops}
-use Rattle.line_verdicts.specs.declared.fault.LineStop.{LineStop}
-use Rattle.line_verdicts.specs.declared.fault.LineStop.TheVariants as line_stop
-use Rattle.bound_verdicts.specs.Allowed.{IsSpelled, IsAllowed}
-use Rattle.bound_verdicts.specs.declared.bound.Allowed.{Allowed}
-use Rattle.bound_verdicts.specs.declared.bound.Allowed.TheVariants.{Loss, Even}
-use Rattle.certificate_checker.specs.Readable.{AreSpelled}
+use Rattle.checker_laws.specs.Leaves.{IsAllowanceFault}
+use Rattle.checker_laws.specs.Cost.{LineLooks}
+use Rattle.state_judge.specs.LineStops.{StopsAt}
+use Rattle.state_judge.specs.declared.fault.LineStop.{LineStop}
+use Rattle.state_judge.specs.declared.fault.LineStop.TheVariants as line_stop
+use Rattle.state_judge.specs.Allowed.{AllowanceIsSpelled, IsAllowed}
+use Rattle.state_judge.specs.declared.bound.Allowed.{Allowed}
+use Rattle.state_judge.specs.declared.bound.Allowed.TheVariants.{Loss, Even}
+use Rattle.certificate_checker.specs.Readable.{AllowancesAreSpelled}
 use Rattle.certificate_checker.specs.Feeding.{FeedValue, Fed, IsFed, TookLine}
 use Rattle.certificate_checker.specs.Judging.{line_items, IsLineJudged, IsSmall, IsStopAt, IsJudgedAt}
 use Rattle.certificate_checker.specs.declared.feed.Halt.{Halt}
@@ -44,24 +44,24 @@ line_ok p round s wanted i used (b ∷ others) rest old mid new a allowed took i
     (ap (λ c. c.items) same ∙ v.2, line, subst (λ x. IsAllowed round.language p s wanted i used x allowed) v.0 is, λ m l. looks m (subst (λ x. LineLooks x p round s i m) (sym v.0) l))
 
 pub line_stop_at : (p : Problem) (round : Round) (s : State) (wanted : ℕ → ℕ) (i used : ℕ) (lines : List Allowance) (rest : List Item) (old mid new : FeedValue) (a : DeclaredAllowance) (st : LineStop) (found : Halt)
-    → old.course ≡ first (Allows a) mid.course → old.course.items ≡ line_items lines ++ rest → AreSpelled lines → IsStopAt (old.line + 1) st found → Stops st (IsAllowanceFault round.language p s wanted i used (allowance_of a)) (IsSpelled a → ⊥)
+    → old.course ≡ first (Allows a) mid.course → old.course.items ≡ line_items lines ++ rest → AllowancesAreSpelled lines → IsStopAt (old.line + 1) st found → StopsAt st (IsAllowanceFault round.language p s wanted i used (allowance_of a)) (AllowanceIsSpelled a → ⊥)
     → (st ≡ line_stop.StepLimit → (m : ℕ) → LineLooks (allowance_of a) p round s i m → old.limit ≤ old.used + 1 + 2 * m) → IsLineJudged p round s wanted i used lines rest old (Err found) new
 line_stop_at p round s wanted i used [] rest old mid new a st found took items spelled at stops looks = tt
 line_stop_at p round s wanted i used (b ∷ others) rest old mid new a st found took items spelled at stops looks =
     let e : Allows a ∷ mid.course.items ≡ Allows (declared_allowance b) ∷ (line_items others ++ rest) = sym (ap (λ c. c.items) took) ∙ items in
     let v = same_line b a mid.course.items (line_items others ++ rest) e in
-    by_stop st found at stops looks v.0 (subst IsSpelled v.1 spelled.0)
+    by_stop st found at stops looks v.0 (subst AllowanceIsSpelled v.1 spelled.0)
   where
-    by_stop : (st : LineStop) (found : Halt) → IsStopAt (old.line + 1) st found → Stops st (IsAllowanceFault round.language p s wanted i used (allowance_of a)) (IsSpelled a → ⊥)
-        → (st ≡ line_stop.StepLimit → (m : ℕ) → LineLooks (allowance_of a) p round s i m → old.limit ≤ old.used + 1 + 2 * m) → allowance_of a ≡ b → IsSpelled a → IsLineJudged p round s wanted i used (b ∷ others) rest old (Err found) new
+    by_stop : (st : LineStop) (found : Halt) → IsStopAt (old.line + 1) st found → StopsAt st (IsAllowanceFault round.language p s wanted i used (allowance_of a)) (AllowanceIsSpelled a → ⊥)
+        → (st ≡ line_stop.StepLimit → (m : ℕ) → LineLooks (allowance_of a) p round s i m → old.limit ≤ old.used + 1 + 2 * m) → allowance_of a ≡ b → AllowanceIsSpelled a → IsLineJudged p round s wanted i used (b ∷ others) rest old (Err found) new
     by_stop (line_stop.Fault f) found at stops looks same is = subst (λ x. IsLineJudged p round s wanted i used (b ∷ others) rest old (Err x) new) (sym at) (stops.0, stops.1, subst (λ x. IsAllowanceFault round.language p s wanted i used x stops.0) same stops.2, refl)
     by_stop line_stop.Unspelled found at stops looks same is = absurd (stops is)
     by_stop line_stop.StepLimit found at stops looks same is = subst (λ x. IsLineJudged p round s wanted i used (b ∷ others) rest old (Err x) new) (sym at) (λ m l. looks refl m (subst (λ x. LineLooks x p round s i m) (sym same) l))
     by_stop line_stop.Memory found at stops looks same is = subst (λ x. IsLineJudged p round s wanted i used (b ∷ others) rest old (Err x) new) (sym at) tt
 
 pub line_judged : (p : Problem) (round : Round) (s : State) (wanted : ℕ → ℕ) (i used : ℕ) (lines : List Allowance) (rest : List Item) (old mid new : FeedValue) (a : DeclaredAllowance) (judged : Result Allowed LineStop) (r : Result Allowed Halt)
-    → TookLine old (Ok (Allows a)) mid → mid.limit ≡ old.limit → old.course.items ≡ line_items lines ++ rest → new.course ≡ mid.course → new.line ≡ mid.line → AreSpelled lines
-    → MatchResult judged (IsAllowed round.language p s wanted i used (allowance_of a)) (λ st. Stops st (IsAllowanceFault round.language p s wanted i used (allowance_of a)) (IsSpelled a → ⊥))
+    → TookLine old (Ok (Allows a)) mid → mid.limit ≡ old.limit → old.course.items ≡ line_items lines ++ rest → new.course ≡ mid.course → new.line ≡ mid.line → AllowancesAreSpelled lines
+    → MatchResult judged (IsAllowed round.language p s wanted i used (allowance_of a)) (λ st. StopsAt st (IsAllowanceFault round.language p s wanted i used (allowance_of a)) (AllowanceIsSpelled a → ⊥))
     → IfOk judged (λ _. (m : ℕ) → LineLooks (allowance_of a) p round s i m → new.used ≤ mid.used + 2 * m)
     → (IsErrOf judged line_stop.StepLimit → (m : ℕ) → LineLooks (allowance_of a) p round s i m → mid.limit ≤ mid.used + 2 * m)
     → IsJudgedAt mid.line judged r → IsLineJudged p round s wanted i used lines rest old r new

@@ -1,9 +1,9 @@
 -- Steps from one place of the text to a later one.
 use Rattle.std.proofs.Common.{◌≤◌, List, length, Result, Ok, Err, refl, sym, ◌∙◌, arith}
 use Rattle.grouping_laws.specs.Problem.{Problem}
-use Rattle.proof_trees.specs.Round.{Round}
+use Rattle.certificate_data.specs.Round.{Round}
 use Rattle.certificate_lines.specs.declared.item.Item.{Item}
-use Rattle.verdicts.specs.Work.{Open}
+use Rattle.checker_laws.specs.Work.{Open}
 use Rattle.certificate_checker.specs.Feeding.{FeedValue, CountsSteps, Fed, IsFed, Reaches, Halts}
 use Rattle.certificate_checker.specs.declared.feed.Feed.{Feed}
 use Rattle.certificate_checker.specs.declared.feed.Halt.{Halt}

@@ -1,21 +1,22 @@
 -- The tree of a certificate that a text can spell is readable, and the certificate's limit and order are small.
 use Rattle.std.proofs.Common.{◌≤◌, List, [], ◌∷◌, ◌++◌, length}
 use Rattle.county_codes.specs.Limits.{most_counties}
-use Rattle.certificate_languages.specs.declared.language.Language.{Language}
-use Rattle.proof_trees.specs.Tree.{Allowance, room, weigh, stuck, seats, bound, Tree, leaf, branch, Takes, no_take, take}
+use Rattle.certificate_data.specs.declared.language.Language.{Language}
+use Rattle.certificate_data.specs.Tree.{Allowance, room, weigh, stuck, seats, bound, Tree, leaf, branch, Takes, no_take, take}
 use Rattle.certificate_lines.specs.Fits.{AllFit}
 use Rattle.certificate_lines.specs.declared.item.Item.TheVariants as item
 use Rattle.certificate_lines.specs.declared.item.Wanted.TheVariants as want
-use Rattle.certificate_text.specs.Trees.{Certificate, declared_allowance, items_of_target, items_of_tree, items_of_certificate}
-use Rattle.text_verdicts.proofs.Readable.{head_over, IsFormedLine, AreFormedLines, IsFormed, AreFormed, formed_of_fits}
-use Rattle.bound_verdicts.specs.Allowed.{IsSpelled}
-use Rattle.certificate_checker.specs.Readable.{AreSpelled, IsReadable, AreReadable}
+use Rattle.certificate_data.specs.TreeValue.{Certificate, declared_allowance}
+use Rattle.certificate_text.specs.Trees.{items_of_target, items_of_tree, items_of_certificate}
+use Rattle.checker_laws.proofs.Readable.{head_over, IsFormedLine, AreFormedLines, IsFormed, AreFormed, formed_of_fits}
+use Rattle.state_judge.specs.Allowed.{AllowanceIsSpelled}
+use Rattle.certificate_checker.specs.Readable.{AllowancesAreSpelled, IsReadable, AreReadable}
 
-line_spelled : (line : Allowance) → IsFormedLine line → IsSpelled (declared_allowance line)
+line_spelled : (line : Allowance) → IsFormedLine line → AllowanceIsSpelled (declared_allowance line)
 line_spelled room f = tt
 line_spelled (weigh quota weights) f = f
 
-lines_spelled : (lines : List Allowance) → AreFormedLines lines → AreSpelled lines
+lines_spelled : (lines : List Allowance) → AreFormedLines lines → AllowancesAreSpelled lines
 lines_spelled [] f = tt
 lines_spelled (line ∷ lines) f = (line_spelled line f.0, lines_spelled lines f.1)
 

@@ -2,24 +2,24 @@
 use Rattle.std.proofs.Common.{◌≡◌, ◌≢◌, ℕ, suc, Bool, All, ◌+◌, ◌≤◌, List, [], ◌∷◌, ◌++◌, length, Option, Result, Ok, Err, refl, sym, ◌∙◌, ap, subst, arith}
 use Rattle.std.proofs.lemmas.List.{length-append}
 use Rattle.grouping_laws.specs.Problem.{Problem}
-use Rattle.certificate_languages.specs.declared.language.Language.{Language}
-use Rattle.proof_trees.specs.Round.{Round}
-use Rattle.proof_trees.specs.State.{State, close}
-use Rattle.proof_trees.specs.Tree.{Tree, Takes, no_take, take}
+use Rattle.certificate_data.specs.declared.language.Language.{Language}
+use Rattle.certificate_data.specs.Round.{Round}
+use Rattle.certificate_laws.specs.State.{State, close}
+use Rattle.certificate_data.specs.Tree.{Tree, Takes, no_take, take}
 use Rattle.certificate_text.specs.Trees.{items_of_tree}
 use Rattle.certificate_lines.specs.Items.{taken}
 use Rattle.certificate_lines.specs.declared.item.Item.{Item}
 use Rattle.certificate_lines.specs.declared.item.Item.TheVariants as item
-use Rattle.verdicts.specs.End.{faulty}
-use Rattle.verdicts.specs.Fault as fault
-use Rattle.verdicts.specs.Branches.{IsNext, behind}
-use Rattle.verdicts.specs.Work.{Open, a_tree, some_takes, WorkEnds}
-use Rattle.verdicts.proofs.Work.{lines_carry}
-use Rattle.line_verdicts.specs.Placed.{codes_of_sets}
+use Rattle.checker_laws.specs.End.{faulty}
+use Rattle.checker_laws.specs.Fault as fault
+use Rattle.checker_laws.specs.Branches.{IsNextTake, behind}
+use Rattle.checker_laws.specs.Work.{Open, a_tree, some_takes, WorkEnds}
+use Rattle.checker_laws.proofs.Work.{lines_carry}
+use Rattle.state_judge.specs.Placed.{codes_of_sets}
 use Rattle.certificate_checker.specs.Readable.{IsReadable, AreReadable}
 use Rattle.certificate_checker.specs.Feeding.{FeedValue, Fed, IsFed, TookLine, Reaches, Halts, items_to_mark}
 use Rattle.certificate_checker.specs.Judging.{IsJudged, TookForm, IsTakeStop}
-use Rattle.line_verdicts.specs.declared.fault.CheckFault.TheVariants.{MissingGroup}
+use Rattle.state_judge.specs.declared.fault.CheckFault.TheVariants.{MissingGroup}
 use Rattle.certificate_checker.specs.declared.feed.Halt.{Halt}
 use Rattle.certificate_checker.specs.declared.feed.Halt.TheVariants as stop
 use Rattle.certificate_checker.proofs.Views.{view_take, view_mark, takes_begin}
@@ -101,7 +101,7 @@ take_stop_fed X groups codes line old mid stop.Refused fed is = tt
 
 -- the tree of the take was judged
 pub take_on : {X : Type 0} (language : Language) (p : Problem) (round : Round) (s closed : State) (codes : List ℕ) (groups : List (List ℕ)) (rest : List Item) (more : List Open) (old cur mid new : FeedValue) (before : List Open) (done : X)
-    → TakesLeft language p round s groups rest more old cur before → TookLine cur (Ok (item.Takes codes)) mid → IsNext groups codes → closed ≡ close codes s
+    → TakesLeft language p round s groups rest more old cur before → TookLine cur (Ok (item.Takes codes)) mid → IsNextTake groups codes → closed ≡ close codes s
     → TreeJudged language p round closed mid (Ok done) new → TakesLeft language p round s (behind groups) rest more old new before
 take_on language p round s closed codes groups rest more old cur mid new before done h took next same judged =
     let v = take_first language p round s codes groups rest more old cur mid before h took in
@@ -118,7 +118,7 @@ take_on language p round s closed codes groups rest more old cur mid new before 
 
 -- the judging of the tree of the take stopped
 pub take_off : (language : Language) (p : Problem) (round : Round) (s closed : State) (codes : List ℕ) (groups : List (List ℕ)) (rest : List Item) (more : List Open) (old cur mid new : FeedValue) (before : List Open) (st : Halt)
-    → TakesLeft language p round s groups rest more old cur before → Fed old mid → TookLine cur (Ok (item.Takes codes)) mid → IsNext groups codes → closed ≡ close codes s
+    → TakesLeft language p round s groups rest more old cur before → Fed old mid → TookLine cur (Ok (item.Takes codes)) mid → IsNextTake groups codes → closed ≡ close codes s
     → TreeJudged {X = Unit {0}} language p round closed mid (Err st) new → Halts p round old before rest st
 take_off language p round s closed codes groups rest more old cur mid new before st h fed took next same judged =
     let v = take_first language p round s codes groups rest more old cur mid before h took in
@@ -149,7 +149,7 @@ mark_stops language p round s groups rest more old cur mid before h took some =
     (fault.MissingGroup, refl, r.ends (faulty fault.MissingGroup mid.line) (subst (λ n. WorkEnds (some_takes no_take s groups ∷ more) p round (cur.line + 1) (faulty fault.MissingGroup n)) (sym took.1) (lines_carry.mark_fault p round s groups more (cur.line + 1) fault.MissingGroup (refl, some))))
 
 -- the sets behind the first one, which is there
-pub sets_behind : (C : Type 0) (order : List ℕ) (test : C → ℕ → Bool) (left others : List C) (codes : List ℕ) → IsNext (codes_of_sets order test left) codes → ((set : C) (sets : List C) → left ≡ set ∷ sets → others ≡ sets)
+pub sets_behind : (C : Type 0) (order : List ℕ) (test : C → ℕ → Bool) (left others : List C) (codes : List ℕ) → IsNextTake (codes_of_sets order test left) codes → ((set : C) (sets : List C) → left ≡ set ∷ sets → others ≡ sets)
     → (P : C → Type 0) → All P left → All P others × (behind (codes_of_sets order test left) ≡ codes_of_sets order test others)
 sets_behind C order test [] others codes next is P all = absurd next
 sets_behind C order test (set ∷ sets) others codes next is P all =

@@ -5,16 +5,16 @@ use Rattle.std.proofs.lemmas.Bool.{false≢true, ltb-true}
 use Rattle.std.proofs.lemmas.List.{length-map}
 use Rattle.county_codes.specs.declared.group.Group.{Group}
 use Rattle.county_codes.specs.declared.group.Grouping.{Grouping as GroupingHeld}
-use Rattle.proof_trees.specs.RoundValue.{target_of}
+use Rattle.certificate_data.specs.RoundValue.{target_of}
 use Rattle.grouping_laws.specs.Problem.{Problem, IsProblem}
 use Rattle.grouping_laws.specs.GroupsFrom.{IsOrder}
-use Rattle.grouping_problem.specs.ProblemValue.{ProblemValue, problem_of}
-use Rattle.grouping_judge.specs.Judging.{IsFault}
-use Rattle.grouping_judge.specs.declared.grouping_fault.GroupingFault.{GroupingFault}
-use Rattle.ordered_counties.proofs.OrderLemmas.{order_long}
-use Rattle.verdicts.specs.Fault.{LimitTooSmall, TargetFault}
-use Rattle.verdicts.specs.Verdict.{IsLimitFault, IsTargetFault}
-use Rattle.line_verdicts.specs.CheckFaults.{fault_of}
+use Rattle.county_problem.specs.ProblemValue.{ProblemValue, problem_of}
+use Rattle.county_problem.specs.Judging.{IsFault}
+use Rattle.county_problem.specs.declared.grouping_fault.GroupingFault.{GroupingFault}
+use Rattle.county_problem.proofs.OrderLemmas.{order_long}
+use Rattle.checker_laws.specs.Fault.{LimitTooSmall, TargetFault}
+use Rattle.checker_laws.specs.Verdict.{IsLimitFault, IsTargetFault}
+use Rattle.state_judge.specs.CheckFaults.{fault_of}
 use Rattle.certificate_checker.specs.Certificates.{StopsAt, IsTargetStop}
 use Rattle.certificate_checker.specs.declared.feed.Halt.{Halt}
 use Rattle.certificate_checker.specs.declared.feed.Halt.TheVariants as stop

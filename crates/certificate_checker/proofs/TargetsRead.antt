@@ -2,12 +2,13 @@
 use Rattle.std.proofs.Common.{◌≡◌, ℕ, List, [], ◌∷◌, ◌++◌, length, map, Option, Some, None, Result, Ok, sym, ◌∙◌, ap}
 use Rattle.county_codes.specs.declared.group.Group.{Group}
 use Rattle.county_codes.specs.declared.window.Window.{Window}
-use Rattle.certificate_languages.specs.declared.language.Language.{Language}
+use Rattle.certificate_data.specs.declared.language.Language.{Language}
 use Rattle.grouping_laws.specs.Grouping.{Grouping}
-use Rattle.proof_trees.specs.Round.{Round}
+use Rattle.certificate_data.specs.Round.{Round}
 use Rattle.certificate_lines.specs.declared.item.Item.{Item}
 use Rattle.certificate_lines.specs.declared.item.Item.TheVariants as item
-use Rattle.certificate_text.specs.Trees.{Certificate, items_of_head, items_of_target, items_of_tree}
+use Rattle.certificate_data.specs.TreeValue.{Certificate}
+use Rattle.certificate_text.specs.Trees.{items_of_head, items_of_target, items_of_tree}
 use Rattle.certificate_checker.specs.Feeding.{FeedValue}
 use Rattle.certificate_checker.specs.Judging.{TookForm}
 use Rattle.certificate_checker.specs.Certificates.{AreTaken, round_items}

@@ -3,10 +3,10 @@ use Rattle.std.proofs.Common.{◌≡◌, ℕ, ◌+◌, ◌*◌, ◌≤◌, List,
 use Rattle.std.proofs.lemmas.List.{append-nil}
 use Rattle.std.specs.declared.alloc.AllocError.{AllocError}
 use Rattle.grouping_laws.specs.Problem.{Problem}
-use Rattle.proof_trees.specs.Round.{Round}
-use Rattle.proof_trees.specs.State.{State}
-use Rattle.proof_trees.specs.Tree.{stuck, seats, bound, Tree, leaf, branch}
-use Rattle.certificate_languages.specs.declared.language.Language.{Language}
+use Rattle.certificate_data.specs.Round.{Round}
+use Rattle.certificate_laws.specs.State.{State}
+use Rattle.certificate_data.specs.Tree.{stuck, seats, bound, Tree, leaf, branch}
+use Rattle.certificate_data.specs.declared.language.Language.{Language}
 use Rattle.certificate_lines.specs.Courses.{tree_course}
 use Rattle.certificate_lines.specs.Fits.{AllFit}
 use Rattle.certificate_lines.specs.declared.item.Item.{Item}
@@ -16,14 +16,14 @@ use Rattle.certificate_text.specs.Spelled.{IsTreeSpelling}
 use Rattle.certificate_text.specs.Ranges.{AreTreeNumbers}
 use Rattle.certificate_text.specs.TreeFault.{lines_of_tree}
 use Rattle.certificate_text.proofs.Spelling.{spell}
-use Rattle.verdicts.specs.End.{fine, faulty}
-use Rattle.verdicts.specs.Lines.{tree_lines}
-use Rattle.verdicts.specs.Trees.{TreeEnds}
-use Rattle.verdicts.specs.Work.{a_tree}
-use Rattle.verdicts.proofs.Trees.{trees_end}
-use Rattle.verdicts.proofs.Work.{lines_carry}
-use Rattle.text_verdicts.proofs.Readable.{tree_formed}
-use Rattle.text_verdicts.proofs.Lengths.{tree_length}
+use Rattle.checker_laws.specs.End.{fine, faulty}
+use Rattle.checker_laws.specs.Lines.{tree_lines}
+use Rattle.checker_laws.specs.Trees.{TreeEnds}
+use Rattle.checker_laws.specs.Work.{a_tree}
+use Rattle.checker_laws.proofs.Trees.{trees_end}
+use Rattle.checker_laws.proofs.Work.{lines_carry}
+use Rattle.checker_laws.proofs.Readable.{tree_formed}
+use Rattle.checker_laws.proofs.Lengths.{tree_length}
 use Rattle.certificate_checker.specs.Readable.{IsReadable}
 use Rattle.certificate_checker.specs.Feeding.{FeedValue}
 use Rattle.certificate_checker.specs.Judging.{IsJudged}

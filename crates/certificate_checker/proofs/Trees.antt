@@ -1,27 +1,27 @@
 -- What is left of a tree, and what each line does to it.
 use Rattle.std.proofs.Common.{◌≡◌, ℕ, ◌+◌, ◌*◌, ◌≤◌, List, ◌∷◌, ◌++◌, length, Option, Result, Ok, Err, IfOk, IsErrOf, MatchResult, refl, sym, ◌∙◌, ap, subst, arith}
 use Rattle.grouping_laws.specs.Problem.{Problem}
-use Rattle.certificate_languages.specs.declared.language.Language.{Language}
-use Rattle.proof_trees.specs.Round.{Round}
-use Rattle.proof_trees.specs.State.{State, raise}
-use Rattle.proof_trees.specs.Groups.{AreGroupsAt, IsSetAt}
-use Rattle.proof_trees.specs.Tree.{Leaf, Tree, leaf, stuck, seats, bound, branch, Takes}
-use Rattle.proof_trees.specs.Proving.{limit_of, NamesLimit, CanBranch}
+use Rattle.certificate_data.specs.declared.language.Language.{Language}
+use Rattle.certificate_data.specs.Round.{Round}
+use Rattle.certificate_laws.specs.State.{State, raise}
+use Rattle.certificate_laws.specs.Groups.{AreGroupsAt, IsSetAt}
+use Rattle.certificate_data.specs.Tree.{Leaf, Tree, leaf, stuck, seats, bound, branch, Takes}
+use Rattle.certificate_laws.specs.Proving.{limit_of, NamesLimit, CanBranch}
 use Rattle.certificate_text.specs.Trees.{items_of_tree}
 use Rattle.certificate_lines.specs.declared.item.Item.{Item}
 use Rattle.certificate_lines.specs.declared.item.Item.TheVariants as item
 use Rattle.certificate_lines.specs.declared.item.Opening.{Opening}
 use Rattle.certificate_lines.specs.declared.item.Opening.TheVariants as opening
-use Rattle.proof_trees.specs.Tree.{Allowance}
-use Rattle.verdicts.specs.Branches.{IsBranchFault}
-use Rattle.verdicts.specs.Cost.{AreSoMany}
-use Rattle.verdicts.specs.Work.{Open, a_tree, some_takes}
-use Rattle.line_verdicts.specs.LineStops.{Stops}
-use Rattle.line_verdicts.specs.declared.fault.LineStop.{LineStop}
-use Rattle.line_verdicts.specs.declared.fault.LineStop.TheVariants as line_stop
-use Rattle.certificate_checker.specs.Readable.{IsReadable, AreReadable, AreSpelled}
+use Rattle.certificate_data.specs.Tree.{Allowance}
+use Rattle.checker_laws.specs.Branches.{IsBranchFault}
+use Rattle.checker_laws.specs.Cost.{AreSoMany}
+use Rattle.checker_laws.specs.Work.{Open, a_tree, some_takes}
+use Rattle.state_judge.specs.LineStops.{StopsAt}
+use Rattle.state_judge.specs.declared.fault.LineStop.{LineStop}
+use Rattle.state_judge.specs.declared.fault.LineStop.TheVariants as line_stop
+use Rattle.certificate_checker.specs.Readable.{IsReadable, AreReadable, AllowancesAreSpelled}
 use Rattle.certificate_checker.specs.Feeding.{FeedValue, Fed, IsFed, TookLine, Reaches, Halts, items_to_mark}
-use Rattle.certificate_checker.specs.Judging.{IsJudged, IsLeafJudged, IsJudgedAt, AreTakesListed, IsRefused, TookForm, line_items}
+use Rattle.certificate_checker.specs.Judging.{IsJudged, IsLeafJudged, IsJudgedAt, AreTakesListed, IsBranchRefused, TookForm, line_items}
 use Rattle.certificate_checker.specs.declared.feed.Halt.{Halt}
 use Rattle.certificate_checker.specs.declared.feed.Halt.TheVariants as stop
 use Rattle.certificate_checker.proofs.Views.{view_branch, view_stuck, view_seats, view_bound, tree_opens}
@@ -84,7 +84,7 @@ seats_left language p round s rest more old cur mid before r h fed took limit ju
 
 pub bound_left : (language : Language) (p : Problem) (round : Round) (s : State) (count : ℕ) (rest : List Item) (more : List Open) (old cur mid new : FeedValue) (before : List Open) (r : Result (Unit {0}) Halt)
     → TreeLeft language p round s rest more old cur before → Fed old cur → TookLine cur (Ok (item.Opens (opening.Bound count))) mid → mid.limit ≡ cur.limit
-    → ((lines : List Allowance) (rest : List Item) → AreSpelled lines → length lines ≡ count → mid.course.items ≡ line_items lines ++ rest → IsLeafJudged p round s (bound lines) rest mid r new)
+    → ((lines : List Allowance) (rest : List Item) → AllowancesAreSpelled lines → length lines ≡ count → mid.course.items ≡ line_items lines ++ rest → IsLeafJudged p round s (bound lines) rest mid r new)
     → IsJudged p round before more rest old r new
 bound_left language p round s count rest more old cur mid new before r h fed took limit judged =
     let v = view_bound h.0 count rest mid.course.items (sym (ap (λ c. c.items) took.0) ∙ h.2) in
@@ -103,7 +103,7 @@ branch_first language p round s county limit rest more old cur mid before h took
 -- the judging of the branch stopped
 pub branch_stops : (p : Problem) (round : Round) (s : State) (county : ℕ) (limit : Option ℕ) (rest : List Item) (more : List Open) (old cur mid : FeedValue) (before : List Open) (st : Halt)
     → TreeLeft round.language p round s rest more old cur before → Fed old cur → TookLine cur (Ok (item.Opens (opening.Branch county limit))) mid → mid.limit ≡ cur.limit
-    → IsRefused p round s county limit mid st → Halts p round old before rest st
+    → IsBranchRefused p round s county limit mid st → Halts p round old before rest st
 branch_stops p round s county limit rest more old cur mid before st h fed took same refused =
     let v = branch_first round.language p round s county limit rest more old cur mid before h took in
     halts_back p round old cur before (a_tree (branch county limit v.0 v.1) s ∷ more) rest rest st v.5 fed (omega (arith))
@@ -140,11 +140,11 @@ branch_off p round s county limit groups rest more old cur mid listed new before
 -- what judging the branch's line gave
 pub branch_judged : (X : Type 0) (sets : X → List (List ℕ)) (p : Problem) (round : Round) (s : State) (county : ℕ) (limit : Option ℕ) (order : List ℕ) (mid : FeedValue) (most used : ℕ) (judged : Result X LineStop) (r : Result X Halt)
     → order ≡ round.order
-    → MatchResult judged (λ b. NamesLimit round.language limit × CanBranch round s county (limit_of round limit) × AreGroupsAt p round s county (limit_of round limit) (sets b)) (λ st. Stops st (IsBranchFault round s county (limit_of round limit)) (NamesLimit round.language limit → ⊥))
+    → MatchResult judged (λ b. NamesLimit round.language limit × CanBranch round s county (limit_of round limit) × AreGroupsAt p round s county (limit_of round limit) (sets b)) (λ st. StopsAt st (IsBranchFault round s county (limit_of round limit)) (NamesLimit round.language limit → ⊥))
     → IfOk judged (λ b. (m : ℕ) → AreSoMany order (IsSetAt p order s county (limit_of round limit)) m → used ≤ mid.used + 2 * m)
     → (IsErrOf judged line_stop.StepLimit → NamesLimit round.language limit × CanBranch round s county (limit_of round limit) × ((m : ℕ) → AreSoMany order (IsSetAt p order s county (limit_of round limit)) m → mid.limit ≤ mid.used + 2 * m))
     → IsJudgedAt mid.line judged r
-    → MatchResult r (λ b. AreTakesListed p round s county limit (sets b) mid (record mid { limit = most; used = used })) (λ found. IsRefused p round s county limit mid found)
+    → MatchResult r (λ b. AreTakesListed p round s county limit (sets b) mid (record mid { limit = most; used = used })) (λ found. IsBranchRefused p round s county limit mid found)
 branch_judged X sets p round s county limit order mid most used (Ok b) (Ok c) same is looks stops at =
     subst (λ z. AreTakesListed p round s county limit (sets z) mid (record mid { limit = most; used = used })) (sym at)
     (λ old x takes raised more took names.

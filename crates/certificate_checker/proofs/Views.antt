@@ -1,7 +1,8 @@
 -- What trees and takes begin with, by the first item.
 use Rattle.std.proofs.Common.{◌≡◌, ℕ, List, [], ◌∷◌, ◌++◌, length, map, Option, None, Some, refl, sym, ◌∙◌, ap, append_assoc}
-use Rattle.proof_trees.specs.Tree.{Weight, Allowance, room, weigh, stuck, seats, bound, Tree, leaf, branch, Takes, no_take, take}
-use Rattle.certificate_text.specs.Trees.{weight_of, declared_weight, allowance_of, declared_allowance, items_of_tree, items_of_takes}
+use Rattle.certificate_data.specs.Tree.{Weight, Allowance, room, weigh, stuck, seats, bound, Tree, leaf, branch, Takes, no_take, take}
+use Rattle.certificate_data.specs.TreeValue.{weight_of, declared_weight, allowance_of, declared_allowance}
+use Rattle.certificate_text.specs.Trees.{items_of_tree, items_of_takes}
 use Rattle.certificate_lines.specs.Items.{taken}
 use Rattle.certificate_lines.specs.declared.item.Item.{Item}
 use Rattle.certificate_lines.specs.declared.item.Item.TheVariants as item

@@ -3,22 +3,22 @@ use Rattle.std.proofs.Common.{◌≡◌, ℕ, ◌+◌, ◌*◌, ◌≤◌, ◌<�
 use Rattle.grouping_laws.specs.Problem.{Problem}
 use Rattle.grouping_laws.specs.Allowance.{HasWindow}
 use Rattle.grouping_laws.specs.GroupsFrom.{IsOrder}
-use Rattle.proof_trees.specs.Round.{Round}
-use Rattle.proof_trees.specs.State.{State, empty_state}
-use Rattle.proof_trees.specs.Tree.{Tree}
-use Rattle.proof_trees.specs.Proving.{Proves}
+use Rattle.certificate_data.specs.Round.{Round}
+use Rattle.certificate_laws.specs.State.{State, empty_state}
+use Rattle.certificate_data.specs.Tree.{Tree}
+use Rattle.certificate_laws.specs.Proving.{Proves}
 use Rattle.certificate_lines.specs.declared.item.Item.{Item}
-use Rattle.verdicts.specs.Fault.{Fault}
-use Rattle.verdicts.specs.End.{End, fine, faulty}
-use Rattle.verdicts.specs.Lines.{window_line, group_lines}
-use Rattle.verdicts.specs.Trees.{TreeEnds}
-use Rattle.verdicts.specs.Verdict.{IsWindowFault, IsOrderFault, IsLargeEnough, IsLimitFault, IsLawfulTarget, IsTargetFault, CertificateEnds}
-use Rattle.verdicts.specs.Cost.{TreeLooks}
-use Rattle.verdicts.specs.Work.{a_tree, WorkEnds}
-use Rattle.verdicts.specs.WorkCost.{WorkLooks}
+use Rattle.checker_laws.specs.Fault.{Fault}
+use Rattle.checker_laws.specs.End.{End, fine, faulty}
+use Rattle.checker_laws.specs.Lines.{window_line, target_lines}
+use Rattle.checker_laws.specs.Trees.{TreeEnds}
+use Rattle.checker_laws.specs.Verdict.{IsWindowFault, IsOrderFault, IsLargeEnough, IsLimitFault, IsLawfulTarget, IsTargetFault, CertificateEnds}
+use Rattle.checker_laws.specs.Cost.{TreeLooks}
+use Rattle.checker_laws.specs.Work.{a_tree, WorkEnds}
+use Rattle.checker_laws.specs.WorkCost.{WorkLooks}
 use Rattle.std.proofs.lemmas.Bool.{cases_lt}
-use Rattle.verdicts.proofs.Work.{lines_carry}
-use Rattle.verdicts.proofs.WorkCost.{where_fine}
+use Rattle.checker_laws.proofs.Work.{lines_carry}
+use Rattle.checker_laws.proofs.WorkCost.{where_fine}
 use Rattle.certificate_checker.specs.Feeding.{FeedValue}
 use Rattle.certificate_checker.specs.Judging.{IsJudged}
 use Rattle.certificate_checker.specs.Certificates.{StopsAt, FirstLooks, IsRoundJudged}
@@ -53,9 +53,9 @@ module _ (p : Problem) (round : Round) (tree : Tree) where
   target_ends window order large f h = inr (first + 1, (window, refl), inr (first + 2, (order, omega arith), inr (first + 3, (large, omega arith), inl (h, refl))))
 
   -- as the tree ends behind them, so the certificate does
-  tree_ends : HasWindow p round.window → IsOrder p round.order → IsLargeEnough round.limit round.target → IsLawfulTarget p round.target → (end : End) → TreeEnds tree p round (empty_state p) (first + 3 + (1 + group_lines round.target)) end → CertificateEnds p round tree end
-  tree_ends window order large lawful (fine next) e = (first + 1, (window, refl), (first + 2, (order, omega arith), (first + 3, (large, omega arith), (first + 3 + (1 + group_lines round.target), (lawful, refl), e))))
-  tree_ends window order large lawful (faulty f line) e = inr (first + 1, (window, refl), inr (first + 2, (order, omega arith), inr (first + 3, (large, omega arith), inr (first + 3 + (1 + group_lines round.target), (lawful, refl), e))))
+  tree_ends : HasWindow p round.window → IsOrder p round.order → IsLargeEnough round.limit round.target → IsLawfulTarget p round.target → (end : End) → TreeEnds tree p round (empty_state p) (first + 3 + (1 + target_lines round.target)) end → CertificateEnds p round tree end
+  tree_ends window order large lawful (fine next) e = (first + 1, (window, refl), (first + 2, (order, omega arith), (first + 3, (large, omega arith), (first + 3 + (1 + target_lines round.target), (lawful, refl), e))))
+  tree_ends window order large lawful (faulty f line) e = inr (first + 1, (window, refl), inr (first + 2, (order, omega arith), inr (first + 3, (large, omega arith), inr (first + 3 + (1 + target_lines round.target), (lawful, refl), e))))
 
   pub round_stops : (Fails : Fault → Type 0) (line : ℕ) (rest : List Item) (old new : FeedValue) (s : Halt) → StopsAt Fails line s → ((f : Fault) → Fails f → CertificateEnds p round tree (faulty f line)) → IsRoundJudged p round tree rest old (Err s) new
   round_stops Fails line rest old new (stop.Fault fault found) h ends = (h.0, h.1, subst (λ n. CertificateEnds p round tree (faulty h.0 n)) (sym h.3) (ends h.0 h.2))
@@ -64,7 +64,7 @@ module _ (p : Problem) (round : Round) (tree : Tree) where
   round_stops Fails line rest old new stop.Unspelled h ends = absurd h
   round_stops Fails line rest old new (stop.Text fault) h ends = absurd h
 
-  module _ (window : HasWindow p round.window) (order : IsOrder p round.order) (large : IsLargeEnough round.limit round.target) (lawful : IsLawfulTarget p round.target) (old : FeedValue) (line : old.line ≡ window_line round.window + 3 + group_lines round.target) where
+  module _ (window : HasWindow p round.window) (order : IsOrder p round.order) (large : IsLargeEnough round.limit round.target) (lawful : IsLawfulTarget p round.target) (old : FeedValue) (line : old.line ≡ window_line round.window + 3 + target_lines round.target) where
     from_tree : (end : End) → WorkEnds (a_tree tree (empty_state p) ∷ []) p round (old.line + 1) end → CertificateEnds p round tree end
     from_tree end e = tree_ends window order large lawful end (subst (λ n. TreeEnds tree p round (empty_state p) n end) (omega (arith, line)) (lines_carry.alone tree p round (empty_state p) (old.line + 1) end e))
 

@@ -7,13 +7,13 @@ use Rattle.certificate_lines.specs.Courses.{certificate_course}
 use Rattle.certificate_lines.specs.ItemsLeft.{ItemsLeft, Foresees, course_by}
 use Rattle.certificate_lines.specs.declared.fault.TextFault.{TextFault}
 use Rattle.std.specs.declared.alloc.AllocError.{AllocError}
-use Rattle.verdicts.specs.Fault.{Fault}
-use Rattle.verdicts.specs.Verdict as said
-use Rattle.text_verdicts.specs.TextVerdict.{HasTextFault, IsTextVerdict}
-use Rattle.text_verdicts.specs.TextCost.{TextCosts}
-use Rattle.line_verdicts.specs.CheckFaults.{fault_of}
-use Rattle.line_verdicts.specs.declared.fault.CheckFault.{CheckFault}
-use Rattle.line_verdicts.specs.declared.fault.CheckFault.TheVariants.{Text}
+use Rattle.checker_laws.specs.Fault.{Fault}
+use Rattle.checker_laws.specs.Verdict as said
+use Rattle.checker_laws.specs.TextVerdict.{HasTextFault, IsTextVerdict}
+use Rattle.checker_laws.specs.TextCost.{TextCosts}
+use Rattle.state_judge.specs.CheckFaults.{fault_of}
+use Rattle.state_judge.specs.declared.fault.CheckFault.{CheckFault}
+use Rattle.state_judge.specs.declared.fault.CheckFault.TheVariants.{Text}
 use Rattle.certificate_checker.specs.declared.fault.CheckStop.{CheckStop}
 use Rattle.certificate_checker.specs.declared.fault.CheckStop.TheVariants as stop
 use Rattle.certificate_checker.specs.declared.verdict.Verdict.{Verdict}
@@ -44,9 +44,13 @@ IsCheckAnswer p text budget Budget = (cost : ℕ) → TextCosts p text cost → 
 
 -- What was read of items comes to an answer, or was refused: whatever text the source may give in the end, it might
 -- give it before, and where its items are those of a certificate's text the answer is the verdict on this.
-pub record ChecksItems (p : Problem) (left : ItemsLeft) (before : List ℕ) (budget : ℕ) (result : Result Verdict AllocError) (after : List ℕ) : Type 0 where
+pub record ChecksItems (p : Problem) (left : ItemsLeft) (before : List ℕ) (budget : ℕ)
+    (result : Result Verdict AllocError) (after : List ℕ) : Type 0 where
   pub ended : Bool
-  pub answers : (all : List ℕ) → Foresees ended after all → Foresees left.ended before all × ((text : List ℕ) → course_by left before all ≡ certificate_course text → IfOk result (IsCheckAnswer p text budget))
+  pub answers : (all : List ℕ) → Foresees ended after all
+      → Foresees left.ended before all
+      × ((text : List ℕ) → course_by left before all ≡ certificate_course text
+      → IfOk result (IsCheckAnswer p text budget))
 
 -- The source gave bytes meanwhile, and has ended or not. They have this verdict, with whatever bytes may come later.
 pub record ChecksBytes (p : Problem) (before after : List ℕ) (budget : ℕ) (verdict : Verdict) : Type 0 where

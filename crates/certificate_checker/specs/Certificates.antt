@@ -1,34 +1,38 @@
 -- What is promised of the lines of a certificate outside its tree, and of a whole one.
-use Rattle.std.specs.Prelude.{ℕ, ◌+◌, ◌*◌, ◌≡◌, ◌≢◌, ◌≤◌, ◌<◌, List, ◌∷◌, ◌++◌, length, Option, Some, None, Result, Ok, Err, ⊤}
+use Rattle.std.specs.Prelude.{ℕ, ◌+◌, ◌*◌, ◌≡◌, ◌≢◌, ◌≤◌, ◌<◌, List, ◌∷◌, ◌++◌, length, Option, Some, None, Result, Ok}
+use Rattle.std.specs.Prelude.{Err, ⊤}
 use Rattle.grouping_laws.specs.Problem.{Problem}
 use Rattle.grouping_laws.specs.Grouping.{Grouping, counts, sets_of}
-use Rattle.grouping_judge.specs.CountList.{count_at}
+use Rattle.county_problem.specs.CountList.{count_at}
 use Rattle.county_codes.specs.declared.group.Grouping.{Grouping as GroupingHeld}
 use Rattle.grouping_laws.specs.Allowance.{HasWindow}
 use Rattle.grouping_laws.specs.GroupsFrom.{IsOrder}
-use Rattle.proof_trees.specs.Round.{Round}
-use Rattle.proof_trees.specs.RoundValue.{target_of}
-use Rattle.proof_trees.specs.State.{empty_state}
-use Rattle.proof_trees.specs.Tree.{Tree}
+use Rattle.certificate_data.specs.Round.{Round}
+use Rattle.certificate_data.specs.RoundValue.{target_of}
+use Rattle.certificate_laws.specs.State.{empty_state}
+use Rattle.certificate_data.specs.Tree.{Tree}
 use Rattle.certificate_lines.specs.declared.item.Item.{Item}
 use Rattle.certificate_lines.specs.declared.item.Item.TheVariants as item
-use Rattle.certificate_text.specs.Trees.{Certificate, items_of_head, items_of_target}
-use Rattle.verdicts.specs.Fault.{Fault}
-use Rattle.verdicts.specs.End.{fine, faulty}
-use Rattle.verdicts.specs.Verdict.{IsLargeEnough, IsLawfulTarget, CertificateEnds}
-use Rattle.verdicts.specs.Cost.{Where, TreeLooks, CertificateCosts}
-use Rattle.grouping_judge.specs.declared.grouping_fault.GroupingFault.{GroupingFault}
-use Rattle.grouping_judge.specs.declared.grouping_fault.GroupingFault.TheVariants.{Memory}
-use Rattle.line_verdicts.specs.CheckFaults.{fault_of}
-use Rattle.line_verdicts.specs.declared.fault.CheckFault.TheVariants.{TargetFault}
+use Rattle.certificate_data.specs.TreeValue.{Certificate}
+use Rattle.certificate_text.specs.Trees.{items_of_head, items_of_target}
+use Rattle.checker_laws.specs.Fault.{Fault}
+use Rattle.checker_laws.specs.End.{fine, faulty}
+use Rattle.checker_laws.specs.Verdict.{IsLargeEnough, IsLawfulTarget, CertificateEnds}
+use Rattle.checker_laws.specs.Cost.{Where, TreeLooks, CertificateCosts}
+use Rattle.county_problem.specs.declared.grouping_fault.GroupingFault.{GroupingFault}
+use Rattle.county_problem.specs.declared.grouping_fault.GroupingFault.TheVariants.{Memory}
+use Rattle.state_judge.specs.CheckFaults.{fault_of}
+use Rattle.state_judge.specs.declared.fault.CheckFault.TheVariants.{TargetFault}
 use Rattle.certificate_checker.specs.Feeding.{FeedValue}
 use Rattle.certificate_checker.specs.declared.feed.Halt.{Halt}
 use Rattle.certificate_checker.specs.declared.feed.Halt.TheVariants as stop
 
 -- All of these items were read, a step for each, up to the rest behind them, and gave this; or no step was left for one
 -- of them.
-abbrev pub AreTaken : {X : Type 0} → (X → Type 0) → List Item → List Item → FeedValue → Result X Halt → FeedValue → Type 0
-AreTaken Gave xs rest old (Ok x) new = Gave x × (new.course.items ≡ rest) × (new.line ≡ old.line + length xs) × (new.used ≡ old.used + length xs)
+abbrev pub AreTaken : {X : Type 0} → (X → Type 0) → List Item → List Item → FeedValue → Result X Halt → FeedValue
+    → Type 0
+AreTaken Gave xs rest old (Ok x) new =
+    Gave x × (new.course.items ≡ rest) × (new.line ≡ old.line + length xs) × (new.used ≡ old.used + length xs)
 AreTaken Gave xs rest old (Err stop.Budget) new = old.limit < old.used + length xs
 AreTaken Gave xs rest old (Err stop.Refused) new = ⊤
 AreTaken Gave xs rest old (Err stop.Unspelled) new = ⊥
@@ -37,11 +41,14 @@ AreTaken Gave xs rest old (Err (stop.Fault fault line)) new = ⊥
 
 -- the items of a certificate in front of its tree
 abbrev pub round_items : Certificate → List Item
-round_items c = items_of_head c.round.language c.round.window ++ (item.Order c.round.order ∷ item.Limit c.round.limit ∷ items_of_target c.round.target)
+round_items c =
+    items_of_head c.round.language c.round.window
+    ++ (item.Order c.round.order ∷ item.Limit c.round.limit ∷ items_of_target c.round.target)
 
 -- the judging of a line stopped at its fault
 abbrev pub StopsAt : (Fault → Type 0) → ℕ → Halt → Type 0
-StopsAt Fails line (stop.Fault fault found) = (named : Fault) × (fault_of fault ≡ Some named) × Fails named × (found ≡ line)
+StopsAt Fails line (stop.Fault fault found) =
+    (named : Fault) × (fault_of fault ≡ Some named) × Fails named × (found ≡ line)
 StopsAt Fails line stop.Refused = ⊤
 StopsAt Fails line stop.Budget = ⊥
 StopsAt Fails line stop.Unspelled = ⊥
@@ -64,7 +71,9 @@ AreCounts (Some target) (Some list) = (i : ℕ) → count_at list i ≡ counts (
 
 -- how many sets are looked through for a tree at the beginning, where allowance, order, limit and target are fine
 abbrev pub FirstLooks : Problem → Round → Tree → ℕ → Type 0
-FirstLooks p round tree n = Where (HasWindow p round.window × IsOrder p round.order × IsLargeEnough round.limit round.target × IsLawfulTarget p round.target) (TreeLooks tree p round (empty_state p)) n
+FirstLooks p round tree n =
+    Where (HasWindow p round.window × IsOrder p round.order × IsLargeEnough round.limit round.target
+    × IsLawfulTarget p round.target) (TreeLooks tree p round (empty_state p)) n
 
 -- Behind allowance, order, limit and target a tree was judged, up to the rest behind it; or the judging stopped at the
 -- first fault, or where the limit of steps is not enough.
@@ -73,8 +82,10 @@ IsRoundJudged p round tree rest old (Ok done) new =
     (rest ≡ new.course.items)
     × ((next : ℕ) × CertificateEnds p round tree (fine next))
     × ((n : ℕ) → FirstLooks p round tree n → new.used + old.line ≤ old.used + new.line + 2 * n)
-IsRoundJudged p round tree rest old (Err (stop.Fault fault line)) new = (named : Fault) × (fault_of fault ≡ Some named) × CertificateEnds p round tree (faulty named line)
-IsRoundJudged p round tree rest old (Err stop.Budget) new = (n : ℕ) → FirstLooks p round tree n → old.limit + length rest ≤ old.used + length old.course.items + 2 * n
+IsRoundJudged p round tree rest old (Err (stop.Fault fault line)) new =
+    (named : Fault) × (fault_of fault ≡ Some named) × CertificateEnds p round tree (faulty named line)
+IsRoundJudged p round tree rest old (Err stop.Budget) new =
+    (n : ℕ) → FirstLooks p round tree n → old.limit + length rest ≤ old.used + length old.course.items + 2 * n
 IsRoundJudged p round tree rest old (Err stop.Refused) new = ⊤
 IsRoundJudged p round tree rest old (Err stop.Unspelled) new = ⊥
 IsRoundJudged p round tree rest old (Err (stop.Text fault)) new = ⊥
@@ -82,8 +93,10 @@ IsRoundJudged p round tree rest old (Err (stop.Text fault)) new = ⊥
 -- A certificate was judged to its end and its target is given; or the judging stopped at its first fault, or where the
 -- limit of steps is below its cost.
 abbrev pub IsCertificateJudged : Problem → Certificate → ℕ → Result (Option GroupingHeld) Halt → Type 0
-IsCertificateJudged p c limit (Ok target) = (target_of target ≡ c.round.target) × ((next : ℕ) × CertificateEnds p c.round c.tree (fine next))
-IsCertificateJudged p c limit (Err (stop.Fault fault line)) = (named : Fault) × (fault_of fault ≡ Some named) × CertificateEnds p c.round c.tree (faulty named line)
+IsCertificateJudged p c limit (Ok target) =
+    (target_of target ≡ c.round.target) × ((next : ℕ) × CertificateEnds p c.round c.tree (fine next))
+IsCertificateJudged p c limit (Err (stop.Fault fault line)) =
+    (named : Fault) × (fault_of fault ≡ Some named) × CertificateEnds p c.round c.tree (faulty named line)
 IsCertificateJudged p c limit (Err stop.Budget) = (cost : ℕ) → CertificateCosts p c.round c.tree cost → limit < cost
 IsCertificateJudged p c limit (Err stop.Refused) = ⊤
 IsCertificateJudged p c limit (Err stop.Unspelled) = ⊥

@@ -1,39 +1,41 @@
 -- What the calls that judge lines promise of what they read.
-use Rattle.std.specs.Prelude.{ℕ, ◌+◌, ◌*◌, ◌≡◌, ◌≤◌, Bool, true, false, List, [], ◌∷◌, ◌++◌, length, map, Option, Some, None, Result, Ok, Err, ⊤}
+use Rattle.std.specs.Prelude.{ℕ, ◌+◌, ◌*◌, ◌≡◌, ◌≤◌, Bool, true, false, List, [], ◌∷◌, ◌++◌, length, map, Option, Some}
+use Rattle.std.specs.Prelude.{None, Result, Ok, Err, ⊤}
 use Rattle.grouping_laws.specs.Problem.{Problem}
 use Rattle.grouping_laws.specs.Grouping.{Grouping, counts, sets_of}
-use Rattle.grouping_judge.specs.CountList.{count_at}
-use Rattle.ordered_counties.specs.OrderedValue.{problem_at}
-use Rattle.county_regions.specs.Rows.{AreRows}
-use Rattle.proof_trees.specs.Round.{Round}
-use Rattle.proof_trees.specs.RoundValue.{target_of}
-use Rattle.proof_trees.specs.State.{State, raise}
-use Rattle.proof_trees.specs.Tree.{Allowance, Leaf, Tree, branch, Takes}
-use Rattle.proof_trees.specs.Proving.{NamesLimit, limit_of}
-use Rattle.certificate_text.specs.Trees.{declared_allowance, items_of_tree}
+use Rattle.county_problem.specs.CountList.{count_at}
+use Rattle.county_problem.specs.OrderedValue.{problem_at}
+use Rattle.connected_sets.specs.Rows.{AreRows}
+use Rattle.certificate_data.specs.Round.{Round}
+use Rattle.certificate_data.specs.RoundValue.{target_of}
+use Rattle.certificate_laws.specs.State.{State, raise}
+use Rattle.certificate_data.specs.Tree.{Allowance, Leaf, Tree, branch, Takes}
+use Rattle.certificate_laws.specs.Proving.{NamesLimit, limit_of}
+use Rattle.certificate_data.specs.TreeValue.{declared_allowance}
+use Rattle.certificate_text.specs.Trees.{items_of_tree}
 use Rattle.certificate_lines.specs.declared.item.Item.TheVariants.{Allows}
 use Rattle.certificate_lines.specs.Courses.{only_fault}
 use Rattle.certificate_lines.specs.declared.item.Item.{Item}
 use Rattle.std.specs.Borrow.{Bor}
 use Rattle.county_codes.specs.Limits.{most_counties}
-use Rattle.verdicts.specs.Fault.{Fault}
-use Rattle.verdicts.specs.End.{fine, faulty}
-use Rattle.verdicts.specs.Leaves.{LeafEnds, IsAllowanceFault}
-use Rattle.verdicts.specs.Cost.{LineLooks, LeafLooks}
-use Rattle.verdicts.specs.Branches.{IsTakeFault}
-use Rattle.verdicts.specs.Work.{Open, a_tree, some_takes}
-use Rattle.bound_verdicts.specs.Allowed.{IsAllowed}
-use Rattle.bound_verdicts.specs.declared.bound.Allowed.{Allowed}
-use Rattle.bound_verdicts.specs.declared.bound.Allowed.TheVariants.{Loss, Even}
-use Rattle.line_verdicts.specs.declared.fault.LineStop.{LineStop}
-use Rattle.line_verdicts.specs.declared.fault.LineStop.TheVariants as line_stop
-use Rattle.line_verdicts.specs.CheckFaults.{fault_of}
+use Rattle.checker_laws.specs.Fault.{Fault}
+use Rattle.checker_laws.specs.End.{fine, faulty}
+use Rattle.checker_laws.specs.Leaves.{LeafEnds, IsAllowanceFault}
+use Rattle.checker_laws.specs.Cost.{LineLooks, LeafLooks}
+use Rattle.checker_laws.specs.Branches.{IsTakeFault}
+use Rattle.checker_laws.specs.Work.{Open, a_tree, some_takes}
+use Rattle.state_judge.specs.Allowed.{IsAllowed}
+use Rattle.state_judge.specs.declared.bound.Allowed.{Allowed}
+use Rattle.state_judge.specs.declared.bound.Allowed.TheVariants.{Loss, Even}
+use Rattle.state_judge.specs.declared.fault.LineStop.{LineStop}
+use Rattle.state_judge.specs.declared.fault.LineStop.TheVariants as line_stop
+use Rattle.state_judge.specs.CheckFaults.{fault_of}
 use Rattle.certificate_checker.specs.Feeding.{FeedValue, TookLine, Reaches, Halts}
-use Rattle.line_verdicts.specs.declared.fault.CheckFault.{CheckFault}
-use Rattle.line_verdicts.specs.declared.fault.CheckFault.TheVariants.{BoundLength}
+use Rattle.state_judge.specs.declared.fault.CheckFault.{CheckFault}
+use Rattle.state_judge.specs.declared.fault.CheckFault.TheVariants.{BoundLength}
 use Rattle.certificate_checker.specs.declared.feed.Halt.{Halt}
 use Rattle.certificate_checker.specs.declared.feed.Halt.TheVariants as stop
-use Rattle.certificate_checker.specs.declared.ground.Ground.{Ground}
+use Rattle.certificate_checker.specs.declared.input.CheckInput.{CheckInput}
 
 -- the counts are those of the round's target; there are none where there is no target
 abbrev pub AreWanted : Option Grouping → Option (Bor (List ℕ)) → Type 0
@@ -44,7 +46,7 @@ AreWanted (Some target) (Some list) = (i : ℕ) → count_at list.now i ≡ coun
 
 -- the rows are those of the order, which is the round's, the sets have room for its places, and the counts are the
 -- target's
-pub record IsGround {C : Type 0} (places : ℕ) (test : C → ℕ → Bool) (g : Ground C) : Type 0 where
+pub record IsCheckInput {C : Type 0} (places : ℕ) (test : C → ℕ → Bool) (g : CheckInput C) : Type 0 where
   pub fits : length g.ordered.now.order ≤ places
   pub rows : AreRows C test (problem_at g.ordered.now) (length g.ordered.now.order) g.near.now
   pub order : g.ordered.now.order ≡ g.round.now.order
@@ -74,20 +76,24 @@ IsJudgedAt line (Err st) (Err found) = IsStopAt line st found
 IsJudgedAt line _ _ = ⊥
 
 -- What is left was judged, up to the rest behind it and to what is left then; or the reading stopped in it.
-abbrev pub IsJudged : {X : Type 0} → Problem → Round → List Open → List Open → List Item → FeedValue → Result X Halt → FeedValue → Type 0
+abbrev pub IsJudged : {X : Type 0} → Problem → Round → List Open → List Open → List Item → FeedValue → Result X Halt
+    → FeedValue → Type 0
 IsJudged p round before after rest old (Ok done) new = (rest ≡ new.course.items) × Reaches p round old new before after
 IsJudged p round before after rest old (Err found) new = Halts p round old before rest found
 
 -- A leaf was judged, whose first line was read last, up to the rest behind it; or the reading stopped in it.
-abbrev pub IsLeafJudged : {X : Type 0} → Problem → Round → State → Leaf → List Item → FeedValue → Result X Halt → FeedValue → Type 0
+abbrev pub IsLeafJudged : {X : Type 0} → Problem → Round → State → Leaf → List Item → FeedValue → Result X Halt
+    → FeedValue → Type 0
 IsLeafJudged p round s last rest old (Ok done) new =
     (rest ≡ new.course.items)
     × LeafEnds last p round s old.line (fine (new.line + 1))
     × ((n : ℕ) → LeafLooks last p round s n → new.used + old.line ≤ old.used + new.line + 2 * n)
-IsLeafJudged p round s last rest old (Err (stop.Fault fault line)) new = (named : Fault) × (fault_of fault ≡ Some named) × LeafEnds last p round s old.line (faulty named line)
+IsLeafJudged p round s last rest old (Err (stop.Fault fault line)) new =
+    (named : Fault) × (fault_of fault ≡ Some named) × LeafEnds last p round s old.line (faulty named line)
 IsLeafJudged p round s last rest old (Err stop.Unspelled) new = ⊥
 IsLeafJudged p round s last rest old (Err (stop.Text fault)) new = ⊥
-IsLeafJudged p round s last rest old (Err stop.Budget) new = (n : ℕ) → LeafLooks last p round s n → old.limit + length rest ≤ old.used + length old.course.items + 2 * n
+IsLeafJudged p round s last rest old (Err stop.Budget) new =
+    (n : ℕ) → LeafLooks last p round s n → old.limit + length rest ≤ old.used + length old.course.items + 2 * n
 IsLeafJudged p round s last rest old (Err stop.Refused) new = ⊤
 
 -- the items of lines of a bound leaf
@@ -107,17 +113,21 @@ IsEndOf false opened (Err (stop.Fault BoundLength found)) = found ≡ opened
 IsEndOf _ opened _ = ⊥
 
 -- The next one of these lines of a bound leaf was judged, the one for size i; or the reading stopped in it.
-abbrev pub IsLineJudged : Problem → Round → State → (ℕ → ℕ) → ℕ → ℕ → List Allowance → List Item → FeedValue → Result Allowed Halt → FeedValue → Type 0
+abbrev pub IsLineJudged : Problem → Round → State → (ℕ → ℕ) → ℕ → ℕ → List Allowance → List Item → FeedValue
+    → Result Allowed Halt → FeedValue → Type 0
 IsLineJudged p round s wanted i used [] rest old result new = ⊤
 IsLineJudged p round s wanted i used (line ∷ lines) rest old (Ok allowed) new =
     (new.course.items ≡ line_items lines ++ rest)
     × (new.line ≡ old.line + 1)
     × IsAllowed round.language p s wanted i used line allowed
     × ((m : ℕ) → LineLooks line p round s i m → new.used ≤ old.used + 1 + 2 * m)
-IsLineJudged p round s wanted i used (line ∷ lines) rest old (Err (stop.Fault fault found)) new = (named : Fault) × (fault_of fault ≡ Some named) × IsAllowanceFault round.language p s wanted i used line named × (found ≡ old.line + 1)
+IsLineJudged p round s wanted i used (line ∷ lines) rest old (Err (stop.Fault fault found)) new =
+    (named : Fault) × (fault_of fault ≡ Some named) × IsAllowanceFault round.language p s wanted i used line named
+    × (found ≡ old.line + 1)
 IsLineJudged p round s wanted i used (line ∷ lines) rest old (Err stop.Unspelled) new = ⊥
 IsLineJudged p round s wanted i used (line ∷ lines) rest old (Err (stop.Text fault)) new = ⊥
-IsLineJudged p round s wanted i used (line ∷ lines) rest old (Err stop.Budget) new = (m : ℕ) → LineLooks line p round s i m → old.limit ≤ old.used + 1 + 2 * m
+IsLineJudged p round s wanted i used (line ∷ lines) rest old (Err stop.Budget) new =
+    (m : ℕ) → LineLooks line p round s i m → old.limit ≤ old.used + 1 + 2 * m
 IsLineJudged p round s wanted i used (line ∷ lines) rest old (Err stop.Refused) new = ⊤
 
 -- so many counties are used up by groups of a size or a smaller one, that there is room for them
@@ -132,11 +142,12 @@ AreTakesListed p round s county limit groups mid new =
     (old : FeedValue) (x : Item) (takes : Takes) (raised : Tree) (more : List Open)
     → TookLine old (Ok x) mid
     → NamesLimit round.language limit
-    → Reaches p round old new (a_tree (branch county limit takes raised) s ∷ more) (some_takes takes s groups ∷ a_tree raised (raise county (limit_of round limit) s) ∷ more)
+    → Reaches p round old new (a_tree (branch county limit takes raised) s ∷ more) (some_takes takes s groups
+    ∷ a_tree raised (raise county (limit_of round limit) s) ∷ more)
 
 -- the judging of a branch stopped at its line, which was read last
-abbrev pub IsRefused : Problem → Round → State → ℕ → Option ℕ → FeedValue → Halt → Type 0
-IsRefused p round s county limit mid found =
+abbrev pub IsBranchRefused : Problem → Round → State → ℕ → Option ℕ → FeedValue → Halt → Type 0
+IsBranchRefused p round s county limit mid found =
     (old : FeedValue) (x : Item) (takes : Takes) (raised : Tree) (rest : List Item) (more : List Open)
     → TookLine old (Ok x) mid
     → mid.limit ≡ old.limit
@@ -146,6 +157,7 @@ IsRefused p round s county limit mid found =
 
 -- the judging of a take stopped at its line, where these groups are still to be taken
 abbrev pub IsTakeStop : List (List ℕ) → List ℕ → ℕ → Halt → Type 0
-IsTakeStop groups codes line (stop.Fault fault found) = (named : Fault) × (fault_of fault ≡ Some named) × IsTakeFault groups codes named × (found ≡ line)
+IsTakeStop groups codes line (stop.Fault fault found) =
+    (named : Fault) × (fault_of fault ≡ Some named) × IsTakeFault groups codes named × (found ≡ line)
 IsTakeStop groups codes line stop.Refused = ⊤
 IsTakeStop groups codes line _ = ⊥

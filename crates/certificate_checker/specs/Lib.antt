@@ -4,3 +4,4 @@ pub mod Judging
 pub mod Certificates
 pub mod Answered
 pub mod TreeAnswered
+pub mod Says

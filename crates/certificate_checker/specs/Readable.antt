@@ -1,26 +1,27 @@
 -- Trees that some text spells, whatever the ranges of their numbers.
 use Rattle.std.specs.Prelude.{List, [], ◌∷◌, ⊤}
-use Rattle.certificate_languages.specs.declared.language.Language.{Language}
-use Rattle.proof_trees.specs.Tree.{Allowance, Leaf, stuck, seats, bound, Tree, leaf, branch, Takes, no_take, take}
-use Rattle.proof_trees.specs.Proving.{NamesLimit}
-use Rattle.certificate_text.specs.Trees.{declared_allowance}
-use Rattle.bound_verdicts.specs.Allowed.{IsSpelled}
+use Rattle.certificate_data.specs.declared.language.Language.{Language}
+use Rattle.certificate_data.specs.Tree.{Allowance, Leaf, stuck, seats, bound, Tree, leaf, branch, Takes, no_take, take}
+use Rattle.certificate_laws.specs.Proving.{NamesLimit}
+use Rattle.certificate_data.specs.TreeValue.{declared_allowance}
+use Rattle.state_judge.specs.Allowed.{AllowanceIsSpelled}
 
 -- no quota is 0, and weights ascend
-abbrev pub AreSpelled : List Allowance → Type 0
-AreSpelled [] = ⊤
-AreSpelled (line ∷ lines) = IsSpelled (declared_allowance line) × AreSpelled lines
+abbrev pub AllowancesAreSpelled : List Allowance → Type 0
+AllowancesAreSpelled [] = ⊤
+AllowancesAreSpelled (line ∷ lines) = AllowanceIsSpelled (declared_allowance line) × AllowancesAreSpelled lines
 
 abbrev pub IsReadableLeaf : Leaf → Type 0
 IsReadableLeaf (stuck county) = ⊤
 IsReadableLeaf seats = ⊤
-IsReadableLeaf (bound lines) = AreSpelled lines
+IsReadableLeaf (bound lines) = AllowancesAreSpelled lines
 
 -- branches name limits as the language asks, and leaves are readable
 abbrev mutual
   pub IsReadable : Language → Tree → Type 0
   IsReadable language (leaf last) = IsReadableLeaf last
-  IsReadable language (branch county limit takes raised) = NamesLimit language limit × AreReadable language takes × IsReadable language raised
+  IsReadable language (branch county limit takes raised) =
+      NamesLimit language limit × AreReadable language takes × IsReadable language raised
 
   pub AreReadable : Language → Takes → Type 0
   AreReadable language no_take = ⊤

@@ -1,20 +1,20 @@
 -- What a checker answers of a tree.
 use Rattle.std.specs.Prelude.{ℕ, ◌≡◌, ◌<◌, List, length, Some, Result, Ok, Err, ◌⊎◌, ⊤}
 use Rattle.grouping_laws.specs.Problem.{Problem}
-use Rattle.proof_trees.specs.Round.{Round}
-use Rattle.proof_trees.specs.State.{State}
-use Rattle.proof_trees.specs.Tree.{Tree}
-use Rattle.proof_trees.specs.Proving.{Proves}
+use Rattle.certificate_data.specs.Round.{Round}
+use Rattle.certificate_laws.specs.State.{State}
+use Rattle.certificate_data.specs.Tree.{Tree}
+use Rattle.certificate_laws.specs.Proving.{Proves}
 use Rattle.certificate_lines.specs.declared.fault.TextFault.{TextFault}
 use Rattle.certificate_text.specs.Spelled.{IsTreeSpelling}
 use Rattle.certificate_text.specs.TreeFault.{lines_of_tree, HasTreeFault}
-use Rattle.verdicts.specs.Fault.{Fault}
-use Rattle.verdicts.specs.End.{faulty}
-use Rattle.verdicts.specs.Trees.{TreeEnds}
-use Rattle.verdicts.specs.Cost.{TreeCosts}
-use Rattle.line_verdicts.specs.CheckFaults.{fault_of}
-use Rattle.line_verdicts.specs.declared.fault.CheckFault.{CheckFault}
-use Rattle.line_verdicts.specs.declared.fault.CheckFault.TheVariants.{Text}
+use Rattle.checker_laws.specs.Fault.{Fault}
+use Rattle.checker_laws.specs.End.{faulty}
+use Rattle.checker_laws.specs.Trees.{TreeEnds}
+use Rattle.checker_laws.specs.Cost.{TreeCosts}
+use Rattle.state_judge.specs.CheckFaults.{fault_of}
+use Rattle.state_judge.specs.declared.fault.CheckFault.{CheckFault}
+use Rattle.state_judge.specs.declared.fault.CheckFault.TheVariants.{Text}
 use Rattle.certificate_checker.specs.declared.feed.Halt.{Halt}
 use Rattle.certificate_checker.specs.declared.feed.Halt.TheVariants as stop
 use Rattle.std.specs.declared.alloc.AllocError.{AllocError}
@@ -29,7 +29,9 @@ IsSpelledTree round tree = IsTreeSpelling round.language (length round.order) (l
 abbrev pub IsTreeFault : Problem → Round → State → Tree → CheckFault → Type 0
 IsTreeFault p round s tree fault =
     ((words : TextFault) × (fault ≡ Text words) × HasTreeFault round.language (length round.order) tree words)
-    ⊎ (IsSpelledTree round tree × ((named : Fault) × (line : ℕ) × (fault_of fault ≡ Some named) × TreeEnds tree p round s 1 (faulty named line)))
+    ⊎ (IsSpelledTree round tree
+    × ((named : Fault) × (line : ℕ) × (fault_of fault ≡ Some named)
+    × TreeEnds tree p round s 1 (faulty named line)))
 
 -- a proof tree that its lines spell, the first fault, or a budget that is below the tree's cost
 abbrev pub IsTreeAnswer : Problem → Round → State → Tree → ℕ → TreeVerdict → Type 0
@@ -40,7 +42,8 @@ IsTreeAnswer p round s tree budget Budget = (cost : ℕ) → TreeCosts tree p ro
 -- Only a proof tree is answered with Proof, and only what is none, or has no text, with a fault.
 abbrev pub IsRightOfTrees : Problem → Round → State → Tree → TreeVerdict → Type 0
 IsRightOfTrees p round s tree Proof = Proves tree p round s
-IsRightOfTrees p round s tree (Refused fault) = (text : List ℕ) → IsTreeSpelling round.language (length round.order) text tree → ¬ Proves tree p round s
+IsRightOfTrees p round s tree (Refused fault) =
+    (text : List ℕ) → IsTreeSpelling round.language (length round.order) text tree → ¬ Proves tree p round s
 IsRightOfTrees p round s tree Budget = ⊤
 
 -- what is said where the judging of lines without a fault ended so

@@ -1,41 +1,44 @@
 //! The judging of a whole certificate: its order, its limit, its target, and its tree.
 
-ghost use Rattle.std.specs.Prelude.{◌≡◌, ℕ, ◌≤◌, ◌<◌, ◌+◌, ◌∷◌, [], ◌++◌, List, length, nat_lt, IfOk, IfErr, MatchResult};
+ghost use Rattle.std.specs.Prelude.{◌≡◌, ℕ, ◌≤◌, ◌<◌, ◌+◌, ◌∷◌, [], ◌++◌, List, length, nat_lt, IfOk, IfErr};
+ghost use Rattle.std.specs.Prelude.{MatchResult};
 ghost use Rattle.std.specs.List.{list_any};
 ghost use Rattle.county_codes.specs.Limits.{most_counties};
 ghost use Rattle.grouping_laws.specs.Allowance.{HasWindow};
 ghost use Rattle.grouping_laws.specs.GroupsFrom.{IsOrder};
-ghost use Rattle.grouping_problem.specs.ProblemValue.{problem_of};
-ghost use Rattle.proof_trees.specs.RoundValue.{round_of, target_of};
-ghost use Rattle.proof_trees.specs.State.{empty_state};
-ghost use Rattle.proof_trees.specs.Tree.{Tree};
+ghost use Rattle.county_problem.specs.ProblemValue.{problem_of};
+ghost use Rattle.certificate_data.specs.RoundValue.{round_of, target_of};
+ghost use Rattle.certificate_laws.specs.State.{empty_state};
+ghost use Rattle.certificate_data.specs.Tree.{Tree};
 ghost use Rattle.certificate_lines.specs.Fits.{AllFit};
 ghost use Rattle.certificate_lines.specs.declared.item.Item.{Item as ItemValue};
 ghost use Rattle.certificate_lines.specs.declared.item.Wanted.TheVariants as want;
-ghost use Rattle.certificate_text.specs.Trees.{Certificate, items_of_tree, items_of_certificate};
-ghost use Rattle.verdicts.specs.Lines.{window_line, group_lines};
-ghost use Rattle.verdicts.specs.Verdict.{IsWindowFault, IsOrderFault, IsLargeEnough, IsLimitFault, IsLawfulTarget, IsTargetFault};
-ghost use Rattle.verdicts.specs.Work.{a_tree};
-ghost use Rattle.line_verdicts.specs.Placed.{state_at, IsPlaced};
+ghost use Rattle.certificate_data.specs.TreeValue.{Certificate};
+ghost use Rattle.certificate_text.specs.Trees.{items_of_tree, items_of_certificate};
+ghost use Rattle.checker_laws.specs.Lines.{window_line, target_lines};
+ghost use Rattle.checker_laws.specs.Verdict.{IsWindowFault, IsOrderFault, IsLargeEnough, IsLimitFault, IsLawfulTarget};
+ghost use Rattle.checker_laws.specs.Verdict.{IsTargetFault};
+ghost use Rattle.checker_laws.specs.Work.{a_tree};
+ghost use Rattle.state_judge.specs.Placed.{state_at, IsPlaced};
 ghost use Rattle.certificate_checker.specs.Readable.{IsReadable};
-ghost use Rattle.certificate_checker.specs.Feeding.{stream_of, CountsSteps, IsFed, Through, ForEach};
+ghost use Rattle.certificate_checker.specs.Feeding.{stream_of, CountsSteps, IsFed, FeedsThrough, ForEach};
 ghost use Rattle.certificate_checker.specs.Judging.{IsJudged, AreWanted};
-ghost use Rattle.certificate_checker.specs.Certificates.{StopsAt, IsTargetStop, AreCounts, IsRoundJudged, IsCertificateJudged};
+ghost use Rattle.certificate_checker.specs.Certificates.{StopsAt, IsTargetStop, AreCounts, IsRoundJudged};
+ghost use Rattle.certificate_checker.specs.Certificates.{IsCertificateJudged};
 
 use crate::feed::{Feed, Halt};
 use crate::forms::next_end;
-use crate::ground::Ground;
+use crate::input::CheckInput;
 use crate::rounds::read_round;
 use crate::tree::judge_tree;
+use certificate_data::Round;
 use certificate_lines::{ItemSource, MOST};
+use connected_sets::neighbour_rows;
 use county_codes::{Group, Grouping, Window};
-use county_regions::neighbour_rows;
-use grouping_judge::{Counts, GroupingFault, judge};
-use grouping_problem::Problem;
-use line_verdicts::{CheckFault, first_state};
-use ordered_counties::{OrderFault, Ordered};
+use county_problem::{Counts, GroupingFault, OrderFault, Ordered, Problem, judge};
 use place_sets::CountySet;
-use proof_trees::{Round, State};
+use state_groups::State;
+use state_judge::{CheckFault, first_state};
 use std::alloc::Global;
 
 /// The line of the allowance: the second, or the head's where none is named.
@@ -120,7 +123,8 @@ pub(crate) fn judge_target(
 ) -> Result<Option<Counts>, Halt>
     ensures { MatchResult
         result
-        (λ wanted. IsLawfulTarget (problem_of problem.now) (target_of round.now.target) × AreCounts (target_of round.now.target) wanted)
+        (λ wanted. IsLawfulTarget (problem_of problem.now) (target_of round.now.target)
+        × AreCounts (target_of round.now.target) wanted)
         (StopsAt (IsTargetFault (problem_of problem.now) (target_of round.now.target)) (window_line round.now.window + 3)) }
 {
     match &round.target {
@@ -149,7 +153,7 @@ pub(crate) fn judge_placed<C: CountySet, F, S: ItemSource<F>>(
     requires placed { IsPlaced (length ordered.now.order) C.test state.old }
     requires counted { feed.old.line ≤ feed.old.steps.used }
     ensures counts { CountsSteps feed.old feed.new }
-    ensures fed { Through (stream_of S.left S.given feed.old from.old) (stream_of S.left S.given feed.new from.new) (λ a b. IsFed a result b) }
+    ensures fed { FeedsThrough (stream_of S.left S.given feed.old from.old) (stream_of S.left S.given feed.new from.new) (λ a b. IsFed a result b) }
     ensures judged { ForEach (stream_of S.left S.given feed.old from.old) (stream_of S.left S.given feed.new from.new) (λ a b. (tree : Tree) (rest : List ItemValue)
         → IsReadable round.now.language tree
         → a.course.items ≡ items_of_tree tree ++ rest
@@ -164,14 +168,14 @@ pub(crate) fn judge_placed<C: CountySet, F, S: ItemSource<F>>(
         b) }
 {
     let near = neighbour_rows::<C>(alloc, ordered)?;
-    let ground = Ground {
+    let input = CheckInput {
         alloc,
         ordered,
         near: &near,
         round,
         wanted,
     };
-    judge_tree(&ground, state, feed, from)
+    judge_tree(&input, state, feed, from)
 }
 
 /// Judges the tree of a certificate, which begins on the next line, where all in front of it is fine.
@@ -189,7 +193,7 @@ fn judge_first<C: CountySet, F, S: ItemSource<F>>(
     requires wanted { AreWanted (target_of round.now.target) wanted }
     requires counted { feed.old.line ≤ feed.old.steps.used }
     ensures counts { CountsSteps feed.old feed.new }
-    ensures fed { Through (stream_of S.left S.given feed.old from.old) (stream_of S.left S.given feed.new from.new) (λ a b. IsFed a result b) }
+    ensures fed { FeedsThrough (stream_of S.left S.given feed.old from.old) (stream_of S.left S.given feed.new from.new) (λ a b. IsFed a result b) }
     ensures judged { ForEach (stream_of S.left S.given feed.old from.old) (stream_of S.left S.given feed.new from.new) (λ a b. (tree : Tree) (rest : List ItemValue)
         → IsReadable round.now.language tree
         → a.course.items ≡ items_of_tree tree ++ rest
@@ -224,9 +228,9 @@ fn judge_behind<C: CountySet, F, S: ItemSource<F>>(
     requires counted { feed.old.line ≤ feed.old.steps.used }
     requires window { HasWindow (problem_of problem.now) round.now.window }
     ensures counts { CountsSteps feed.old feed.new }
-    ensures fed { Through (stream_of S.left S.given feed.old from.old) (stream_of S.left S.given feed.new from.new) (λ a b. IsFed a result b) }
+    ensures fed { FeedsThrough (stream_of S.left S.given feed.old from.old) (stream_of S.left S.given feed.new from.new) (λ a b. IsFed a result b) }
     ensures judged { ForEach (stream_of S.left S.given feed.old from.old) (stream_of S.left S.given feed.new from.new) (λ a b. (tree : Tree) (rest : List ItemValue)
-        → feed.old.line ≡ window_line round.now.window + 3 + group_lines (target_of round.now.target)
+        → feed.old.line ≡ window_line round.now.window + 3 + target_lines (target_of round.now.target)
         → IsReadable round.now.language tree
         → a.course.items ≡ items_of_tree tree ++ rest
         → IsRoundJudged (problem_of problem.now) (round_of round.now) tree rest a result b) }
@@ -258,9 +262,9 @@ fn judge_round<C: CountySet, F, S: ItemSource<F>>(
     requires small { round.now.limit ≤ most_counties }
     requires counted { feed.old.line ≤ feed.old.steps.used }
     ensures counts { CountsSteps feed.old feed.new }
-    ensures fed { Through (stream_of S.left S.given feed.old from.old) (stream_of S.left S.given feed.new from.new) (λ a b. IsFed a result b) }
+    ensures fed { FeedsThrough (stream_of S.left S.given feed.old from.old) (stream_of S.left S.given feed.new from.new) (λ a b. IsFed a result b) }
     ensures judged { ForEach (stream_of S.left S.given feed.old from.old) (stream_of S.left S.given feed.new from.new) (λ a b. (tree : Tree) (rest : List ItemValue)
-        → feed.old.line ≡ window_line round.now.window + 3 + group_lines (target_of round.now.target)
+        → feed.old.line ≡ window_line round.now.window + 3 + target_lines (target_of round.now.target)
         → IsReadable round.now.language tree
         → a.course.items ≡ items_of_tree tree ++ rest
         → IsRoundJudged (problem_of problem.now) (round_of round.now) tree rest a result b) }
@@ -281,7 +285,7 @@ pub(crate) fn judge_certificate<C: CountySet, F, S: ItemSource<F>>(
     requires fits { length problem.now.counties ≤ C.PLACES }
     requires start { (feed.old.line ≡ 0) × (feed.old.steps.used ≡ 0) }
     ensures counts { CountsSteps feed.old feed.new }
-    ensures fed { Through (stream_of S.left S.given feed.old from.old) (stream_of S.left S.given feed.new from.new) (λ a b. IsFed a result b) }
+    ensures fed { FeedsThrough (stream_of S.left S.given feed.old from.old) (stream_of S.left S.given feed.new from.new) (λ a b. IsFed a result b) }
     ensures judged { ForEach (stream_of S.left S.given feed.old from.old) (stream_of S.left S.given feed.new from.new) (λ a b. (c : Certificate)
         → AllFit (want.Head ∷ []) (items_of_certificate c)
         → a.course.items ≡ items_of_certificate c

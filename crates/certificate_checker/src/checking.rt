@@ -3,21 +3,21 @@
 ghost use Rattle.std.specs.Prelude.{◌≡◌, ℕ, ◌≤◌, false, List, None, length, IfOk};
 ghost use Rattle.grouping_laws.specs.Problem.{Problem as ProblemOf};
 ghost use Rattle.grouping_laws.specs.Grouping.{IsBest, IsImpossible};
-ghost use Rattle.grouping_problem.specs.ProblemValue.{problem_of};
+ghost use Rattle.county_problem.specs.ProblemValue.{problem_of};
 ghost use Rattle.certificate_lines.specs.Courses.{certificate_course};
-ghost use Rattle.certificate_checker.specs.Feeding.{FeedValue, Fed, stream_of, Through};
-ghost use Rattle.certificate_checker.specs.Answered.{IsCheckAnswer, CheckIsRight, ShowsImpossible, ChecksItems, ChecksBytes, is_read_fault};
+ghost use Rattle.certificate_checker.specs.Feeding.{FeedValue, Fed, stream_of, FeedsThrough};
+ghost use Rattle.certificate_checker.specs.Answered.{IsCheckAnswer, CheckIsRight, ShowsImpossible, ChecksItems};
+ghost use Rattle.certificate_checker.specs.Answered.{ChecksBytes, is_read_fault};
 
 use crate::certificate::judge_certificate;
 use crate::fault::CheckStop;
 use crate::feed::{Feed, Halt, read_rest};
 use crate::verdict::Verdict;
 use certificate_lines::{ItemSource, Items, ItemsFrom};
+use county_problem::{Problem, Steps};
 use field_lines::Source;
-use grouping_problem::Problem;
-use line_verdicts::CheckFault;
-use ordered_counties::Steps;
 use place_sets::{CountySet, MaskSet, Places, fits_mask};
+use state_judge::CheckFault;
 use std::alloc::{AllocError, Global};
 
 /// What was found, unless a fault of the text stands behind it, which comes first.
@@ -26,7 +26,7 @@ fn verdict_after<F, S: ItemSource<F>>(
     feed: &mut Feed<S>,
     from: &mut F,
 ) -> Result<Verdict, AllocError>
-    ensures { Through (stream_of S.left S.given feed.old from.old) (stream_of S.left S.given feed.new from.new) (λ a _. (p : ProblemOf) (text : List ℕ) (start : FeedValue)
+    ensures { FeedsThrough (stream_of S.left S.given feed.old from.old) (stream_of S.left S.given feed.new from.new) (λ a _. (p : ProblemOf) (text : List ℕ) (start : FeedValue)
         → start.course ≡ certificate_course text
         → start.line ≡ 0
         → Fed start a

@@ -2,12 +2,13 @@
 
 ghost use Rattle.std.specs.Prelude.{◌≡◌, ◌≤◌, IfOk};
 ghost use Rattle.certificate_lines.specs.ItemsLeft.{Through as ItemsThrough};
-ghost use Rattle.certificate_checker.specs.Feeding.{stream_of, Through, ForEach, CountsSteps, TakesStep, IsFed, TookLine, StopsAtText, Passes, IsRestRead};
+ghost use Rattle.certificate_checker.specs.Feeding.{stream_of, FeedsThrough, ForEach, CountsSteps, TakesStep, IsFed};
+ghost use Rattle.certificate_checker.specs.Feeding.{TookLine, StopsAtText, Passes, IsRestRead};
 ghost use Rattle.certificate_checker.specs.declared.feed.Halt.TheVariants.{Refused};
 
 use certificate_lines::{Item, ItemSource, Items, TextFault, TextKind};
-use line_verdicts::CheckFault;
-use ordered_counties::Steps;
+use county_problem::Steps;
+use state_judge::CheckFault;
 use std::alloc::{AllocError, AllocFailed};
 
 /// The lines of a certificate or of a tree, with how many were read, and the steps that may be taken: one for each
@@ -65,7 +66,7 @@ pub(crate) fn next_line<F, S: ItemSource<F>>(feed: &mut Feed<S>, from: &mut F) -
     requires { feed.old.line ≤ feed.old.steps.used }
     ensures step { TakesStep feed.old result feed.new }
     ensures counts { CountsSteps feed.old feed.new }
-    ensures fed { Through (stream_of S.left S.given feed.old from.old) (stream_of S.left S.given feed.new from.new) (λ a b. IsFed a result b) }
+    ensures fed { FeedsThrough (stream_of S.left S.given feed.old from.old) (stream_of S.left S.given feed.new from.new) (λ a b. IsFed a result b) }
     ensures took { ForEach (stream_of S.left S.given feed.old from.old) (stream_of S.left S.given feed.new from.new) (λ a b. TookLine a result b) }
 {
     let _limit = feed.steps.limit();
@@ -95,7 +96,7 @@ fn pass_item<F, S: ItemSource<F>>(source: &mut S, from: &mut F) -> Result<bool, 
 
 /// Reads the lines that are left, as many as there may be steps.
 pub(crate) fn read_rest<F, S: ItemSource<F>>(feed: &mut Feed<S>, from: &mut F) -> Result<(), Halt>
-    ensures { Through (stream_of S.left S.given feed.old from.old) (stream_of S.left S.given feed.new from.new) (λ a _. IsRestRead a result) }
+    ensures { FeedsThrough (stream_of S.left S.given feed.old from.old) (stream_of S.left S.given feed.new from.new) (λ a _. IsRestRead a result) }
 {
     let limit = feed.steps.limit();
     loop {

@@ -3,14 +3,14 @@
 ghost use Rattle.std.specs.Prelude.{◌≡◌, ◌≤◌, option_map};
 ghost use Rattle.certificate_lines.specs.Items.{taken};
 ghost use Rattle.certificate_lines.specs.declared.item.Item.TheVariants as item;
-ghost use Rattle.certificate_checker.specs.Feeding.{stream_of, CountsSteps, TakesStep, IsFed, Through, ForEach};
+ghost use Rattle.certificate_checker.specs.Feeding.{stream_of, CountsSteps, TakesStep, IsFed, FeedsThrough, ForEach};
 ghost use Rattle.certificate_checker.specs.Judging.{TookForm, IsStopAt, IsJudgedAt};
 
 use crate::feed::{Feed, Halt, next_line};
-use certificate_lines::{Allowance, Item, ItemSource, Opening, Version};
+use certificate_data::{Allowance, Language};
+use certificate_lines::{Item, ItemSource, Opening, Version};
 use county_codes::{Codes, Group, Window};
-use line_verdicts::LineStop;
-use proof_trees::Language;
+use state_judge::LineStop;
 
 /// The next line, which has to open a tree.
 pub(crate) fn next_opening<F, S: ItemSource<F>>(
@@ -20,7 +20,7 @@ pub(crate) fn next_opening<F, S: ItemSource<F>>(
     requires { feed.old.line ≤ feed.old.steps.used }
     ensures step { TakesStep feed.old result feed.new }
     ensures counts { CountsSteps feed.old feed.new }
-    ensures fed { Through (stream_of S.left S.given feed.old from.old) (stream_of S.left S.given feed.new from.new) (λ a b. IsFed a result b) }
+    ensures fed { FeedsThrough (stream_of S.left S.given feed.old from.old) (stream_of S.left S.given feed.new from.new) (λ a b. IsFed a result b) }
     ensures took { ForEach (stream_of S.left S.given feed.old from.old) (stream_of S.left S.given feed.new from.new) (λ a b. TookForm item.Opens (λ o. o) a result b) }
 {
     let item = next_line(feed, from)?;
@@ -38,7 +38,7 @@ pub(crate) fn next_take<F, S: ItemSource<F>>(
     requires { feed.old.line ≤ feed.old.steps.used }
     ensures step { TakesStep feed.old result feed.new }
     ensures counts { CountsSteps feed.old feed.new }
-    ensures fed { Through (stream_of S.left S.given feed.old from.old) (stream_of S.left S.given feed.new from.new) (λ a b. IsFed a result b) }
+    ensures fed { FeedsThrough (stream_of S.left S.given feed.old from.old) (stream_of S.left S.given feed.new from.new) (λ a b. IsFed a result b) }
     ensures took { ForEach (stream_of S.left S.given feed.old from.old) (stream_of S.left S.given feed.new from.new) (λ a b. TookForm taken (λ o. o) a result b) }
 {
     match next_line(feed, from)? {
@@ -55,7 +55,7 @@ pub(crate) fn next_allowance<F, S: ItemSource<F>>(
 ) -> Result<Allowance, Halt>
     requires { feed.old.line ≤ feed.old.steps.used }
     ensures counts { CountsSteps feed.old feed.new }
-    ensures fed { Through (stream_of S.left S.given feed.old from.old) (stream_of S.left S.given feed.new from.new) (λ a b. IsFed a result b) }
+    ensures fed { FeedsThrough (stream_of S.left S.given feed.old from.old) (stream_of S.left S.given feed.new from.new) (λ a b. IsFed a result b) }
     ensures took { ForEach (stream_of S.left S.given feed.old from.old) (stream_of S.left S.given feed.new from.new) (λ a b. TookForm item.Allows (λ a. a) a result b) }
 {
     match next_line(feed, from)? {
@@ -71,7 +71,7 @@ pub(crate) fn next_head<F, S: ItemSource<F>>(
 ) -> Result<(Language, Version), Halt>
     requires { feed.old.line ≤ feed.old.steps.used }
     ensures counts { CountsSteps feed.old feed.new }
-    ensures fed { Through (stream_of S.left S.given feed.old from.old) (stream_of S.left S.given feed.new from.new) (λ a b. IsFed a result b) }
+    ensures fed { FeedsThrough (stream_of S.left S.given feed.old from.old) (stream_of S.left S.given feed.new from.new) (λ a b. IsFed a result b) }
     ensures took { ForEach (stream_of S.left S.given feed.old from.old) (stream_of S.left S.given feed.new from.new) (λ a b. TookForm (λ h. item.Head h.0 h.1) (λ h. h) a result b) }
 {
     match next_line(feed, from)? {
@@ -87,7 +87,7 @@ pub(crate) fn next_window<F, S: ItemSource<F>>(
 ) -> Result<Window, Halt>
     requires { feed.old.line ≤ feed.old.steps.used }
     ensures counts { CountsSteps feed.old feed.new }
-    ensures fed { Through (stream_of S.left S.given feed.old from.old) (stream_of S.left S.given feed.new from.new) (λ a b. IsFed a result b) }
+    ensures fed { FeedsThrough (stream_of S.left S.given feed.old from.old) (stream_of S.left S.given feed.new from.new) (λ a b. IsFed a result b) }
     ensures took { ForEach (stream_of S.left S.given feed.old from.old) (stream_of S.left S.given feed.new from.new) (λ a b. TookForm item.Within (λ w. w) a result b) }
 {
     match next_line(feed, from)? {
@@ -103,7 +103,7 @@ pub(crate) fn next_order<F, S: ItemSource<F>>(
 ) -> Result<Codes, Halt>
     requires { feed.old.line ≤ feed.old.steps.used }
     ensures counts { CountsSteps feed.old feed.new }
-    ensures fed { Through (stream_of S.left S.given feed.old from.old) (stream_of S.left S.given feed.new from.new) (λ a b. IsFed a result b) }
+    ensures fed { FeedsThrough (stream_of S.left S.given feed.old from.old) (stream_of S.left S.given feed.new from.new) (λ a b. IsFed a result b) }
     ensures took { ForEach (stream_of S.left S.given feed.old from.old) (stream_of S.left S.given feed.new from.new) (λ a b. TookForm item.Order (λ o. o) a result b) }
 {
     match next_line(feed, from)? {
@@ -116,7 +116,7 @@ pub(crate) fn next_order<F, S: ItemSource<F>>(
 pub(crate) fn next_limit<F, S: ItemSource<F>>(feed: &mut Feed<S>, from: &mut F) -> Result<u16, Halt>
     requires { feed.old.line ≤ feed.old.steps.used }
     ensures counts { CountsSteps feed.old feed.new }
-    ensures fed { Through (stream_of S.left S.given feed.old from.old) (stream_of S.left S.given feed.new from.new) (λ a b. IsFed a result b) }
+    ensures fed { FeedsThrough (stream_of S.left S.given feed.old from.old) (stream_of S.left S.given feed.new from.new) (λ a b. IsFed a result b) }
     ensures took { ForEach (stream_of S.left S.given feed.old from.old) (stream_of S.left S.given feed.new from.new) (λ a b. TookForm item.Limit (λ n. n) a result b) }
 {
     match next_line(feed, from)? {
@@ -132,7 +132,7 @@ pub(crate) fn next_target<F, S: ItemSource<F>>(
 ) -> Result<Option<u16>, Halt>
     requires { feed.old.line ≤ feed.old.steps.used }
     ensures counts { CountsSteps feed.old feed.new }
-    ensures fed { Through (stream_of S.left S.given feed.old from.old) (stream_of S.left S.given feed.new from.new) (λ a b. IsFed a result b) }
+    ensures fed { FeedsThrough (stream_of S.left S.given feed.old from.old) (stream_of S.left S.given feed.new from.new) (λ a b. IsFed a result b) }
     ensures took { ForEach (stream_of S.left S.given feed.old from.old) (stream_of S.left S.given feed.new from.new) (λ a b. TookForm item.Target (λ n. n) a result b) }
 {
     match next_line(feed, from)? {
@@ -148,7 +148,7 @@ pub(crate) fn next_group<F, S: ItemSource<F>>(
 ) -> Result<Group, Halt>
     requires { feed.old.line ≤ feed.old.steps.used }
     ensures counts { CountsSteps feed.old feed.new }
-    ensures fed { Through (stream_of S.left S.given feed.old from.old) (stream_of S.left S.given feed.new from.new) (λ a b. IsFed a result b) }
+    ensures fed { FeedsThrough (stream_of S.left S.given feed.old from.old) (stream_of S.left S.given feed.new from.new) (λ a b. IsFed a result b) }
     ensures took { ForEach (stream_of S.left S.given feed.old from.old) (stream_of S.left S.given feed.new from.new) (λ a b. TookForm item.Grouped (λ g. g) a result b) }
 {
     match next_line(feed, from)? {
@@ -161,7 +161,7 @@ pub(crate) fn next_group<F, S: ItemSource<F>>(
 pub(crate) fn next_end<F, S: ItemSource<F>>(feed: &mut Feed<S>, from: &mut F) -> Result<(), Halt>
     requires { feed.old.line ≤ feed.old.steps.used }
     ensures counts { CountsSteps feed.old feed.new }
-    ensures fed { Through (stream_of S.left S.given feed.old from.old) (stream_of S.left S.given feed.new from.new) (λ a b. IsFed a result b) }
+    ensures fed { FeedsThrough (stream_of S.left S.given feed.old from.old) (stream_of S.left S.given feed.new from.new) (λ a b. IsFed a result b) }
     ensures took { ForEach (stream_of S.left S.given feed.old from.old) (stream_of S.left S.given feed.new from.new) (λ a b. TookForm (λ _. item.End) (λ u. u) a result b) }
 {
     match next_line(feed, from)? {

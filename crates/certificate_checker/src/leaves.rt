@@ -2,24 +2,24 @@
 
 ghost use Rattle.std.specs.Prelude.{◌≡◌, ℕ, ◌≤◌, ◌++◌, List, length, IfOk};
 ghost use Rattle.county_codes.specs.Limits.{most_counties};
-ghost use Rattle.grouping_problem.specs.ProblemValue.{problem_of};
-ghost use Rattle.proof_trees.specs.RoundValue.{round_of};
-ghost use Rattle.proof_trees.specs.Tree.{Allowance as AllowanceValue, stuck, seats, bound};
+ghost use Rattle.county_problem.specs.ProblemValue.{problem_of};
+ghost use Rattle.certificate_data.specs.RoundValue.{round_of};
+ghost use Rattle.certificate_data.specs.Tree.{Allowance as AllowanceValue, stuck, seats, bound};
 ghost use Rattle.certificate_lines.specs.declared.item.Item.{Item as ItemValue};
-ghost use Rattle.line_verdicts.specs.Placed.{state_at, IsPlaced};
-ghost use Rattle.certificate_checker.specs.Readable.{AreSpelled};
-ghost use Rattle.certificate_checker.specs.Feeding.{FeedValue, stream_of, CountsSteps, IsFed, Through, ForEach};
-ghost use Rattle.certificate_checker.specs.Judging.{IsGround, IsLeafJudged, IsFoundAt, IsEndOf, IsSmall, IsLineJudged, line_items};
+ghost use Rattle.state_judge.specs.Placed.{state_at, IsPlaced};
+ghost use Rattle.certificate_checker.specs.Readable.{AllowancesAreSpelled};
+ghost use Rattle.certificate_checker.specs.Feeding.{FeedValue, stream_of, CountsSteps, IsFed, FeedsThrough, ForEach};
+ghost use Rattle.certificate_checker.specs.Judging.{IsCheckInput, IsLeafJudged, IsFoundAt, IsEndOf, IsSmall};
+ghost use Rattle.certificate_checker.specs.Judging.{IsLineJudged, line_items};
 
 use crate::feed::{Feed, Halt};
 use crate::forms::{judged_at, next_allowance};
-use crate::ground::Ground;
-use bound_verdicts::{Allowed, judge_allowance};
+use crate::input::CheckInput;
 use certificate_lines::ItemSource;
 use county_codes::CountyCode;
-use line_verdicts::{CheckFault, judge_seats, judge_stuck};
 use place_sets::CountySet;
-use proof_trees::State;
+use state_groups::State;
+use state_judge::{Allowed, CheckFault, judge_allowance, judge_seats, judge_stuck};
 
 /// What a leaf of one line comes to, with its fault, if there is one, at its line.
 fn found_at(fault: Option<CheckFault>, line: u64) -> Result<(), Halt>
@@ -33,34 +33,34 @@ fn found_at(fault: Option<CheckFault>, line: u64) -> Result<(), Halt>
 
 /// Judges a stuck leaf, whose line was read last.
 pub(crate) fn judge_stuck_leaf<C: CountySet>(
-    ground: &Ground<C>,
+    input: &CheckInput<C>,
     state: &State<C>,
     county: CountyCode,
     line: u64,
 ) -> Result<(), Halt>
-    requires ground { IsGround C.PLACES C.test ground.now }
-    requires placed { IsPlaced (length ground.now.ordered.now.order) C.test state.now }
+    requires input { IsCheckInput C.PLACES C.test input.now }
+    requires placed { IsPlaced (length input.now.ordered.now.order) C.test state.now }
     ensures { (feed : FeedValue)
         → feed.line ≡ line
-        → IsLeafJudged (problem_of ground.now.ordered.now.problem) (round_of ground.now.round.now) (state_at ground.now.ordered.now.order C.test state.now) (stuck county) feed.course.items feed result feed }
+        → IsLeafJudged (problem_of input.now.ordered.now.problem) (round_of input.now.round.now) (state_at input.now.ordered.now.order C.test state.now) (stuck county) feed.course.items feed result feed }
 {
-    let fault = judge_stuck(ground.alloc, ground.ordered, ground.near, state, county)?;
+    let fault = judge_stuck(input.alloc, input.ordered, input.near, state, county)?;
     found_at(fault, line)
 }
 
 /// Judges a seats leaf, whose line was read last.
 pub(crate) fn judge_seats_leaf<C: CountySet>(
-    ground: &Ground<C>,
+    input: &CheckInput<C>,
     state: &State<C>,
     line: u64,
 ) -> Result<(), Halt>
-    requires ground { IsGround C.PLACES C.test ground.now }
-    requires placed { IsPlaced (length ground.now.ordered.now.order) C.test state.now }
+    requires input { IsCheckInput C.PLACES C.test input.now }
+    requires placed { IsPlaced (length input.now.ordered.now.order) C.test state.now }
     ensures { (feed : FeedValue)
         → feed.line ≡ line
-        → IsLeafJudged (problem_of ground.now.ordered.now.problem) (round_of ground.now.round.now) (state_at ground.now.ordered.now.order C.test state.now) seats feed.course.items feed result feed }
+        → IsLeafJudged (problem_of input.now.ordered.now.problem) (round_of input.now.round.now) (state_at input.now.ordered.now.order C.test state.now) seats feed.course.items feed result feed }
 {
-    let fault = judge_seats(ground.alloc, ground.ordered, ground.near, state)?;
+    let fault = judge_seats(input.alloc, input.ordered, input.near, state)?;
     found_at(fault, line)
 }
 
@@ -79,7 +79,7 @@ fn loss_at(last: bool, opened: u64) -> Result<(), Halt>
 /// Judges the next line, which has to be the one of a bound leaf for a size, where the target has so many groups of
 /// this size and smaller groups use up so many counties.
 fn judge_line<C: CountySet, F, S: ItemSource<F>>(
-    ground: &Ground<C>,
+    input: &CheckInput<C>,
     state: &State<C>,
     size: u16,
     wanted: u16,
@@ -87,22 +87,22 @@ fn judge_line<C: CountySet, F, S: ItemSource<F>>(
     feed: &mut Feed<S>,
     from: &mut F,
 ) -> Result<Allowed, Halt>
-    requires ground { IsGround C.PLACES C.test ground.now }
-    requires placed { IsPlaced (length ground.now.ordered.now.order) C.test state.now }
+    requires input { IsCheckInput C.PLACES C.test input.now }
+    requires placed { IsPlaced (length input.now.ordered.now.order) C.test state.now }
     requires counted { feed.old.line ≤ feed.old.steps.used }
     requires size { 1 ≤ size }
     requires used { used ≤ most_counties }
     ensures counts { CountsSteps feed.old feed.new }
-    ensures fed { Through (stream_of S.left S.given feed.old from.old) (stream_of S.left S.given feed.new from.new) (λ a b. IsFed a result b) }
+    ensures fed { FeedsThrough (stream_of S.left S.given feed.old from.old) (stream_of S.left S.given feed.new from.new) (λ a b. IsFed a result b) }
     ensures small { IfOk result IsSmall }
     ensures judged { ForEach (stream_of S.left S.given feed.old from.old) (stream_of S.left S.given feed.new from.new) (λ a b. (counts : ℕ → ℕ) (lines : List AllowanceValue) (rest : List ItemValue)
         → counts size ≡ wanted
-        → AreSpelled lines
+        → AllowancesAreSpelled lines
         → a.course.items ≡ line_items lines ++ rest
         → IsLineJudged
-        (problem_of ground.now.ordered.now.problem)
-        (round_of ground.now.round.now)
-        (state_at ground.now.ordered.now.order C.test state.now)
+        (problem_of input.now.ordered.now.problem)
+        (round_of input.now.round.now)
+        (state_at input.now.ordered.now.order C.test state.now)
         counts
         size
         used
@@ -114,10 +114,10 @@ fn judge_line<C: CountySet, F, S: ItemSource<F>>(
 {
     let line = next_allowance(feed, from)?;
     let judged = judge_allowance(
-        ground.alloc,
-        ground.ordered,
-        ground.near,
-        ground.round,
+        input.alloc,
+        input.ordered,
+        input.near,
+        input.round,
         state,
         size,
         wanted,
@@ -130,25 +130,25 @@ fn judge_line<C: CountySet, F, S: ItemSource<F>>(
 
 /// Judges a bound leaf of so many lines, whose first line was read last.
 pub(crate) fn judge_bound_leaf<C: CountySet, F, S: ItemSource<F>>(
-    ground: &Ground<C>,
+    input: &CheckInput<C>,
     state: &State<C>,
     count: u16,
     feed: &mut Feed<S>,
     from: &mut F,
 ) -> Result<(), Halt>
-    requires ground { IsGround C.PLACES C.test ground.now }
-    requires placed { IsPlaced (length ground.now.ordered.now.order) C.test state.now }
+    requires input { IsCheckInput C.PLACES C.test input.now }
+    requires placed { IsPlaced (length input.now.ordered.now.order) C.test state.now }
     requires counted { feed.old.line ≤ feed.old.steps.used }
     ensures counts { CountsSteps feed.old feed.new }
-    ensures fed { Through (stream_of S.left S.given feed.old from.old) (stream_of S.left S.given feed.new from.new) (λ a b. IsFed a result b) }
+    ensures fed { FeedsThrough (stream_of S.left S.given feed.old from.old) (stream_of S.left S.given feed.new from.new) (λ a b. IsFed a result b) }
     ensures judged { ForEach (stream_of S.left S.given feed.old from.old) (stream_of S.left S.given feed.new from.new) (λ a b. (lines : List AllowanceValue) (rest : List ItemValue)
-        → AreSpelled lines
+        → AllowancesAreSpelled lines
         → length lines ≡ count
         → a.course.items ≡ line_items lines ++ rest
         → IsLeafJudged
-        (problem_of ground.now.ordered.now.problem)
-        (round_of ground.now.round.now)
-        (state_at ground.now.ordered.now.order C.test state.now)
+        (problem_of input.now.ordered.now.problem)
+        (round_of input.now.round.now)
+        (state_at input.now.ordered.now.order C.test state.now)
         (bound lines)
         rest
         a
@@ -156,20 +156,20 @@ pub(crate) fn judge_bound_leaf<C: CountySet, F, S: ItemSource<F>>(
         b) }
 {
     let opened = feed.line;
-    let Some(wanted) = ground.wanted else {
+    let Some(wanted) = input.wanted else {
         return Err(Halt::Fault(CheckFault::BoundWithoutTarget, opened));
     };
-    if count > ground.round.limit {
+    if count > input.round.limit {
         return Err(Halt::Fault(CheckFault::BoundLength, opened));
     }
     let mut used = 0;
     'judging: for before in 0..count {
         let size = before + 1;
-        match judge_line(ground, state, size, wanted.of(size), used, feed, from) {
+        match judge_line(input, state, size, wanted.of(size), used, feed, from) {
             Ok(Allowed::Even(now)) => used = now,
             Ok(Allowed::Loss) => return loss_at(size == count, opened),
             Err(stop) => return Err(stop),
         }
     }
-    loss_at(count == ground.round.limit, opened)
+    loss_at(count == input.round.limit, opened)
 }

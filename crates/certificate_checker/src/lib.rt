@@ -12,8 +12,11 @@
 //! `checking` says the verdict of a text, `tree_checking` that of a tree. `certificate` judges order, limit and target,
 //! whose lines `rounds` reads; `tree` reads the lines of a tree one after the other and judges each at its state:
 //! branches with their takes (`branches`), and leaves (`leaves`). `feed` counts lines and steps, `forms` takes lines of
-//! one form, and `ground` is what they are judged by. It makes no value of a tree. Any form of sets of places serves,
+//! one form, and `input` is what they are judged by. It makes no value of a tree. Any form of sets of places serves,
 //! and any source of items: `check_from` pulls the text line by line.
+//!
+//! A law (`specs/Says.antt`) says that the checker never says No to the text of a certificate. It answers what the
+//! certificate shows, or that the budget is too small.
 #![tactic(auto)]
 
 mod branches;
@@ -22,7 +25,8 @@ mod checking;
 mod fault;
 mod feed;
 mod forms;
-mod ground;
+mod input;
+mod laws;
 mod leaves;
 mod rounds;
 mod tree;
@@ -31,6 +35,7 @@ mod verdict;
 
 pub use checking::{check, check_from, check_from_over, check_over};
 pub use fault::CheckStop;
-pub use line_verdicts::CheckFault;
+pub use laws::checker_agrees;
+pub use state_judge::CheckFault;
 pub use tree_checking::check_tree;
 pub use verdict::{TreeVerdict, Verdict};

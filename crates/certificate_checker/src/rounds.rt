@@ -4,19 +4,20 @@ ghost use Rattle.std.specs.Prelude.{◌≡◌, ◌≤◌, ◌∷◌, [], ◌++�
 ghost use Rattle.grouping_laws.specs.Grouping.{Grouping as GroupingValue};
 ghost use Rattle.county_codes.specs.declared.group.Group.{Group as GroupValue};
 ghost use Rattle.county_codes.specs.declared.window.Window.{Window as WindowValue};
-ghost use Rattle.certificate_languages.specs.declared.language.Language.{Language as LanguageValue};
-ghost use Rattle.proof_trees.specs.RoundValue.{round_of, target_of};
+ghost use Rattle.certificate_data.specs.declared.language.Language.{Language as LanguageValue};
+ghost use Rattle.certificate_data.specs.RoundValue.{round_of, target_of};
 ghost use Rattle.certificate_lines.specs.declared.item.Item.{Item as ItemValue};
 ghost use Rattle.certificate_lines.specs.declared.item.Item.TheVariants as item;
-ghost use Rattle.certificate_text.specs.Trees.{Certificate, items_of_head, items_of_target, items_of_tree, items_of_certificate};
-ghost use Rattle.certificate_checker.specs.Feeding.{stream_of, CountsSteps, IsFed, Through, ForEach};
+ghost use Rattle.certificate_data.specs.TreeValue.{Certificate};
+ghost use Rattle.certificate_text.specs.Trees.{items_of_head, items_of_target, items_of_tree, items_of_certificate};
+ghost use Rattle.certificate_checker.specs.Feeding.{stream_of, CountsSteps, IsFed, FeedsThrough, ForEach};
 ghost use Rattle.certificate_checker.specs.Certificates.{AreTaken, round_items};
 
 use crate::feed::{Feed, Halt};
 use crate::forms::{next_group, next_head, next_limit, next_order, next_target, next_window};
+use certificate_data::{Language, Round};
 use certificate_lines::{ItemSource, Version};
 use county_codes::{Group, Grouping, Window};
-use proof_trees::{Language, Round};
 use std::alloc::Global;
 
 /// So many groups of a target.
@@ -28,7 +29,7 @@ fn read_groups<F, S: ItemSource<F>>(
 ) -> Result<Vec<Group>, Halt>
     requires { feed.old.line ≤ feed.old.steps.used }
     ensures counts { CountsSteps feed.old feed.new }
-    ensures fed { Through (stream_of S.left S.given feed.old from.old) (stream_of S.left S.given feed.new from.new) (λ a b. IsFed a result b) }
+    ensures fed { FeedsThrough (stream_of S.left S.given feed.old from.old) (stream_of S.left S.given feed.new from.new) (λ a b. IsFed a result b) }
     ensures taken { ForEach (stream_of S.left S.given feed.old from.old) (stream_of S.left S.given feed.new from.new) (λ a b. (groups : List GroupValue) (rest : List ItemValue)
         → length groups ≡ count
         → a.course.items ≡ map item.Grouped groups ++ rest
@@ -52,7 +53,7 @@ fn read_target<F, S: ItemSource<F>>(
 ) -> Result<Option<Grouping>, Halt>
     requires { feed.old.line ≤ feed.old.steps.used }
     ensures counts { CountsSteps feed.old feed.new }
-    ensures fed { Through (stream_of S.left S.given feed.old from.old) (stream_of S.left S.given feed.new from.new) (λ a b. IsFed a result b) }
+    ensures fed { FeedsThrough (stream_of S.left S.given feed.old from.old) (stream_of S.left S.given feed.new from.new) (λ a b. IsFed a result b) }
     ensures taken { ForEach (stream_of S.left S.given feed.old from.old) (stream_of S.left S.given feed.new from.new) (λ a b. (target : Option GroupingValue) (rest : List ItemValue)
         → a.course.items ≡ items_of_target target ++ rest
         → AreTaken (λ t. target_of t ≡ target) (items_of_target target) rest a result b) }
@@ -74,7 +75,7 @@ fn read_head<F, S: ItemSource<F>>(
 ) -> Result<(Language, Option<Window>), Halt>
     requires { feed.old.line ≤ feed.old.steps.used }
     ensures counts { CountsSteps feed.old feed.new }
-    ensures fed { Through (stream_of S.left S.given feed.old from.old) (stream_of S.left S.given feed.new from.new) (λ a b. IsFed a result b) }
+    ensures fed { FeedsThrough (stream_of S.left S.given feed.old from.old) (stream_of S.left S.given feed.new from.new) (λ a b. IsFed a result b) }
     ensures taken { ForEach (stream_of S.left S.given feed.old from.old) (stream_of S.left S.given feed.new from.new) (λ a b. (language : LanguageValue) (window : Option WindowValue) (rest : List ItemValue)
         → a.course.items ≡ items_of_head language window ++ rest
         → AreTaken (λ r. (r.0 ≡ language) × (r.1 ≡ window)) (items_of_head language window) rest a result b) }
@@ -97,10 +98,11 @@ pub(crate) fn read_round<F, S: ItemSource<F>>(
 ) -> Result<Round, Halt>
     requires { feed.old.line ≤ feed.old.steps.used }
     ensures counts { CountsSteps feed.old feed.new }
-    ensures fed { Through (stream_of S.left S.given feed.old from.old) (stream_of S.left S.given feed.new from.new) (λ a b. IsFed a result b) }
+    ensures fed { FeedsThrough (stream_of S.left S.given feed.old from.old) (stream_of S.left S.given feed.new from.new) (λ a b. IsFed a result b) }
     ensures taken { ForEach (stream_of S.left S.given feed.old from.old) (stream_of S.left S.given feed.new from.new) (λ a b. (c : Certificate)
         → a.course.items ≡ items_of_certificate c
-        → AreTaken (λ round. round_of round ≡ c.round) (round_items c) (items_of_tree c.tree ++ item.End ∷ []) a result b) }
+        → AreTaken (λ round. round_of round
+        ≡ c.round) (round_items c) (items_of_tree c.tree ++ item.End ∷ []) a result b) }
 {
     match read_head(feed, from) {
         Ok((language, window)) => {

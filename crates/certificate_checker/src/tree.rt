@@ -1,49 +1,50 @@
 //! The judging of a tree, line by line and from state to state.
 
 ghost use Rattle.std.specs.Prelude.{◌≡◌, ℕ, ◌≤◌, ◌∷◌, ◌++◌, List, All, length};
-ghost use Rattle.grouping_problem.specs.ProblemValue.{problem_of};
-ghost use Rattle.proof_trees.specs.RoundValue.{round_of};
-ghost use Rattle.proof_trees.specs.Tree.{Tree, Takes};
+ghost use Rattle.county_problem.specs.ProblemValue.{problem_of};
+ghost use Rattle.certificate_data.specs.RoundValue.{round_of};
+ghost use Rattle.certificate_data.specs.Tree.{Tree, Takes};
 ghost use Rattle.certificate_text.specs.Trees.{items_of_tree};
 ghost use Rattle.certificate_lines.specs.declared.item.Item.{Item as ItemValue};
-ghost use Rattle.verdicts.specs.Work.{Open, a_tree, some_takes};
-ghost use Rattle.line_verdicts.specs.Placed.{state_at, codes_of_sets, IsPlaced, IsClosable};
+ghost use Rattle.checker_laws.specs.Work.{Open, a_tree, some_takes};
+ghost use Rattle.state_judge.specs.Placed.{state_at, codes_of_sets, IsPlaced, IsClosable};
 ghost use Rattle.certificate_checker.specs.Readable.{IsReadable, AreReadable};
-ghost use Rattle.certificate_checker.specs.Feeding.{stream_of, CountsSteps, IsFed, Through, ForEach, items_to_mark};
-ghost use Rattle.certificate_checker.specs.Judging.{IsGround, IsJudged};
+ghost use Rattle.certificate_checker.specs.Feeding.{stream_of, CountsSteps, IsFed, FeedsThrough, ForEach};
+ghost use Rattle.certificate_checker.specs.Feeding.{items_to_mark};
+ghost use Rattle.certificate_checker.specs.Judging.{IsCheckInput, IsJudged};
 
 use crate::branches::{groups_behind, listed_groups, taken_state};
 use crate::feed::{Feed, Halt};
 use crate::forms::{next_opening, next_take};
-use crate::ground::Ground;
+use crate::input::CheckInput;
 use crate::leaves::{judge_bound_leaf, judge_seats_leaf, judge_stuck_leaf};
 use certificate_lines::{ItemSource, Opening};
-use line_verdicts::{CheckFault, raise_place};
 use place_sets::CountySet;
-use proof_trees::State;
+use state_groups::State;
+use state_judge::{CheckFault, raise_place};
 
 /// Judges the takes of a branch, up to its mark, against these groups.
 #[cycle(tree_judging)]
 fn judge_takes<C: CountySet, F, S: ItemSource<F>>(
-    ground: &Ground<C>,
+    input: &CheckInput<C>,
     state: &State<C>,
     groups: &[C],
     feed: &mut Feed<S>,
     from: &mut F,
 ) -> Result<(), Halt>
-    requires ground { IsGround C.PLACES C.test ground.now }
-    requires placed { IsPlaced (length ground.now.ordered.now.order) C.test state.now }
+    requires input { IsCheckInput C.PLACES C.test input.now }
+    requires placed { IsPlaced (length input.now.ordered.now.order) C.test state.now }
     requires groups { All (IsClosable C.test state.now) groups.now }
     requires counted { feed.old.line ≤ feed.old.steps.used }
     ensures counts { CountsSteps feed.old feed.new }
-    ensures fed { Through (stream_of S.left S.given feed.old from.old) (stream_of S.left S.given feed.new from.new) (λ a b. IsFed a result b) }
+    ensures fed { FeedsThrough (stream_of S.left S.given feed.old from.old) (stream_of S.left S.given feed.new from.new) (λ a b. IsFed a result b) }
     ensures judged { ForEach (stream_of S.left S.given feed.old from.old) (stream_of S.left S.given feed.new from.new) (λ a b. (takes : Takes) (rest : List ItemValue) (more : List Open)
-        → AreReadable ground.now.round.now.language takes
+        → AreReadable input.now.round.now.language takes
         → a.course.items ≡ items_to_mark takes ++ rest
         → IsJudged
-        (problem_of ground.now.ordered.now.problem)
-        (round_of ground.now.round.now)
-        (some_takes takes (state_at ground.now.ordered.now.order C.test state.now) (codes_of_sets ground.now.ordered.now.order C.test groups.now) ∷ more)
+        (problem_of input.now.ordered.now.problem)
+        (round_of input.now.round.now)
+        (some_takes takes (state_at input.now.ordered.now.order C.test state.now) (codes_of_sets input.now.ordered.now.order C.test groups.now) ∷ more)
         more
         rest
         a
@@ -53,8 +54,8 @@ fn judge_takes<C: CountySet, F, S: ItemSource<F>>(
     let mut left = groups;
     'taking: loop {
         match next_take(feed, from) {
-            Ok(Some(codes)) => match taken_state(ground, state, left, codes.as_slice(), feed.line) {
-                Ok(mut closed) => match judge_tree(ground, &mut closed, feed, from) {
+            Ok(Some(codes)) => match taken_state(input, state, left, codes.as_slice(), feed.line) {
+                Ok(mut closed) => match judge_tree(input, &mut closed, feed, from) {
                     Ok(()) => left = groups_behind(left),
                     Err(stop) => return Err(stop),
                 },
@@ -75,23 +76,23 @@ fn judge_takes<C: CountySet, F, S: ItemSource<F>>(
 /// deep as takes nest.
 #[cycle(tree_judging)]
 pub(crate) fn judge_tree<C: CountySet, F, S: ItemSource<F>>(
-    ground: &Ground<C>,
+    input: &CheckInput<C>,
     state: &mut State<C>,
     feed: &mut Feed<S>,
     from: &mut F,
 ) -> Result<(), Halt>
-    requires ground { IsGround C.PLACES C.test ground.now }
-    requires placed { IsPlaced (length ground.now.ordered.now.order) C.test state.old }
+    requires input { IsCheckInput C.PLACES C.test input.now }
+    requires placed { IsPlaced (length input.now.ordered.now.order) C.test state.old }
     requires counted { feed.old.line ≤ feed.old.steps.used }
     ensures counts { CountsSteps feed.old feed.new }
-    ensures fed { Through (stream_of S.left S.given feed.old from.old) (stream_of S.left S.given feed.new from.new) (λ a b. IsFed a result b) }
+    ensures fed { FeedsThrough (stream_of S.left S.given feed.old from.old) (stream_of S.left S.given feed.new from.new) (λ a b. IsFed a result b) }
     ensures judged { ForEach (stream_of S.left S.given feed.old from.old) (stream_of S.left S.given feed.new from.new) (λ a b. (tree : Tree) (rest : List ItemValue) (more : List Open)
-        → IsReadable ground.now.round.now.language tree
+        → IsReadable input.now.round.now.language tree
         → a.course.items ≡ items_of_tree tree ++ rest
         → IsJudged
-        (problem_of ground.now.ordered.now.problem)
-        (round_of ground.now.round.now)
-        (a_tree tree (state_at ground.now.ordered.now.order C.test state.old) ∷ more)
+        (problem_of input.now.ordered.now.problem)
+        (round_of input.now.round.now)
+        (a_tree tree (state_at input.now.ordered.now.order C.test state.old) ∷ more)
         more
         rest
         a
@@ -102,17 +103,17 @@ pub(crate) fn judge_tree<C: CountySet, F, S: ItemSource<F>>(
         match next_opening(feed, from) {
             Ok(opening) => match opening {
                 Opening::Branch { county, limit } => match listed_groups(
-                    ground, state, county, limit, feed,
+                    input, state, county, limit, feed,
                 ) {
                     Ok(branching) => match judge_takes(
-                        ground,
+                        input,
                         state,
                         &branching.groups,
                         feed,
                         from,
                     ) {
                         Ok(()) => raise_place(
-                            ground.ordered,
+                            input.ordered,
                             state,
                             branching.place,
                             branching.limit,
@@ -121,9 +122,9 @@ pub(crate) fn judge_tree<C: CountySet, F, S: ItemSource<F>>(
                     },
                     Err(stop) => return Err(stop),
                 },
-                Opening::Stuck(county) => return judge_stuck_leaf(ground, state, county, feed.line),
-                Opening::Seats => return judge_seats_leaf(ground, state, feed.line),
-                Opening::Bound(count) => return judge_bound_leaf(ground, state, count, feed, from),
+                Opening::Stuck(county) => return judge_stuck_leaf(input, state, county, feed.line),
+                Opening::Seats => return judge_seats_leaf(input, state, feed.line),
+                Opening::Bound(count) => return judge_bound_leaf(input, state, count, feed, from),
             },
             Err(stop) => return Err(stop),
         }

@@ -3,30 +3,29 @@
 ghost use Rattle.std.specs.Prelude.{◌≡◌, ◌≤◌, length, IfOk};
 ghost use Rattle.county_codes.specs.Limits.{most_counties};
 ghost use Rattle.grouping_laws.specs.GroupsFrom.{IsOrder};
-ghost use Rattle.grouping_problem.specs.ProblemValue.{problem_of};
-ghost use Rattle.proof_trees.specs.RoundValue.{round_of, target_of};
-ghost use Rattle.proof_trees.specs.Tree.{Tree as TreeValue};
+ghost use Rattle.county_problem.specs.ProblemValue.{problem_of};
+ghost use Rattle.certificate_data.specs.RoundValue.{round_of, target_of};
+ghost use Rattle.certificate_data.specs.Tree.{Tree as TreeValue};
 ghost use Rattle.certificate_lines.specs.Courses.{tree_course};
 ghost use Rattle.certificate_lines.specs.Lines.{most};
-ghost use Rattle.certificate_text.specs.Trees.{tree_of};
+ghost use Rattle.certificate_data.specs.TreeValue.{tree_of};
 ghost use Rattle.certificate_text.specs.Ranges.{AreTreeNumbers};
 ghost use Rattle.certificate_text.specs.TreeFault.{lines_of_tree};
-ghost use Rattle.verdicts.specs.Verdict.{IsLawfulTarget};
-ghost use Rattle.line_verdicts.specs.Placed.{state_at, IsPlaced};
+ghost use Rattle.checker_laws.specs.Verdict.{IsLawfulTarget};
+ghost use Rattle.state_judge.specs.Placed.{state_at, IsPlaced};
 ghost use Rattle.certificate_checker.specs.Judging.{AreWanted};
 ghost use Rattle.certificate_checker.specs.TreeAnswered.{IsTreeAnswer, IsRightOfTrees, IsSaid};
 
 use crate::certificate::{judge_order, judge_placed, judge_target};
 use crate::feed::{Feed, Halt, first_fault};
 use crate::verdict::TreeVerdict;
+use certificate_data::{Language, Round, Tree};
 use certificate_lines::{Items, TextFault};
-use certificate_text::{Tree, tree_lines};
-use grouping_judge::Counts;
-use grouping_problem::Problem;
-use line_verdicts::{CheckFault, copied_state};
-use ordered_counties::{Ordered, Steps};
+use certificate_text::tree_lines;
+use county_problem::{Counts, Ordered, Problem, Steps};
 use place_sets::CountySet;
-use proof_trees::{Language, Round, State};
+use state_groups::State;
+use state_judge::{CheckFault, copied_state};
 use std::alloc::{AllocError, Global};
 
 /// What is said of a tree whose lines have no fault. The stops that a fault of the text gives never come here.

@@ -1,7 +1,7 @@
 //! The verdicts on the text of a certificate and on a tree.
 
 use county_codes::Grouping;
-use line_verdicts::CheckFault;
+use state_judge::CheckFault;
 
 /// What is said of a text that should be a certificate.
 #[derive(Debug, Drop)]

@@ -5,9 +5,9 @@ use Rattle.std.proofs.lemmas.Bool.Decides.{nat_tests}
 use Rattle.field_lines.specs.Raw.{RawLine}
 use Rattle.field_lines.specs.Fault.{most_bytes}
 use Rattle.certificate_lines.specs.Words.{line_bytes, line_words}
-use Rattle.certificate_lines.specs.Rest.{fault_at}
+use Rattle.certificate_lines.specs.Rest.{text_fault_at}
 use Rattle.certificate_lines.specs.Items.{by_words, seen, item_on, wanted_after}
-use Rattle.certificate_lines.specs.Courses.{Course, nothing, only_fault, first, course_from}
+use Rattle.certificate_lines.specs.Courses.{Unread, nothing, only_fault, first, course_from}
 use Rattle.certificate_lines.specs.Lines as line
 use Rattle.certificate_lines.specs.declared.fault.TextKind.{TextKind}
 use Rattle.certificate_lines.specs.declared.fault.TextKind.TheVariants.{CutShort, AfterEnd, BadWord}
@@ -17,17 +17,17 @@ use Rattle.certificate_lines.specs.declared.item.Wanted.TheVariants as want
 use Rattle.certificate_lines.proofs.ReadLaws.{stacked_one}
 
 -- a line where something is wanted
-abbrev line_by : Wanted → ℕ → List RawLine → List Wanted → Result Item TextKind → Course
-line_by w n pieces more r = elim r as (λ _. Course) [
+abbrev line_by : Wanted → ℕ → List RawLine → List Wanted → Result Item TextKind → Unread
+line_by w n pieces more r = elim r as (λ _. Unread) [
   | Ok item ↦ first item (course_from (wanted_after w item ++ more) (n + 1) pieces)
-  | Err kind ↦ only_fault (fault_at kind n)
+  | Err kind ↦ only_fault (text_fault_at kind n)
 ]
 
 module _ (w : Wanted) (more : List Wanted) (n : ℕ) (piece : RawLine) (pieces : List RawLine) where
   pub course_first : (item : Item) → item_on w piece ≡ Ok item → course_from (w ∷ more) n (piece ∷ pieces) ≡ first item (course_from (wanted_after w item ++ more) (n + 1) pieces)
   course_first item e = ap (line_by w n pieces more) e
 
-  pub course_fault : (kind : TextKind) → item_on w piece ≡ Err kind → course_from (w ∷ more) n (piece ∷ pieces) ≡ only_fault (fault_at kind n)
+  pub course_fault : (kind : TextKind) → item_on w piece ≡ Err kind → course_from (w ∷ more) n (piece ∷ pieces) ≡ only_fault (text_fault_at kind n)
   course_fault kind e = ap (line_by w n pieces more) e
 
 -- the same where what is wanted was taken from a stack
@@ -43,10 +43,10 @@ module _ (stack below : List Wanted) (w : Wanted) (popped : stack ≡ below ++ w
         ∙ ap (λ (l : List Wanted). first item (course_from l (n + 1) pieces)) (sym stacked)
         ∙ ap (λ (k : ℕ). first item (course_from (reverse new) k pieces)) (sym number)
 
-    pub popped_fault : (kind : TextKind) → item_on w piece ≡ Err kind → course_from (reverse stack) n lines ≡ only_fault (fault_at kind n)
+    pub popped_fault : (kind : TextKind) → item_on w piece ≡ Err kind → course_from (reverse stack) n lines ≡ only_fault (text_fault_at kind n)
     popped_fault kind e = turned ∙ ap (course_from (w ∷ reverse below) n) is ∙ course_fault w (reverse below) n piece pieces kind e
 
-  pub popped_short : lines ≡ [] → course_from (reverse stack) n lines ≡ only_fault (fault_at CutShort n)
+  pub popped_short : lines ≡ [] → course_from (reverse stack) n lines ≡ only_fault (text_fault_at CutShort n)
   popped_short is = turned ∙ ap (course_from (w ∷ reverse below) n) is
 
 -- a line that is too long has no item

@@ -9,7 +9,7 @@ use Rattle.field_lines.specs.Fault.{most_bytes}
 use Rattle.certificate_lines.specs.Lines.{most, ascend}
 use Rattle.certificate_lines.specs.Spelling.{weight_word}
 use Rattle.certificate_lines.specs.Fits.{AreCodes, IsSet, FitsWeight, AreWeights}
-use Rattle.certificate_lines.specs.declared.weights.Weight.{Weight}
+use Rattle.certificate_data.specs.declared.weights.Weight.{Weight}
 use Rattle.certificate_lines.proofs.WordsWritten.{weights_line}
 
 -- the tests of codes, both ways

@@ -10,18 +10,18 @@ use Rattle.county_codes.specs.Windows.{is_window}
 use Rattle.county_codes.specs.declared.group.Group.{Group}
 use Rattle.county_codes.specs.declared.window.Window.{Window}
 use Rattle.certificate_lines.specs.Words.{number, code, pair}
-use Rattle.certificate_lines.specs.Lines.{most, begins, named, counted, number_at, code_at, each, ascend, window_on, order_on, limit_on, target_on, group_on, branch_on, stuck_on, bound_on, opening_on, take_on, weigh_on, allowance_on, end_on}
+use Rattle.certificate_lines.specs.Lines.{most, begins, named, counted, number_at, code_word_at, each, ascend, window_on, order_on, limit_on, target_on, group_on, branch_on, stuck_on, bound_on, opening_on, take_on, weigh_on, allowance_on, end_on}
 use Rattle.county_codes.specs.Digits.{five_digits}
 use Rattle.certificate_lines.specs.Spelling.{weight_word, item_words}
 use Rattle.certificate_lines.specs.Items.{taken}
 use Rattle.certificate_lines.specs.Fits.{FitsWeight}
 use Rattle.certificate_lines.proofs.WordLaws.{bind_ok, number_ok, code_ok, pair_ok, each_ok}
 use Rattle.certificate_lines.specs.declared.fault.TextKind.TheVariants.{BadWord, BadNumber, NotCanonical, TooDeep}
-use Rattle.certificate_languages.specs.declared.language.Language.{Language}
-use Rattle.certificate_languages.specs.declared.language.Language.TheVariants.{Plain, Wide}
-use Rattle.certificate_lines.specs.declared.weights.Weight.{Weight}
-use Rattle.certificate_lines.specs.declared.item.Allowance.{Allowance}
-use Rattle.certificate_lines.specs.declared.item.Allowance.TheVariants.{Room, Weigh}
+use Rattle.certificate_data.specs.declared.language.Language.{Language}
+use Rattle.certificate_data.specs.declared.language.Language.TheVariants.{Plain, Wide}
+use Rattle.certificate_data.specs.declared.weights.Weight.{Weight}
+use Rattle.certificate_data.specs.declared.allowance.Allowance.{Allowance}
+use Rattle.certificate_data.specs.declared.allowance.Allowance.TheVariants.{Room, Weigh}
 use Rattle.certificate_lines.specs.declared.item.Opening.{Opening}
 use Rattle.certificate_lines.specs.declared.item.Opening.TheVariants.{Branch, Stuck, Seats, Bound as BoundLeaf}
 use Rattle.certificate_lines.specs.declared.item.Item.TheVariants.{Within, Order, Limit, Target, Grouped, Opens, Allows, End}
@@ -76,7 +76,7 @@ pub record CodeAtIs (words : List (List ℕ)) (c : ℕ) (rest : List (List ℕ))
   pub words_are : words ≡ five_digits c ∷ rest
   pub to : c ≤ 99999
 
-pub code_at_ok : (words : List (List ℕ)) (r : ℕ × List (List ℕ)) → code_at words ≡ Ok r → CodeAtIs words r.0 r.1
+pub code_at_ok : (words : List (List ℕ)) (r : ℕ × List (List ℕ)) → code_word_at words ≡ Ok r → CodeAtIs words r.0 r.1
 code_at_ok [] r h = cc
 code_at_ok (word ∷ words) r h =
     let n = bind_ok (code word) _ r h in
@@ -208,7 +208,7 @@ branch_ok : (language : Language) (levels : ℕ) (words : List (List ℕ)) (open
 unfolding branch_on
 branch_ok Plain levels words opening h =
     let a = bind_ok (counted 1 1 words) _ opening h in
-    let b = bind_ok (code_at a.value) _ opening a.then in
+    let b = bind_ok (code_word_at a.value) _ opening a.then in
     let few = counted_ok 1 1 words a.value a.first in
     let c = code_at_ok a.value b.value b.first in
     let same : Branch b.value.0 None ≡ opening = deep_go levels _ opening _ refl b.then in
@@ -216,7 +216,7 @@ branch_ok Plain levels words opening h =
     ap (λ (ws : List (List ℕ)). codes "branch" ∷ ws) (few.same ∙ c.words_are ∙ ap (λ (ws : List (List ℕ)). five_digits b.value.0 ∷ ws) none) ∙ ap (λ (o : Opening). item_words (Opens o)) same
 branch_ok Wide levels words opening h =
     let a = bind_ok (counted 2 2 words) _ opening h in
-    let b = bind_ok (code_at a.value) _ opening a.then in
+    let b = bind_ok (code_word_at a.value) _ opening a.then in
     let d = bind_ok (number_at 1 most b.value.1) _ opening b.then in
     let few = counted_ok 2 2 words a.value a.first in
     let c = code_at_ok a.value b.value b.first in
@@ -229,7 +229,7 @@ stuck_ok : (words : List (List ℕ)) (opening : Opening) → stuck_on words ≡ 
 unfolding stuck_on
 stuck_ok words opening h =
     let a = bind_ok (counted 1 1 words) _ opening h in
-    let b = bind_ok (code_at a.value) _ opening a.then in
+    let b = bind_ok (code_word_at a.value) _ opening a.then in
     let few = counted_ok 1 1 words a.value a.first in
     let c = code_at_ok a.value b.value b.first in
     let same : Stuck b.value.0 ≡ opening = cc (b.then) in

@@ -5,16 +5,16 @@ use Rattle.field_lines.specs.Raw.{RawLine, raw_lines_from}
 use Rattle.field_lines.specs.Piece.{raw_of}
 use Rattle.field_lines.specs.Fault.{most_bytes}
 use Rattle.field_lines.specs.Held.{MayCome, StaysEnded}
-use Rattle.field_lines.specs.LinesFrom.{Held}
+use Rattle.field_lines.specs.LinesFrom.{LinesHeld}
 use Rattle.field_lines.specs.PiecesFrom.{pieces_left, BeginsTooLong, IsNextPieceFrom, IsRawRead, AnswersRaw}
 use Rattle.field_lines.proofs.ReadLineLemmas.{may_come}
 use Rattle.field_lines.specs.declared.raw.Piece.{Piece}
 use Rattle.field_lines.specs.declared.fault.LineFault.{LineFault}
 use Rattle.field_lines.specs.declared.fault.LineFault.TheVariants as of_line
-use Rattle.certificate_lines.specs.Rest.{fault_at, IsUnread}
+use Rattle.certificate_lines.specs.Rest.{text_fault_at, IsUnread}
 use Rattle.certificate_lines.specs.Items.{item_on, wanted_after}
-use Rattle.certificate_lines.specs.Courses.{Course, nothing, only_fault, first, course_from, IsNextItem, IsNextLine}
-use Rattle.certificate_lines.specs.ItemsLeft.{ItemsLeft, left_at, unless_found, Foresees, ReadsItem, ReadsEnd, ReadsNext, IsNextOf, fault_of_reader}
+use Rattle.certificate_lines.specs.Courses.{Unread, nothing, only_fault, first, course_from, IsNextItem, IsNextItemRead}
+use Rattle.certificate_lines.specs.ItemsLeft.{ItemsLeft, left_at, unless_found, Foresees, ReadsItem, ReadsEnd, ReadsNext, IsNextItemOf, fault_of_reader}
 use Rattle.certificate_lines.specs.declared.fault.TextKind.{TextKind}
 use Rattle.certificate_lines.specs.declared.fault.TextKind.TheVariants.{CutShort, AfterEnd, BadWord, Memory}
 use Rattle.certificate_lines.specs.declared.fault.TextFault.{TextFault}
@@ -39,19 +39,19 @@ goes old_ended new_ended before pulled after all gave end sees =
     }
 
 -- the pieces of a reader, by the bytes that come later
-abbrev pieces : Held → List ℕ → List RawLine
+abbrev pieces : LinesHeld → List ℕ → List RawLine
 pieces h later = raw_lines_from h.number (h.bytes ++ later)
 
 -- a line, where something is wanted and where the end is wanted
-long_line : (w : Wanted) (more : List Wanted) (n number : ℕ) (lines : List RawLine) → BeginsTooLong number lines → course_from (w ∷ more) n lines ≡ only_fault (fault_at BadWord n)
+long_line : (w : Wanted) (more : List Wanted) (n number : ℕ) (lines : List RawLine) → BeginsTooLong number lines → course_from (w ∷ more) n lines ≡ only_fault (text_fault_at BadWord n)
 long_line w more n number [] long = absurd long
 long_line w more n number (p ∷ ps) long = course_fault w more n p ps BadWord (too_long w p long.1)
 
-long_end : (n number : ℕ) (lines : List RawLine) → BeginsTooLong number lines → course_from [] n lines ≡ only_fault (fault_at AfterEnd n)
+long_end : (n number : ℕ) (lines : List RawLine) → BeginsTooLong number lines → course_from [] n lines ≡ only_fault (text_fault_at AfterEnd n)
 long_end n number [] long = absurd long
 long_end n number (p ∷ ps) long = refl
 
-module _ (old new : Held) (before after : List ℕ) (failed failed_then : Bool) where
+module _ (old new : LinesHeld) (before after : List ℕ) (failed failed_then : Bool) where
   module _ (w : Wanted) (below : List Wanted) (number : ℕ) where
     pub read_found : (p : Piece) → IsNextPieceFrom (pieces_left old) before failed (Ok (Some p)) (pieces_left new) after failed_then
         → (item : Item) (stack : List Wanted) → item_on w (raw_of p) ≡ Ok item → reverse stack ≡ wanted_after w item ++ reverse below
@@ -76,11 +76,11 @@ module _ (old new : Held) (before after : List ℕ) (failed failed_then : Bool) 
               ap (λ (t : List ℕ). course_from (w ∷ reverse below) number (pieces old t)) g.was
               ∙ ap (course_from (w ∷ reverse below) number) (next.answers sees.later sees.may)
               ∙ course_fault w (reverse below) number (raw_of p) (pieces new sees.later) fault.kind (e (λ memory. unread (inl memory)))
-              ∙ ap (λ (n : ℕ). only_fault (fault_at fault.kind n)) (sym line),
+              ∙ ap (λ (n : ℕ). only_fault (text_fault_at fault.kind n)) (sym line),
         )
 
     pub read_short : IsNextPieceFrom (pieces_left old) before failed (Ok None) (pieces_left new) after failed_then
-        → (then : List Wanted) (m : ℕ) → ReadsItem (left_at (w ∷ reverse below) number old) before (Err (fault_at CutShort number)) (left_at then m new) after
+        → (then : List Wanted) (m : ℕ) → ReadsItem (left_at (w ∷ reverse below) number old) before (Err (text_fault_at CutShort number)) (left_at then m new) after
     read_short next then m all sees =
         let g = goes old.ended new.ended before next.pulled after all next.given next.end sees in
         let none : next.pulled ++ sees.later ≡ next.pulled = ap (λ (t : List ℕ). next.pulled ++ t) (sees.may next.answers.0) ∙ append-nil next.pulled in (
@@ -118,7 +118,7 @@ module _ (old new : Held) (before after : List ℕ) (failed failed_then : Bool) 
         )
 
     pub end_passed : (p : Piece) → IsNextPieceFrom (pieces_left old) before failed (Ok (Some p)) (pieces_left new) after failed_then
-        → ReadsEnd (left_at [] number old) before (Err (fault_at AfterEnd number)) (left_at [] number new) after
+        → ReadsEnd (left_at [] number old) before (Err (text_fault_at AfterEnd number)) (left_at [] number new) after
     end_passed p next all sees =
         let g = goes old.ended new.ended before next.pulled after all next.given next.end sees in (
           g.back,
@@ -143,21 +143,21 @@ module _ (old new : Held) (before after : List ℕ) (failed failed_then : Bool) 
       → AnswersRaw None old before failed answer new after failed_then
   raw_next answer raw sound = subst (λ (f : Option LineFault). AnswersRaw f old before failed answer new after failed_then) sound raw
 
-next_same : (old new : ItemsLeft) (before after : List ℕ) (next : Option Item) → ReadsNext old before (Ok next) new after → IsNextOf old before (Ok next) new after
+next_same : (old new : ItemsLeft) (before after : List ℕ) (next : Option Item) → ReadsNext old before (Ok next) new after → IsNextItemOf old before (Ok next) new after
 next_same old new before after None h = h
 next_same old new before after (Some item) h = h
 
 -- a call keeps its fault
 module _ (old new : ItemsLeft) (before after : List ℕ) (found : Option TextFault) (none : found ≡ None) (answer : Result (Option Item) TextFault) (read : ReadsNext old before answer new after) where
-  pub next_fault : (fault : TextFault) → answer ≡ Err fault → IsNextOf (unless_found old found) before answer (unless_found new (Some fault)) after
+  pub next_fault : (fault : TextFault) → answer ≡ Err fault → IsNextItemOf (unless_found old found) before answer (unless_found new (Some fault)) after
   next_fault fault e =
-      let kept : IsNextOf old before (Err fault) (unless_found new (Some fault)) after = λ all sees.
+      let kept : IsNextItemOf old before (Err fault) (unless_found new (Some fault)) after = λ all sees.
       let h = subst (λ (r : Result (Option Item) TextFault). ReadsNext old before r new after) e read all sees in (h.0, (h.1, refl)) in
-      subst (λ (f : Option TextFault). IsNextOf (unless_found old f) before answer (unless_found new (Some fault)) after) (sym none)
-      (subst (λ (r : Result (Option Item) TextFault). IsNextOf old before r (unless_found new (Some fault)) after) (sym e) kept)
+      subst (λ (f : Option TextFault). IsNextItemOf (unless_found old f) before answer (unless_found new (Some fault)) after) (sym none)
+      (subst (λ (r : Result (Option Item) TextFault). IsNextItemOf old before r (unless_found new (Some fault)) after) (sym e) kept)
 
-  pub next_found : (next : Option Item) → answer ≡ Ok next → IsNextOf (unless_found old found) before answer (unless_found new found) after
+  pub next_found : (next : Option Item) → answer ≡ Ok next → IsNextItemOf (unless_found old found) before answer (unless_found new found) after
   next_found next e =
-      subst (λ (f : Option TextFault). IsNextOf (unless_found old f) before answer (unless_found new f) after) (sym none)
-      (subst (λ (r : Result (Option Item) TextFault). IsNextOf old before r new after) (sym e)
+      subst (λ (f : Option TextFault). IsNextItemOf (unless_found old f) before answer (unless_found new f) after) (sym none)
+      (subst (λ (r : Result (Option Item) TextFault). IsNextItemOf old before r new after) (sym e)
       (next_same old new before after next (subst (λ (r : Result (Option Item) TextFault). ReadsNext old before r new after) e read)))

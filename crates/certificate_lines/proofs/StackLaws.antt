@@ -5,13 +5,13 @@ use Rattle.std.proofs.lemmas.List.{length-reverse}
 use Rattle.field_lines.specs.Raw.{RawLine}
 use Rattle.certificate_lines.specs.Items.{item_on, wanted_after}
 use Rattle.certificate_lines.specs.Lines.{most}
-use Rattle.certificate_lines.specs.Fits.{Fits}
+use Rattle.certificate_lines.specs.Fits.{IsWanted}
 use Rattle.certificate_lines.specs.Stacks.{HasRoom, greatest_place, IsBounded}
 use Rattle.certificate_lines.proofs.FitsLaws.{item_fits}
 use Rattle.certificate_lines.proofs.ReadLaws.{stacked_one}
-use Rattle.certificate_languages.specs.Levels.{after_raise}
-use Rattle.certificate_languages.specs.declared.language.Language.{Language}
-use Rattle.certificate_languages.specs.declared.language.Language.TheVariants.{Plain, Wide}
+use Rattle.certificate_data.specs.Levels.{after_raise}
+use Rattle.certificate_data.specs.declared.language.Language.{Language}
+use Rattle.certificate_data.specs.declared.language.Language.TheVariants.{Plain, Wide}
 use Rattle.certificate_lines.specs.declared.item.Version.TheVariants.{One, Two}
 use Rattle.certificate_lines.specs.declared.item.Opening.TheVariants.{Branch, Bound}
 use Rattle.certificate_lines.specs.declared.item.Item.{Item}
@@ -30,7 +30,7 @@ raised Wide levels = omega arith
 
 -- what is wanted after an item has room where the item has
 module _ (below : List Wanted) where
-  pub bounded_after : (w : Wanted) (item : Item) → Fits w item → HasRoom (length below) w → greatest_place below ≤ most + 1 → greatest_place (wanted_after w item ++ below) ≤ most + 1
+  pub bounded_after : (w : Wanted) (item : Item) → IsWanted w item → HasRoom (length below) w → greatest_place below ≤ most + 1 → greatest_place (wanted_after w item ++ below) ≤ most + 1
   bounded_after want.Head (Head language One) fits room h = omega arith
   bounded_after want.Head (Head language Two) fits room h = omega arith
   bounded_after (want.Window language) (Within window) fits room h = omega arith

@@ -9,16 +9,16 @@ use Rattle.field_lines.specs.Raw.{RawLine, raw_lines_from, bytes_of, text_of as 
 use Rattle.field_lines.proofs.TextLemmas.{text_of-raw_lines}
 use Rattle.certificate_lines.specs.Words.{words_of, line_bytes, line_words, is_canonical}
 use Rattle.certificate_lines.specs.Lines as line
-use Rattle.certificate_lines.specs.Items.{by_words, head_in, headed, seen, taken, item_on, wanted_after, in_front, items_from}
-use Rattle.certificate_lines.specs.Rest.{fault_at}
-use Rattle.certificate_lines.specs.Spelling.{item_words, item_line, text_of}
+use Rattle.certificate_lines.specs.Items.{by_words, head_in, headed, seen, taken, item_on, wanted_after, items_in_front, items_from}
+use Rattle.certificate_lines.specs.Rest.{text_fault_at}
+use Rattle.certificate_lines.specs.Spelling.{item_words, item_line, text_of_items}
 use Rattle.certificate_lines.proofs.WordLaws.{bind_ok}
 use Rattle.certificate_lines.proofs.FormLaws.{window_ok, order_ok, limit_ok, target_ok, group_ok, opening_ok, take_ok, allowance_ok, end_ok}
 use Rattle.certificate_lines.specs.declared.fault.TextKind.{TextKind}
 use Rattle.certificate_lines.specs.declared.fault.TextKind.TheVariants.{BadWord, NotCanonical, CutShort}
 use Rattle.certificate_lines.specs.declared.fault.TextFault.{TextFault}
-use Rattle.certificate_languages.specs.declared.language.Language.{Language}
-use Rattle.certificate_languages.specs.declared.language.Language.TheVariants.{Plain, Wide}
+use Rattle.certificate_data.specs.declared.language.Language.{Language}
+use Rattle.certificate_data.specs.declared.language.Language.TheVariants.{Plain, Wide}
 use Rattle.certificate_lines.specs.declared.item.Version.{Version}
 use Rattle.certificate_lines.specs.declared.item.Version.TheVariants.{One, Two}
 use Rattle.certificate_lines.specs.declared.item.Item.{Item}
@@ -120,29 +120,29 @@ pub record InFront (item : Item) (later : Result (List Item) TextFault) (items :
   pub is : later ≡ Ok others
   pub all : item ∷ others ≡ items
 
-pub in_front_ok : (item : Item) (later : Result (List Item) TextFault) (items : List Item) → in_front (item ∷ []) later ≡ Ok items → InFront item later items
+pub in_front_ok : (item : Item) (later : Result (List Item) TextFault) (items : List Item) → items_in_front (item ∷ []) later ≡ Ok items → InFront item later items
 in_front_ok item (Ok others) items h = record { others = others; is = refl; all = cc }
 in_front_ok item (Err fault) items h = cc
 
-pub pieces_ok : (wanted : List Wanted) (n : ℕ) (pieces : List RawLine) (items : List Item) → items_from wanted n pieces ≡ Ok items → raw_text pieces ≡ text_of items
+pub pieces_ok : (wanted : List Wanted) (n : ℕ) (pieces : List RawLine) (items : List Item) → items_from wanted n pieces ≡ Ok items → raw_text pieces ≡ text_of_items items
 pieces_ok [] n [] items h =
     let none : [] ≡ items = cc in
-    ap text_of none
+    ap text_of_items none
 pieces_ok [] n (piece ∷ pieces) items h = cc
 pieces_ok (wanted ∷ more) n [] items h = cc
 pieces_ok (wanted ∷ more) n (piece ∷ pieces) items h = go (λ ws later e. pieces_ok ws (n + 1) pieces later e) (item_on wanted piece) refl h
   where
-    go : ((ws : List Wanted) (later : List Item) → items_from ws (n + 1) pieces ≡ Ok later → raw_text pieces ≡ text_of later) → (r : Result Item TextKind) → item_on wanted piece ≡ r → (elim r as (λ _. Result (List Item) TextFault) [
-      | Ok item ↦ in_front (item ∷ []) (items_from (wanted_after wanted item ++ more) (n + 1) pieces)
-      | Err kind ↦ Err (fault_at kind n)
-    ]) ≡ Ok items → raw_text (piece ∷ pieces) ≡ text_of items
+    go : ((ws : List Wanted) (later : List Item) → items_from ws (n + 1) pieces ≡ Ok later → raw_text pieces ≡ text_of_items later) → (r : Result Item TextKind) → item_on wanted piece ≡ r → (elim r as (λ _. Result (List Item) TextFault) [
+      | Ok item ↦ items_in_front (item ∷ []) (items_from (wanted_after wanted item ++ more) (n + 1) pieces)
+      | Err kind ↦ Err (text_fault_at kind n)
+    ]) ≡ Ok items → raw_text (piece ∷ pieces) ≡ text_of_items items
     go later_ok (Ok item) e h =
         let f = in_front_ok item (items_from (wanted_after wanted item ++ more) (n + 1) pieces) items h in
         ap (λ (bytes : List ℕ). bytes ++ raw_text pieces) (line_is piece item (item_ok wanted piece item e))
         ∙ ap (λ (bytes : List ℕ). item_line item ++ bytes) (later_ok (wanted_after wanted item ++ more) f.others f.is)
-        ∙ ap text_of f.all
+        ∙ ap text_of_items f.all
     go later_ok (Err kind) e h = cc
 
 -- a text whose items are read is their text
-pub text_ok : (wanted : List Wanted) (n : ℕ) (text : List ℕ) (items : List Item) → items_from wanted n (raw_lines_from n text) ≡ Ok items → text ≡ text_of items
+pub text_ok : (wanted : List Wanted) (n : ℕ) (text : List ℕ) (items : List Item) → items_from wanted n (raw_lines_from n text) ≡ Ok items → text ≡ text_of_items items
 text_ok wanted n text items h = sym (text_of-raw_lines n text) ∙ pieces_ok wanted n (raw_lines_from n text) items h

@@ -21,7 +21,7 @@ use Rattle.county_codes.specs.Digits.{five_digits}
 use Rattle.certificate_lines.specs.Spelling.{weight_word}
 use Rattle.certificate_lines.specs.declared.fault.TextKind.{TextKind}
 use Rattle.certificate_lines.specs.declared.fault.TextKind.TheVariants.{BadNumber, BadWord, NotCanonical}
-use Rattle.certificate_lines.specs.declared.weights.Weight.{Weight}
+use Rattle.certificate_data.specs.declared.weights.Weight.{Weight}
 
 -- a step that was made, and the one after it
 pub record Bound {A B E : Type 0} (r : Result A E) (f : A → Result B E) (y : B) : Type 0 where

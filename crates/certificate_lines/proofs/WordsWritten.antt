@@ -6,8 +6,8 @@ use Rattle.std.proofs.lemmas.List.Elements.{recursion_from_All}
 use Rattle.county_codes.specs.Digits.{five_digits}
 use Rattle.certificate_lines.specs.Spelling.{weight_word, item_words}
 use Rattle.certificate_lines.specs.Fits.{AreCodes}
-use Rattle.certificate_lines.specs.declared.weights.Weight.{Weight}
-use Rattle.certificate_lines.specs.declared.item.Allowance.TheVariants.{Weigh}
+use Rattle.certificate_data.specs.declared.weights.Weight.{Weight}
+use Rattle.certificate_data.specs.declared.allowance.Allowance.TheVariants.{Weigh}
 use Rattle.certificate_lines.specs.declared.item.Item.TheVariants.{Allows}
 
 -- words, each after a blank, as they are joined

@@ -2,46 +2,46 @@
 use Rattle.std.specs.Prelude.{◌≡◌, ℕ, ◌+◌, Bool, List, [], ◌∷◌, ◌++◌, reverse, Option, Some, None, Result, Ok, Err}
 use Rattle.field_lines.specs.Raw.{RawLine, raw_lines}
 use Rattle.field_lines.specs.Values.{GivesUnless}
-use Rattle.certificate_lines.specs.Rest.{Rest, lines_of, fault_at, IsUnread}
+use Rattle.certificate_lines.specs.Rest.{Rest, lines_of, text_fault_at, IsUnread}
 use Rattle.certificate_lines.specs.Items.{item_on, wanted_after}
 use Rattle.certificate_lines.specs.declared.fault.TextKind.{TextKind}
 use Rattle.certificate_lines.specs.declared.fault.TextKind.TheVariants.{CutShort, AfterEnd, Memory}
 use Rattle.certificate_lines.specs.declared.fault.TextFault.{TextFault}
-use Rattle.certificate_languages.specs.declared.language.Language.{Language}
+use Rattle.certificate_data.specs.declared.language.Language.{Language}
 use Rattle.certificate_lines.specs.declared.item.Item.{Item}
 use Rattle.certificate_lines.specs.declared.item.Wanted.{Wanted}
 use Rattle.certificate_lines.specs.declared.item.Wanted.TheVariants as want
 
 -- the items to come, and the fault behind them, if there is one
-pub record Course : Type 0 where
+pub record Unread : Type 0 where
   pub items : List Item
   pub fault : Option TextFault
 
 -- nothing is to come; nothing but a fault; an item first
-abbrev pub nothing : Course
+abbrev pub nothing : Unread
 nothing = record { items = []; fault = None }
 
-abbrev pub only_fault : TextFault → Course
+abbrev pub only_fault : TextFault → Unread
 only_fault fault = record { items = []; fault = Some fault }
 
-abbrev pub first : Item → Course → Course
+abbrev pub first : Item → Unread → Unread
 first item later = record { items = item ∷ later.items; fault = later.fault }
 
 -- the items on lines, the first of which has the number n, where these things are wanted in turn, up to the first fault
-abbrev pub course_from : List Wanted → ℕ → List RawLine → Course
+abbrev pub course_from : List Wanted → ℕ → List RawLine → Unread
 course_from [] n [] = nothing
-course_from [] n (piece ∷ pieces) = only_fault (fault_at AfterEnd n)
-course_from (wanted ∷ more) n [] = only_fault (fault_at CutShort n)
-course_from (wanted ∷ more) n (piece ∷ pieces) = elim (item_on wanted piece) as (λ _. Course) [
+course_from [] n (piece ∷ pieces) = only_fault (text_fault_at AfterEnd n)
+course_from (wanted ∷ more) n [] = only_fault (text_fault_at CutShort n)
+course_from (wanted ∷ more) n (piece ∷ pieces) = elim (item_on wanted piece) as (λ _. Unread) [
   | Ok item ↦ first item (course_from (wanted_after wanted item ++ more) (n + 1) pieces)
-  | Err kind ↦ only_fault (fault_at kind n)
+  | Err kind ↦ only_fault (text_fault_at kind n)
 ]
 
 -- of a whole text: of a certificate, or of a tree
-abbrev pub certificate_course : List ℕ → Course
+abbrev pub certificate_course : List ℕ → Unread
 certificate_course text = course_from (want.Head ∷ []) 1 (raw_lines text)
 
-abbrev pub tree_course : Language → ℕ → List ℕ → Course
+abbrev pub tree_course : Language → ℕ → List ℕ → Unread
 tree_course language counties text = course_from (want.Tree language counties ∷ []) 1 (raw_lines text)
 
 -- the items, where no fault ends them
@@ -51,26 +51,28 @@ whole items (Some fault) = Err fault
 
 -- What is to come after what was read: a fault, once it was found, else what the rest has where the things on a stack
 -- are wanted, whose top is its last.
-abbrev pub course_left : List Wanted → Rest → Option TextFault → Course
+abbrev pub course_left : List Wanted → Rest → Option TextFault → Unread
 course_left stack rest None = course_from (reverse stack) rest.number (lines_of rest)
 course_left stack rest (Some fault) = only_fault fault
 
 -- The first of what is to come is given, and what is to come then. A text that could not be read has its fault in the
 -- place of any answer; a fault, once given, stays.
-abbrev pub IsNextItem : Course → Result (Option Item) TextFault → Course → Type 0
+abbrev pub IsNextItem : Unread → Result (Option Item) TextFault → Unread → Type 0
 IsNextItem old (Ok (Some item)) new = old ≡ first item new
 IsNextItem old (Ok None) new = (old ≡ nothing) × (new ≡ nothing)
 IsNextItem old (Err fault) new = ((IsUnread fault → ⊥) → old ≡ only_fault fault) × (new ≡ only_fault fault)
 
 -- The first of what is to come is given, and what is to come then, by a call that doesn't keep the fault.
-abbrev pub IsNextLine : Course → Result (Option Item) TextFault → Course → Type 0
-IsNextLine old (Ok (Some item)) new = old ≡ first item new
-IsNextLine old (Ok None) new = (old ≡ nothing) × (new ≡ nothing)
-IsNextLine old (Err fault) new = (IsUnread fault → ⊥) → old ≡ only_fault fault
+abbrev pub IsNextItemRead : Unread → Result (Option Item) TextFault → Unread → Type 0
+IsNextItemRead old (Ok (Some item)) new = old ≡ first item new
+IsNextItemRead old (Ok None) new = (old ≡ nothing) × (new ≡ nothing)
+IsNextItemRead old (Err fault) new = (IsUnread fault → ⊥) → old ≡ only_fault fault
 
 -- these bytes, and whether an LF ended them, are a line with this item where it is wanted, unless memory was refused
 abbrev pub HasItem : Wanted → List ℕ → Bool → Result Item TextKind → Type 0
-HasItem wanted bytes ended given = (n : ℕ) → GivesUnless (λ kind. kind ≡ Memory) (λ item. item) given (item_on wanted (record { number = n; bytes = bytes; ended = ended }))
+HasItem wanted bytes ended given =
+    (n : ℕ) → GivesUnless (λ kind. kind
+    ≡ Memory) (λ item. item) given (item_on wanted (record { number = n; bytes = bytes; ended = ended }))
 
 -- What is wanted after an item lies on the stack, whose top is its last, in the place of what was wanted. A fault
 -- leaves the stack as it is.

@@ -6,12 +6,13 @@ use Rattle.county_codes.specs.Windows.{is_window}
 use Rattle.certificate_lines.specs.Lines.{most, ascend}
 use Rattle.certificate_lines.specs.Items.{wanted_after}
 use Rattle.certificate_lines.specs.Spelling.{item_words}
-use Rattle.certificate_languages.specs.declared.language.Language.TheVariants.{Plain, Wide}
-use Rattle.certificate_lines.specs.declared.weights.Weight.{Weight}
-use Rattle.certificate_lines.specs.declared.item.Allowance.TheVariants.{Room, Weigh}
+use Rattle.certificate_data.specs.declared.language.Language.TheVariants.{Plain, Wide}
+use Rattle.certificate_data.specs.declared.weights.Weight.{Weight}
+use Rattle.certificate_data.specs.declared.allowance.Allowance.TheVariants.{Room, Weigh}
 use Rattle.certificate_lines.specs.declared.item.Opening.TheVariants.{Branch, Stuck, Seats, Bound}
 use Rattle.certificate_lines.specs.declared.item.Item.{Item}
-use Rattle.certificate_lines.specs.declared.item.Item.TheVariants.{Head, Within, Order, Limit, Target, Grouped, Opens, Takes, Mark, Allows, End}
+use Rattle.certificate_lines.specs.declared.item.Item.TheVariants.{Head, Within, Order, Limit, Target, Grouped, Opens}
+use Rattle.certificate_lines.specs.declared.item.Item.TheVariants.{Takes, Mark, Allows, End}
 use Rattle.certificate_lines.specs.declared.item.Wanted.{Wanted}
 use Rattle.certificate_lines.specs.declared.item.Wanted.TheVariants as want
 
@@ -38,29 +39,30 @@ pub record AreWeights (quota : ℕ) (weights : List Weight) : Type 0 where
   pub short : length (join_with_byte 32 (item_words (Allows (Weigh quota weights)))) ≤ most_bytes
 
 -- the item may stand where this is wanted, and its numbers are in their ranges
-abbrev pub Fits : Wanted → Item → Type 0
-Fits want.Head (Head language version) = Unit {0}
-Fits (want.Window language) (Within window) = is_window window ≡ true
-Fits (want.Order language) (Order county_codes) = (length county_codes ≤ most) × AreCodes county_codes
-Fits want.Limit (Limit limit) = limit ≤ most
-Fits want.Target (Target None) = Unit {0}
-Fits want.Target (Target (Some groups)) = groups ≤ most
-Fits (want.Groups left) (Grouped group) = (group.seats ≤ 65535) × IsSet group.codes
-Fits (want.Tree Plain levels) (Opens (Branch county None)) = (county ≤ 99999) × (0 < levels)
-Fits (want.Tree Wide levels) (Opens (Branch county (Some limit))) = (county ≤ 99999) × (1 ≤ limit) × (limit ≤ most) × (0 < levels)
-Fits (want.Tree language levels) (Opens (Stuck county)) = county ≤ 99999
-Fits (want.Tree language levels) (Opens Seats) = Unit {0}
-Fits (want.Tree language levels) (Opens (Bound lines)) = lines ≤ most
-Fits (want.Takes language levels) (Takes county_codes) = IsSet county_codes
-Fits (want.Takes language levels) Mark = Unit {0}
-Fits (want.Allowances left) (Allows Room) = Unit {0}
-Fits (want.Allowances left) (Allows (Weigh quota weights)) = AreWeights quota weights
-Fits want.End End = Unit {0}
-Fits wanted item = ⊥
+abbrev pub IsWanted : Wanted → Item → Type 0
+IsWanted want.Head (Head language version) = Unit {0}
+IsWanted (want.Window language) (Within window) = is_window window ≡ true
+IsWanted (want.Order language) (Order county_codes) = (length county_codes ≤ most) × AreCodes county_codes
+IsWanted want.Limit (Limit limit) = limit ≤ most
+IsWanted want.Target (Target None) = Unit {0}
+IsWanted want.Target (Target (Some groups)) = groups ≤ most
+IsWanted (want.Groups left) (Grouped group) = (group.seats ≤ 65535) × IsSet group.codes
+IsWanted (want.Tree Plain levels) (Opens (Branch county None)) = (county ≤ 99999) × (0 < levels)
+IsWanted (want.Tree Wide levels) (Opens (Branch county (Some limit))) =
+    (county ≤ 99999) × (1 ≤ limit) × (limit ≤ most) × (0 < levels)
+IsWanted (want.Tree language levels) (Opens (Stuck county)) = county ≤ 99999
+IsWanted (want.Tree language levels) (Opens Seats) = Unit {0}
+IsWanted (want.Tree language levels) (Opens (Bound lines)) = lines ≤ most
+IsWanted (want.Takes language levels) (Takes county_codes) = IsSet county_codes
+IsWanted (want.Takes language levels) Mark = Unit {0}
+IsWanted (want.Allowances left) (Allows Room) = Unit {0}
+IsWanted (want.Allowances left) (Allows (Weigh quota weights)) = AreWeights quota weights
+IsWanted want.End End = Unit {0}
+IsWanted wanted item = ⊥
 
 -- items that stand one after the other, each where it is wanted
 abbrev pub AllFit : List Wanted → List Item → Type 0
 AllFit [] [] = Unit {0}
 AllFit [] (item ∷ items) = ⊥
 AllFit (wanted ∷ more) [] = ⊥
-AllFit (wanted ∷ more) (item ∷ items) = Fits wanted item × AllFit (wanted_after wanted item ++ more) items
+AllFit (wanted ∷ more) (item ∷ items) = IsWanted wanted item × AllFit (wanted_after wanted item ++ more) items

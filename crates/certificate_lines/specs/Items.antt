@@ -1,20 +1,22 @@
 -- The items of a text: what its lines say, one after the other, or its first fault.
-use Rattle.std.specs.Prelude.{ℕ, Bool, ◌+◌, ◌-◌, nat_lt, List, [], ◌∷◌, ◌++◌, length, Option, Some, None, Result, Ok, Err, if◌then◌else◌}
+use Rattle.std.specs.Prelude.{ℕ, Bool, ◌+◌, ◌-◌, nat_lt, List, [], ◌∷◌, ◌++◌, length, Option, Some, None, Result, Ok}
+use Rattle.std.specs.Prelude.{Err, if◌then◌else◌}
 use Rattle.field_lines.specs.Chain.{◌>>=◌}
 use Rattle.field_lines.specs.Raw.{RawLine, raw_lines}
-use Rattle.certificate_languages.specs.Levels.{after_raise}
+use Rattle.certificate_data.specs.Levels.{after_raise}
 use Rattle.certificate_lines.specs.Words.{line_bytes, line_words}
 use Rattle.certificate_lines.specs.Lines as line
-use Rattle.certificate_lines.specs.Rest.{fault_at}
+use Rattle.certificate_lines.specs.Rest.{text_fault_at}
 use Rattle.certificate_lines.specs.declared.fault.TextKind.{TextKind}
 use Rattle.certificate_lines.specs.declared.fault.TextKind.TheVariants.{CutShort, AfterEnd}
 use Rattle.certificate_lines.specs.declared.fault.TextFault.{TextFault}
-use Rattle.certificate_languages.specs.declared.language.Language.{Language}
+use Rattle.certificate_data.specs.declared.language.Language.{Language}
 use Rattle.certificate_lines.specs.declared.item.Version.{Version}
 use Rattle.certificate_lines.specs.declared.item.Version.TheVariants.{One, Two}
 use Rattle.certificate_lines.specs.declared.item.Opening.TheVariants as opening
 use Rattle.certificate_lines.specs.declared.item.Item.{Item}
-use Rattle.certificate_lines.specs.declared.item.Item.TheVariants.{Head, Within, Order, Limit, Target, Grouped, Opens, Takes, Mark, Allows, End}
+use Rattle.certificate_lines.specs.declared.item.Item.TheVariants.{Head, Within, Order, Limit, Target, Grouped, Opens}
+use Rattle.certificate_lines.specs.declared.item.Item.TheVariants.{Takes, Mark, Allows, End}
 use Rattle.certificate_lines.specs.declared.item.Wanted.{Wanted}
 use Rattle.certificate_lines.specs.declared.item.Wanted.TheVariants as want
 
@@ -69,29 +71,31 @@ abbrev pub wanted_after : Wanted → Item → List Wanted
 wanted_after want.Head (Head language One) = want.Order language ∷ []
 wanted_after want.Head (Head language Two) = want.Window language ∷ []
 wanted_after (want.Window language) (Within window) = want.Order language ∷ []
-wanted_after (want.Order language) (Order county_codes) = want.Limit ∷ want.Target ∷ want.Tree language (length county_codes) ∷ want.End ∷ []
+wanted_after (want.Order language) (Order county_codes) =
+    want.Limit ∷ want.Target ∷ want.Tree language (length county_codes) ∷ want.End ∷ []
 wanted_after want.Target (Target (Some groups)) = groups_wanted groups
 wanted_after (want.Groups left) item = groups_wanted (left - 1)
 wanted_after (want.Tree language levels) (Opens (opening.Branch county limit)) = want.Takes language levels ∷ []
 wanted_after (want.Tree language levels) (Opens (opening.Bound lines)) = allowances_wanted lines
-wanted_after (want.Takes language levels) (Takes county_codes) = want.Tree language (levels - 1) ∷ want.Takes language levels ∷ []
+wanted_after (want.Takes language levels) (Takes county_codes) =
+    want.Tree language (levels - 1) ∷ want.Takes language levels ∷ []
 wanted_after (want.Takes language levels) Mark = want.Tree language (after_raise language levels) ∷ []
 wanted_after (want.Allowances left) item = allowances_wanted (left - 1)
 wanted_after wanted item = []
 
 -- an item in front of others
-abbrev pub in_front : List Item → Result (List Item) TextFault → Result (List Item) TextFault
-in_front items (Ok later) = Ok (items ++ later)
-in_front items (Err fault) = Err fault
+abbrev pub items_in_front : List Item → Result (List Item) TextFault → Result (List Item) TextFault
+items_in_front items (Ok later) = Ok (items ++ later)
+items_in_front items (Err fault) = Err fault
 
 -- the items on lines, the first of which has the number n, where these things are wanted in turn; or the first fault
 abbrev pub items_from : List Wanted → ℕ → List RawLine → Result (List Item) TextFault
 items_from [] n [] = Ok []
-items_from [] n (piece ∷ pieces) = Err (fault_at AfterEnd n)
-items_from (wanted ∷ more) n [] = Err (fault_at CutShort n)
+items_from [] n (piece ∷ pieces) = Err (text_fault_at AfterEnd n)
+items_from (wanted ∷ more) n [] = Err (text_fault_at CutShort n)
 items_from (wanted ∷ more) n (piece ∷ pieces) = elim (item_on wanted piece) as (λ _. Result (List Item) TextFault) [
-  | Ok item ↦ in_front (item ∷ []) (items_from (wanted_after wanted item ++ more) (n + 1) pieces)
-  | Err kind ↦ Err (fault_at kind n)
+  | Ok item ↦ items_in_front (item ∷ []) (items_from (wanted_after wanted item ++ more) (n + 1) pieces)
+  | Err kind ↦ Err (text_fault_at kind n)
 ]
 
 -- the items of a whole text: of a certificate, or of a tree

@@ -1,12 +1,13 @@
 -- The items of a text that may yet come from a source.
-use Rattle.std.specs.Prelude.{◌≡◌, ℕ, Bool, true, List, [], ◌∷◌, ◌++◌, length, drop, reverse, Option, Some, None, Result, Ok, Err}
+use Rattle.std.specs.Prelude.{◌≡◌, ℕ, Bool, true, List, [], ◌∷◌, ◌++◌, length, drop, reverse, Option, Some, None}
+use Rattle.std.specs.Prelude.{Result, Ok, Err}
 use Rattle.field_lines.specs.Raw.{raw_lines_from}
 use Rattle.field_lines.specs.Held.{MayCome}
-use Rattle.field_lines.specs.LinesFrom.{Held, nothing_read}
+use Rattle.field_lines.specs.LinesFrom.{LinesHeld, nothing_read}
 use Rattle.field_lines.specs.declared.fault.LineFault.{LineFault}
 use Rattle.field_lines.specs.declared.fault.LineFault.TheVariants as line
-use Rattle.certificate_lines.specs.Rest.{fault_at, IsUnread}
-use Rattle.certificate_lines.specs.Courses.{Course, nothing, only_fault, first, course_from, IsNextItem, IsNextLine}
+use Rattle.certificate_lines.specs.Rest.{text_fault_at, IsUnread}
+use Rattle.certificate_lines.specs.Courses.{Unread, nothing, only_fault, first, course_from, IsNextItem, IsNextItemRead}
 use Rattle.certificate_lines.specs.declared.fault.TextKind.{TextKind}
 use Rattle.certificate_lines.specs.declared.fault.TextKind.TheVariants.{ReadFault, Memory}
 use Rattle.certificate_lines.specs.declared.fault.TextFault.{TextFault}
@@ -16,23 +17,28 @@ use Rattle.certificate_lines.specs.declared.item.Wanted.TheVariants as want
 
 -- what is to come, by the bytes that come later; and whether the source has ended, so that none comes
 pub record ItemsLeft : Type 0 where
-  pub course : List ℕ → Course
+  pub course : List ℕ → Unread
   pub ended : Bool
 
 -- of a text in memory: no byte comes later
-abbrev pub in_memory : Course → ItemsLeft
+abbrev pub in_memory : Unread → ItemsLeft
 in_memory course = record { course = λ later. course; ended = true }
 
 -- of a text that is read, where these things are wanted in turn, the first on a line of this number
-abbrev pub left_at : List Wanted → ℕ → Held → ItemsLeft
-left_at wanted number held = record { course = λ later. course_from wanted number (raw_lines_from held.number (held.bytes ++ later)); ended = held.ended }
+abbrev pub left_at : List Wanted → ℕ → LinesHeld → ItemsLeft
+left_at wanted number held =
+    record {
+      course = λ later. course_from wanted number (raw_lines_from held.number (held.bytes
+          ++ later));
+      ended = held.ended;
+    }
 
 -- what a reader of items has: what is wanted, on a stack, whose top is its last; the number of the next line; what its
 -- reader of lines has; and the fault that was answered
 pub record ItemsHeld : Type 0 where
   pub wanted : List Wanted
   pub number : ℕ
-  pub held : Held
+  pub held : LinesHeld
   pub fault : Option TextFault
 
 -- of a certificate, of which nothing was read
@@ -54,35 +60,39 @@ pub record Foresees (ended : Bool) (given all : List ℕ) : Type 0 where
   pub may : MayCome ended later
 
 -- what is to come where the source gave these bytes so far, and gives this text in the end
-abbrev pub course_by : ItemsLeft → List ℕ → List ℕ → Course
+abbrev pub course_by : ItemsLeft → List ℕ → List ℕ → Unread
 course_by left given all = left.course (drop (length given) all)
 
 -- Whatever text the source may give in the end: it might before, and of what was to come and what is to come this
 -- holds.
-abbrev pub Through : ItemsLeft → List ℕ → ItemsLeft → List ℕ → (Course → Course → Type 0) → Type 0
-Through old before new after Holds = (all : List ℕ) → Foresees new.ended after all → Foresees old.ended before all × Holds (course_by old before all) (course_by new after all)
+abbrev pub Through : ItemsLeft → List ℕ → ItemsLeft → List ℕ → (Unread → Unread → Type 0) → Type 0
+Through old before new after Holds =
+    (all : List ℕ) → Foresees new.ended after all
+    → Foresees old.ended before all × Holds (course_by old before all) (course_by new after all)
 
 -- what a call of a source of items answers
-abbrev pub IsNextOf : ItemsLeft → List ℕ → Result (Option Item) TextFault → ItemsLeft → List ℕ → Type 0
-IsNextOf old before answer new after = Through old before new after (λ a b. IsNextItem a answer b)
+abbrev pub IsNextItemOf : ItemsLeft → List ℕ → Result (Option Item) TextFault → ItemsLeft → List ℕ → Type 0
+IsNextItemOf old before answer new after = Through old before new after (λ a b. IsNextItem a answer b)
 
 -- what a call of a source of items answers that doesn't keep the fault
 abbrev pub ReadsNext : ItemsLeft → List ℕ → Result (Option Item) TextFault → ItemsLeft → List ℕ → Type 0
-ReadsNext old before answer new after = Through old before new after (λ a b. IsNextLine a answer b)
+ReadsNext old before answer new after = Through old before new after (λ a b. IsNextItemRead a answer b)
 
 -- the next item is read
 abbrev pub ReadsItem : ItemsLeft → List ℕ → Result Item TextFault → ItemsLeft → List ℕ → Type 0
 ReadsItem old before (Ok item) new after = Through old before new after (λ a b. a ≡ first item b)
-ReadsItem old before (Err fault) new after = Through old before new after (λ a b. (IsUnread fault → ⊥) → a ≡ only_fault fault)
+ReadsItem old before (Err fault) new after =
+    Through old before new after (λ a b. (IsUnread fault → ⊥) → a ≡ only_fault fault)
 
 -- the end is read
 abbrev pub ReadsEnd : ItemsLeft → List ℕ → Result (Unit {0}) TextFault → ItemsLeft → List ℕ → Type 0
 ReadsEnd old before (Ok done) new after = Through old before new after (λ a b. (a ≡ nothing) × (b ≡ nothing))
-ReadsEnd old before (Err fault) new after = Through old before new after (λ a b. (IsUnread fault → ⊥) → a ≡ only_fault fault)
+ReadsEnd old before (Err fault) new after =
+    Through old before new after (λ a b. (IsUnread fault → ⊥) → a ≡ only_fault fault)
 
 -- the fault of a reader of lines, at this line, where a line that is too long is a fault of this kind
 abbrev pub fault_of_reader : LineFault → TextKind → ℕ → TextFault
-fault_of_reader (line.LineTooLong found) long number = fault_at long number
-fault_of_reader (line.ReadFault found) long number = fault_at ReadFault number
-fault_of_reader line.TooManyLines long number = fault_at Memory number
-fault_of_reader line.Memory long number = fault_at Memory number
+fault_of_reader (line.LineTooLong found) long number = text_fault_at long number
+fault_of_reader (line.ReadFault found) long number = text_fault_at ReadFault number
+fault_of_reader line.TooManyLines long number = text_fault_at Memory number
+fault_of_reader line.Memory long number = text_fault_at Memory number

@@ -1,6 +1,7 @@
 -- What each line says, by the words on it. The first word names the form, the number of words is tested next, and then
 -- the words are read from the left.
-use Rattle.std.specs.Prelude.{ℕ, ◌+◌, ◌*◌, ◌<◌, ◌&&◌, nat_eq, nat_lt, nat_le, Bool, true, false, List, [], ◌∷◌, length, drop, codes, Option, Some, None, Result, Ok, Err, if◌then◌else◌}
+use Rattle.std.specs.Prelude.{ℕ, ◌+◌, ◌*◌, ◌<◌, ◌&&◌, nat_eq, nat_lt, nat_le, Bool, true, false, List, [], ◌∷◌, length}
+use Rattle.std.specs.Prelude.{drop, codes, Option, Some, None, Result, Ok, Err, if◌then◌else◌}
 use Rattle.std.specs.Cmp.Lexicographic.{pointwise}
 use Rattle.field_lines.specs.Chain.{◌>>=◌}
 use Rattle.county_codes.specs.Limits.{most_counties}
@@ -8,14 +9,15 @@ use Rattle.county_codes.specs.declared.group.Group.{Group}
 use Rattle.county_codes.specs.declared.window.Window.{Window}
 use Rattle.certificate_lines.specs.Words.{number, code, pair}
 use Rattle.certificate_lines.specs.declared.fault.TextKind.{TextKind}
-use Rattle.certificate_lines.specs.declared.fault.TextKind.TheVariants.{BadHead, BadWord, BadNumber, NotCanonical, TooDeep}
-use Rattle.certificate_languages.specs.declared.language.Language.{Language}
-use Rattle.certificate_languages.specs.declared.language.Language.TheVariants.{Plain, Wide}
-use Rattle.certificate_lines.specs.declared.weights.Weight.{Weight}
+use Rattle.certificate_lines.specs.declared.fault.TextKind.TheVariants.{BadHead, BadWord, BadNumber, NotCanonical}
+use Rattle.certificate_lines.specs.declared.fault.TextKind.TheVariants.{TooDeep}
+use Rattle.certificate_data.specs.declared.language.Language.{Language}
+use Rattle.certificate_data.specs.declared.language.Language.TheVariants.{Plain, Wide}
+use Rattle.certificate_data.specs.declared.weights.Weight.{Weight}
 use Rattle.certificate_lines.specs.declared.item.Version.{Version}
 use Rattle.certificate_lines.specs.declared.item.Version.TheVariants.{One, Two}
-use Rattle.certificate_lines.specs.declared.item.Allowance.{Allowance}
-use Rattle.certificate_lines.specs.declared.item.Allowance.TheVariants.{Room, Weigh}
+use Rattle.certificate_data.specs.declared.allowance.Allowance.{Allowance}
+use Rattle.certificate_data.specs.declared.allowance.Allowance.TheVariants.{Room, Weigh}
 use Rattle.certificate_lines.specs.declared.item.Opening.{Opening}
 use Rattle.certificate_lines.specs.declared.item.Opening.TheVariants.{Branch, Stuck, Seats, Bound}
 
@@ -34,7 +36,8 @@ named name words = if begins name words then Ok (drop 1 words) else Err BadWord
 
 -- the words, where there are from the least to the most
 abbrev pub counted : ℕ → ℕ → List (List ℕ) → Result (List (List ℕ)) TextKind
-counted least greatest words = if nat_le least (length words) && nat_le (length words) greatest then Ok words else Err BadWord
+counted least greatest words =
+    if nat_le least (length words) && nat_le (length words) greatest then Ok words else Err BadWord
 
 -- the number of the first word, and the words after it
 abbrev pub number_at : ℕ → ℕ → List (List ℕ) → Result (ℕ × List (List ℕ)) TextKind
@@ -44,9 +47,9 @@ number_at least greatest (word ∷ words) = do
   Ok (n, words)
 
 -- the code of the first word, and the words after it
-abbrev pub code_at : List (List ℕ) → Result (ℕ × List (List ℕ)) TextKind
-code_at [] = Err BadWord
-code_at (word ∷ words) = do
+abbrev pub code_word_at : List (List ℕ) → Result (ℕ × List (List ℕ)) TextKind
+code_word_at [] = Err BadWord
+code_word_at (word ∷ words) = do
   c ← code word
   Ok (c, words)
 
@@ -113,18 +116,18 @@ group_on line = do
 unfoldable pub branch_on : Language → ℕ → List (List ℕ) → Result Opening TextKind
 branch_on Plain levels words = do
   words ← counted 1 1 words
-  county ← code_at words
+  county ← code_word_at words
   if nat_lt 0 levels then Ok (Branch county.0 None) else Err TooDeep
 branch_on Wide levels words = do
   words ← counted 2 2 words
-  county ← code_at words
+  county ← code_word_at words
   limit ← number_at 1 most county.1
   if nat_lt 0 levels then Ok (Branch county.0 (Some limit.0)) else Err TooDeep
 
 unfoldable pub stuck_on : List (List ℕ) → Result Opening TextKind
 stuck_on words = do
   words ← counted 1 1 words
-  county ← code_at words
+  county ← code_word_at words
   Ok (Stuck county.0)
 
 unfoldable pub bound_on : List (List ℕ) → Result Opening TextKind

@@ -1,6 +1,6 @@
 -- What a call writes at the end of a text.
 use Rattle.std.specs.Prelude.{◌≡◌, ℕ, List, ◌++◌, Result, Ok, Err}
-use Rattle.certificate_lines.specs.Spelling.{item_line, text_of}
+use Rattle.certificate_lines.specs.Spelling.{item_line, text_of_items}
 use Rattle.certificate_lines.specs.Fits.{AllFit}
 use Rattle.certificate_lines.specs.declared.fault.WriteFault.{WriteFault}
 use Rattle.certificate_lines.specs.declared.fault.WriteFault.TheVariants.{NoSpelling}
@@ -20,9 +20,11 @@ WritesLine IsFit item old (Err fault) new = fault ≡ NoSpelling → IsFit → �
 -- The lines of items were written, where some things are wanted. They fit there together with what follows exactly
 -- where what follows fits where the things left are wanted.
 pub record Wrote (wanted : List Wanted) (items : List Item) (left : List Wanted) (old new : List ℕ) : Type 0 where
-  pub text : new ≡ old ++ text_of items
-  pub fits : (more : List Wanted) (later : List Item) → AllFit (left ++ more) later → AllFit (wanted ++ more) (items ++ later)
-  pub rest : (more : List Wanted) (later : List Item) → AllFit (wanted ++ more) (items ++ later) → AllFit (left ++ more) later
+  pub text : new ≡ old ++ text_of_items items
+  pub fits : (more : List Wanted) (later : List Item) → AllFit (left ++ more) later
+      → AllFit (wanted ++ more) (items ++ later)
+  pub rest : (more : List Wanted) (later : List Item) → AllFit (wanted ++ more) (items ++ later)
+      → AllFit (left ++ more) later
 
 -- the items don't fit, whatever follows them
 abbrev pub DontFit : List Wanted → List Item → Type 0

@@ -3,18 +3,18 @@
 ghost use Rattle.std.specs.Prelude.{◌≡◌, [], ◌∷◌, ◌++◌, IfOk, IfErr, OnOk};
 ghost use Rattle.certificate_lines.specs.Words.{line_words};
 ghost use Rattle.certificate_lines.specs.Lines as line;
-ghost use Rattle.certificate_lines.specs.Rest.{IsMemory, ReadsLine, TakesPiece};
+ghost use Rattle.certificate_lines.specs.Rest.{IsTextMemory, ReadsLine, TakesTextPiece};
 ghost use Rattle.certificate_lines.specs.Reads.{EndsUnless};
 ghost use Rattle.certificate_lines.specs.Items.{by_words, head_in};
 
 use crate::fault::{TextFault, TextKind};
-use crate::item::{Allowance, Opening, Version};
+use crate::item::{Opening, Version};
 use crate::lines::{
     allowance_on, end_on, group_on, head_on, limit_on, opening_on, order_on, take_on, target_on,
     window_on,
 };
 use crate::words::{Words, bytes_of_line};
-use certificate_languages::Language;
+use certificate_data::{Allowance, Language};
 use county_codes::{Codes, Group, Window};
 use field_lines::split_piece;
 use std::alloc::Global;
@@ -27,7 +27,7 @@ use std::marker::Model;
 /// `Memory`.
 pub fn push_on<T: Drop>(items: &mut Vec<T>, item: T, line: u64) -> Result<(), TextFault>
     ensures pushed { OnOk result (items.new.items ≡ items.old.items ++ item ∷ []) }
-    ensures refused { IfErr result (λ f. IsMemory f) }
+    ensures refused { IfErr result (λ f. IsTextMemory f) }
 {
     match items.push(item) {
         Ok(()) => Ok(()),
@@ -94,7 +94,7 @@ impl<'a> Cursor<'a> {
 
     /// Takes the bytes of the next line; whether an LF ended it is the second answer.
     pub(crate) fn next_piece(&mut self) -> Option<(&'a [u8], bool)>
-        ensures { TakesPiece self.old result self.new }
+        ensures { TakesTextPiece self.old result self.new }
     {
         let (bytes, ended, rest) = split_piece(self.text)?;
         self.text = rest;

@@ -3,17 +3,15 @@
 ghost use Rattle.std.specs.Prelude.{◌≡◌, ◌≤◌, ◌↔◌, ◌&&◌, ◌∷◌, ◌++◌, nat_le, length, IsTrue, codes, decimal};
 ghost use Rattle.std.specs.List.{list_all, flat_map};
 ghost use Rattle.field_lines.specs.Fault.{most_bytes};
-ghost use Rattle.certificate_lines.specs.Fits.{Fits, IsSet, AreCodes, AreWeights};
+ghost use Rattle.certificate_lines.specs.Fits.{IsWanted, IsSet, AreCodes, AreWeights};
 ghost use Rattle.certificate_lines.specs.Lines.{most, ascend};
 ghost use Rattle.certificate_lines.specs.Spelling.{weight_word};
 ghost use Rattle.certificate_lines.specs.declared.item.Item.TheVariants as item;
 ghost use Rattle.certificate_lines.specs.declared.item.Opening.TheVariants as opening;
 ghost use Rattle.certificate_lines.specs.declared.item.Wanted.TheVariants as want;
 
-use crate::item::Allowance;
 use crate::lines::{MOST, ascend};
-use crate::weights::Weight;
-use certificate_languages::Language;
+use certificate_data::{Allowance, Language, Weight};
 use county_codes::{CountyCode, Group};
 use field_lines::{MAX_LINE, decimal_length};
 
@@ -47,7 +45,8 @@ fn has_few_codes(codes: &[CountyCode]) -> bool
 
 /// Whether the codes are one at least, and no more than a group may have.
 fn has_some_codes(codes: &[CountyCode]) -> bool
-    ensures { result ≡ (nat_le 1 (length codes.now) && (nat_le (length codes.now) most && list_all (λ c. nat_le c 99999) codes.now)) }
+    ensures { result ≡ (nat_le 1 (length codes.now)
+        && (nat_le (length codes.now) most && list_all (λ c. nat_le c 99999) codes.now)) }
 {
     !codes.is_empty() && has_few_codes(codes)
 }
@@ -85,7 +84,7 @@ pub fn group_fits(group: &Group) -> bool
 
 /// Whether a line spells a branch, where it may open so many levels.
 pub fn branch_fits(language: Language, levels: u16, county: CountyCode, limit: Option<u16>) -> bool
-    ensures { IsTrue result ↔ Fits (want.Tree language levels) (item.Opens (opening.Branch county limit)) }
+    ensures { IsTrue result ↔ IsWanted (want.Tree language levels) (item.Opens (opening.Branch county limit)) }
 {
     if levels == 0 || !is_code(county) {
         return false;
@@ -106,21 +105,26 @@ fn is_weight(weight: Weight) -> bool
 
 /// Whether each weight is such.
 fn are_weights(weights: &[Weight]) -> bool
-    ensures { result ≡ list_all (λ w. nat_le w.county 99999 && (nat_le 1 w.weight && nat_le w.weight 1000000)) weights.now }
+    ensures { result ≡ list_all (λ w. nat_le w.county 99999
+        && (nat_le 1 w.weight && nat_le w.weight 1000000)) weights.now }
 {
     weights.iter().all(|weight| is_weight(*weight))
 }
 
 /// Whether the quota and the weights are in their ranges, and the codes ascend.
 fn have_ranges(quota: u32, weights: &[Weight]) -> bool
-    ensures { result ≡ (nat_le 1 quota && (nat_le quota 256000000 && (list_all (λ w. nat_le w.county 99999 && (nat_le 1 w.weight && nat_le w.weight 1000000)) weights.now && ascend weights.now))) }
+    ensures { result ≡ (nat_le 1 quota
+        && (nat_le quota 256000000
+        && (list_all (λ w. nat_le w.county 99999 && (nat_le 1 w.weight && nat_le w.weight 1000000)) weights.now
+        && ascend weights.now))) }
 {
     1 <= quota && quota <= 256_000_000 && are_weights(weights) && ascend(weights)
 }
 
 /// Whether the line of weights is no longer than a line may be.
 fn is_short(quota: u32, weights: &[Weight]) -> bool
-    ensures { result ≡ nat_le (length (codes "weigh " ++ (decimal quota ++ flat_map (λ w. 32 ∷ weight_word w) weights.now))) most_bytes }
+    ensures { result ≡ nat_le (length (codes "weigh "
+        ++ (decimal quota ++ flat_map (λ w. 32 ∷ weight_word w) weights.now))) most_bytes }
 {
     let mut length = 6 + decimal_length(u64::from(quota));
     for weight in weights {
@@ -144,7 +148,7 @@ fn weigh_fits(quota: u32, weights: &[Weight]) -> bool
 
 /// Whether a line spells a line of a bound leaf.
 pub fn allowance_fits(allowance: &Allowance) -> bool
-    ensures { IsTrue result ↔ Fits (want.Allowances 1) (item.Allows allowance.now) }
+    ensures { IsTrue result ↔ IsWanted (want.Allowances 1) (item.Allows allowance.now) }
 {
     match allowance {
         Allowance::Room => true,

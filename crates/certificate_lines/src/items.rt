@@ -4,15 +4,16 @@ ghost use Rattle.std.specs.Prelude.{◌≡◌, ℕ, ◌≤◌, List, [], ◌∷�
 ghost use Rattle.field_lines.specs.Raw.{raw_lines};
 ghost use Rattle.certificate_lines.specs.Lines.{most};
 ghost use Rattle.certificate_lines.specs.Stacks.{HasRoom, IsBounded};
-ghost use Rattle.certificate_lines.specs.Courses.{certificate_course, tree_course, course_from, course_left, IsNextLine};
-ghost use Rattle.certificate_lines.specs.ItemsLeft.{ItemsLeft, in_memory, IsNextOf};
+ghost use Rattle.certificate_lines.specs.Courses.{certificate_course, tree_course, course_from, course_left};
+ghost use Rattle.certificate_lines.specs.Courses.{IsNextItemRead};
+ghost use Rattle.certificate_lines.specs.ItemsLeft.{ItemsLeft, in_memory, IsNextItemOf};
 ghost use Rattle.certificate_lines.specs.declared.item.Wanted.TheVariants as want;
 
 use crate::cursor::{Cursor, ended};
 use crate::fault::{TextFault, TextKind};
 use crate::item::{Item, Wanted};
 use crate::line_items::{Stack, item_at};
-use certificate_languages::Language;
+use certificate_data::Language;
 use std::alloc::Global;
 use std::marker::Model;
 
@@ -30,13 +31,13 @@ pub trait ItemSource<F> {
     ///
     /// The first fault, or `Memory` or `ReadFault` in the place of any answer. Each later call answers the same fault.
     fn next_item(&mut self, from: &mut F) -> Result<Option<Item>, TextFault>
-        ensures { IsNextOf (left self.old) (given from.old) result (left self.new) (given from.new) };
+        ensures { IsNextItemOf (left self.old) (given from.old) result (left self.new) (given from.new) };
 }
 
 /// The next item, where these things are wanted in turn, the top of the stack being the last.
 fn next_at(alloc: Global, cursor: &mut Cursor, stack: &mut Stack) -> Result<Option<Item>, TextFault>
     requires { IsBounded stack.old.items }
-    ensures next { IsNextLine (course_left stack.old.items cursor.old None) result (course_left stack.new.items cursor.new None) }
+    ensures next { IsNextItemRead (course_left stack.old.items cursor.old None) result (course_left stack.new.items cursor.new None) }
     ensures bounded { IsBounded stack.new.items }
 {
     match stack.pop() {
@@ -70,11 +71,11 @@ pub struct Items<'a> {
 }
 
 impl<'a> Model for Items<'a> {
-    ghost use Rattle.certificate_lines.specs.Courses.{Course, course_left};
+    ghost use Rattle.certificate_lines.specs.Courses.{Unread, course_left};
     ghost use Rattle.certificate_lines.specs.Stacks.{IsBounded};
 
     /// The items to come, and the fault that ends them.
-    ghost Value = { Course };
+    ghost Value = { Unread };
 
     ghost view = { λ s. course_left s.wanted.items s.cursor s.fault };
 

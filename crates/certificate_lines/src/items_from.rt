@@ -3,7 +3,8 @@
 ghost use Rattle.std.specs.Prelude.{◌≡◌, ◌+◌, ◌∷◌, [], reverse, None, OnOk, IfOk, IfErr};
 ghost use Rattle.arrayvec.specs.ArrayVec.{array_vec_len};
 ghost use Rattle.certificate_lines.specs.Stacks.{HasRoom, IsBounded};
-ghost use Rattle.certificate_lines.specs.ItemsLeft.{left_at, left_of_reader, fault_of_reader, nothing_taken, ReadsItem, ReadsEnd, ReadsNext};
+ghost use Rattle.certificate_lines.specs.ItemsLeft.{left_at, left_of_reader, fault_of_reader, nothing_taken, ReadsItem};
+ghost use Rattle.certificate_lines.specs.ItemsLeft.{ReadsEnd, ReadsNext};
 ghost use Rattle.certificate_lines.specs.declared.fault.TextKind.TheVariants.{Memory};
 
 use crate::fault::{TextFault, TextKind};
@@ -38,7 +39,9 @@ fn read_item<S: Source>(
     requires sound { pieces.old.fault ≡ None }
     requires room { HasRoom (array_vec_len stack.old) wanted }
     requires bounded { IsBounded stack.old.items }
-    ensures read { ReadsItem (left_at (wanted ∷ reverse stack.old.items) line pieces.old) (S.given from.old) result (left_at (reverse stack.new.items) (line + 1) pieces.new) (S.given from.new) }
+    ensures read { ReadsItem (left_at (wanted
+        ∷ reverse stack.old.items) line pieces.old) (S.given from.old) result (left_at (reverse stack.new.items) (line
+        + 1) pieces.new) (S.given from.new) }
     ensures sound { OnOk result (pieces.new.fault ≡ None) }
     ensures bounded { IsBounded stack.new.items }
 {

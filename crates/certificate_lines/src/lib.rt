@@ -17,22 +17,21 @@ mod items_from;
 mod line_items;
 mod lines;
 mod number;
-mod weights;
 mod words;
 mod writing_lines;
 mod writing_words;
 
+pub use certificate_data::{Allowance, Weight, Weights};
 pub use county_codes::Window;
 pub use cursor::{Cursor, ended, push_on};
 pub use fault::{TextFault, TextKind, WriteFault};
 pub use fitting::{
     allowance_fits, are_few, branch_fits, group_fits, is_code, order_fits, take_fits,
 };
-pub use item::{Allowance, Item, Opening, Version, Wanted};
+pub use item::{Item, Opening, Version, Wanted};
 pub use items::{ItemSource, Items};
 pub use items_from::ItemsFrom;
 pub use lines::{MOST, ascend, levels_after};
-pub use weights::{Weight, Weights};
 pub use words::Words;
 pub use writing_lines::{
     push_group, push_group_line, push_head, push_limit, push_order, push_target_line, push_window,

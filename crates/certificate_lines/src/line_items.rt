@@ -18,7 +18,7 @@ use crate::lines::{
 };
 use crate::words::Words;
 use arrayvec::ArrayVec;
-use certificate_languages::Language;
+use certificate_data::Language;
 use county_codes::MAX_COUNTIES;
 use std::alloc::Global;
 
@@ -69,7 +69,8 @@ fn window_item(
 /// Puts what is wanted after the order on the stack, for an order of so many counties.
 fn want_after_order(stack: &mut Stack, language: Language, counties: u16)
     requires { HasRoom (array_vec_len stack.old) (want.Order language) }
-    ensures { stack.new.items ≡ stack.old.items ++ (want.End ∷ want.Tree language counties ∷ want.Target ∷ want.Limit ∷ []) }
+    ensures { stack.new.items
+        ≡ stack.old.items ++ (want.End ∷ want.Tree language counties ∷ want.Target ∷ want.Limit ∷ []) }
 {
     stack.push(Wanted::End);
     stack.push(Wanted::Tree(language, counties));

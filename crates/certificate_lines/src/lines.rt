@@ -2,17 +2,18 @@
 
 ghost use Rattle.std.specs.Prelude.{◌≡◌, ℕ, nat_lt, None, Ok, Err, IfOk, if◌then◌else◌};
 ghost use Rattle.field_lines.specs.Values.{GivesUnless};
-ghost use Rattle.certificate_languages.specs.Levels.{after_raise};
-ghost use Rattle.certificate_lines.specs.Lines.{head_on, window_on, order_on, limit_on, target_on, group_on, branch_on, stuck_on, bound_on, opening_on, take_on, weigh_on, allowance_on, end_on, ascend, HasLevel};
+ghost use Rattle.certificate_data.specs.Levels.{after_raise};
+ghost use Rattle.certificate_lines.specs.Lines.{head_on, window_on, order_on, limit_on, target_on, group_on, branch_on};
+ghost use Rattle.certificate_lines.specs.Lines.{stuck_on, bound_on, opening_on, take_on, weigh_on, allowance_on};
+ghost use Rattle.certificate_lines.specs.Lines.{end_on, ascend, HasLevel};
 ghost use Rattle.certificate_lines.specs.declared.fault.TextKind.TheVariants.{Memory, TooDeep};
 ghost use Rattle.certificate_lines.specs.declared.item.Opening.TheVariants.{Branch};
-ghost use Rattle.certificate_languages.specs.declared.language.Language.TheVariants.{Plain, Wide};
+ghost use Rattle.certificate_data.specs.declared.language.Language.TheVariants.{Plain, Wide};
 
 use crate::fault::TextKind;
-use crate::item::{Allowance, Opening, Version};
-use crate::weights::Weight;
+use crate::item::{Opening, Version};
 use crate::words::Words;
-use certificate_languages::Language;
+use certificate_data::{Allowance, Language, Weight};
 use county_codes::{Codes, CountyCode, Group, MAX_COUNTIES, Window};
 use std::alloc::Global;
 

@@ -3,10 +3,11 @@
 ghost use Rattle.std.specs.Prelude.{◌≡◌, ◌≤◌, IfOk};
 ghost use Rattle.std.specs.List.{list_all};
 ghost use Rattle.std.specs.Char.{is_ascii_digit};
-ghost use Rattle.certificate_lines.specs.Words.{is_numeral, has_leading_zero, has_bytes, is_printable, words_of, number, code, pair, is_canonical};
+ghost use Rattle.certificate_lines.specs.Words.{is_numeral, has_leading_zero, has_bytes, is_printable, words_of};
+ghost use Rattle.certificate_lines.specs.Words.{number, code, pair, is_canonical};
 
 use crate::fault::TextKind;
-use crate::weights::Weight;
+use certificate_data::Weight;
 use county_codes::CountyCode;
 use field_lines::{Fields, five_digits, number_in};
 

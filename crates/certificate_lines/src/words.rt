@@ -5,13 +5,13 @@ ghost use Rattle.std.specs.Result.{result_map_both};
 ghost use Rattle.field_lines.specs.Values.{GivesUnless};
 ghost use Rattle.field_lines.specs.Fields.{fields_of, fields_left};
 ghost use Rattle.certificate_lines.specs.Words.{line_bytes, line_words, code, pair};
-ghost use Rattle.certificate_lines.specs.Lines.{begins, named, counted, number_at, code_at, each};
+ghost use Rattle.certificate_lines.specs.Lines.{begins, named, counted, number_at, code_word_at, each};
 ghost use Rattle.certificate_lines.specs.Left.{Leaves, LeavesWords, IsNextWord};
 ghost use Rattle.certificate_lines.specs.declared.fault.TextKind.TheVariants.{Memory};
 
 use crate::fault::TextKind;
 use crate::number::{code_on, is_canonical, number_on, weight_on};
-use crate::weights::Weights;
+use certificate_data::Weights;
 use county_codes::{Codes, CountyCode};
 use field_lines::MAX_LINE;
 use memchr::memchr;
@@ -173,7 +173,7 @@ impl<'a> Words<'a> {
     ///
     /// `BadNumber` where it isn't five digits. `BadWord` where no word is left.
     pub fn code(&mut self) -> Result<CountyCode, TextKind>
-        ensures { Leaves (code_at self.old) result self.new }
+        ensures { Leaves (code_word_at self.old) result self.new }
     {
         let word = self.next_word().ok_or(TextKind::BadWord)?;
         code_on(word)

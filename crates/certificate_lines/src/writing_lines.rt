@@ -14,7 +14,7 @@ use crate::writing_words::{
     push_codes_line, push_count_line, push_number_and_codes_line, push_number_line,
     push_two_numbers_line,
 };
-use certificate_languages::Language;
+use certificate_data::Language;
 use county_codes::{CountyCode, Group, Window};
 use std::alloc::AllocError;
 
@@ -80,7 +80,8 @@ pub fn push_group_line(out: &mut Vec<u8>, group: &Group) -> Result<(), AllocErro
 ///
 /// `NoSpelling` where no line spells it, or `Memory`.
 pub fn push_group(out: &mut Vec<u8>, group: &Group) -> Result<(), WriteFault>
-    ensures { WritesLine ((group.now.seats ≤ 65535) × IsSet group.now.codes) (item.Grouped group.now) out.old.items result out.new.items }
+    ensures { WritesLine ((group.now.seats ≤ 65535)
+        × IsSet group.now.codes) (item.Grouped group.now) out.old.items result out.new.items }
 {
     if !group_fits(group) {
         return Err(WriteFault::NoSpelling);

@@ -5,7 +5,7 @@ ghost use Rattle.std.specs.List.{flat_map};
 ghost use Rattle.county_codes.specs.Digits.{five_digits};
 ghost use Rattle.certificate_lines.specs.Spelling.{weight_word};
 
-use crate::weights::Weight;
+use certificate_data::Weight;
 use county_codes::{CountyCode, push_code, push_codes};
 use field_lines::push_number;
 use std::alloc::AllocError;
@@ -42,7 +42,8 @@ pub fn push_code_and_number_line(
     code: CountyCode,
     number: u32,
 ) -> Result<(), AllocError>
-    ensures text { OnOk result (out.new.items ≡ out.old.items ++ (name.now ++ (five_digits code ++ 32 ∷ (decimal number ++ 10 ∷ [])))) }
+    ensures text { OnOk result (out.new.items
+        ≡ out.old.items ++ (name.now ++ (five_digits code ++ 32 ∷ (decimal number ++ 10 ∷ [])))) }
     ensures small { OnOk result (code ≤ 99999) }
 {
     out.extend_from_slice(name)?;
@@ -77,7 +78,8 @@ pub(crate) fn push_two_numbers_line(
     first: u32,
     second: u32,
 ) -> Result<(), AllocError>
-    ensures { OnOk result (out.new.items ≡ out.old.items ++ (name.now ++ (decimal first ++ 32 ∷ (decimal second ++ 10 ∷ [])))) }
+    ensures { OnOk result (out.new.items
+        ≡ out.old.items ++ (name.now ++ (decimal first ++ 32 ∷ (decimal second ++ 10 ∷ [])))) }
 {
     out.extend_from_slice(name)?;
     push_number(out, u64::from(first))?;
@@ -92,7 +94,8 @@ pub fn push_codes_line(
     name: &[u8],
     codes: &[CountyCode],
 ) -> Result<(), AllocError>
-    ensures text { OnOk result (out.new.items ≡ out.old.items ++ (name.now ++ (flat_map (λ c. 32 ∷ five_digits c) codes.now ++ 10 ∷ []))) }
+    ensures text { OnOk result (out.new.items
+        ≡ out.old.items ++ (name.now ++ (flat_map (λ c. 32 ∷ five_digits c) codes.now ++ 10 ∷ []))) }
     ensures small { OnOk result (All (λ c. c ≤ 99999) codes.now) }
 {
     out.extend_from_slice(name)?;
@@ -108,7 +111,9 @@ pub(crate) fn push_number_and_codes_line(
     codes: &[CountyCode],
 ) -> Result<(), AllocError>
     ensures number { number ≤ 65535 }
-    ensures text { OnOk result (out.new.items ≡ out.old.items ++ (name.now ++ (decimal number ++ (flat_map (λ c. 32 ∷ five_digits c) codes.now ++ 10 ∷ [])))) }
+    ensures text { OnOk result (out.new.items
+        ≡ out.old.items ++ (name.now
+        ++ (decimal number ++ (flat_map (λ c. 32 ∷ five_digits c) codes.now ++ 10 ∷ [])))) }
     ensures small { OnOk result (All (λ c. c ≤ 99999) codes.now) }
 {
     out.extend_from_slice(name)?;
@@ -124,7 +129,8 @@ pub fn push_number_and_weights(
     number: u32,
     weights: &[Weight],
 ) -> Result<(), AllocError>
-    ensures text { OnOk result (out.new.items ≡ out.old.items ++ (name.now ++ (decimal number ++ flat_map (λ w. 32 ∷ weight_word w) weights.now))) }
+    ensures text { OnOk result (out.new.items
+        ≡ out.old.items ++ (name.now ++ (decimal number ++ flat_map (λ w. 32 ∷ weight_word w) weights.now))) }
     ensures small { OnOk result (All (λ w. w.county ≤ 99999) weights.now) }
     ensures numbers { OnOk result (All (λ w. w.weight ≤ 4294967295) weights.now) }
 {

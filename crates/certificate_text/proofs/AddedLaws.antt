@@ -5,10 +5,10 @@ use Rattle.std.specs.List.{AllByRecursion, flat_map}
 use Rattle.std.proofs.lemmas.Grind.{flat_map-append}
 use Rattle.std.proofs.lemmas.List.{map-append}
 use Rattle.std.proofs.lemmas.List.Elements.{recursion_from_All}
-use Rattle.certificate_lines.specs.Spelling.{item_line, text_of}
-use Rattle.certificate_lines.specs.declared.weights.Weight.{Weight}
+use Rattle.certificate_lines.specs.Spelling.{item_line, text_of_items}
+use Rattle.certificate_data.specs.declared.weights.Weight.{Weight}
 use Rattle.certificate_lines.specs.declared.item.Item.{Item}
-use Rattle.certificate_text.proofs.ListLaws.{taken_more}
+use Rattle.certificate_data.proofs.ListLaws.{taken_more}
 use Rattle.certificate_text.specs.Ranges.{IsWeightInRange, IsInRange}
 use Rattle.certificate_text.specs.Added.{Added}
 
@@ -21,7 +21,7 @@ added_none x = record { text = sym (append-nil x); range = tt }
 
 pub added_then : (is js : List Item) (x y z : List ℕ) → Added is x y → Added js y z → Added (is ++ js) x z
 added_then is js x y z f g = record {
-  text = g.text ∙ ap (λ (t : List ℕ). t ++ text_of js) f.text ∙ append_assoc x (text_of is) (text_of js) ∙ ap (λ (t : List ℕ). x ++ t) (sym (flat_map-append item_line is js));
+  text = g.text ∙ ap (λ (t : List ℕ). t ++ text_of_items js) f.text ∙ append_assoc x (text_of_items is) (text_of_items js) ∙ ap (λ (t : List ℕ). x ++ t) (sym (flat_map-append item_line is js));
   range = all_range is js f.range g.range;
 }
 

@@ -1,10 +1,10 @@
 -- The items of a text one at a time.
 use Rattle.std.proofs.Common.{◌≡◌, ℕ, ◌+◌, List, [], ◌∷◌, ◌++◌, Option, Some, None, Result, Ok, Err, refl, ap, sym, ◌∙◌}
 use Rattle.field_lines.specs.Raw.{RawLine}
-use Rattle.certificate_lines.specs.Rest.{Rest, lines_of, fault_at, TakesLine, FaultOf}
-use Rattle.certificate_lines.specs.Items.{item_on, wanted_after, in_front, items_from}
+use Rattle.certificate_lines.specs.Rest.{Rest, lines_of, text_fault_at, TakesTextLine, FaultOf}
+use Rattle.certificate_lines.specs.Items.{item_on, wanted_after, items_in_front, items_from}
 use Rattle.certificate_lines.specs.Reads.{items_at}
-use Rattle.certificate_lines.specs.Courses.{Course, nothing, only_fault, first, course_from, whole}
+use Rattle.certificate_lines.specs.Courses.{Unread, nothing, only_fault, first, course_from, whole}
 use Rattle.certificate_lines.specs.declared.fault.TextKind.{TextKind}
 use Rattle.certificate_lines.specs.declared.fault.TextKind.TheVariants.{AfterEnd}
 use Rattle.certificate_lines.specs.declared.fault.TextFault.{TextFault}
@@ -12,14 +12,14 @@ use Rattle.certificate_lines.specs.declared.item.Item.{Item}
 use Rattle.certificate_lines.specs.declared.item.Wanted.{Wanted}
 
 -- what a line leads to
-abbrev course_by : Wanted → ℕ → List RawLine → List Wanted → Result Item TextKind → Course
-course_by w n pieces more r = elim r as (λ _. Course) [
+abbrev course_by : Wanted → ℕ → List RawLine → List Wanted → Result Item TextKind → Unread
+course_by w n pieces more r = elim r as (λ _. Unread) [
   | Ok item ↦ first item (course_from (wanted_after w item ++ more) (n + 1) pieces)
-  | Err kind ↦ only_fault (fault_at kind n)
+  | Err kind ↦ only_fault (text_fault_at kind n)
 ]
 
 -- an item is taken
-pub course_line : (w : Wanted) (item : Item) (more : List Wanted) (old new : Rest) → TakesLine (item_on w) item old new
+pub course_line : (w : Wanted) (item : Item) (more : List Wanted) (old new : Rest) → TakesTextLine (item_on w) item old new
     → course_from (w ∷ more) old.number (lines_of old) ≡ first item (course_from (wanted_after w item ++ more) new.number (lines_of new))
 course_line w item more old new takes =
     ap (λ (l : List RawLine). course_from (w ∷ more) old.number l) takes.lines
@@ -29,7 +29,7 @@ course_line w item more old new takes =
 -- a fault is found
 pub course_fault : (w : Wanted) (more : List Wanted) (n : ℕ) (pieces : List RawLine) (fault : TextFault) → FaultOf (item_on w) n pieces fault → course_from (w ∷ more) n pieces ≡ only_fault fault
 course_fault w more n [] fault h = ap only_fault (sym h)
-course_fault w more n (piece ∷ pieces) fault h = ap (course_by w n pieces more) h.0 ∙ ap (λ (l : ℕ). only_fault (fault_at fault.kind l)) (sym h.1)
+course_fault w more n (piece ∷ pieces) fault h = ap (course_by w n pieces more) h.0 ∙ ap (λ (l : ℕ). only_fault (text_fault_at fault.kind l)) (sym h.1)
 
 -- what is left where nothing is wanted
 course_end : (n : ℕ) (pieces : List RawLine) → items_from [] n pieces ≡ Ok [] → course_from [] n pieces ≡ nothing
@@ -42,14 +42,14 @@ course_ended rest h = course_end rest.number (lines_of rest) h
 course_over : (n : ℕ) (pieces : List RawLine) (fault : TextFault) → items_from [] n pieces ≡ Err fault → course_from [] n pieces ≡ only_fault fault
 course_over n [] fault h = cc
 course_over n (piece ∷ pieces) fault h =
-    let same : fault_at AfterEnd n ≡ fault = cc in
+    let same : text_fault_at AfterEnd n ≡ fault = cc in
     ap only_fault same
 
 pub course_after : (rest : Rest) (fault : TextFault) → items_at [] rest ≡ Err fault → course_from [] rest.number (lines_of rest) ≡ only_fault fault
 course_after rest fault h = course_over rest.number (lines_of rest) fault h
 
 -- the items of a text are those that come one at a time, where no fault ends them
-one_first : (item : Item) (items : List Item) (fault : Option TextFault) → whole (item ∷ items) fault ≡ in_front (item ∷ []) (whole items fault)
+one_first : (item : Item) (items : List Item) (fault : Option TextFault) → whole (item ∷ items) fault ≡ items_in_front (item ∷ []) (whole items fault)
 one_first item items None = refl
 one_first item items (Some fault) = refl
 
@@ -61,9 +61,9 @@ courses_are_items (w ∷ more) n (piece ∷ pieces) = go (λ item. courses_are_i
   where
     go : ((item : Item) → whole (course_from (wanted_after w item ++ more) (n + 1) pieces).items (course_from (wanted_after w item ++ more) (n + 1) pieces).fault ≡ items_from (wanted_after w item ++ more) (n + 1) pieces)
         → (r : Result Item TextKind) → whole (course_by w n pieces more r).items (course_by w n pieces more r).fault ≡ (elim r as (λ _. Result (List Item) TextFault) [
-          | Ok item ↦ in_front (item ∷ []) (items_from (wanted_after w item ++ more) (n + 1) pieces)
-          | Err kind ↦ Err (fault_at kind n)
+          | Ok item ↦ items_in_front (item ∷ []) (items_from (wanted_after w item ++ more) (n + 1) pieces)
+          | Err kind ↦ Err (text_fault_at kind n)
         ])
     go later (Ok item) =
-        one_first item (course_from (wanted_after w item ++ more) (n + 1) pieces).items (course_from (wanted_after w item ++ more) (n + 1) pieces).fault ∙ ap (in_front (item ∷ [])) (later item)
+        one_first item (course_from (wanted_after w item ++ more) (n + 1) pieces).items (course_from (wanted_after w item ++ more) (n + 1) pieces).fault ∙ ap (items_in_front (item ∷ [])) (later item)
     go later (Err kind) = refl

@@ -4,13 +4,13 @@ use Rattle.std.specs.List.{flat_map}
 use Rattle.std.proofs.lemmas.Grind.{flat_map-append}
 use Rattle.std.proofs.lemmas.List.{map-append}
 use Rattle.certificate_lines.specs.Items.{wanted_after}
-use Rattle.certificate_lines.specs.Fits.{Fits, AllFit}
+use Rattle.certificate_lines.specs.Fits.{IsWanted, AllFit}
 use Rattle.certificate_lines.specs.Writes.{DontFit}
 use Rattle.certificate_lines.specs.declared.item.Item.{Item}
 use Rattle.certificate_lines.specs.declared.item.Wanted.{Wanted}
 use Rattle.certificate_text.specs.Tests.{Fitting, Tests}
 use Rattle.certificate_text.proofs.LoopLaws.{runs, runs_more}
-use Rattle.certificate_text.proofs.ListLaws.{taken_more, cut_at}
+use Rattle.certificate_data.proofs.ListLaws.{taken_more, cut_at}
 
 pub fitting_none : (w : List Wanted) → Fitting w [] w
 fitting_none w = record { fits = λ more later h. h; rest = λ more later h. h }
@@ -72,10 +72,10 @@ pub unfit_whole : (w : Wanted) (is : List Item) → DontFit (w ∷ []) is → Al
 unfit_whole w is unfit h = unfit [] [] (subst (λ (l : List Item). AllFit (w ∷ []) l) (sym (append-nil is)) h)
 
 -- one item
-pub fitting_line : (w : Wanted) (i : Item) → Fits w i → Fitting (w ∷ []) (i ∷ []) (wanted_after w i)
+pub fitting_line : (w : Wanted) (i : Item) → IsWanted w i → Fitting (w ∷ []) (i ∷ []) (wanted_after w i)
 fitting_line w i f = record { fits = λ more later h. (f, h); rest = λ more later h. h.1 }
 
-pub line_refused : (w : Wanted) (ws : List Wanted) (i : Item) (is : List Item) → (Fits w i → ⊥) → DontFit (w ∷ ws) (i ∷ is)
+pub line_refused : (w : Wanted) (ws : List Wanted) (i : Item) (is : List Item) → (IsWanted w i → ⊥) → DontFit (w ∷ ws) (i ∷ is)
 line_refused w ws i is unfit more later h = unfit h.0
 
 module _ {X : Type 0} (wants : ℕ → Wanted) (view : X → Item) (after : (n : ℕ) (x : X) → wanted_after (wants n) (view x) ≡ runs wants (n - 1)) (xs : List X) where
@@ -85,7 +85,7 @@ module _ {X : Type 0} (wants : ℕ → Wanted) (view : X → Item) (after : (n :
   run_now : (i : ℕ) → i < length xs → runs wants (length xs - i) ≡ wants (length xs - i) ∷ []
   run_now i lt = runs_more wants (length xs - i) (omega arith)
 
-  pub run_goes : (i : ℕ) (x : X) → x ≡ get_or xs i x → i < length xs → run_before i → Fits (wants (length xs - i)) (view x) → run_before (i + 1)
+  pub run_goes : (i : ℕ) (x : X) → x ≡ get_or xs i x → i < length xs → run_before i → IsWanted (wants (length xs - i)) (view x) → run_before (i + 1)
   run_goes i x is lt before fit =
       let first = fitting_to (runs wants (length xs)) (runs wants (length xs - i)) (wants (length xs - i) ∷ []) (map view (take i xs)) (run_now i lt) before in
       let one = fitting_line (wants (length xs - i)) (view x) fit in
@@ -95,7 +95,7 @@ module _ {X : Type 0} (wants : ℕ → Wanted) (view : X → Item) (after : (n :
       (sym (map-append view (take i xs) (x ∷ [])) ∙ ap (map view) (sym (taken_more xs i x is lt)))
       (fitting_then (runs wants (length xs)) (wants (length xs - i) ∷ []) (runs wants (length xs - (i + 1))) (map view (take i xs)) (view x ∷ []) first then)
 
-  pub run_stops : (i : ℕ) (x : X) → x ≡ get_or xs i x → i < length xs → run_before i → (Fits (wants (length xs - i)) (view x) → ⊥) → DontFit (runs wants (length xs)) (map view xs)
+  pub run_stops : (i : ℕ) (x : X) → x ≡ get_or xs i x → i < length xs → run_before i → (IsWanted (wants (length xs - i)) (view x) → ⊥) → DontFit (runs wants (length xs)) (map view xs)
   run_stops i x is lt before unfit =
       let first = fitting_to (runs wants (length xs)) (runs wants (length xs - i)) (wants (length xs - i) ∷ []) (map view (take i xs)) (run_now i lt) before in
       refused_as (runs wants (length xs)) (map view (take i xs) ++ view x ∷ map view (drop (i + 1) xs)) (map view xs)

@@ -7,10 +7,10 @@ use Rattle.field_lines.specs.Raw.{RawLine, raw_lines_from}
 use Rattle.certificate_lines.specs.Words.{words_of, is_canonical, line_bytes, line_words}
 use Rattle.certificate_lines.specs.Lines as line
 use Rattle.certificate_lines.specs.Lines.{begins, named, counted}
-use Rattle.certificate_lines.specs.Rest.{fault_at, IsMemory}
-use Rattle.certificate_lines.specs.Items.{by_words, seen, item_on, in_front, items_from}
+use Rattle.certificate_lines.specs.Rest.{text_fault_at, IsTextMemory}
+use Rattle.certificate_lines.specs.Items.{by_words, seen, item_on, items_in_front, items_from}
 use Rattle.certificate_lines.specs.Reads.{Refuses}
-use Rattle.certificate_lines.specs.Spelling.{text_of}
+use Rattle.certificate_lines.specs.Spelling.{text_of_items}
 use Rattle.certificate_lines.specs.Fits.{AllFit}
 use Rattle.certificate_text.proofs.PrefixLaws.{items_then}
 use Rattle.certificate_text.proofs.GiveLaws.{memory_only}
@@ -77,7 +77,7 @@ end_other words =
 end_item_other : (piece : RawLine) → Other (item_on want.End piece)
 end_item_other piece = seen_other (λ _. End) (by_words line.end_on piece) (bind_other (line_words piece.bytes piece.ended) line.end_on (words_other piece.bytes piece.ended) end_other)
 
-fault_behind : (items : List Item) (r : Result (List Item) TextFault) (fault : TextFault) → in_front items r ≡ Err fault → r ≡ Err fault
+fault_behind : (items : List Item) (r : Result (List Item) TextFault) (fault : TextFault) → items_in_front items r ≡ Err fault → r ≡ Err fault
 fault_behind items (Ok later) fault h = cc
 fault_behind items (Err other) fault h = h
 
@@ -92,31 +92,31 @@ not_both : (n : ℕ) (pieces : List RawLine) (fault : TextFault) → items_from 
 not_both n [] fault none end = cc
 not_both n (piece ∷ pieces) fault none end = go (item_on want.End piece) refl pieces end
   where
-    first : fault_at AfterEnd n ≡ fault
-    first = same_fault (items_from [] n (piece ∷ pieces)) fault (fault_at AfterEnd n) none refl
+    first : text_fault_at AfterEnd n ≡ fault
+    first = same_fault (items_from [] n (piece ∷ pieces)) fault (text_fault_at AfterEnd n) none refl
 
     go : (r : Result Item TextKind) → item_on want.End piece ≡ r → (later : List RawLine) → line_by want.End n later [] r ≡ Err fault → ⊥
     go (Ok item) e [] h = cc (h)
     go (Ok item) e (next ∷ later) h =
-        let second : fault_at AfterEnd (n + 1) ≡ fault = same_fault (Err (fault_at AfterEnd (n + 1))) fault (fault_at AfterEnd (n + 1)) h refl in
+        let second : text_fault_at AfterEnd (n + 1) ≡ fault = same_fault (Err (text_fault_at AfterEnd (n + 1))) fault (text_fault_at AfterEnd (n + 1)) h refl in
         omega (arith, ap (λ (f : TextFault). f.line) first, ap (λ (f : TextFault). f.line) second)
     go (Err kind) e later h =
-        let second : fault_at kind n ≡ fault = same_fault (Err (fault_at kind n)) fault (fault_at kind n) h refl in
+        let second : text_fault_at kind n ≡ fault = same_fault (Err (text_fault_at kind n)) fault (text_fault_at kind n) h refl in
         let same : kind ≡ AfterEnd = ap (λ (f : TextFault). f.kind) (second ∙ sym first) in
         end_item_other piece (e ∙ ap (λ (k : TextKind). Err k) same)
 
 -- no fault is met whatever is wanted behind items that fit
 pub no_fault_behind : (wanted : List Wanted) (n : ℕ) (items : List Item) (rest : List ℕ) (fault : TextFault) → AllFit wanted items
-    → ((more : List Wanted) → items_from (wanted ++ more) n (raw_lines_from n (text_of items ++ rest)) ≡ Err fault) → ⊥
+    → ((more : List Wanted) → items_from (wanted ++ more) n (raw_lines_from n (text_of_items items ++ rest)) ≡ Err fault) → ⊥
 no_fault_behind wanted n items rest fault fit h =
     let behind : (more : List Wanted) → items_from more (n + length items) (raw_lines_from (n + length items) rest) ≡ Err fault =
     λ more. fault_behind items (items_from more (n + length items) (raw_lines_from (n + length items) rest)) fault (sym (items_then wanted more n items rest fit) ∙ h more) in
     not_both (n + length items) (raw_lines_from (n + length items) rest) fault (behind []) (behind (want.End ∷ []))
 
 -- where a front is spelled so, memory alone can be refused
-pub memory_refused : (wanted : List Wanted) (text front rest : List ℕ) (items : List Item) (fault : TextFault) → AllFit wanted items → front ≡ text_of items → text ≡ front ++ rest
-    → Refuses wanted (record { number = 1; text = text }) fault → IsMemory fault
+pub memory_refused : (wanted : List Wanted) (text front rest : List ℕ) (items : List Item) (fault : TextFault) → AllFit wanted items → front ≡ text_of_items items → text ≡ front ++ rest
+    → Refuses wanted (record { number = 1; text = text }) fault → IsTextMemory fault
 memory_refused wanted text front rest items fault fit spelled whole refused =
-    let same : text_of items ++ rest ≡ text = sym (whole ∙ ap (λ (t : List ℕ). t ++ rest) spelled) in
+    let same : text_of_items items ++ rest ≡ text = sym (whole ∙ ap (λ (t : List ℕ). t ++ rest) spelled) in
     memory_only fault.kind (λ other. no_fault_behind wanted 1 items rest fault fit
     (λ more. ap (λ (t : List ℕ). items_from (wanted ++ more) 1 (raw_lines_from 1 t)) same ∙ refused other more))

@@ -1,11 +1,11 @@
 -- Items that fit where a tree is wanted are in range.
 use Rattle.std.proofs.Common.{ℕ, ◌-◌, cond, Bool, true, false, List, [], ◌∷◌, ◌++◌, Some, None, arith}
 use Rattle.std.specs.List.{AllByRecursion}
-use Rattle.certificate_languages.specs.declared.language.Language.TheVariants.{Plain, Wide}
+use Rattle.certificate_data.specs.declared.language.Language.TheVariants.{Plain, Wide}
 use Rattle.certificate_lines.specs.Items.{wanted_after, allowances_wanted}
-use Rattle.certificate_lines.specs.Fits.{FitsWeight, Fits, AllFit}
-use Rattle.certificate_lines.specs.declared.weights.Weight.{Weight}
-use Rattle.certificate_lines.specs.declared.item.Allowance.TheVariants.{Room, Weigh}
+use Rattle.certificate_lines.specs.Fits.{FitsWeight, IsWanted, AllFit}
+use Rattle.certificate_data.specs.declared.weights.Weight.{Weight}
+use Rattle.certificate_data.specs.declared.allowance.Allowance.TheVariants.{Room, Weigh}
 use Rattle.certificate_lines.specs.declared.item.Opening.TheVariants.{Branch, Stuck, Seats, Bound}
 use Rattle.certificate_lines.specs.declared.item.Item.{Item}
 use Rattle.certificate_lines.specs.declared.item.Item.TheVariants.{Opens, Takes, Mark, Allows}
@@ -35,7 +35,7 @@ weights_in_range : (ws : List Weight) → AllByRecursion FitsWeight ws → AllBy
 weights_in_range [] a = tt
 weights_in_range (w ∷ ws) a = (record { county = a.0.county; weight = omega (arith, a.0.to) }, weights_in_range ws a.1)
 
-item_in_range : (w : Wanted) (i : Item) → IsOfTree w → Fits w i → IsInRange i × AllByRecursion IsOfTree (wanted_after w i)
+item_in_range : (w : Wanted) (i : Item) → IsOfTree w → IsWanted w i → IsInRange i × AllByRecursion IsOfTree (wanted_after w i)
 item_in_range (want.Tree Plain levels) (Opens (Branch c None)) u f = (f.0, (tt, tt))
 item_in_range (want.Tree Wide levels) (Opens (Branch c (Some limit))) u f = ((f.0, omega (arith, f.2)), (tt, tt))
 item_in_range (want.Tree Plain levels) (Opens (Branch c (Some limit))) u f = absurd f

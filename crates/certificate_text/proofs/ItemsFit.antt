@@ -5,43 +5,44 @@ use Rattle.county_codes.specs.Windows.{FitsRange}
 use Rattle.county_codes.specs.declared.group.Group.{Group}
 use Rattle.county_codes.specs.declared.window.Window.{Window}
 use Rattle.grouping_laws.specs.Grouping.{Grouping}
-use Rattle.certificate_languages.specs.declared.language.Language.{Language}
-use Rattle.certificate_languages.specs.declared.language.Language.TheVariants.{Plain, Wide}
-use Rattle.proof_trees.specs.Depth.{after_raise, IsWithin, EachWithin}
-use Rattle.proof_trees.specs.Tree.{Allowance, stuck, seats, bound, Tree, leaf, branch, Takes, no_take, take}
+use Rattle.certificate_data.specs.declared.language.Language.{Language}
+use Rattle.certificate_data.specs.declared.language.Language.TheVariants.{Plain, Wide}
+use Rattle.certificate_laws.specs.Depth.{after_raise, IsWithin, EachWithin}
+use Rattle.certificate_data.specs.Tree.{Allowance, stuck, seats, bound, Tree, leaf, branch, Takes, no_take, take}
 use Rattle.certificate_lines.specs.Items.{allowances_wanted, groups_wanted}
-use Rattle.certificate_lines.specs.Fits.{Fits, AllFit}
-use Rattle.certificate_lines.specs.declared.item.Allowance.{Allowance as DeclaredAllowance}
-use Rattle.certificate_lines.specs.declared.item.Allowance.TheVariants.{Room, Weigh}
+use Rattle.certificate_lines.specs.Fits.{IsWanted, AllFit}
+use Rattle.certificate_data.specs.declared.allowance.Allowance.{Allowance as DeclaredAllowance}
+use Rattle.certificate_data.specs.declared.allowance.Allowance.TheVariants.{Room, Weigh}
 use Rattle.certificate_lines.specs.declared.item.Opening.TheVariants as opening
 use Rattle.certificate_lines.specs.declared.item.Item.{Item}
 use Rattle.certificate_lines.specs.declared.item.Item.TheVariants as item
 use Rattle.certificate_lines.specs.declared.item.Wanted.{Wanted}
 use Rattle.certificate_lines.specs.declared.item.Wanted.TheVariants as want
 use Rattle.certificate_lines.proofs.ReadLaws.{allowances_more, groups_more}
-use Rattle.certificate_text.specs.Trees.{declared_allowance, items_of_tree, items_of_takes, items_of_head, items_of_target}
+use Rattle.certificate_data.specs.TreeValue.{declared_allowance}
+use Rattle.certificate_text.specs.Trees.{items_of_tree, items_of_takes, items_of_head, items_of_target}
 use Rattle.certificate_text.specs.TreeItems.{FitsInTree, TargetHasLines}
 
 -- a branch fits where there are levels, and a leaf fits anywhere
-branch_fits : (language : Language) (levels county : ℕ) (limit : Option ℕ) → 1 ≤ levels → Fits (want.Tree language 1) (item.Opens (opening.Branch county limit)) → Fits (want.Tree language levels) (item.Opens (opening.Branch county limit))
+branch_fits : (language : Language) (levels county : ℕ) (limit : Option ℕ) → 1 ≤ levels → IsWanted (want.Tree language 1) (item.Opens (opening.Branch county limit)) → IsWanted (want.Tree language levels) (item.Opens (opening.Branch county limit))
 branch_fits Plain levels county None some f = (f.0, omega (arith, some))
 branch_fits Plain levels county (Some limit) some f = absurd f
 branch_fits Wide levels county None some f = absurd f
 branch_fits Wide levels county (Some limit) some f = (f.0, f.1, f.2, omega (arith, some))
 
-stuck_fits : (language : Language) (levels county : ℕ) → Fits (want.Tree language 1) (item.Opens (opening.Stuck county)) → Fits (want.Tree language levels) (item.Opens (opening.Stuck county))
+stuck_fits : (language : Language) (levels county : ℕ) → IsWanted (want.Tree language 1) (item.Opens (opening.Stuck county)) → IsWanted (want.Tree language levels) (item.Opens (opening.Stuck county))
 stuck_fits Plain levels county f = f
 stuck_fits Wide levels county f = f
 
-seats_fits : (language : Language) (levels : ℕ) → Fits (want.Tree language levels) (item.Opens opening.Seats)
+seats_fits : (language : Language) (levels : ℕ) → IsWanted (want.Tree language levels) (item.Opens opening.Seats)
 seats_fits Plain levels = tt
 seats_fits Wide levels = tt
 
-bound_fits : (language : Language) (levels lines : ℕ) → Fits (want.Tree language 1) (item.Opens (opening.Bound lines)) → Fits (want.Tree language levels) (item.Opens (opening.Bound lines))
+bound_fits : (language : Language) (levels lines : ℕ) → IsWanted (want.Tree language 1) (item.Opens (opening.Bound lines)) → IsWanted (want.Tree language levels) (item.Opens (opening.Bound lines))
 bound_fits Plain levels lines f = f
 bound_fits Wide levels lines f = f
 
-allowance_fits : (left : ℕ) (a : DeclaredAllowance) → Fits (want.Allowances 1) (item.Allows a) → Fits (want.Allowances left) (item.Allows a)
+allowance_fits : (left : ℕ) (a : DeclaredAllowance) → IsWanted (want.Allowances 1) (item.Allows a) → IsWanted (want.Allowances left) (item.Allows a)
 allowance_fits left Room f = tt
 allowance_fits left (Weigh quota weights) f = f
 
@@ -84,7 +85,7 @@ mutual
       let first = tree_fits language (levels - 1) tree (want.Takes language levels ∷ more) (items_of_takes others ++ item.Mark ∷ rest) w.0 parts.0 second in
       (h.0, subst (λ (l : List Item). AllFit (want.Tree language (levels - 1) ∷ want.Takes language levels ∷ more) l) (sym (append_assoc (items_of_tree tree) (items_of_takes others) (item.Mark ∷ rest))) first)
 
-groups_fit : (n : ℕ) (groups : List Group) (more : List Wanted) (rest : List Item) → length groups ≡ n → AllByRecursion (λ group. Fits (want.Groups 1) (item.Grouped group)) groups → AllFit more rest
+groups_fit : (n : ℕ) (groups : List Group) (more : List Wanted) (rest : List Item) → length groups ≡ n → AllByRecursion (λ group. IsWanted (want.Groups 1) (item.Grouped group)) groups → AllFit more rest
     → AllFit (groups_wanted n ++ more) (map item.Grouped groups ++ rest)
 groups_fit zero [] more rest many h f = f
 groups_fit zero (group ∷ groups) more rest many h f = absurd (omega (arith, many))

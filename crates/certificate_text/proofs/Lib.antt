@@ -8,7 +8,6 @@ pub mod HeadLaws
 pub mod PrefixLaws
 pub mod FrontLaws
 pub mod GiveLaws
-pub mod ListLaws
 pub mod FitLaws
 pub mod WriteLaws
 pub mod CourseLaws
@@ -16,7 +15,6 @@ pub mod TextKinds
 pub mod OneSpelling
 pub mod TreeFits
 pub mod PartsTested
-pub mod CopyLaws
 pub mod AddedLaws
 pub mod Parts
 pub mod Told

@@ -2,9 +2,10 @@
 use Rattle.std.proofs.Common.{◌≡◌, List, ◌++◌, ap, ◌∙◌}
 use Rattle.std.specs.List.{flat_map}
 use Rattle.certificate_lines.specs.declared.item.Item.{Item}
-use Rattle.certificate_text.specs.Trees.{leaf_items, leaf_of, tree_of, items_of_tree, items_of_takes, list_of_takes}
-use Rattle.certificate_text.specs.declared.tree.Tree.{Tree, out-Tree}
-use Rattle.certificate_text.specs.declared.tree.Take.{Take}
+use Rattle.certificate_data.specs.TreeValue.{leaf_of, tree_of, list_of_takes}
+use Rattle.certificate_text.specs.Trees.{leaf_items, items_of_tree, items_of_takes}
+use Rattle.certificate_data.specs.declared.tree.Tree.{Tree, out-Tree}
+use Rattle.certificate_data.specs.declared.tree.Take.{Take}
 use Rattle.certificate_text.proofs.TreeViews.{items_of_branch, items_of_take}
 use Rattle.certificate_text.proofs.TreeFits.{take_parts, branch_parts, takes_flat, tree_parts}
 use Rattle.certificate_text.specs.Added.{branch_items, take_items}

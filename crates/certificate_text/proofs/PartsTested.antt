@@ -5,17 +5,18 @@ use Rattle.std.proofs.lemmas.Bool.{le-leb, leb-true}
 use Rattle.county_codes.specs.Windows.{is_window}
 use Rattle.county_codes.specs.declared.group.Group.{Group}
 use Rattle.county_codes.specs.declared.window.Window.{Window}
-use Rattle.certificate_languages.specs.declared.language.Language.{Language}
-use Rattle.proof_trees.specs.Tree.{Tree, bound}
+use Rattle.certificate_data.specs.declared.language.Language.{Language}
+use Rattle.certificate_data.specs.Tree.{Tree, bound}
 use Rattle.certificate_lines.specs.Lines.{most}
 use Rattle.certificate_lines.specs.Items.{groups_wanted, allowances_wanted}
 use Rattle.certificate_lines.specs.Writes.{DontFit}
-use Rattle.certificate_lines.specs.declared.item.Allowance.{Allowance as DeclaredAllowance}
+use Rattle.certificate_data.specs.declared.allowance.Allowance.{Allowance as DeclaredAllowance}
 use Rattle.certificate_lines.specs.declared.item.Opening.TheVariants as opening
 use Rattle.certificate_lines.specs.declared.item.Item.TheVariants as item
 use Rattle.certificate_lines.specs.declared.item.Version.TheVariants.{One, Two}
 use Rattle.certificate_lines.specs.declared.item.Wanted.TheVariants as want
-use Rattle.certificate_text.specs.Trees.{allowance_of, leaf_items, items_of_head, items_of_target}
+use Rattle.certificate_data.specs.TreeValue.{allowance_of}
+use Rattle.certificate_text.specs.Trees.{leaf_items, items_of_head, items_of_target}
 use Rattle.certificate_text.specs.Tests.{Fitting, Tests}
 use Rattle.certificate_text.proofs.FitLaws.{fitting_then, refused_after, fitting_line, line_refused}
 use Rattle.certificate_text.proofs.TreeFits.{bound_fitting, bound_refused, stuck_fitting, stuck_unfit}

@@ -11,20 +11,20 @@ use Rattle.std.proofs.lemmas.List.Splits.{slice_split_none, slice_split_at}
 use Rattle.field_lines.specs.Chain.{◌>>=◌}
 use Rattle.field_lines.specs.Fault.{most_bytes}
 use Rattle.certificate_lines.specs.Words.{words_of, has_bytes, is_printable, is_canonical, line_bytes, line_words, code, pair}
-use Rattle.certificate_lines.specs.Lines.{most, begins, counted, number_at, code_at, each, order_on, window_on, limit_on, target_on, group_on, branch_on, stuck_on, bound_on, opening_on, take_on, weigh_on, allowance_on}
+use Rattle.certificate_lines.specs.Lines.{most, begins, counted, number_at, code_word_at, each, order_on, window_on, limit_on, target_on, group_on, branch_on, stuck_on, bound_on, opening_on, take_on, weigh_on, allowance_on}
 use Rattle.county_codes.specs.Digits.{five_digits}
 use Rattle.certificate_lines.specs.Spelling.{weight_word, item_words}
 use Rattle.certificate_lines.specs.Fits.{AreCodes, IsSet, FitsWeight, AreWeights}
 use Rattle.field_lines.proofs.NumbersBack.{Digit, decimal_digits}
 use Rattle.certificate_lines.proofs.BackLaws.{number_back, code_back, pair_back, each_back}
-use Rattle.certificate_languages.specs.declared.language.Language.{Language}
-use Rattle.certificate_languages.specs.declared.language.Language.TheVariants.{Plain, Wide}
-use Rattle.certificate_lines.specs.declared.weights.Weight.{Weight}
+use Rattle.certificate_data.specs.declared.language.Language.{Language}
+use Rattle.certificate_data.specs.declared.language.Language.TheVariants.{Plain, Wide}
+use Rattle.certificate_data.specs.declared.weights.Weight.{Weight}
 use Rattle.county_codes.specs.Windows.{is_window}
 use Rattle.county_codes.proofs.WindowLemmas.{in_range}
 use Rattle.county_codes.specs.declared.group.Group.{Group}
 use Rattle.county_codes.specs.declared.window.Window.{Window}
-use Rattle.certificate_lines.specs.declared.item.Allowance.TheVariants.{Weigh}
+use Rattle.certificate_data.specs.declared.allowance.Allowance.TheVariants.{Weigh}
 use Rattle.certificate_lines.specs.declared.item.Opening.TheVariants.{Branch, Stuck, Bound}
 use Rattle.certificate_lines.specs.declared.item.Item.TheVariants.{Within, Order, Limit, Target, Grouped, Opens, Takes, Allows}
 
@@ -98,7 +98,7 @@ counted_back least greatest words low high = rw (le-leb least (length words) low
 pub number_at_back : (least greatest n : ℕ) (words : List (List ℕ)) → least ≤ n → n ≤ greatest → greatest < 2 ^ 64 → number_at least greatest (decimal n ∷ words) ≡ Ok (n, words)
 number_at_back least greatest n words low high small = rw (number_back least greatest n low high small) refl
 
-pub code_at_back : (c : ℕ) (words : List (List ℕ)) → c ≤ 99999 → code_at (five_digits c ∷ words) ≡ Ok (c, words)
+pub code_at_back : (c : ℕ) (words : List (List ℕ)) → c ≤ 99999 → code_word_at (five_digits c ∷ words) ≡ Ok (c, words)
 code_at_back c words small = rw (code_back c small) refl
 
 pub codes_back : (cs : List ℕ) → AreCodes cs → each code (map five_digits cs) ≡ Ok cs

@@ -1,8 +1,8 @@
 -- The lines of a tree spell it, or have a fault.
 use Rattle.std.proofs.Common.{◌≡◌, ◌≢◌, ℕ, List, [], ◌∷◌, Option, Some, None, Ok, refl, ap, sym, subst, ◌∙◌, inl, inr, ◌⊎◌}
 use Rattle.field_lines.specs.Raw.{raw_lines}
-use Rattle.proof_trees.specs.Tree.{Tree}
-use Rattle.certificate_languages.specs.declared.language.Language.{Language}
+use Rattle.certificate_data.specs.Tree.{Tree}
+use Rattle.certificate_data.specs.declared.language.Language.{Language}
 use Rattle.certificate_lines.specs.Items.{items_from}
 use Rattle.certificate_lines.specs.Courses.{tree_course, whole}
 use Rattle.certificate_lines.specs.Fits.{AllFit}

@@ -13,26 +13,26 @@ use Rattle.field_lines.proofs.SplitLemmas.{numbered-ended}
 use Rattle.certificate_lines.specs.Words.{line_bytes}
 use Rattle.certificate_lines.specs.Lines as line
 use Rattle.certificate_lines.specs.Lines.{most}
-use Rattle.certificate_lines.specs.Items.{by_words, seen, taken, item_on, wanted_after, in_front, items_from}
+use Rattle.certificate_lines.specs.Items.{by_words, seen, taken, item_on, wanted_after, items_in_front, items_from}
 use Rattle.county_codes.specs.Digits.{five_digits}
-use Rattle.certificate_lines.specs.Spelling.{weight_word, item_words, text_of}
-use Rattle.certificate_lines.specs.Fits.{AreCodes, IsSet, FitsWeight, AreWeights, Fits, AllFit}
-use Rattle.certificate_lines.specs.Rest.{fault_at}
+use Rattle.certificate_lines.specs.Spelling.{weight_word, item_words, text_of_items}
+use Rattle.certificate_lines.specs.Fits.{AreCodes, IsSet, FitsWeight, AreWeights, IsWanted, AllFit}
+use Rattle.certificate_lines.specs.Rest.{text_fault_at}
 use Rattle.field_lines.proofs.NumbersBack.{Digit, decimal_digits}
 use Rattle.county_codes.proofs.DigitsBack.{code_digits}
 use Rattle.certificate_text.proofs.SpellLaws.{Shown, IsWord, Printed, printed_line, line_words_back, window_back, order_back, limit_back, group_back, take_back, plain_back, wide_back, stuck_back, bound_back, weigh_back, target_back}
 use Rattle.certificate_lines.specs.declared.fault.TextKind.{TextKind}
 use Rattle.certificate_lines.specs.declared.fault.TextFault.{TextFault}
-use Rattle.certificate_languages.specs.declared.language.Language.{Language}
-use Rattle.certificate_languages.specs.declared.language.Language.TheVariants.{Plain, Wide}
-use Rattle.certificate_lines.specs.declared.weights.Weight.{Weight}
+use Rattle.certificate_data.specs.declared.language.Language.{Language}
+use Rattle.certificate_data.specs.declared.language.Language.TheVariants.{Plain, Wide}
+use Rattle.certificate_data.specs.declared.weights.Weight.{Weight}
 use Rattle.county_codes.specs.Windows.{is_window}
 use Rattle.county_codes.proofs.WindowLemmas.{in_range}
 use Rattle.county_codes.specs.declared.group.Group.{Group}
 use Rattle.county_codes.specs.declared.window.Window.{Window}
 use Rattle.certificate_lines.specs.declared.item.Version.{Version}
 use Rattle.certificate_lines.specs.declared.item.Version.TheVariants.{One, Two}
-use Rattle.certificate_lines.specs.declared.item.Allowance.TheVariants.{Room, Weigh}
+use Rattle.certificate_data.specs.declared.allowance.Allowance.TheVariants.{Room, Weigh}
 use Rattle.certificate_lines.specs.declared.item.Opening.TheVariants.{Branch, Stuck, Seats, Bound}
 use Rattle.certificate_lines.specs.declared.item.Item.{Item}
 use Rattle.certificate_lines.specs.declared.item.Item.TheVariants.{Head, Within, Order, Limit, Target, Grouped, Opens, Takes, Mark, Allows, End}
@@ -283,7 +283,7 @@ head_line n Plain Two = record { printed = printed_by (join_with_byte 32 (item_w
 head_line n Wide Two = record { printed = printed_by (join_with_byte 32 (item_words (Head Wide Two))) refl; read = refl }
 
 -- the line of what fits is read
-pub fits_line : (n : ℕ) (wanted : Wanted) (item : Item) → Fits wanted item → IsLine n wanted item
+pub fits_line : (n : ℕ) (wanted : Wanted) (item : Item) → IsWanted wanted item → IsLine n wanted item
 fits_line n want.Head (Head language version) f = head_line n language version
 fits_line n (want.Window language) (Within w) f = window_line n language w f
 fits_line n (want.Order language) (Order cs) f = order_line n language cs f.0 f.1
@@ -316,18 +316,18 @@ line_cut n bytes rest a =
 
 abbrev pub line_by : Wanted → ℕ → List RawLine → List Wanted → Result Item TextKind → Result (List Item) TextFault
 line_by w n pieces more r = elim r as (λ _. Result (List Item) TextFault) [
-  | Ok item ↦ in_front (item ∷ []) (items_from (wanted_after w item ++ more) (n + 1) pieces)
-  | Err kind ↦ Err (fault_at kind n)
+  | Ok item ↦ items_in_front (item ∷ []) (items_from (wanted_after w item ++ more) (n + 1) pieces)
+  | Err kind ↦ Err (text_fault_at kind n)
 ]
 
 -- items that fit are read from their text
-pub items_back : (wanted : List Wanted) (n : ℕ) (items : List Item) → AllFit wanted items → items_from wanted n (raw_lines_from n (text_of items)) ≡ Ok items
+pub items_back : (wanted : List Wanted) (n : ℕ) (items : List Item) → AllFit wanted items → items_from wanted n (raw_lines_from n (text_of_items items)) ≡ Ok items
 items_back [] n [] f = refl
 items_back [] n (item ∷ items) f = absurd f
 items_back (w ∷ more) n [] f = absurd f
 items_back (w ∷ more) n (item ∷ items) f =
     let one = fits_line n w item f.0 in
-    let cut : raw_lines_from n (text_of (item ∷ items)) ≡ record { number = n; bytes = join_with_byte 32 (item_words item); ended = true } ∷ raw_lines_from (n + 1) (text_of items) =
-    ap (raw_lines_from n) (append_assoc (join_with_byte 32 (item_words item)) (10 ∷ []) (text_of items)) ∙ line_cut n (join_with_byte 32 (item_words item)) (text_of items) one.printed in
-    ap (items_from (w ∷ more) n) cut ∙ ap (line_by w n (raw_lines_from (n + 1) (text_of items)) more) one.read
-    ∙ ap (in_front (item ∷ [])) (items_back (wanted_after w item ++ more) (n + 1) items f.1)
+    let cut : raw_lines_from n (text_of_items (item ∷ items)) ≡ record { number = n; bytes = join_with_byte 32 (item_words item); ended = true } ∷ raw_lines_from (n + 1) (text_of_items items) =
+    ap (raw_lines_from n) (append_assoc (join_with_byte 32 (item_words item)) (10 ∷ []) (text_of_items items)) ∙ line_cut n (join_with_byte 32 (item_words item)) (text_of_items items) one.printed in
+    ap (items_from (w ∷ more) n) cut ∙ ap (line_by w n (raw_lines_from (n + 1) (text_of_items items)) more) one.read
+    ∙ ap (items_in_front (item ∷ [])) (items_back (wanted_after w item ++ more) (n + 1) items f.1)

@@ -8,14 +8,14 @@ use Rattle.field_lines.specs.Fault.{most_bytes}
 use Rattle.field_lines.specs.Fields.{fields_of}
 use Rattle.field_lines.specs.Number.{number_in, digits_of}
 use Rattle.field_lines.specs.Raw.{RawLine}
-use Rattle.certificate_languages.specs.declared.language.Language.{Language}
-use Rattle.certificate_languages.specs.declared.language.Language.TheVariants.{Plain, Wide}
+use Rattle.certificate_data.specs.declared.language.Language.{Language}
+use Rattle.certificate_data.specs.declared.language.Language.TheVariants.{Plain, Wide}
 use Rattle.certificate_lines.specs.Words.{is_numeral, has_leading_zero, is_canonical, words_of, line_bytes, line_words, number, code, halves, pair}
 use Rattle.certificate_lines.specs.Lines as line
-use Rattle.certificate_lines.specs.Lines.{most, begins, named, counted, number_at, code_at, each}
+use Rattle.certificate_lines.specs.Lines.{most, begins, named, counted, number_at, code_word_at, each}
 use Rattle.certificate_lines.specs.Items.{by_words, head_in, headed, seen, taken, item_on, wanted_after}
-use Rattle.certificate_lines.specs.Courses.{Course, only_fault, first, course_from}
-use Rattle.certificate_lines.specs.Rest.{fault_at}
+use Rattle.certificate_lines.specs.Courses.{Unread, only_fault, first, course_from}
+use Rattle.certificate_lines.specs.Rest.{text_fault_at}
 use Rattle.certificate_lines.specs.declared.fault.TextKind.{TextKind}
 use Rattle.certificate_lines.specs.declared.fault.TextKind.TheVariants.{BadWord, BadNumber, NotCanonical, ReadFault, Memory}
 use Rattle.certificate_lines.specs.declared.fault.TextFault.{TextFault}
@@ -78,7 +78,7 @@ number_at_said : (least greatest : ℕ) (words : List (List ℕ)) → Said (numb
 number_at_said least greatest [] = tt
 number_at_said least greatest (word ∷ words) = bind_said (number least greatest word) _ (number_said least greatest word) (λ n. tt)
 
-code_at_said : (words : List (List ℕ)) → Said (code_at words)
+code_at_said : (words : List (List ℕ)) → Said (code_word_at words)
 code_at_said [] = tt
 code_at_said (word ∷ words) = bind_said (code word) _ (code_said word) (λ c. tt)
 
@@ -125,14 +125,14 @@ group_said words =
 
 branch_said : (language : Language) (levels : ℕ) (words : List (List ℕ)) → Said (line.branch_on language levels words)
 unfolding line.branch_on
-branch_said Plain levels words = bind_said (counted 1 1 words) _ (counted_said 1 1 words) (λ ws. bind_said (code_at ws) _ (code_at_said ws) (λ c. cond_said (nat_lt 0 levels) _ _ tt tt))
+branch_said Plain levels words = bind_said (counted 1 1 words) _ (counted_said 1 1 words) (λ ws. bind_said (code_word_at ws) _ (code_at_said ws) (λ c. cond_said (nat_lt 0 levels) _ _ tt tt))
 branch_said Wide levels words =
     bind_said (counted 2 2 words) _ (counted_said 2 2 words)
-    (λ ws. bind_said (code_at ws) _ (code_at_said ws) (λ c. bind_said (number_at 1 most c.1) _ (number_at_said 1 most c.1) (λ n. cond_said (nat_lt 0 levels) _ _ tt tt)))
+    (λ ws. bind_said (code_word_at ws) _ (code_at_said ws) (λ c. bind_said (number_at 1 most c.1) _ (number_at_said 1 most c.1) (λ n. cond_said (nat_lt 0 levels) _ _ tt tt)))
 
 stuck_said : (words : List (List ℕ)) → Said (line.stuck_on words)
 unfolding line.stuck_on
-stuck_said words = bind_said (counted 1 1 words) _ (counted_said 1 1 words) (λ ws. bind_said (code_at ws) _ (code_at_said ws) (λ c. tt))
+stuck_said words = bind_said (counted 1 1 words) _ (counted_said 1 1 words) (λ ws. bind_said (code_word_at ws) _ (code_at_said ws) (λ c. tt))
 
 bound_said : (words : List (List ℕ)) → Said (line.bound_on words)
 unfolding line.bound_on
@@ -195,10 +195,10 @@ abbrev pub SaidFault : Option TextFault → Type 0
 SaidFault None = Unit {0}
 SaidFault (Some fault) = OfText fault.kind
 
-abbrev course_by : Wanted → ℕ → List RawLine → List Wanted → Result Item TextKind → Course
-course_by w n pieces more r = elim r as (λ _. Course) [
+abbrev course_by : Wanted → ℕ → List RawLine → List Wanted → Result Item TextKind → Unread
+course_by w n pieces more r = elim r as (λ _. Unread) [
   | Ok i ↦ first i (course_from (wanted_after w i ++ more) (n + 1) pieces)
-  | Err kind ↦ only_fault (fault_at kind n)
+  | Err kind ↦ only_fault (text_fault_at kind n)
 ]
 
 -- the first fault where things are wanted in turn

@@ -3,20 +3,21 @@ use Rattle.std.proofs.Common.{ℕ, ◌≤◌, List, [], ◌∷◌, ◌++◌, len
 use Rattle.county_codes.specs.Windows.{FitsRange}
 use Rattle.grouping_laws.specs.Problem.{Problem}
 use Rattle.grouping_laws.specs.GroupsFrom.{IsOrder}
-use Rattle.proof_trees.specs.Round.{Round}
-use Rattle.proof_trees.specs.State.{State, IsState, empty_state}
-use Rattle.proof_trees.specs.Tree.{Tree}
-use Rattle.proof_trees.specs.Proving.{Proves}
-use Rattle.proof_trees.specs.Certificate.{IsCertificate}
-use Rattle.proof_trees.proofs.Branches.{branch_keeps_state}
-use Rattle.proof_trees.proofs.Depth.{trees_are_shallow}
+use Rattle.certificate_data.specs.Round.{Round}
+use Rattle.certificate_laws.specs.State.{State, IsState, empty_state}
+use Rattle.certificate_data.specs.Tree.{Tree}
+use Rattle.certificate_laws.specs.Proving.{Proves}
+use Rattle.certificate_laws.specs.Certificate.{IsCertificate}
+use Rattle.certificate_laws.proofs.Branches.{branch_keeps_state}
+use Rattle.certificate_laws.proofs.Depth.{trees_are_shallow}
 use Rattle.certificate_lines.specs.Lines.{most}
 use Rattle.certificate_lines.specs.Fits.{AreCodes, AllFit}
-use Rattle.certificate_lines.specs.Spelling.{text_of}
+use Rattle.certificate_lines.specs.Spelling.{text_of_items}
 use Rattle.certificate_lines.specs.declared.item.Item.{Item}
 use Rattle.certificate_lines.specs.declared.item.Item.TheVariants as item
 use Rattle.certificate_lines.specs.declared.item.Wanted.TheVariants as want
-use Rattle.certificate_text.specs.Trees.{Certificate, items_of_tree, items_of_target, items_of_certificate}
+use Rattle.certificate_data.specs.TreeValue.{Certificate}
+use Rattle.certificate_text.specs.Trees.{items_of_tree, items_of_target, items_of_certificate}
 use Rattle.certificate_text.specs.Spelled.{IsSpelling}
 use Rattle.certificate_text.specs.TreeItems.{HasLines, TargetHasLines}
 use Rattle.certificate_text.specs.TextLaws.{ProofTreesHaveTexts}
@@ -40,7 +41,7 @@ certificate_fits p c is window few codes small target lines =
 
 certificate_spelled : (p : Problem) (c : Certificate) → IsCertificate p c.round c.tree → FitsRange c.round.window → length c.round.order ≤ most → AreCodes c.round.order → c.round.limit ≤ most → TargetHasLines c.round.target
     → HasLines c.round.language c.tree → (text : List ℕ) × IsSpelling text c
-certificate_spelled p c is window few codes small target lines = (text_of (items_of_certificate c), record { fits = certificate_fits p c is window few codes small target lines; text_is = refl })
+certificate_spelled p c is window few codes small target lines = (text_of_items (items_of_certificate c), record { fits = certificate_fits p c is window few codes small target lines; text_is = refl })
 
 pub have_texts : ProofTreesHaveTexts
 have_texts = record { weights = weights_fit; tree = tree_spelled; certificate = certificate_spelled }

@@ -1,33 +1,34 @@
 -- Trees that fit, part by part.
 use Rattle.std.proofs.Common.{◌≡◌, ℕ, ◌-◌, ◌≤◌, List, [], ◌∷◌, ◌++◌, length, map, Option, refl, ap, sym, ◌∙◌}
 use Rattle.std.specs.List.{flat_map}
-use Rattle.certificate_languages.specs.declared.language.Language.{Language}
-use Rattle.certificate_languages.specs.declared.language.Language.TheVariants.{Plain, Wide}
-use Rattle.proof_trees.specs.Tree.{bound}
-use Rattle.proof_trees.specs.Depth.{after_raise}
+use Rattle.certificate_data.specs.declared.language.Language.{Language}
+use Rattle.certificate_data.specs.declared.language.Language.TheVariants.{Plain, Wide}
+use Rattle.certificate_data.specs.Tree.{bound}
+use Rattle.certificate_laws.specs.Depth.{after_raise}
 use Rattle.certificate_lines.specs.Lines.{most}
 use Rattle.certificate_lines.specs.Items.{allowances_wanted}
-use Rattle.certificate_lines.specs.Fits.{Fits, IsSet}
+use Rattle.certificate_lines.specs.Fits.{IsWanted, IsSet}
 use Rattle.certificate_lines.specs.Writes.{DontFit}
-use Rattle.certificate_lines.specs.declared.item.Allowance.{Allowance as DeclaredAllowance}
+use Rattle.certificate_data.specs.declared.allowance.Allowance.{Allowance as DeclaredAllowance}
 use Rattle.certificate_lines.specs.declared.item.Opening.TheVariants as opening
 use Rattle.certificate_lines.specs.declared.item.Item.{Item}
 use Rattle.certificate_lines.specs.declared.item.Item.TheVariants as item
 use Rattle.certificate_lines.specs.declared.item.Wanted.TheVariants as want
-use Rattle.certificate_text.specs.Trees.{allowance_of, leaf_items, tree_of, leaf_of, items_of_tree, items_of_takes, list_of_takes}
+use Rattle.certificate_data.specs.TreeValue.{allowance_of, tree_of, leaf_of, list_of_takes}
+use Rattle.certificate_text.specs.Trees.{leaf_items, items_of_tree, items_of_takes}
 use Rattle.certificate_text.specs.Tests.{Fitting}
-use Rattle.certificate_text.specs.declared.tree.Tree.{Tree, out-Tree, roll-out-Tree}
-use Rattle.certificate_text.specs.declared.tree.Branch.{Branch, out-Branch, roll-out-Branch}
-use Rattle.certificate_text.specs.declared.tree.Take.{Take, Take', out-Take, roll-out-Take}
+use Rattle.certificate_data.specs.declared.tree.Tree.{Tree, out-Tree, roll-out-Tree}
+use Rattle.certificate_data.specs.declared.tree.Branch.{Branch, out-Branch, roll-out-Branch}
+use Rattle.certificate_data.specs.declared.tree.Take.{Take, Take', out-Take, roll-out-Take}
 use Rattle.certificate_text.proofs.TreeViews.{items_of_branch, items_of_branches, items_of_take, bound_items, tree_items, made_branch, made_take}
 use Rattle.certificate_text.proofs.FitLaws.{fitting_then, fitting_with, fitting_as, refused_with, refused_as, refused_after, fitting_line, line_refused}
 
 -- the first line of a bound leaf, and its lines
-fits_bound : (language : Language) (levels n : ℕ) → n ≤ most → Fits (want.Tree language levels) (item.Opens (opening.Bound n))
+fits_bound : (language : Language) (levels n : ℕ) → n ≤ most → IsWanted (want.Tree language levels) (item.Opens (opening.Bound n))
 fits_bound Plain levels n few = few
 fits_bound Wide levels n few = few
 
-bound_fits : (language : Language) (levels n : ℕ) → Fits (want.Tree language levels) (item.Opens (opening.Bound n)) → n ≤ most
+bound_fits : (language : Language) (levels n : ℕ) → IsWanted (want.Tree language levels) (item.Opens (opening.Bound n)) → n ≤ most
 bound_fits Plain levels n fit = fit
 bound_fits Wide levels n fit = fit
 
@@ -52,11 +53,11 @@ module _ (language : Language) (levels : ℕ) (ks : List DeclaredAllowance) wher
       (line_refused (want.Tree language levels) [] (item.Opens (opening.Bound (length ks))) (map item.Allows ks) (λ fit. many (bound_fits language levels (length ks) fit)))
 
 -- a stuck leaf
-fits_stuck : (language : Language) (levels county : ℕ) → county ≤ 99999 → Fits (want.Tree language levels) (item.Opens (opening.Stuck county))
+fits_stuck : (language : Language) (levels county : ℕ) → county ≤ 99999 → IsWanted (want.Tree language levels) (item.Opens (opening.Stuck county))
 fits_stuck Plain levels county small = small
 fits_stuck Wide levels county small = small
 
-stuck_fits : (language : Language) (levels county : ℕ) → Fits (want.Tree language levels) (item.Opens (opening.Stuck county)) → county ≤ 99999
+stuck_fits : (language : Language) (levels county : ℕ) → IsWanted (want.Tree language levels) (item.Opens (opening.Stuck county)) → county ≤ 99999
 stuck_fits Plain levels county fit = fit
 stuck_fits Wide levels county fit = fit
 
@@ -66,7 +67,7 @@ stuck_fitting language levels county small = fitting_line (want.Tree language le
 pub stuck_unfit : (language : Language) (levels county : ℕ) → (county ≤ 99999 → ⊥) → DontFit (want.Tree language levels ∷ []) (item.Opens (opening.Stuck county) ∷ [])
 stuck_unfit language levels county great = line_refused (want.Tree language levels) [] (item.Opens (opening.Stuck county)) [] (λ fit. great (stuck_fits language levels county fit))
 
-fits_seats : (language : Language) (levels : ℕ) → Fits (want.Tree language levels) (item.Opens opening.Seats)
+fits_seats : (language : Language) (levels : ℕ) → IsWanted (want.Tree language levels) (item.Opens opening.Seats)
 fits_seats Plain levels = tt
 fits_seats Wide levels = tt
 
@@ -93,16 +94,16 @@ module _ (language : Language) (k : ℕ) (cs : List ℕ) (inside : List Item) wh
 
 -- a branch and its takes
 module _ (language : Language) (k county : ℕ) (limit : Option ℕ) (inside : List Item) where
-  pub branch_fitting : Fits (want.Tree language k) (item.Opens (opening.Branch county limit)) → Fitting (want.Takes language k ∷ []) inside (want.Tree language (after_raise language k) ∷ [])
+  pub branch_fitting : IsWanted (want.Tree language k) (item.Opens (opening.Branch county limit)) → Fitting (want.Takes language k ∷ []) inside (want.Tree language (after_raise language k) ∷ [])
       → Fitting (want.Tree language k ∷ []) (item.Opens (opening.Branch county limit) ∷ inside) (want.Tree language (after_raise language k) ∷ [])
   branch_fitting fit h =
       fitting_then (want.Tree language k ∷ []) (want.Takes language k ∷ []) (want.Tree language (after_raise language k) ∷ []) (item.Opens (opening.Branch county limit) ∷ []) inside
       (fitting_line (want.Tree language k) (item.Opens (opening.Branch county limit)) fit) h
 
-  pub branch_unfit : (Fits (want.Tree language k) (item.Opens (opening.Branch county limit)) → ⊥) → DontFit (want.Tree language k ∷ []) (item.Opens (opening.Branch county limit) ∷ inside)
+  pub branch_unfit : (IsWanted (want.Tree language k) (item.Opens (opening.Branch county limit)) → ⊥) → DontFit (want.Tree language k ∷ []) (item.Opens (opening.Branch county limit) ∷ inside)
   branch_unfit unfit = line_refused (want.Tree language k) [] (item.Opens (opening.Branch county limit)) inside unfit
 
-  pub branch_refused : Fits (want.Tree language k) (item.Opens (opening.Branch county limit)) → DontFit (want.Takes language k ∷ []) inside → DontFit (want.Tree language k ∷ []) (item.Opens (opening.Branch county limit) ∷ inside)
+  pub branch_refused : IsWanted (want.Tree language k) (item.Opens (opening.Branch county limit)) → DontFit (want.Takes language k ∷ []) inside → DontFit (want.Tree language k ∷ []) (item.Opens (opening.Branch county limit) ∷ inside)
   branch_refused fit unfit =
       refused_after (want.Tree language k ∷ []) (want.Takes language k ∷ []) (item.Opens (opening.Branch county limit) ∷ []) inside
       (fitting_line (want.Tree language k) (item.Opens (opening.Branch county limit)) fit) unfit

@@ -2,8 +2,9 @@
 use Rattle.std.proofs.Common.{◌≡◌, List, [], ◌∷◌, ◌++◌, length, map, refl, ap, sym, ◌∙◌, append_assoc}
 use Rattle.certificate_lines.specs.declared.item.Item.{Item}
 use Rattle.certificate_lines.specs.declared.item.Item.TheVariants as item
-use Rattle.proof_trees.specs.Tree.{Weight, Allowance, room, weigh, stuck, seats, bound, Tree, leaf, branch, Takes, no_take, take}
-use Rattle.certificate_text.specs.Trees.{weight_of, declared_weight, allowance_of, declared_allowance, items_of_tree, items_of_takes}
+use Rattle.certificate_data.specs.Tree.{Weight, Allowance, room, weigh, stuck, seats, bound, Tree, leaf, branch, Takes, no_take, take}
+use Rattle.certificate_data.specs.TreeValue.{weight_of, declared_weight, allowance_of, declared_allowance}
+use Rattle.certificate_text.specs.Trees.{items_of_tree, items_of_takes}
 
 -- the heads and the tails of equal lists
 pub heads : (x y : Item) (xs ys : List Item) → x ∷ xs ≡ y ∷ ys → (x ≡ y) × (xs ≡ ys)

@@ -1,31 +1,20 @@
--- Trees as lists of branches, and takes as lists.
+-- The items of trees, of branches and of takes as lists.
 use Rattle.std.proofs.Common.{◌≡◌, ℕ, List, [], ◌∷◌, ◌++◌, map, length, arith, Vec, Global, Option, refl, ap, sym, ◌∙◌, append_assoc, append-nil}
 use Rattle.certificate_lines.specs.declared.item.Opening.TheVariants as opening
 use Rattle.certificate_lines.specs.declared.item.Item.{Item}
 use Rattle.certificate_lines.specs.declared.item.Item.TheVariants as item
-use Rattle.certificate_text.specs.declared.tree.Leaf.{Leaf as DeclaredLeaf}
-use Rattle.certificate_lines.specs.declared.weights.Weight.{Weight as DeclaredWeight}
-use Rattle.certificate_lines.specs.declared.item.Allowance.{Allowance as DeclaredAllowance}
-use Rattle.certificate_lines.specs.declared.item.Allowance.TheVariants.{Room, Weigh}
+use Rattle.certificate_data.specs.declared.tree.Leaf.{Leaf as DeclaredLeaf}
+use Rattle.certificate_data.specs.declared.weights.Weight.{Weight as DeclaredWeight}
+use Rattle.certificate_data.specs.declared.allowance.Allowance.{Allowance as DeclaredAllowance}
+use Rattle.certificate_data.specs.declared.allowance.Allowance.TheVariants.{Room, Weigh}
 use mathlib.Core.Former.{Count}
-use Rattle.certificate_text.specs.declared.tree.Tree.{Tree as DeclaredTree, Tree', Row_of-Branch, end_of-Branch, more_of-Branch, items-the_row-Branch, items_hidden-the_row-Branch-1, roll-Tree}
-use Rattle.certificate_text.specs.declared.tree.Branch.{Branch, Branch', Row_of-Take, end_of-Take, more_of-Take, items-the_row-Take, items_hidden-the_row-Take-0, roll-Branch}
-use Rattle.certificate_text.specs.declared.tree.Take.{Take, Take', roll-Take}
-use Rattle.proof_trees.specs.Tree.{Tree, leaf, branch, Takes, no_take}
-use Rattle.certificate_text.specs.Trees.{leaf_of, tree_of, branches_onto, branch_onto, takes_of, take_onto, list_of_takes, leaf_items, items_of_tree, items_of_takes, weight_of, declared_weight, allowance_of, declared_allowance}
-
--- branches in front of a tree
-abbrev pub list_onto : List Branch → Tree → Tree
-list_onto [] tree = tree
-list_onto (b ∷ bs) tree = branch_onto b (list_onto bs tree)
-
-pub branch_row : (n : _) (row : Row_of-Branch n) (tree : Tree) → branches_onto row tree ≡ list_onto (items-the_row-Branch n row) tree
-branch_row n end_of-Branch tree = refl
-branch_row n (more_of-Branch b rest) tree = ap (branch_onto b) (branch_row _ rest tree)
-
-pub take_row : (n : _) (row : Row_of-Take n) → takes_of row ≡ list_of_takes (items-the_row-Take n row)
-take_row n end_of-Take = refl
-take_row n (more_of-Take t rest) = ap (take_onto t) (take_row _ rest)
+use Rattle.certificate_data.specs.declared.tree.Tree.{Tree as DeclaredTree, Tree', Row_of-Branch, end_of-Branch, more_of-Branch, items-the_row-Branch, items_hidden-the_row-Branch-1, roll-Tree}
+use Rattle.certificate_data.specs.declared.tree.Branch.{Branch, Branch', Row_of-Take, end_of-Take, more_of-Take, items-the_row-Take, items_hidden-the_row-Take-0, roll-Branch}
+use Rattle.certificate_data.specs.declared.tree.Take.{Take, Take', roll-Take}
+use Rattle.certificate_data.specs.Tree.{Tree, leaf, branch, Takes, no_take}
+use Rattle.certificate_data.specs.TreeValue.{leaf_of, tree_of, branches_onto, branch_onto, takes_of, take_onto, list_of_takes, weight_of, declared_weight, allowance_of, declared_allowance}
+use Rattle.certificate_text.specs.Trees.{leaf_items, items_of_tree, items_of_takes}
+use Rattle.certificate_data.proofs.TreeLists.{list_onto, take_row, takes_row, made_tree, allowance_again}
 
 -- the items of a branch, up to its mark
 abbrev pub items_of_branch : Branch → List Item
@@ -62,26 +51,6 @@ takes_more (a ∷ ts) t =
     ∙ sym (append_assoc (items_of_take a) (items_of_takes (list_of_takes ts)) (items_of_take t))
     ∙ ap (λ (l : List Item). l ++ items_of_take t) (sym (take_items a (list_of_takes ts)))
 
-abbrev branches_row : DeclaredTree → (n : Count) × Row_of-Branch n
-branches_row (Tree' shape branches last) = (_, branches)
-
-abbrev takes_row : Branch → (n : Count) × Row_of-Take n
-takes_row (Branch' county limit shape takes) = (_, takes)
-
--- a tree that is made of a list of branches and a leaf
-pub made_tree : (branches : Vec Branch Global) (last : DeclaredLeaf) → tree_of (roll-Tree (record { branches = branches; leaf = last })) ≡ list_onto branches.items (leaf (leaf_of last))
-unfolding Rattle.certificate_text.specs.declared.tree.Branch.TheBlock.hidden-the_row-Branch-1 roll-Tree denote.Hole.Carrier.roll
-made_tree branches last =
-    let row = branches_row (roll-Tree (record { branches = branches; leaf = last })) in
-    branch_row row.0 row.1 (leaf (leaf_of last)) ∙ ap (λ (bs : List Branch). list_onto bs (leaf (leaf_of last))) (items_hidden-the_row-Branch-1 branches)
-
--- a branch that is made of a list of takes
-pub made_takes : (county : ℕ) (limit : Option ℕ) (takes : Vec Take Global) (raised : Tree) → branch_onto (roll-Branch (record { county = county; limit = limit; takes = takes })) raised ≡ branch county limit (list_of_takes takes.items) raised
-unfolding Rattle.certificate_text.specs.declared.tree.Branch.TheBlock.hidden-the_row-Take-0 roll-Branch denote.Hole.Carrier.roll
-made_takes county limit takes raised =
-    let row = takes_row (roll-Branch (record { county = county; limit = limit; takes = takes })) in
-    ap (λ (ts : Takes). branch county limit ts raised) (take_row row.0 row.1 ∙ ap list_of_takes (items_hidden-the_row-Take-0 takes))
-
 -- the items of a tree that is made of a list of branches and a leaf
 pub tree_items : (branches : Vec Branch Global) (last : DeclaredLeaf)
     → items_of_tree (tree_of (roll-Tree (record { branches = branches; leaf = last }))) ≡ items_of_branches branches.items ++ leaf_items (leaf_of last)
@@ -90,7 +59,7 @@ tree_items branches last = ap items_of_tree (made_tree branches last) ∙ list_i
 -- the items of a branch that is made of a list of takes
 pub made_branch : (county : ℕ) (limit : Option ℕ) (takes : Vec Take Global)
     → items_of_branch (roll-Branch (record { county = county; limit = limit; takes = takes })) ≡ item.Opens (opening.Branch county limit) ∷ (items_of_takes (list_of_takes takes.items) ++ item.Mark ∷ [])
-unfolding Rattle.certificate_text.specs.declared.tree.Branch.TheBlock.hidden-the_row-Take-0 roll-Branch denote.Hole.Carrier.roll
+unfolding Rattle.certificate_data.specs.declared.tree.Branch.TheBlock.hidden-the_row-Take-0 roll-Branch denote.Hole.Carrier.roll
 made_branch county limit takes =
     let row = takes_row (roll-Branch (record { county = county; limit = limit; takes = takes })) in
     ap (λ (ts : Takes). item.Opens (opening.Branch county limit) ∷ (items_of_takes ts ++ item.Mark ∷ [])) (take_row row.0 row.1 ∙ ap list_of_takes (items_hidden-the_row-Take-0 takes))
@@ -99,15 +68,6 @@ made_branch county limit takes =
 pub made_take : (codes : List ℕ) (tree : DeclaredTree) → items_of_take (roll-Take (record { codes = codes; tree = tree })) ≡ item.Takes codes ∷ items_of_tree (tree_of tree)
 unfolding roll-Take denote.Hole.Carrier.roll
 made_take codes tree = refl
-
-weights_again : (ws : List DeclaredWeight) → map declared_weight (map weight_of ws) ≡ ws
-weights_again [] = refl
-weights_again (w ∷ ws) = ap (λ (l : List DeclaredWeight). w ∷ l) (weights_again ws)
-
--- a line of a bound leaf, seen as a plain value and back
-pub allowance_again : (a : DeclaredAllowance) → declared_allowance (allowance_of a) ≡ a
-allowance_again Room = refl
-allowance_again (Weigh quota ws) = ap (Weigh quota) (weights_again ws)
 
 pub lines_again : (ks : List DeclaredAllowance) → map (λ a. item.Allows (declared_allowance a)) (map allowance_of ks) ≡ map item.Allows ks
 lines_again [] = refl

@@ -2,12 +2,12 @@
 use Rattle.std.specs.Prelude.{◌<◌, ◌≤◌, ◌^◌, Some, None}
 use Rattle.std.specs.List.{AllByRecursion}
 use Rattle.certificate_lines.specs.Fits.{AreCodes}
-use Rattle.certificate_lines.specs.declared.weights.Weight.{Weight}
-use Rattle.certificate_lines.specs.declared.item.Allowance.TheVariants.{Room, Weigh}
+use Rattle.certificate_data.specs.declared.weights.Weight.{Weight}
+use Rattle.certificate_data.specs.declared.allowance.Allowance.TheVariants.{Room, Weigh}
 use Rattle.certificate_lines.specs.declared.item.Opening.TheVariants.{Branch, Stuck, Seats, Bound}
 use Rattle.certificate_lines.specs.declared.item.Item.{Item}
 use Rattle.certificate_lines.specs.declared.item.Item.TheVariants.{Opens, Takes, Mark, Allows}
-use Rattle.proof_trees.specs.Tree.{Tree}
+use Rattle.certificate_data.specs.Tree.{Tree}
 use Rattle.certificate_text.specs.Trees.{items_of_tree}
 
 pub record IsWeightInRange (w : Weight) : Type 0 where

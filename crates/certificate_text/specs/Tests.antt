@@ -8,8 +8,10 @@ use Rattle.certificate_lines.specs.declared.item.Wanted.{Wanted}
 -- The items fit where some things are wanted, together with what follows exactly where what follows fits where the
 -- things left are wanted.
 pub record Fitting (wanted : List Wanted) (items : List Item) (left : List Wanted) : Type 0 where
-  pub fits : (more : List Wanted) (later : List Item) → AllFit (left ++ more) later → AllFit (wanted ++ more) (items ++ later)
-  pub rest : (more : List Wanted) (later : List Item) → AllFit (wanted ++ more) (items ++ later) → AllFit (left ++ more) later
+  pub fits : (more : List Wanted) (later : List Item) → AllFit (left ++ more) later
+      → AllFit (wanted ++ more) (items ++ later)
+  pub rest : (more : List Wanted) (later : List Item) → AllFit (wanted ++ more) (items ++ later)
+      → AllFit (left ++ more) later
 
 -- A test is true where the items fit, and false where they don't, whatever follows them.
 abbrev pub Tests : List Wanted → List Item → List Wanted → Bool → Type 0

@@ -1,15 +1,15 @@
 -- The first fault of the lines of a tree.
 use Rattle.std.specs.Prelude.{◌≡◌, ℕ, List, Some}
-use Rattle.proof_trees.specs.Tree.{Tree}
-use Rattle.certificate_languages.specs.declared.language.Language.{Language}
+use Rattle.certificate_data.specs.Tree.{Tree}
+use Rattle.certificate_data.specs.declared.language.Language.{Language}
 use Rattle.certificate_lines.specs.Courses.{tree_course}
-use Rattle.certificate_lines.specs.Spelling.{text_of}
+use Rattle.certificate_lines.specs.Spelling.{text_of_items}
 use Rattle.certificate_lines.specs.declared.fault.TextFault.{TextFault}
 use Rattle.certificate_text.specs.Trees.{items_of_tree}
 
 -- the lines of a tree
 abbrev pub lines_of_tree : Tree → List ℕ
-lines_of_tree tree = text_of (items_of_tree tree)
+lines_of_tree tree = text_of_items (items_of_tree tree)
 
 -- the first fault that the lines of the tree would meet, where they are read for an order of so many counties
 abbrev pub HasTreeFault : Language → ℕ → Tree → TextFault → Type 0

@@ -5,20 +5,20 @@ use Rattle.std.specs.List.{AllByRecursion}
 use Rattle.county_codes.specs.declared.group.Group.{Group}
 use Rattle.grouping_laws.specs.Grouping.{Grouping}
 use Rattle.certificate_lines.specs.Lines.{most}
-use Rattle.certificate_lines.specs.Fits.{Fits}
+use Rattle.certificate_lines.specs.Fits.{IsWanted}
 use Rattle.certificate_lines.specs.declared.item.Item.{Item}
 use Rattle.certificate_lines.specs.declared.item.Item.TheVariants.{Grouped, Opens, Takes, Mark, Allows}
 use Rattle.certificate_lines.specs.declared.item.Wanted.TheVariants as want
-use Rattle.certificate_languages.specs.declared.language.Language.{Language}
-use Rattle.proof_trees.specs.Tree.{Tree}
+use Rattle.certificate_data.specs.declared.language.Language.{Language}
+use Rattle.certificate_data.specs.Tree.{Tree}
 use Rattle.certificate_text.specs.Trees.{items_of_tree}
 
 -- the item fits where an item of a tree is wanted, if one branch more may be opened there
 abbrev pub FitsInTree : Language → Item → Type 0
-FitsInTree language (Opens opening) = Fits (want.Tree language 1) (Opens opening)
-FitsInTree language (Takes county_codes) = Fits (want.Takes language 1) (Takes county_codes)
+FitsInTree language (Opens opening) = IsWanted (want.Tree language 1) (Opens opening)
+FitsInTree language (Takes county_codes) = IsWanted (want.Takes language 1) (Takes county_codes)
 FitsInTree language Mark = Unit {0}
-FitsInTree language (Allows allowance) = Fits (want.Allowances 1) (Allows allowance)
+FitsInTree language (Allows allowance) = IsWanted (want.Allowances 1) (Allows allowance)
 FitsInTree language item = ⊥
 
 -- each item of the tree does
@@ -28,7 +28,7 @@ HasLines language tree = AllByRecursion (FitsInTree language) (items_of_tree tre
 -- no more groups than a target may have, each with numbers in their ranges
 pub record HasTargetLines (groups : List Group) : Type 0 where
   pub few : length groups ≤ most
-  pub each : AllByRecursion (λ group. Fits (want.Groups 1) (Grouped group)) groups
+  pub each : AllByRecursion (λ group. IsWanted (want.Groups 1) (Grouped group)) groups
 
 -- a target, if there is one, has such groups
 abbrev pub TargetHasLines : Option Grouping → Type 0

@@ -1,26 +1,25 @@
 //! Which trees and certificates a text spells, told from their values: no line is written.
 
 ghost use Rattle.std.specs.Prelude.{◌↔◌, ◌<◌, ℕ, List, [], ◌∷◌, ◌++◌, map, length, Some, IsTrue};
-ghost use Rattle.proof_trees.specs.Depth.{after_raise};
-ghost use Rattle.proof_trees.specs.RoundValue.{target_of};
-ghost use Rattle.proof_trees.specs.Tree.{bound};
-ghost use Rattle.certificate_languages.specs.declared.language.Language.{Language};
+ghost use Rattle.certificate_laws.specs.Depth.{after_raise};
+ghost use Rattle.certificate_data.specs.RoundValue.{target_of};
+ghost use Rattle.certificate_data.specs.Tree.{bound};
+ghost use Rattle.certificate_data.specs.declared.language.Language.{Language};
 ghost use Rattle.certificate_lines.specs.Fits.{AllFit};
 ghost use Rattle.certificate_lines.specs.Items.{groups_wanted, allowances_wanted};
 ghost use Rattle.certificate_lines.specs.declared.item.Item.TheVariants as item;
 ghost use Rattle.certificate_lines.specs.declared.item.Wanted.TheVariants as want;
 ghost use Rattle.certificate_text.specs.Spelled.{IsSpelling, IsTreeSpelling};
 ghost use Rattle.certificate_text.specs.Tests.{Tests};
-ghost use Rattle.certificate_text.specs.Trees.{allowance_of, tree_of, leaf_of, leaf_items, items_of_tree, items_of_takes, list_of_takes, items_of_head, items_of_target, items_of_certificate, certificate_of};
+ghost use Rattle.certificate_data.specs.TreeValue.{allowance_of, tree_of, leaf_of, list_of_takes, certificate_of};
+ghost use Rattle.certificate_text.specs.Trees.{leaf_items, items_of_tree, items_of_takes, items_of_head};
+ghost use Rattle.certificate_text.specs.Trees.{items_of_target, items_of_certificate};
 
-use crate::certificate::Certificate;
-use crate::tree::{Leaf, Take, Tree};
+use certificate_data::{Allowance, Certificate, Language, Leaf, Take, Tree};
 use certificate_lines::{
-    Allowance, allowance_fits, are_few, branch_fits, group_fits, is_code, levels_after, order_fits,
-    take_fits,
+    allowance_fits, are_few, branch_fits, group_fits, is_code, levels_after, order_fits, take_fits,
 };
 use county_codes::{Group, Grouping, Window};
-use proof_trees::Language;
 
 /// Whether the lines of a bound leaf fit, after its first.
 fn allowances_fit(allowances: &[Allowance]) -> bool
@@ -36,7 +35,8 @@ fn allowances_fit(allowances: &[Allowance]) -> bool
 
 /// Whether the lines of a bound leaf fit.
 fn bound_fits(allowances: &[Allowance]) -> bool
-    ensures { (language : Language) (levels : ℕ) → Tests (want.Tree language levels ∷ []) (leaf_items (bound (map allowance_of allowances.now))) [] result }
+    ensures { (language : Language) (levels : ℕ)
+        → Tests (want.Tree language levels ∷ []) (leaf_items (bound (map allowance_of allowances.now))) [] result }
 {
     if !are_few(allowances.len()) {
         return false;
@@ -46,7 +46,8 @@ fn bound_fits(allowances: &[Allowance]) -> bool
 
 /// Whether the lines of a leaf fit.
 fn leaf_fits(leaf: &Leaf) -> bool
-    ensures { (language : Language) (levels : ℕ) → Tests (want.Tree language levels ∷ []) (leaf_items (leaf_of leaf.now)) [] result }
+    ensures { (language : Language) (levels : ℕ)
+        → Tests (want.Tree language levels ∷ []) (leaf_items (leaf_of leaf.now)) [] result }
 {
     match leaf {
         Leaf::Stuck(county) => is_code(*county),
@@ -59,7 +60,8 @@ fn leaf_fits(leaf: &Leaf) -> bool
 #[cycle(fitting)]
 fn takes_fit(takes: &[Take], language: Language, levels: u16) -> bool
     requires { 0 < levels }
-    ensures { Tests (want.Takes language levels ∷ []) (items_of_takes (list_of_takes takes.now) ++ item.Mark ∷ []) (want.Tree language (after_raise language levels) ∷ []) result }
+    ensures { Tests (want.Takes language levels ∷ []) (items_of_takes (list_of_takes takes.now)
+        ++ item.Mark ∷ []) (want.Tree language (after_raise language levels) ∷ []) result }
 {
     'taking: for take in takes {
         if !take_fits(take.codes.as_slice()) {
@@ -92,7 +94,8 @@ fn tree_fits(tree: &Tree, language: Language, levels: u16) -> bool
 
 /// Whether the head fits, and the line of the allowance if one is named.
 fn head_fits(window: Option<Window>) -> bool
-    ensures { (language : Language) → Tests (want.Head ∷ []) (items_of_head language window) (want.Order language ∷ []) result }
+    ensures { (language : Language)
+        → Tests (want.Head ∷ []) (items_of_head language window) (want.Order language ∷ []) result }
 {
     match window {
         None => true,

@@ -2,29 +2,33 @@
 
 ghost use Rattle.std.specs.Prelude.{◌≡◌, ℕ, List, [], ◌++◌, Ok};
 ghost use Rattle.field_lines.specs.Raw.{RawLine, raw_lines_from};
-ghost use Rattle.proof_trees.specs.Tree.{Tree};
-ghost use Rattle.certificate_languages.specs.declared.language.Language.{Language};
+ghost use Rattle.certificate_data.specs.Tree.{Tree};
+ghost use Rattle.certificate_data.specs.declared.language.Language.{Language};
 ghost use Rattle.certificate_lines.specs.declared.item.Item.{Item};
 ghost use Rattle.certificate_lines.specs.declared.item.Wanted.{Wanted};
 ghost use Rattle.certificate_lines.specs.Items.{items_from};
 ghost use Rattle.certificate_lines.specs.Courses.{course_from, whole};
 ghost use Rattle.certificate_lines.specs.Fits.{AllFit};
-ghost use Rattle.certificate_lines.specs.Spelling.{text_of};
+ghost use Rattle.certificate_lines.specs.Spelling.{text_of_items};
 ghost use Rattle.certificate_text.specs.LineLaws.{TreesSpell};
 ghost use Rattle.certificate_text.specs.Spelled.{IsSpelling, IsTreeSpelling};
 ghost use Rattle.certificate_text.specs.TextLaws.{ProofTreesHaveTexts};
-ghost use Rattle.certificate_text.specs.Trees.{Certificate};
+ghost use Rattle.certificate_data.specs.TreeValue.{Certificate};
 
 /// Items that fit are read from their text, items that are read fit, and the text they are read from is theirs.
 pub fn items_and_texts_agree()
-    ensures back { (wanted : List Wanted) (n : ℕ) (items : List Item) → AllFit wanted items → items_from wanted n (raw_lines_from n (text_of items)) ≡ Ok items }
-    ensures only { (wanted : List Wanted) (n : ℕ) (text : List ℕ) (items : List Item) → items_from wanted n (raw_lines_from n text) ≡ Ok items → AllFit wanted items }
-    ensures text { (wanted : List Wanted) (n : ℕ) (text : List ℕ) (items : List Item) → items_from wanted n (raw_lines_from n text) ≡ Ok items → text ≡ text_of items }
+    ensures back { (wanted : List Wanted) (n : ℕ) (items : List Item) → AllFit wanted items
+        → items_from wanted n (raw_lines_from n (text_of_items items)) ≡ Ok items }
+    ensures only { (wanted : List Wanted) (n : ℕ) (text : List ℕ) (items : List Item)
+        → items_from wanted n (raw_lines_from n text) ≡ Ok items → AllFit wanted items }
+    ensures text { (wanted : List Wanted) (n : ℕ) (text : List ℕ) (items : List Item)
+        → items_from wanted n (raw_lines_from n text) ≡ Ok items → text ≡ text_of_items items }
 {}
 
 /// The items of a text are those that come one at a time, where no fault ends them.
 pub fn items_come_in_turn()
-    ensures { (wanted : List Wanted) (n : ℕ) (lines : List RawLine) → whole (course_from wanted n lines).items (course_from wanted n lines).fault ≡ items_from wanted n lines }
+    ensures { (wanted : List Wanted) (n : ℕ) (lines : List RawLine)
+        → whole (course_from wanted n lines).items (course_from wanted n lines).fault ≡ items_from wanted n lines }
 {}
 
 /// A certificate has one text at most, a text spells one certificate at most, and no certificate's text
@@ -38,9 +42,12 @@ pub fn certificates_have_one_text()
 /// For a language and a number of counties, a tree has one text at most, a text spells one tree at most, and no tree's
 /// text begins another's.
 pub fn trees_have_one_text()
-    ensures one_text { (language : Language) (counties : ℕ) (t u : List ℕ) (tree : Tree) → IsTreeSpelling language counties t tree → IsTreeSpelling language counties u tree → t ≡ u }
-    ensures one_value { (language : Language) (counties : ℕ) (t : List ℕ) (a b : Tree) → IsTreeSpelling language counties t a → IsTreeSpelling language counties t b → a ≡ b }
-    ensures no_prefix { (language : Language) (counties : ℕ) (t rest : List ℕ) (a b : Tree) → IsTreeSpelling language counties t a → IsTreeSpelling language counties (t ++ rest) b → rest ≡ [] }
+    ensures one_text { (language : Language) (counties : ℕ) (t u : List ℕ) (tree : Tree)
+        → IsTreeSpelling language counties t tree → IsTreeSpelling language counties u tree → t ≡ u }
+    ensures one_value { (language : Language) (counties : ℕ) (t : List ℕ) (a b : Tree)
+        → IsTreeSpelling language counties t a → IsTreeSpelling language counties t b → a ≡ b }
+    ensures no_prefix { (language : Language) (counties : ℕ) (t rest : List ℕ) (a b : Tree)
+        → IsTreeSpelling language counties t a → IsTreeSpelling language counties (t ++ rest) b → rest ≡ [] }
 {}
 
 /// The lines of a tree spell it where they meet no fault, and nothing spells it where they meet one.

@@ -1,5 +1,5 @@
 //! The text of a certificate: one spelling for each, read and written. Its lines, and the items that they
-//! say, are those of `certificate_lines`, whose public names for them are given on.
+//! say, are those of `certificate_lines`, whose public names for them are given on, as are those of `certificate_data`.
 //!
 //! A tree is written with its numbers as they stand. If its lines meet no fault, they spell it, and else nothing does.
 //! `write` and `write_tree` first test by the values whether a text spells them.
@@ -9,28 +9,25 @@
 //! let mut items = Items::of_tree(alloc, text.as_slice(), language, counties);
 //! ```
 //!
-//! A proof tree whose numbers are in the ranges of their lines always has a text.
+//! A proof tree whose numbers are in the ranges of their lines always has a text. The definitions stand in `specs/`:
+//! `Trees` (the items of a tree), `Spelled`, `TreeFault` and `Ranges`.
 #![tactic(auto)]
 
-mod certificate;
-mod copies;
 mod fitting;
 mod laws;
 mod lines;
 mod reading;
-mod tree;
 mod writing;
 
-pub use certificate::Certificate;
+pub use certificate_data::{Allowance, Branch, Certificate, Leaf, Take, Tree, Weight, Weights};
 pub use certificate_lines::{
-    Allowance, Item, ItemSource, Items, Opening, TextFault, TextKind, Version, Wanted, Weight,
-    Weights, Window, Words, WriteFault,
+    Item, ItemSource, Items, Opening, TextFault, TextKind, Version, Wanted, Words, WriteFault,
 };
+pub use county_codes::Window;
 pub use laws::{
     certificates_have_one_text, items_and_texts_agree, items_come_in_turn, proof_trees_have_texts,
     trees_have_one_text, trees_spell,
 };
 pub use lines::tree_lines;
 pub use reading::{front_tree, read, read_tree};
-pub use tree::{Branch, Leaf, Take, Tree};
 pub use writing::{write, write_tree};

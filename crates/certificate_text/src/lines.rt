@@ -1,24 +1,24 @@
 //! The lines of a tree or a certificate, written with its numbers as they stand.
 
 ghost use Rattle.std.specs.Prelude.{◌≡◌, ◌<◌, ◌^◌, ◌∷◌, ◌++◌, [], map, codes, decimal, IfOk, OnOk};
-ghost use Rattle.certificate_lines.specs.Spelling.{text_of};
-ghost use Rattle.certificate_lines.specs.declared.item.Allowance.TheVariants as allowance;
+ghost use Rattle.certificate_lines.specs.Spelling.{text_of_items};
+ghost use Rattle.certificate_data.specs.declared.allowance.Allowance.TheVariants as allowance;
 ghost use Rattle.certificate_lines.specs.declared.item.Item.TheVariants as item;
 ghost use Rattle.certificate_lines.specs.declared.item.Opening.TheVariants as opening;
-ghost use Rattle.proof_trees.specs.RoundValue.{target_of};
-ghost use Rattle.certificate_text.specs.Trees.{tree_of, leaf_of, leaf_items, items_of_tree, items_of_head, items_of_target, items_of_certificate, certificate_of};
+ghost use Rattle.certificate_data.specs.RoundValue.{target_of};
+ghost use Rattle.certificate_data.specs.TreeValue.{tree_of, leaf_of, certificate_of};
+ghost use Rattle.certificate_text.specs.Trees.{leaf_items, items_of_tree, items_of_head, items_of_target};
+ghost use Rattle.certificate_text.specs.Trees.{items_of_certificate};
 ghost use Rattle.certificate_text.specs.Added.{Added, branch_items, take_items};
 ghost use Rattle.certificate_text.specs.Ranges.{AreTreeNumbers};
 
-use crate::certificate::Certificate;
-use crate::tree::{Branch, Leaf, Take, Tree};
+use certificate_data::{Allowance, Branch, Certificate, Language, Leaf, Take, Tree, Weight};
 use certificate_lines::{
-    Allowance, Version, Weight, push_code_and_number_line, push_code_line, push_codes_line,
-    push_count_line, push_group_line, push_head, push_limit, push_number_and_weights, push_order,
-    push_target_line, push_window,
+    Version, push_code_and_number_line, push_code_line, push_codes_line, push_count_line,
+    push_group_line, push_head, push_limit, push_number_and_weights, push_order, push_target_line,
+    push_window,
 };
 use county_codes::{CountyCode, Group, Grouping, Window};
-use proof_trees::Language;
 use std::alloc::{AllocError, Global};
 
 /// Appends the first line of a bound leaf, of so many lines.
@@ -138,7 +138,7 @@ fn push_tree(out: &mut Vec<u8>, tree: &Tree) -> Result<(), AllocError>
 ///
 /// An error where memory was refused.
 pub fn tree_lines(alloc: Global, tree: &Tree) -> Result<Vec<u8>, AllocError>
-    ensures text { IfOk result (λ text. text.items ≡ text_of (items_of_tree (tree_of tree.now))) }
+    ensures text { IfOk result (λ text. text.items ≡ text_of_items (items_of_tree (tree_of tree.now))) }
     ensures numbers { IfOk result (λ text. AreTreeNumbers (tree_of tree.now)) }
 {
     let mut out = Vec::new(alloc);
@@ -152,7 +152,7 @@ fn push_head_lines(
     language: Language,
     window: Option<Window>,
 ) -> Result<(), AllocError>
-    ensures { OnOk result (out.new.items ≡ out.old.items ++ text_of (items_of_head language window)) }
+    ensures { OnOk result (out.new.items ≡ out.old.items ++ text_of_items (items_of_head language window)) }
 {
     match window {
         None => push_head(out, language, Version::One),
@@ -165,7 +165,7 @@ fn push_head_lines(
 
 /// Appends the lines of the groups of a target.
 fn push_groups(out: &mut Vec<u8>, groups: &[Group]) -> Result<(), AllocError>
-    ensures { OnOk result (out.new.items ≡ out.old.items ++ text_of (map item.Grouped groups.now)) }
+    ensures { OnOk result (out.new.items ≡ out.old.items ++ text_of_items (map item.Grouped groups.now)) }
 {
     for group in groups {
         push_group_line(out, group)?;
@@ -175,7 +175,7 @@ fn push_groups(out: &mut Vec<u8>, groups: &[Group]) -> Result<(), AllocError>
 
 /// Appends the lines of a target, or that there is none.
 fn push_target(out: &mut Vec<u8>, target: &Option<Grouping>) -> Result<(), AllocError>
-    ensures { OnOk result (out.new.items ≡ out.old.items ++ text_of (items_of_target (target_of target.now))) }
+    ensures { OnOk result (out.new.items ≡ out.old.items ++ text_of_items (items_of_target (target_of target.now))) }
 {
     match target {
         Some(target) => {
@@ -188,7 +188,7 @@ fn push_target(out: &mut Vec<u8>, target: &Option<Grouping>) -> Result<(), Alloc
 
 /// The lines of a certificate, whatever its numbers are.
 pub(crate) fn lines_of(alloc: Global, certificate: &Certificate) -> Result<Vec<u8>, AllocError>
-    ensures { IfOk result (λ text. text.items ≡ text_of (items_of_certificate (certificate_of certificate.now))) }
+    ensures { IfOk result (λ text. text.items ≡ text_of_items (items_of_certificate (certificate_of certificate.now))) }
 {
     let round = &certificate.round;
     let mut out = Vec::new(alloc);

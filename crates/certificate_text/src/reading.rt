@@ -1,27 +1,28 @@
 //! Certificates and trees, read from their lines.
 
-ghost use Rattle.std.specs.Prelude.{◌≡◌, ◌<◌, ◌≤◌, ◌+◌, ℕ, List, [], ◌∷◌, ◌++◌, map, length, take, Option, Ok, Err, IfOk, IfErr, OnOk};
-ghost use Rattle.certificate_lines.specs.Items.{allowances_wanted, groups_wanted, items_from, certificate_items, tree_items};
+ghost use Rattle.std.specs.Prelude.{◌≡◌, ◌<◌, ◌≤◌, ◌+◌, ℕ, List, [], ◌∷◌, ◌++◌, map, length, take, Option, Ok, Err};
+ghost use Rattle.std.specs.Prelude.{IfOk, IfErr, OnOk};
+ghost use Rattle.certificate_lines.specs.Items.{allowances_wanted, groups_wanted, items_from, certificate_items};
+ghost use Rattle.certificate_lines.specs.Items.{tree_items};
 ghost use Rattle.field_lines.specs.Raw.{raw_lines};
 ghost use Rattle.certificate_lines.specs.declared.item.Wanted.{Wanted};
-ghost use Rattle.proof_trees.specs.Depth.{after_raise};
+ghost use Rattle.certificate_laws.specs.Depth.{after_raise};
 ghost use Rattle.certificate_lines.specs.Lines.{most};
-ghost use Rattle.certificate_lines.specs.Reads.{Reads, Refuses, ReadsAll, EndsUnless, Gives, IsUnlessMemory};
-ghost use Rattle.certificate_lines.specs.Rest.{IsMemory};
+ghost use Rattle.certificate_lines.specs.Reads.{ReadsItems, Refuses, ReadsAll, EndsUnless, GivesItems, IsUnlessMemory};
+ghost use Rattle.certificate_lines.specs.Rest.{IsTextMemory};
 ghost use Rattle.certificate_text.specs.Spelled.{IsSpelling, IsTreeSpelling};
-ghost use Rattle.proof_trees.specs.Tree.{Tree as TreeValue};
-ghost use Rattle.certificate_text.specs.Trees.{tree_of, items_of_tree, list_of_takes, items_of_takes, items_of_head, items_of_target, Certificate as CertificateValue, certificate_of, items_of_certificate};
-ghost use Rattle.proof_trees.specs.RoundValue.{target_of};
+ghost use Rattle.certificate_data.specs.Tree.{Tree as TreeValue};
+ghost use Rattle.certificate_data.specs.TreeValue.{tree_of, list_of_takes, Certificate as CertificateValue};
+ghost use Rattle.certificate_data.specs.TreeValue.{certificate_of};
+ghost use Rattle.certificate_text.specs.Trees.{items_of_tree, items_of_takes, items_of_head, items_of_target};
+ghost use Rattle.certificate_text.specs.Trees.{items_of_certificate};
+ghost use Rattle.certificate_data.specs.RoundValue.{target_of};
 ghost use Rattle.certificate_lines.specs.declared.item.Item.TheVariants as item;
 ghost use Rattle.certificate_lines.specs.declared.item.Wanted.TheVariants as want;
 
-use crate::certificate::Certificate;
-use crate::tree::{Branch, Leaf, Take, Tree};
-use certificate_lines::{
-    Allowance, Cursor, Opening, TextFault, Version, ended, levels_after, push_on,
-};
+use certificate_data::{Allowance, Branch, Certificate, Language, Leaf, Round, Take, Tree};
+use certificate_lines::{Cursor, Opening, TextFault, Version, ended, levels_after, push_on};
 use county_codes::{Group, Grouping, Window};
-use proof_trees::{Language, Round};
 use std::alloc::Global;
 
 /// So many lines of a bound leaf.
@@ -64,7 +65,8 @@ fn takes_at(
     levels: u16,
 ) -> Result<Vec<Take>, TextFault>
     requires { 0 < levels }
-    ensures read { ReadsAll (want.Takes language levels ∷ []) (λ v. items_of_takes (list_of_takes v.items) ++ item.Mark ∷ []) (want.Tree language (after_raise language levels) ∷ []) cursor.old result cursor.new }
+    ensures read { ReadsAll (want.Takes language levels ∷ []) (λ v. items_of_takes (list_of_takes v.items)
+        ++ item.Mark ∷ []) (want.Tree language (after_raise language levels) ∷ []) cursor.old result cursor.new }
     ensures rest { OnOk result (length cursor.new.text ≤ length cursor.old.text) }
 {
     let mut takes = Vec::new(alloc);
@@ -83,7 +85,8 @@ fn tree_at(
     language: Language,
     levels: u16,
 ) -> Result<Tree, TextFault>
-    ensures read { ReadsAll (want.Tree language levels ∷ []) (λ t. items_of_tree (tree_of t)) [] cursor.old result cursor.new }
+    ensures read { ReadsAll (want.Tree language levels
+        ∷ []) (λ t. items_of_tree (tree_of t)) [] cursor.old result cursor.new }
     ensures rest { OnOk result (length cursor.new.text ≤ length cursor.old.text) }
 {
     let mut branches = Vec::new(alloc);
@@ -125,7 +128,8 @@ fn tree_at(
 
 /// The language, and the allowance if one is named.
 fn head_at(cursor: &mut Cursor) -> Result<(Language, Option<Window>), TextFault>
-    ensures read { IfOk result (λ h. Reads (want.Head ∷ []) cursor.old (items_of_head h.0 h.1) (want.Order h.0 ∷ []) cursor.new) }
+    ensures read { IfOk result (λ h. ReadsItems (want.Head ∷ []) cursor.old (items_of_head h.0 h.1) (want.Order h.0
+        ∷ []) cursor.new) }
     ensures fault { IfErr result (λ f. Refuses (want.Head ∷ []) cursor.old f) }
 {
     let (language, version) = cursor.head()?;
@@ -153,7 +157,7 @@ fn target_at(alloc: Global, cursor: &mut Cursor) -> Result<Option<Grouping>, Tex
 
 /// The certificate of a text, by its items.
 fn certificate_at(alloc: Global, text: &[u8]) -> Result<Certificate, TextFault>
-    ensures { Gives (λ c. items_of_certificate (certificate_of c)) result (certificate_items text.now) }
+    ensures { GivesItems (λ c. items_of_certificate (certificate_of c)) result (certificate_items text.now) }
 {
     let mut cursor = Cursor::new(text);
     let (language, window) = head_at(&mut cursor)?;
@@ -186,7 +190,7 @@ pub fn read(alloc: Global, text: &[u8]) -> Result<Certificate, TextFault>
     // What is spelled so is read, unless memory is refused.
     ensures only { (c : CertificateValue) → IsSpelling text.now c → IsUnlessMemory (λ d. certificate_of d) result c }
     // Which fault it is.
-    ensures fault { IfErr result (λ f. (IsMemory f → ⊥) → certificate_items text.now ≡ Err f) }
+    ensures fault { IfErr result (λ f. (IsTextMemory f → ⊥) → certificate_items text.now ≡ Err f) }
 {
     certificate_at(alloc, text)
 }
@@ -198,7 +202,7 @@ fn whole_tree(
     language: Language,
     counties: u16,
 ) -> Result<Tree, TextFault>
-    ensures { Gives (λ t. items_of_tree (tree_of t)) result (tree_items language counties text.now) }
+    ensures { GivesItems (λ t. items_of_tree (tree_of t)) result (tree_items language counties text.now) }
 {
     let mut cursor = Cursor::new(text);
     let tree = tree_at(alloc, &mut cursor, language, counties)?;
@@ -219,8 +223,9 @@ pub fn read_tree(
 ) -> Result<Tree, TextFault>
     requires { counties ≤ most }
     ensures found { IfOk result (λ t. IsTreeSpelling language counties text.now (tree_of t)) }
-    ensures only { (t : TreeValue) → IsTreeSpelling language counties text.now t → IsUnlessMemory (λ d. tree_of d) result t }
-    ensures fault { IfErr result (λ f. (IsMemory f → ⊥) → tree_items language counties text.now ≡ Err f) }
+    ensures only { (t : TreeValue) → IsTreeSpelling language counties text.now t
+        → IsUnlessMemory (λ d. tree_of d) result t }
+    ensures fault { IfErr result (λ f. (IsTextMemory f → ⊥) → tree_items language counties text.now ≡ Err f) }
 {
     whole_tree(alloc, text, language, counties)
 }
@@ -240,9 +245,12 @@ pub fn front_tree(
     ensures place { IfOk result (λ r. r.1 ≤ length text.now) }
     ensures found { IfOk result (λ r. IsTreeSpelling language counties (take r.1 text.now) (tree_of r.0)) }
     // A front that spells a tree is read, and its length is the place, unless memory is refused.
-    ensures only { (front rest : List ℕ) (t : TreeValue) → text.now ≡ front ++ rest → IsTreeSpelling language counties front t → IsUnlessMemory {V = TreeValue × ℕ} (λ r. (tree_of r.0, r.1)) result (t, length front) }
+    ensures only { (front rest : List ℕ) (t : TreeValue) → text.now ≡ front ++ rest
+        → IsTreeSpelling language counties front t
+        → IsUnlessMemory {V = TreeValue × ℕ} (λ r. (tree_of r.0, r.1)) result (t, length front) }
     // The fault is met whatever is wanted behind the tree.
-    ensures fault { IfErr result (λ f. (IsMemory f → ⊥) → (more : List Wanted) → items_from (want.Tree language counties ∷ more) 1 (raw_lines text.now) ≡ Err f) }
+    ensures fault { IfErr result (λ f. (IsTextMemory f → ⊥) → (more : List Wanted)
+        → items_from (want.Tree language counties ∷ more) 1 (raw_lines text.now) ≡ Err f) }
 {
     let mut cursor = Cursor::new(text);
     let tree = tree_at(alloc, &mut cursor, language, counties)?;

@@ -3,15 +3,13 @@
 ghost use Rattle.std.specs.Prelude.{◌≡◌, ◌≤◌, ℕ, List, IfOk, IfErr};
 ghost use Rattle.certificate_text.specs.Spelled.{IsSpelling, IsTreeSpelling};
 ghost use Rattle.certificate_lines.specs.Lines.{most};
-ghost use Rattle.certificate_text.specs.Trees.{tree_of, certificate_of};
+ghost use Rattle.certificate_data.specs.TreeValue.{tree_of, certificate_of};
 ghost use Rattle.certificate_lines.specs.declared.fault.WriteFault.TheVariants as write_fault;
 
-use crate::certificate::Certificate;
 use crate::fitting::{has_text, has_tree_text};
 use crate::lines::{lines_of, tree_lines};
-use crate::tree::Tree;
+use certificate_data::{Certificate, Language, Tree};
 use certificate_lines::WriteFault;
-use proof_trees::Language;
 use std::alloc::Global;
 
 /// The text that spells a tree, for an order of so many counties.
@@ -27,7 +25,8 @@ pub fn write_tree(
 ) -> Result<Vec<u8>, WriteFault>
     requires { counties ≤ most }
     ensures spelled { IfOk result (λ text. IsTreeSpelling language counties text.items (tree_of tree.now)) }
-    ensures none { IfErr result (λ fault. fault ≡ write_fault.NoSpelling → (text : List ℕ) → IsTreeSpelling language counties text (tree_of tree.now) → ⊥) }
+    ensures none { IfErr result (λ fault. fault ≡ write_fault.NoSpelling → (text : List ℕ)
+        → IsTreeSpelling language counties text (tree_of tree.now) → ⊥) }
 {
     if !has_tree_text(tree, language, counties) {
         return Err(WriteFault::NoSpelling);
@@ -43,7 +42,8 @@ pub fn write_tree(
 /// `NoSpelling` exactly where no text spells it, or `Memory`.
 pub fn write(alloc: Global, certificate: &Certificate) -> Result<Vec<u8>, WriteFault>
     ensures spelled { IfOk result (λ text. IsSpelling text.items (certificate_of certificate.now)) }
-    ensures none { IfErr result (λ fault. fault ≡ write_fault.NoSpelling → (text : List ℕ) → IsSpelling text (certificate_of certificate.now) → ⊥) }
+    ensures none { IfErr result (λ fault. fault ≡ write_fault.NoSpelling → (text : List ℕ)
+        → IsSpelling text (certificate_of certificate.now) → ⊥) }
 {
     if !has_text(certificate) {
         return Err(WriteFault::NoSpelling);

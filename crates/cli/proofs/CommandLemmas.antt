@@ -2,24 +2,24 @@
 use Rattle.std.proofs.Common.{◌≡◌, ℕ, true, List, [], Option, inl, inr, refl}
 use Rattle.std.specs.Prelude.{Result, Ok, Err, IfOk}
 use Rattle.std.specs.declared.alloc.AllocError.{AllocError}
-use Rattle.shelves.specs.Files.{NamedFile, Files}
-use Rattle.shelves.specs.History.{History}
-use Rattle.command_words.specs.Words.{EndsFor, EndsTaken, Means, faults_of, takes_words}
-use Rattle.command_words.specs.declared.words.CommandWords.{CommandWords}
-use Rattle.command_words.specs.declared.end.WordsEnd.{WordsEnd}
-use Rattle.program_answers.specs.declared.answer.RunAnswer.{RunAnswer}
-use Rattle.program_answers.specs.declared.answer.Refusal.{Refusal}
-use Rattle.program_answers.specs.declared.answer.Refusal.TheVariants.{Shown, Memory}
-use Rattle.program_answers.specs.Answer.{Answered}
-use Rattle.program_answers.specs.Answers.{answer_of, said_by, Comes}
-use Rattle.command_runs.specs.Course.{Course, EndsIn}
-use Rattle.record_report.specs.RecordFiles.{record_name_of}
-use Rattle.command_runs.specs.Run.{CommandEnds, CommandRun, IsEndAnswer, IsRunAnswer, RunsAsAsked}
+use Rattle.cli_shelves.specs.Files.{NamedFile, Files}
+use Rattle.cli_shelves.specs.History.{History}
+use Rattle.cli_words.specs.Words.{EndsFor, EndsTaken, Means, faults_of, takes_words}
+use Rattle.cli_words.specs.declared.words.CommandWords.{CommandWords}
+use Rattle.cli_words.specs.declared.end.WordsEnd.{WordsEnd}
+use Rattle.cli_answers.specs.declared.answer.RunAnswer.{RunAnswer}
+use Rattle.cli_answers.specs.declared.answer.Refusal.{Refusal}
+use Rattle.cli_answers.specs.declared.answer.Refusal.TheVariants.{Shown, Memory}
+use Rattle.cli_answers.specs.Answer.{Answered}
+use Rattle.cli_answers.specs.Answers.{answer_of, said_by, Comes}
+use Rattle.cli_runs.specs.Course.{Course, CourseEndsIn}
+use Rattle.cli_record.specs.RecordFiles.{record_name_of}
+use Rattle.cli_runs.specs.Run.{CommandEnds, CommandRun, IsEndAnswer, IsRunAnswer, RunsAsAsked}
 use Rattle.cli.specs.Ends.{said_of}
 
 -- a command that stores no file
 pub quiet_run : (files : Option Files) (command : CommandWords) (steps : Course Answered) (before after : History) (end : Result RunAnswer Refusal)
-    → ((a : Answered) → EndsIn steps before after a → CommandEnds files command before after [] a)
+    → ((a : Answered) → CourseEndsIn steps before after a → CommandEnds files command before after [] a)
     → Comes answer_of end (steps before after) → CommandRun files command before after [] (said_by end)
 quiet_run files command steps before after (Ok a) k h = inr (k (answer_of a) (inl h))
 quiet_run files command steps before after (Err (Shown a)) k h = inr (k (answer_of a) (inr h))

@@ -4,31 +4,31 @@ use Rattle.pl94_counties.specs.declared.fault.Pl94Fault.{Pl94Fault}
 use Rattle.pl94_counties.specs.Readers.{ReadsBoth}
 use Rattle.std.specs.Prelude.{Result, Ok, Err, IfOk, IfSome}
 use Rattle.std.specs.Result.{IsErrAnd}
-use Rattle.shelves.specs.declared.shelf.ReadEnd.TheVariants.{Whole}
-use Rattle.shelves.specs.declared.shelf.ShelfFault.{ShelfFault}
-use Rattle.shelves.specs.Files.{Files}
-use Rattle.shelves.specs.Shelf.{IsLoad, Opens}
-use Rattle.shelves.specs.History.{History, HasLoaded}
-use Rattle.program_answers.specs.declared.answer.Refusal.{Refusal}
-use Rattle.program_answers.specs.declared.answer.Refusal.TheVariants.{Shown, Memory}
-use Rattle.program_answers.specs.Answer.{Answered}
-use Rattle.program_answers.specs.Answers.{Comes, Meets, Refuses}
+use Rattle.cli_shelves.specs.declared.shelf.ReadEnd.TheVariants.{Whole}
+use Rattle.cli_shelves.specs.declared.shelf.ShelfFault.{ShelfFault}
+use Rattle.cli_shelves.specs.Files.{Files}
+use Rattle.cli_shelves.specs.Shelf.{IsLoad, Opens}
+use Rattle.cli_shelves.specs.History.{History, HasLoaded}
+use Rattle.cli_answers.specs.declared.answer.Refusal.{Refusal}
+use Rattle.cli_answers.specs.declared.answer.Refusal.TheVariants.{Shown, Memory}
+use Rattle.cli_answers.specs.Answer.{Answered}
+use Rattle.cli_answers.specs.Answers.{Comes, AnswerMeets, RefusalShows}
 use Rattle.certificate_checker.specs.declared.fault.CheckStop.{CheckStop}
-use Rattle.command_runs.specs.declared.checker_report.Checked.{Checked}
-use Rattle.command_runs.specs.CheckCourse.{IsChecked, ChecksGiven}
-use Rattle.command_runs.specs.TableCourse.{Tabled}
-use Rattle.command_runs.specs.Texts.{reported_of}
-use Rattle.program_answers.specs.Refusals.{pl94_answer, shelf_answer}
-use Rattle.command_runs.specs.Course.{Course, ◌>>=◌, load_step, call_step, value_step}
-use Rattle.command_runs.specs.Reading.{GivenBack, open_step, read_step, whole_step, read_one, text_of, back_step, read_both, whole_pair, load_pair, texts_of}
-use Rattle.cli.specs.Streams.{IsWhole, AreWhole, Streams}
+use Rattle.cli_runs.specs.declared.checker_report.Checked.{Checked}
+use Rattle.cli_runs.specs.CheckCourse.{IsChecked, ChecksGiven}
+use Rattle.cli_runs.specs.TableCourse.{Tabled}
+use Rattle.cli_runs.specs.Texts.{reported_of}
+use Rattle.cli_answers.specs.Refusals.{pl94_answer, shelf_answer}
+use Rattle.cli_runs.specs.Course.{Course, ◌>>=◌, load_step, call_step, value_step}
+use Rattle.cli_runs.specs.Reading.{GivenBack, open_step, read_step, whole_step, read_one, text_course, back_step, read_both, whole_pair, load_pair, texts_of}
+use Rattle.cli.specs.Streams.{IsWholeReader, AreWhole, Streams}
 
 -- an answer that is shown
-pub shown : (refusal : Refusal) (want : Answered) (P : Answered → Type 0) → Refuses want refusal → P want → Meets refusal P
+pub shown : (refusal : Refusal) (want : Answered) (P : Answered → Type 0) → RefusalShows want refusal → P want → AnswerMeets refusal P
 shown (Shown a) want P is p = subst P (sym is) p
 shown Memory want P is p = tt
 
-pub met : (refusal : Refusal) (P Q : Answered → Type 0) → ((a : Answered) → P a → Q a) → Meets refusal P → Meets refusal Q
+pub met : (refusal : Refusal) (P Q : Answered → Type 0) → ((a : Answered) → P a → Q a) → AnswerMeets refusal P → AnswerMeets refusal Q
 met (Shown a) P Q f p = f _ p
 met Memory P Q f p = tt
 
@@ -39,8 +39,8 @@ opening_fault X None failures name fault h = tt
 opening_fault X (Some files) failures name fault h = h
 
 pub unopened : (X : Type 0) (files : Option Files) (name : List ℕ) (fault : ShelfFault) (before after : History) (refusal : Refusal)
-    → Opens {X = X} files before.failures name (Err fault) → HasLoaded {X = List ℕ} (λ bytes. bytes) before after name (Err fault) → Refuses (shelf_answer name fault) refusal
-    → Meets refusal (λ a. open_step files name before after (Err a))
+    → Opens {X = X} files before.failures name (Err fault) → HasLoaded {X = List ℕ} (λ bytes. bytes) before after name (Err fault) → RefusalShows (shelf_answer name fault) refusal
+    → AnswerMeets refusal (λ a. open_step files name before after (Err a))
 unopened X files name fault before after refusal opened logged is =
     shown refusal (shelf_answer name fault) (λ a. open_step files name before after (Err a)) is (fault, opening_fault X files before.failures name fault opened, logged, refl)
 
@@ -73,25 +73,25 @@ census_read view list first second geo segment both now read false (Some found) 
     false_true e = cc
 
 -- the second of two readers failed, or the first did
-pub second_failed : (first second : List ℕ) (g : GivenBack) (bytes : List ℕ) (fault : ShelfFault) (now : History) (refusal : Refusal) → Refuses (shelf_answer second fault) refusal
-    → Meets refusal (λ a. whole_pair first second (g, record { bytes = bytes; answer = Err fault }) now now (Err a))
+pub second_failed : (first second : List ℕ) (g : GivenBack) (bytes : List ℕ) (fault : ShelfFault) (now : History) (refusal : Refusal) → RefusalShows (shelf_answer second fault) refusal
+    → AnswerMeets refusal (λ a. whole_pair first second (g, record { bytes = bytes; answer = Err fault }) now now (Err a))
 second_failed first second g bytes fault now refusal is =
     shown refusal (shelf_answer second fault) (λ a. whole_pair first second (g, record { bytes = bytes; answer = Err fault }) now now (Err a)) is (inl (refl, (fault, refl, refl)))
 
-pub first_failed : (first second : List ℕ) (bytes others : List ℕ) (fault : ShelfFault) (now : History) (refusal : Refusal) → Refuses (shelf_answer first fault) refusal
-    → Meets refusal (λ a. whole_pair first second (record { bytes = bytes; answer = Err fault }, record { bytes = others; answer = Ok Whole }) now now (Err a))
+pub first_failed : (first second : List ℕ) (bytes others : List ℕ) (fault : ShelfFault) (now : History) (refusal : Refusal) → RefusalShows (shelf_answer first fault) refusal
+    → AnswerMeets refusal (λ a. whole_pair first second (record { bytes = bytes; answer = Err fault }, record { bytes = others; answer = Ok Whole }) now now (Err a))
 first_failed first second bytes others fault now refusal is =
     shown refusal (shelf_answer first fault) (λ a. whole_pair first second (record { bytes = bytes; answer = Err fault }, record { bytes = others; answer = Ok Whole }) now now (Err a)) is
     (inr (record { value = others; between = now; given = (refl, refl, refl); goes_on = inl (refl, (fault, refl, refl)) }))
 
 module _ (files : Option Files) (first second : List ℕ) where
   -- the first file could not be opened, or the second
-  pub first_unopened : (before after : History) (refusal : Refusal) → Meets refusal (λ a. open_step files first before after (Err a)) → Meets refusal (λ a. read_both files first second before after (Err a))
+  pub first_unopened : (before after : History) (refusal : Refusal) → AnswerMeets refusal (λ a. open_step files first before after (Err a)) → AnswerMeets refusal (λ a. read_both files first second before after (Err a))
   first_unopened before after (Shown a) h = inl h
   first_unopened before after Memory h = tt
 
-  pub second_unopened : (before between after : History) (refusal : Refusal) → open_step files first before between (Ok tt) → Meets refusal (λ a. open_step files second between after (Err a))
-      → Meets refusal (λ a. read_both files first second before after (Err a))
+  pub second_unopened : (before between after : History) (refusal : Refusal) → open_step files first before between (Ok tt) → AnswerMeets refusal (λ a. open_step files second between after (Err a))
+      → AnswerMeets refusal (λ a. read_both files first second before after (Err a))
   second_unopened before between after (Shown a) same h = inr (record { value = tt; between = between; given = same; goes_on = inl h })
   second_unopened before between after Memory same h = tt
 
@@ -111,19 +111,19 @@ module _ (files : Option Files) (first second : List ℕ) where
     abbrev steps : Course X
     steps = texts_of files first second >>= next
 
-    pub stream_unopened : (before after : History) (refusal : Refusal) → Meets refusal (λ a. read_both files first second before after (Err a)) → Meets refusal (λ a. steps before after (Err a))
+    pub stream_unopened : (before after : History) (refusal : Refusal) → AnswerMeets refusal (λ a. read_both files first second before after (Err a)) → AnswerMeets refusal (λ a. steps before after (Err a))
     stream_unopened before after (Shown a) h = inl (inl h)
     stream_unopened before after Memory h = tt
 
     pub stream_failed : (before after : History) (given : GivenBack × GivenBack) (refusal : Refusal) → read_both files first second before after (Ok given)
-        → Meets refusal (λ a. whole_pair first second given after after (Err a)) → Meets refusal (λ a. steps before after (Err a))
+        → AnswerMeets refusal (λ a. whole_pair first second given after after (Err a)) → AnswerMeets refusal (λ a. steps before after (Err a))
     stream_failed before after given (Shown a) read h = inl (inr (record { value = given; between = after; given = read; goes_on = inl h }))
     stream_failed before after given Memory read h = tt
 
-    pub stream_ended : (before after : History) (end : Result (Option S) Refusal) (refusal : Refusal) → IsErrAnd end (λ e. e ≡ refusal) → Meets refusal (λ a. steps before after (Err a))
+    pub stream_ended : (before after : History) (end : Result (Option S) Refusal) (refusal : Refusal) → IsErrAnd end (λ e. e ≡ refusal) → AnswerMeets refusal (λ a. steps before after (Err a))
         → Streams view steps (read_both files first second) end before after
     stream_ended before after (Ok found) refusal is h = absurd is
-    stream_ended before after (Err e) refusal is h = subst (λ (r : Refusal). Meets r (λ a. steps before after (Err a))) (sym is) h
+    stream_ended before after (Err e) refusal is h = subst (λ (r : Refusal). AnswerMeets r (λ a. steps before after (Err a))) (sym is) h
 
     whole_texts : (before after : History) (given : GivenBack × GivenBack) → read_both files first second before after (Ok given) → given.0.answer ≡ Ok Whole → given.1.answer ≡ Ok Whole
         → texts_of files first second before after (Ok (given.0.bytes, given.1.bytes))
@@ -195,21 +195,21 @@ module _ (files : Option Files) (name : List ℕ) where
 
   module _ {S X : Type 0} (view : S → X) (next : List ℕ → Course X) where
     abbrev text_steps : Course X
-    text_steps = text_of files name >>= next
+    text_steps = text_course files name >>= next
 
-    pub text_unopened : (before after : History) (refusal : Refusal) → Meets refusal (λ a. open_step files name before after (Err a)) → Meets refusal (λ a. text_steps before after (Err a))
+    pub text_unopened : (before after : History) (refusal : Refusal) → AnswerMeets refusal (λ a. open_step files name before after (Err a)) → AnswerMeets refusal (λ a. text_steps before after (Err a))
     text_unopened before after (Shown a) h = inl (inl (inl h))
     text_unopened before after Memory h = tt
 
     pub text_failed : (before after : History) (given : GivenBack) (refusal : Refusal) → read_one files name before after (Ok given)
-        → Meets refusal (λ a. whole_step name given after after (Err a)) → Meets refusal (λ a. text_steps before after (Err a))
+        → AnswerMeets refusal (λ a. whole_step name given after after (Err a)) → AnswerMeets refusal (λ a. text_steps before after (Err a))
     text_failed before after given (Shown a) read h = inl (inr (record { value = given; between = after; given = read; goes_on = inl h }))
     text_failed before after given Memory read h = tt
 
-    pub text_ended : (before after : History) (end : Result (Option S) Refusal) (refusal : Refusal) → IsErrAnd end (λ e. e ≡ refusal) → Meets refusal (λ a. text_steps before after (Err a))
+    pub text_ended : (before after : History) (end : Result (Option S) Refusal) (refusal : Refusal) → IsErrAnd end (λ e. e ≡ refusal) → AnswerMeets refusal (λ a. text_steps before after (Err a))
         → Streams view text_steps (read_one files name) end before after
     text_ended before after (Ok found) refusal is h = absurd is
-    text_ended before after (Err e) refusal is h = subst (λ (r : Refusal). Meets r (λ a. text_steps before after (Err a))) (sym is) h
+    text_ended before after (Err e) refusal is h = subst (λ (r : Refusal). AnswerMeets r (λ a. text_steps before after (Err a))) (sym is) h
 
     -- what was streamed is of the whole text, or only the reader was given back
     pub text_streamed : (before after : History) (given : GivenBack) (found : Option S) → read_one files name before after (Ok given)
@@ -243,7 +243,7 @@ module _ (files : Option Files) (name : List ℕ) where
 
 -- what was said of a certificate that was read to its end
 pub certificate_checked : (t : Tabled) (budget : ℕ) (name bytes : List ℕ) (given : GivenBack) (now : History) (checked : Result Checked CheckStop) (is_whole : Bool) (found : Option Checked)
-    → IfOk checked (λ c. ChecksGiven t budget [] bytes (reported_of c.reported)) → given.bytes ≡ bytes → IsWhole name given now (Ok is_whole)
+    → IfOk checked (λ c. ChecksGiven t budget [] bytes (reported_of c.reported)) → given.bytes ≡ bytes → IsWholeReader name given now (Ok is_whole)
     → IfSome found (λ value. (checked ≡ Ok value) × (is_whole ≡ true))
     → IfSome found (λ value. (given.answer ≡ Ok Whole) × value_step (IsChecked t budget given.bytes) now now (Ok (reported_of value.reported)))
 certificate_checked t budget name bytes given now checked is_whole None holds same whole h = tt

@@ -1,9 +1,9 @@
 -- The record of a run, by its parts.
 use Rattle.std.proofs.Common.{ℕ, List, [], inl, refl}
-use Rattle.shelves.specs.History.{History}
-use Rattle.command_words.specs.declared.words.CommandWords.{CommandWords}
-use Rattle.program_answers.specs.Answer.{memory_answer}
-use Rattle.command_runs.specs.Recording.{RecordEnds}
+use Rattle.cli_shelves.specs.History.{History}
+use Rattle.cli_words.specs.declared.words.CommandWords.{CommandWords}
+use Rattle.cli_answers.specs.Answer.{memory_answer}
+use Rattle.cli_runs.specs.Recording.{RecordEnds}
 
 -- a growth was refused in the command, so that no record is stored
 pub unanswered : (words : List (List ℕ)) (command : CommandWords) (name : List ℕ) (before between : History) → RecordEnds words command name before between between [] memory_answer memory_answer

@@ -4,17 +4,17 @@ use Rattle.std.specs.Prelude.{Result, Ok, Err, option_map}
 use Rattle.std.specs.Borrow.{Bor}
 use Rattle.std.specs.Option.{option_copied}
 use Rattle.std.specs.Result.{IsErrAnd}
-use Rattle.shelves.specs.Files.{NamedFile, Files}
-use Rattle.shelves.specs.History.{History}
-use Rattle.program_answers.specs.declared.answer.RunAnswer.{RunAnswer}
-use Rattle.program_answers.specs.declared.answer.Refusal.{Refusal}
-use Rattle.program_answers.specs.declared.answer.Refusal.TheVariants.{Shown, Memory}
-use Rattle.program_answers.specs.Answer.{Answered, memory_answer}
-use Rattle.program_answers.specs.Answers.{answer_of, said_by, Meets}
-use Rattle.command_runs.specs.Course.{Course}
-use Rattle.command_runs.specs.Storing.{EndsStoring, HasStored, said_after, store_steps}
-use Rattle.command_runs.specs.Run.{IsOutOfMemory}
-use Rattle.command_runs.proofs.StoreLemmas.{stops_in}
+use Rattle.cli_shelves.specs.Files.{NamedFile, Files}
+use Rattle.cli_shelves.specs.History.{History}
+use Rattle.cli_answers.specs.declared.answer.RunAnswer.{RunAnswer}
+use Rattle.cli_answers.specs.declared.answer.Refusal.{Refusal}
+use Rattle.cli_answers.specs.declared.answer.Refusal.TheVariants.{Shown, Memory}
+use Rattle.cli_answers.specs.Answer.{Answered, memory_answer}
+use Rattle.cli_answers.specs.Answers.{answer_of, said_by, AnswerMeets}
+use Rattle.cli_runs.specs.Course.{Course}
+use Rattle.cli_runs.specs.Storing.{EndsStoring, HasStored, said_after, store_steps}
+use Rattle.cli_runs.specs.Run.{IsOutOfMemory}
+use Rattle.cli_runs.proofs.StoreLemmas.{stops_in}
 use Rattle.cli.specs.Ends.{refusal_by}
 
 -- what is seen of a value that is lent is what is seen of the value
@@ -35,7 +35,7 @@ module _ {S : Type 0} (steps : Course S) (files_of : S → List NamedFile) (answ
 
   -- it ends at a fault, before anything is stored
   pub refused_run : (before after : History) (refusal : Refusal) (end : Result RunAnswer Refusal)
-      → IsErrAnd end (λ e. e ≡ refusal) → Meets refusal (λ a. steps before after (Err a)) → Runs before after [] (said_by end)
+      → IsErrAnd end (λ e. e ≡ refusal) → AnswerMeets refusal (λ a. steps before after (Err a)) → Runs before after [] (said_by end)
   refused_run before after refusal (Ok a) i h = absurd i
   refused_run before after (Shown a) (Err e) i h = subst (λ (r : Refusal). Runs before after [] (said_by (Err r))) (sym i) (inr (inl (h, refl)))
   refused_run before after Memory (Err e) i h = subst (λ (r : Refusal). Runs before after [] (said_by (Err r))) (sym i) (inl (refl, refl))

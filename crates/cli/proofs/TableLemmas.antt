@@ -3,7 +3,7 @@ use Rattle.std.proofs.Common.{◌≡◌, List, [], ◌∷◌, map, refl, ap}
 use Rattle.county_codes.specs.declared.county.County.{County}
 use Rattle.pl94_counties.specs.declared.named.NamedCounty.{NamedCounty}
 use Rattle.pl94_counties.specs.Named.{county_name}
-use Rattle.county_table.specs.Table.{counties_of as without_names}
+use Rattle.grouping_table.specs.Table.{unnamed_counties as without_names}
 
 -- the counties without their names
 pub bare : (named : List NamedCounty) → map (λ k. k.county) named ≡ without_names (map county_name named)

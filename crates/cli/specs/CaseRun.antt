@@ -1,13 +1,14 @@
 -- What a run of a case answers.
-use Rattle.std.specs.Prelude.{◌≡◌, ◌⊎◌, ◌<◌, ◌≤◌, ◌++◌, ℕ, Bool, true, false, List, [], Option, Some, None, Result, Ok, Err, IfSome, length, reverse, codes}
+use Rattle.std.specs.Prelude.{◌≡◌, ◌⊎◌, ◌<◌, ◌≤◌, ◌++◌, ℕ, Bool, true, false, List, [], Option, Some, None, Result, Ok}
+use Rattle.std.specs.Prelude.{Err, IfSome, length, reverse, codes}
 use Rattle.std.specs.List.{flat_map}
-use Rattle.shelves.specs.declared.whole.WholeFault.{WholeFault}
-use Rattle.shelves.specs.declared.whole.WholeFault.TheVariants.{TooLarge, Failed, Memory}
-use Rattle.program_answers.specs.Answer.{Answered, memory_answer}
-use Rattle.shelves.specs.Files.{NamedFile, held, with_files}
-use Rattle.shelves.specs.History.{Event, no_history}
+use Rattle.cli_shelves.specs.declared.whole.WholeFault.{WholeFault}
+use Rattle.cli_shelves.specs.declared.whole.WholeFault.TheVariants.{TooLarge, Failed, Memory}
+use Rattle.cli_answers.specs.Answer.{Answered, memory_answer}
+use Rattle.cli_shelves.specs.Files.{NamedFile, held, with_files}
+use Rattle.cli_shelves.specs.History.{ShelfEvent, no_history}
 use Rattle.cli.specs.Case.{case_files, case_words, is_case}
-use Rattle.command_runs.specs.Run.{IsRunAnswer}
+use Rattle.cli_runs.specs.Run.{IsRunAnswer}
 use Rattle.cli.specs.Delivery.{Delivers}
 
 -- the files that were stored: a line `file NAME` and the bytes of each
@@ -23,7 +24,7 @@ followed_by a stored = record { text = a.text ++ stored_text stored; status = a.
 pub record WordsOver (files : List NamedFile) (words : List (List ℕ)) (a : Answered) : Type 0 where
   pub run : Answered
   pub stored : List NamedFile
-  pub events : List Event
+  pub events : List ShelfEvent
   pub answer : IsRunAnswer (Some (held files)) words no_history (record { failures = 0; events = events }) stored run
   pub followed : a ≡ followed_by run (with_files [] stored)
 
@@ -34,11 +35,12 @@ IsCaseAnswer text None = is_case text ≡ false
 IsCaseAnswer text (Some a) = (is_case text ≡ true) × WordsOver (reverse (case_files text)) (case_words text) a
 
 -- what came of reading a source of these bytes, where it tells them, that may fail in the end
-abbrev pub IsWhole : Option (List ℕ) → Bool → Result (List ℕ) WholeFault → Type 0
-IsWhole known failed (Ok text) = (failed ≡ false) × IfSome known (λ bytes. text ≡ bytes) × (length text ≤ 16777216)
-IsWhole known failed (Err TooLarge) = (failed ≡ false) × IfSome known (λ bytes. 16777216 < length bytes)
-IsWhole known failed (Err Failed) = failed ≡ true
-IsWhole known failed (Err Memory) = failed ≡ false
+abbrev pub IsWholeSource : Option (List ℕ) → Bool → Result (List ℕ) WholeFault → Type 0
+IsWholeSource known failed (Ok text) =
+    (failed ≡ false) × IfSome known (λ bytes. text ≡ bytes) × (length text ≤ 16777216)
+IsWholeSource known failed (Err TooLarge) = (failed ≡ false) × IfSome known (λ bytes. 16777216 < length bytes)
+IsWholeSource known failed (Err Failed) = failed ≡ true
+IsWholeSource known failed (Err Memory) = failed ≡ false
 
 -- the answer to what was read; a growth may be refused
 abbrev pub IsReadAnswer : Result (List ℕ) WholeFault → Option Answered → Type 0

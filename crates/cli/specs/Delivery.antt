@@ -2,7 +2,7 @@
 use Rattle.std.specs.Prelude.{◌≡◌, ℕ, Bool, true, false, List, Option, map}
 use Rattle.std.specs.Borrow.{Bor}
 use Rattle.std.specs.Io.KnownBytes.{Appends}
-use Rattle.program_answers.specs.Answer.{Answered}
+use Rattle.cli_answers.specs.Answer.{Answered}
 
 -- where the writing failed the status is 5; else the answer's text was written, and its status is the status
 abbrev pub Delivers : Bool → Option (List ℕ) → Option (List ℕ) → Answered → ℕ → Type 0

@@ -1,11 +1,11 @@
 -- What calls of the code came to, as the definitions say it.
 use Rattle.std.specs.Prelude.{Option, Some, None, Result, Ok, Err}
 use Rattle.std.specs.declared.alloc.AllocError.{AllocError}
-use Rattle.program_answers.specs.declared.answer.RunAnswer.{RunAnswer}
-use Rattle.program_answers.specs.declared.answer.Refusal.{Refusal}
-use Rattle.program_answers.specs.declared.answer.Refusal.TheVariants.{Shown, Memory}
-use Rattle.program_answers.specs.Answer.{Answered, memory_answer}
-use Rattle.program_answers.specs.Answers.{answer_of}
+use Rattle.cli_answers.specs.declared.answer.RunAnswer.{RunAnswer}
+use Rattle.cli_answers.specs.declared.answer.Refusal.{Refusal}
+use Rattle.cli_answers.specs.declared.answer.Refusal.TheVariants.{Shown, Memory}
+use Rattle.cli_answers.specs.Answer.{Answered, memory_answer}
+use Rattle.cli_answers.specs.Answers.{answer_of}
 
 -- the answer that a call came to: where a growth was refused, the line for it
 abbrev pub said_of : Result RunAnswer AllocError → Answered

@@ -2,22 +2,22 @@
 
 ghost use Rattle.std.specs.Prelude.{◌≡◌, ◌≤◌, ◌<◌, All, length, map};
 ghost use Rattle.std.specs.List.Sorted.{IsStrictlyIncreasing};
-ghost use Rattle.shelves.specs.History.{History};
-ghost use Rattle.program_answers.specs.Answers.{answer_of, Comes};
-ghost use Rattle.command_runs.specs.JudgeCourse.{audit_step, audit_course};
+ghost use Rattle.cli_shelves.specs.History.{History};
+ghost use Rattle.cli_answers.specs.Answers.{answer_of, Comes};
+ghost use Rattle.cli_runs.specs.JudgeCourse.{audit_step, audit_course};
 
 use crate::end::{End, Ending};
 use crate::files::load_grouping;
 use crate::plan_files::{load_assignments, load_blocks};
 use crate::problem::load_problem;
 use baf_auditor::{Assignment, Findings, audit as audit_plan};
-use command_words::AuditWords;
+use cli_answers::{Refusal, RunAnswer};
+use cli_shelves::Shelf;
+use cli_words::AuditWords;
 use county_codes::Grouping;
-use grouping_problem::Problem;
+use county_problem::Problem;
 use grouping_report::findings_text;
 use pl94_counties::Block;
-use program_answers::{Refusal, RunAnswer};
-use shelves::Shelf;
 use std::alloc::Global;
 
 /// The end of an audit with these findings.
@@ -41,7 +41,8 @@ fn all_findings(
     requires fits { All (λ block. block.code < 1000000000000000) blocks.now }
     requires ascending { IsStrictlyIncreasing (map (λ block. block.code) blocks.now) }
     requires few { length lines.now ≤ 4000000 }
-    ensures { (history : History) → Comes answer_of result (audit_step problem grouping.groups.items blocks.now lines.now history history) }
+    ensures { (history : History)
+        → Comes answer_of result (audit_step problem grouping.groups.items blocks.now lines.now history history) }
 {
     let findings = audit_plan(alloc, &problem, &grouping, blocks, lines)?;
     let text = findings_text(alloc, &findings)?;

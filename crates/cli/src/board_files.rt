@@ -2,19 +2,19 @@
 
 ghost use Rattle.std.specs.Prelude.{◌≡◌, length, map};
 ghost use Rattle.share_board.specs.Events.{event_of};
-ghost use Rattle.shelves.specs.History.{History};
-ghost use Rattle.program_answers.specs.Answers.{Comes};
-ghost use Rattle.command_runs.specs.BoardCourse.{language_of, events_in, events_of, named_events_of};
+ghost use Rattle.cli_shelves.specs.History.{History};
+ghost use Rattle.cli_answers.specs.Answers.{Comes};
+ghost use Rattle.cli_runs.specs.BoardCourse.{language_of, events_in, events_of, named_events_of};
 
 use crate::end::{End, Ending, FileFault, FileOption};
 use crate::files::load;
-use command_runs::language_for;
-use command_words::RoundWords;
-use event_text::read_events;
-use grouping_problem::Problem;
-use program_answers::{Refusal, refuse_events};
+use board_events::read_events;
+use cli_answers::{Refusal, refuse_events};
+use cli_runs::language_for;
+use cli_shelves::Shelf;
+use cli_words::RoundWords;
+use county_problem::Problem;
 use share_board::Event;
-use shelves::Shelf;
 use std::alloc::Global;
 
 /// The events that a text gives.
@@ -25,7 +25,8 @@ fn events_from(
     problem: &Problem,
     end: &mut End,
 ) -> Result<Vec<Event>, Refusal>
-    ensures { (history : History) → Comes (λ v. map event_of v.items) result (events_in (language_of words) (length problem.now.counties) text.items history history) }
+    ensures { (history : History)
+        → Comes (λ v. map event_of v.items) result (events_in (language_of words) (length problem.now.counties) text.items history history) }
 {
     let language = language_for(words);
     let counties = problem.counties().len() as u16;

@@ -1,25 +1,28 @@
 //! A run of a case: the words of a command and its files, read from one text.
 
-ghost use Rattle.std.specs.Prelude.{◌≡◌, ℕ, ◌++◌, ◌==◌, ◌&&◌, true, false, List, [], ◌∷◌, Option, Some, None, Result, Ok, Err, IfOk, OnOk, MatchOption, codes, drop, length, reverse, option_map, string_bytes, map};
+ghost use Rattle.std.specs.Prelude.{◌≡◌, ℕ, ◌++◌, ◌==◌, ◌&&◌, true, false, List, [], ◌∷◌, Option, Some, None, Result};
+ghost use Rattle.std.specs.Prelude.{Ok, Err, IfOk, OnOk, MatchOption, codes, drop, length, reverse, option_map};
+ghost use Rattle.std.specs.Prelude.{string_bytes, map};
 ghost use Rattle.std.specs.List.{slice_split, list_all};
 ghost use Rattle.std.specs.Str.{is_utf8};
 ghost use Rattle.field_lines.specs.Raw.{RawLine, raw_lines};
 ghost use Rattle.field_lines.specs.Piece.{raw_of};
-ghost use Rattle.shelves.specs.Files.{NamedFile};
-ghost use Rattle.shelves.specs.Memory.{files_of};
-ghost use Rattle.cli.specs.Case.{whole_line, file_name, first_line, case_files, is_case, are_named, with_open, parts_of};
-ghost use Rattle.shelves.specs.declared.whole.WholeFault.{WholeFault};
-ghost use Rattle.program_answers.specs.Answer.{Answered};
-ghost use Rattle.program_answers.specs.Answers.{answer_of};
+ghost use Rattle.cli_shelves.specs.Files.{NamedFile};
+ghost use Rattle.cli_shelves.specs.Memory.{files_of};
+ghost use Rattle.cli.specs.Case.{whole_line, file_name, first_case_line, case_files, is_case, are_named, with_open};
+ghost use Rattle.cli.specs.Case.{parts_of};
+ghost use Rattle.cli_shelves.specs.declared.whole.WholeFault.{WholeFault};
+ghost use Rattle.cli_answers.specs.Answer.{Answered};
+ghost use Rattle.cli_answers.specs.Answers.{answer_of};
 ghost use Rattle.cli.specs.Delivery.{texts};
-ghost use Rattle.cli.specs.CaseRun.{stored_text, WordsOver, IsCaseAnswer, IsWhole, IsReadAnswer, DeliversCase};
+ghost use Rattle.cli.specs.CaseRun.{stored_text, WordsOver, IsCaseAnswer, IsWholeSource, IsReadAnswer, DeliversCase};
 
 use crate::command::{deliver, words_answer};
 use crate::end::{End, Ending};
 use branch_bound::NoWatcher;
+use cli_answers::{MEMORY, RunAnswer};
+use cli_shelves::{MemoryFile, MemoryShelf, Sink, WholeFault, read_whole};
 use field_lines::{Piece, RawLines, Source};
-use program_answers::{MEMORY, RunAnswer};
-use shelves::{MemoryFile, MemoryShelf, Sink, WholeFault, read_whole};
 use std::alloc::{AllocError, Global};
 
 /// How many bytes a case may have.
@@ -60,7 +63,8 @@ fn push_file(
     name: Option<&str>,
     bytes: &[u8],
 ) -> Result<(), AllocError>
-    ensures { OnOk result (files_of files.new.items ≡ files_of files.old.items ++ with_open (option_map (λ s. s.now) name.entry) bytes.now (parts_of [])) }
+    ensures { OnOk result (files_of files.new.items
+        ≡ files_of files.old.items ++ with_open (option_map (λ s. s.now) name.entry) bytes.now (parts_of [])) }
 {
     if let Some(name) = name {
         files.push(MemoryFile {
@@ -119,7 +123,7 @@ fn words_in<'a>(alloc: Global, line: &'a str) -> Result<Vec<&'a str>, AllocError
 
 /// The first line, without its LF, and what follows it.
 fn take_line<'a>(pieces: &mut RawLines<'a>) -> &'a [u8]
-    ensures line { result.now ≡ first_line pieces.old }
+    ensures line { result.now ≡ first_case_line pieces.old }
     ensures rest { pieces.new ≡ drop 1 pieces.old }
 {
     match pieces.next_piece() {
@@ -136,7 +140,8 @@ fn parts_in<'a>(
     ensures { IfOk result (λ read. MatchOption
         read
         (is_case text.now ≡ false)
-        (λ r. (is_case text.now ≡ true) × (r.0.now ≡ first_line (raw_lines text.now)) × (files_of r.1.items ≡ case_files text.now))) }
+        (λ r. (is_case text.now ≡ true) × (r.0.now ≡ first_case_line (raw_lines text.now))
+        × (files_of r.1.items ≡ case_files text.now))) }
 {
     let mut pieces = RawLines::new(text);
     let Some(line) = text_of(take_line(&mut pieces)) else {
@@ -184,7 +189,7 @@ fn case_answer(alloc: Global, text: &[u8], end: &mut End) -> Result<Option<RunAn
 pub fn run_case_with_end<R: Source, W: Sink>(alloc: Global, input: &mut R, out: &mut W) -> (u8, End)
     requires { R.is_failed input.old ≡ false }
     ensures { (read : Result (List ℕ) WholeFault)
-        × IsWhole (R.content input.old) (R.is_failed input.new) read
+        × IsWholeSource (R.content input.old) (R.is_failed input.new) read
         × (a : Option Answered)
         × IsReadAnswer read a
         × DeliversCase out.old out.new W.is_failed W.contents a result.0 }
@@ -214,7 +219,7 @@ pub fn run_case_with_end<R: Source, W: Sink>(alloc: Global, input: &mut R, out: 
 pub fn run_case<R: Source, W: Sink>(alloc: Global, input: &mut R, out: &mut W) -> u8
     requires { R.is_failed input.old ≡ false }
     ensures { (read : Result (List ℕ) WholeFault)
-        × IsWhole (R.content input.old) (R.is_failed input.new) read
+        × IsWholeSource (R.content input.old) (R.is_failed input.new) read
         × (a : Option Answered)
         × IsReadAnswer read a
         × DeliversCase out.old out.new W.is_failed W.contents a result }

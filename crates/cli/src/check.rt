@@ -1,13 +1,13 @@
 //! The subcommand `check`.
 
 ghost use Rattle.std.specs.Prelude.{◌≡◌, ◌≤◌, true, List, Ok, IfSome};
-ghost use Rattle.shelves.specs.Files.{NamedFile};
-ghost use Rattle.program_answers.specs.Answers.{Comes, said_by};
-ghost use Rattle.command_runs.specs.Reading.{read_one};
-ghost use Rattle.command_runs.specs.CheckCourse.{check_course};
-ghost use Rattle.command_runs.specs.Storing.{HasStored};
-ghost use Rattle.command_runs.specs.Run.{CommandRun};
-ghost use Rattle.command_runs.specs.Texts.{reported_of, tabled_of};
+ghost use Rattle.cli_shelves.specs.Files.{NamedFile};
+ghost use Rattle.cli_answers.specs.Answers.{Comes, said_by};
+ghost use Rattle.cli_runs.specs.Reading.{read_one};
+ghost use Rattle.cli_runs.specs.CheckCourse.{check_course};
+ghost use Rattle.cli_runs.specs.Storing.{HasStored};
+ghost use Rattle.cli_runs.specs.Run.{CommandRun};
+ghost use Rattle.cli_runs.specs.Texts.{reported_of, tabled_of};
 ghost use Rattle.cli.specs.Streams.{Streams, checked_text, loaded_check};
 
 use crate::end::{End, Ending, FileOption};
@@ -15,12 +15,13 @@ use crate::files::load;
 use crate::problem::load_tabled_problem;
 use crate::readers::{give_one_back, open};
 use crate::storing::store_reported;
-use certificate_checker::{CheckFault, CheckStop};
-use command_runs::{Checked, Reported, Tabled, check_and_say, check_from_and_say};
-use command_words::{CertificateWords, CheckWords, CommandWords};
-use grouping_problem::Problem;
-use program_answers::{Refusal, RunAnswer};
-use shelves::Shelf;
+use certificate_checker::CheckStop;
+use cli_answers::{Refusal, RunAnswer};
+use cli_runs::{Checked, Reported, Tabled, check_and_say, check_from_and_say};
+use cli_shelves::Shelf;
+use cli_words::{CertificateWords, CheckWords, CommandWords};
+use county_problem::Problem;
+use state_judge::CheckFault;
 use std::alloc::Global;
 
 /// The end of a check that found no fault, and answers this status.

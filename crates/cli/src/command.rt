@@ -2,12 +2,12 @@
 //! the answer is written.
 
 ghost use Rattle.std.specs.Prelude.{◌≡◌, List, IfOk};
-ghost use Rattle.shelves.specs.Files.{NamedFile};
-ghost use Rattle.program_answers.specs.Answer.{Answered};
-ghost use Rattle.program_answers.specs.Answers.{answer_of, said_by};
-ghost use Rattle.command_runs.specs.Storing.{HasStored};
-ghost use Rattle.command_runs.specs.Run.{CommandRun, IsEndAnswer, IsRunAnswer, HasState};
-ghost use Rattle.command_runs.specs.Told.{RunTells};
+ghost use Rattle.cli_shelves.specs.Files.{NamedFile};
+ghost use Rattle.cli_answers.specs.Answer.{Answered};
+ghost use Rattle.cli_answers.specs.Answers.{answer_of, said_by};
+ghost use Rattle.cli_runs.specs.Storing.{HasStored};
+ghost use Rattle.cli_runs.specs.Run.{CommandRun, IsEndAnswer, IsRunAnswer, HasState};
+ghost use Rattle.cli_runs.specs.Told.{RunTells};
 ghost use Rattle.cli.specs.Delivery.{Delivers, texts};
 ghost use Rattle.cli.specs.Ends.{said_of};
 
@@ -22,9 +22,9 @@ use crate::share::share;
 use crate::size::size;
 use crate::solve::solve;
 use branch_bound::{NoWatcher, Watcher};
-use command_words::{CommandWords, WordsEnd, parse};
-use program_answers::{MEMORY, Refusal, RunAnswer};
-use shelves::{Shelf, Sink};
+use cli_answers::{MEMORY, Refusal, RunAnswer};
+use cli_shelves::{Shelf, Sink};
+use cli_words::{CommandWords, WordsEnd, parse};
 use std::alloc::{AllocError, Global};
 
 /// The answer of a command, or why it ends before.
@@ -165,7 +165,7 @@ pub fn run_with_end<H: Shelf, W: Sink, V: Watcher>(
 ///
 /// If `solve` or `check` answers with status 0, the text is the report of a grouping that is best for the problem of
 /// the files that were read. This holds of any files by which the shelf's loads and readers answered, so of the
-/// machine's files too. `specs/Told` of `command_runs` says what the other answers tell.
+/// machine's files too. `specs/Told` of `cli_runs` says what the other answers tell.
 ///
 /// The status is 0 for an answer, for help and for the version, 1 where `judge` finds a fault of the grouping, `audit`
 /// finds anything, `solve`, `check` or `list` that no grouping is lawful, or `check` or `list` that the text is no

@@ -2,17 +2,16 @@
 //! of it.
 
 use baf_auditor::{AssignmentFault, Findings};
-use certificate_checker::CheckFault;
 use certificate_lines::TextFault;
-use command_runs::Unshown;
-use command_words::WordsEnd;
+use cli_runs::Unshown;
+use cli_shelves::ShelfFault;
+use cli_words::WordsEnd;
 use county_codes::{County, Grouping};
-use grouping_judge::GroupingFault;
-use grouping_problem::{Problem, ProblemFault};
+use county_problem::{GroupingFault, Problem, ProblemFault};
+use grouping_reader::CodeLineFault;
 use pl94_counties::Pl94Fault;
-use seat_lines::CodeLineFault;
 use share_board::BoardFault;
-use shelves::ShelfFault;
+use state_judge::CheckFault;
 use std::alloc::Global;
 use std::fmt;
 

@@ -1,22 +1,23 @@
 //! What a command's files give: each is loaded and read, and the first fault met is refused.
 
 ghost use Rattle.std.specs.Prelude.{◌≡◌, ◌≤◌};
-ghost use Rattle.grouping_problem.specs.ProblemValue.{codes_of};
-ghost use Rattle.shelves.specs.History.{History};
-ghost use Rattle.program_answers.specs.Answers.{Comes};
-ghost use Rattle.command_runs.specs.Course.{load_step};
+ghost use Rattle.county_problem.specs.ProblemValue.{codes_of};
+ghost use Rattle.cli_shelves.specs.History.{History};
+ghost use Rattle.cli_answers.specs.Answers.{Comes};
+ghost use Rattle.cli_runs.specs.Course.{load_step};
 ghost use Rattle.cli.specs.Streams.{loaded_counties};
-ghost use Rattle.command_runs.specs.ProblemCourse.{counties_of, pairs_of, pairs_in, links_in, withdrawn_in, grouping_in, links_of, withdrawn_of, adjacency_of, grouping_of};
+ghost use Rattle.cli_runs.specs.ProblemCourse.{counties_course, pairs_of, pairs_in, links_in, withdrawn_in};
+ghost use Rattle.cli_runs.specs.ProblemCourse.{grouping_in, links_of, withdrawn_of, adjacency_of, grouping_of};
 
 use crate::end::{End, Ending, FileFault, FileOption};
 use crate::readers::{refuse_named, stream_counties};
 use adjacency_reader::{Link, apply_links, read_links, read_pairs, read_withdrawn};
-use command_words::{CommonWords, ProblemWords};
+use cli_answers::{InputFile, Refusal, refuse_codes, refuse_file};
+use cli_shelves::Shelf;
+use cli_words::{CommonWords, ProblemWords};
 use county_codes::{County, CountyCode, Grouping, Withdrawn, listed_codes};
+use grouping_reader::read_grouping;
 use pl94_counties::{File, Pl94Fault, read_counties};
-use program_answers::{InputFile, Refusal, refuse_codes, refuse_file};
-use seat_lines::read_grouping;
-use shelves::Shelf;
 use std::alloc::Global;
 
 /// The bytes of a file.
@@ -81,7 +82,7 @@ pub(crate) fn load_counties<H: Shelf>(
     end: &mut End,
 ) -> Result<Vec<County>, Refusal>
     requires { words.state ≤ 99 }
-    ensures course { Comes (λ v. v.items) result (counties_of (H.contents shelf.old) words.entry (H.history shelf.old) (H.history shelf.new)) }
+    ensures course { Comes (λ v. v.items) result (counties_course (H.contents shelf.old) words.entry (H.history shelf.old) (H.history shelf.new)) }
     ensures same { H.contents shelf.new ≡ H.contents shelf.old }
     ensures kept { H.stored shelf.new ≡ H.stored shelf.old }
 {

@@ -1,26 +1,25 @@
 //! The subcommand `judge`.
 
 ghost use Rattle.std.specs.Prelude.{◌≡◌, ◌≤◌, List, option_map};
-ghost use Rattle.shelves.specs.Files.{NamedFile};
-ghost use Rattle.shelves.specs.History.{History};
-ghost use Rattle.program_answers.specs.Answers.{Comes, said_by};
-ghost use Rattle.command_runs.specs.JudgeWithCertificate.{certificate_of};
-ghost use Rattle.command_runs.specs.JudgeCourse.{judge_step, judge_course};
-ghost use Rattle.command_runs.specs.Storing.{HasStored};
-ghost use Rattle.command_runs.specs.Run.{CommandRun};
-ghost use Rattle.command_runs.specs.Texts.{reported_of, tabled_of};
+ghost use Rattle.cli_shelves.specs.Files.{NamedFile};
+ghost use Rattle.cli_shelves.specs.History.{History};
+ghost use Rattle.cli_answers.specs.Answers.{Comes, said_by};
+ghost use Rattle.cli_runs.specs.JudgeWithCertificate.{certificate_text_of};
+ghost use Rattle.cli_runs.specs.JudgeCourse.{judge_step, judge_course};
+ghost use Rattle.cli_runs.specs.Storing.{HasStored};
+ghost use Rattle.cli_runs.specs.Run.{CommandRun};
+ghost use Rattle.cli_runs.specs.Texts.{reported_of, tabled_of};
 
 use crate::end::{End, Ending, FileOption};
 use crate::files::{load, load_grouping};
 use crate::problem::load_tabled_problem;
 use crate::storing::store_reported;
-use command_runs::{Judged, Reported, Tabled, Unshown, judge_and_say};
-use command_words::{CommandWords, JudgeWords};
+use cli_answers::{Refusal, RunAnswer, refuse_verdict};
+use cli_runs::{Judged, Reported, Tabled, Unshown, judge_and_say};
+use cli_shelves::Shelf;
+use cli_words::{CommandWords, JudgeWords};
 use county_codes::Grouping;
-use grouping_judge::judge as judge_grouping;
-use grouping_problem::Problem;
-use program_answers::{Refusal, RunAnswer, refuse_verdict};
-use shelves::Shelf;
+use county_problem::{Problem, judge as judge_grouping};
 use std::alloc::Global;
 
 /// The text of a certificate whose file is named, else none.
@@ -30,7 +29,7 @@ fn load_certificate<H: Shelf>(
     shelf: &mut H,
     end: &mut End,
 ) -> Result<Option<Vec<u8>>, Refusal>
-    ensures course { Comes (option_map (λ t. t.items)) result (certificate_of (H.contents shelf.old) name.entry (H.history shelf.old) (H.history shelf.new)) }
+    ensures course { Comes (option_map (λ t. t.items)) result (certificate_text_of (H.contents shelf.old) name.entry (H.history shelf.old) (H.history shelf.new)) }
     ensures same { H.contents shelf.new ≡ H.contents shelf.old }
     ensures kept { H.stored shelf.new ≡ H.stored shelf.old }
 {
@@ -61,7 +60,8 @@ fn verdict(
     budget: u64,
     end: &mut End,
 ) -> Result<Reported, Refusal>
-    ensures { (history : History) → Comes reported_of result (judge_step (tabled_of tabled) grouping.groups.items budget (option_map (λ t. t.items) certificate) history history) }
+    ensures { (history : History)
+        → Comes reported_of result (judge_step (tabled_of tabled) grouping.groups.items budget (option_map (λ t. t.items) certificate) history history) }
 {
     match judge_grouping(alloc, &tabled.problem, &grouping) {
         Ok(own) => {

@@ -24,10 +24,10 @@ mod table_files;
 
 pub use branch_bound::{NoWatcher, Watcher};
 pub use case::{MAX_CASE, run_case, run_case_with_end};
-pub use command::{run, run_with_end};
-pub use end::{End, Ending, FileFault, FileOption};
-pub use program::run_program;
-pub use shelves::{
+pub use cli_shelves::{
     EventLog, FileReader, FileShelf, GivenBytes, MAX_FILE, MemoryFile, MemoryReader, MemoryShelf,
     ReadEnd, Shelf, ShelfFault, Sink, SinkFault, WholeFault, Writing,
 };
+pub use command::{run, run_with_end};
+pub use end::{End, Ending, FileFault, FileOption};
+pub use program::run_program;

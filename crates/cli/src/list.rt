@@ -1,22 +1,22 @@
 //! The subcommand `list`.
 
 ghost use Rattle.std.specs.Prelude.{◌≡◌, ◌≤◌, List, option_map};
-ghost use Rattle.shelves.specs.Files.{NamedFile};
-ghost use Rattle.program_answers.specs.Answers.{Comes, said_by};
-ghost use Rattle.command_runs.specs.Storing.{HasStored};
-ghost use Rattle.command_runs.specs.ListCourse.{list_course};
-ghost use Rattle.command_runs.specs.Run.{CommandRun};
-ghost use Rattle.command_runs.specs.Texts.{listed_of};
+ghost use Rattle.cli_shelves.specs.Files.{NamedFile};
+ghost use Rattle.cli_answers.specs.Answers.{Comes, said_by};
+ghost use Rattle.cli_runs.specs.Storing.{HasStored};
+ghost use Rattle.cli_runs.specs.ListCourse.{list_course};
+ghost use Rattle.cli_runs.specs.Run.{CommandRun};
+ghost use Rattle.cli_runs.specs.Texts.{listed_of};
 
 use crate::end::{End, Ending, FileOption};
 use crate::files::load;
 use crate::problem::load_problem;
 use crate::storing::store_named;
-use command_runs::{ListEnd, Listed, list_and_say};
-use command_words::{CommandWords, ListWords, StoredWords};
-use grouping_problem::Problem;
-use program_answers::{Refusal, RunAnswer};
-use shelves::Shelf;
+use cli_answers::{Refusal, RunAnswer};
+use cli_runs::{ListEnd, Listed, list_and_say};
+use cli_shelves::Shelf;
+use cli_words::{CommandWords, ListWords, StoredWords};
+use county_problem::Problem;
 use std::alloc::Global;
 
 /// The number of the grouping that is stored, if one is.

@@ -1,22 +1,22 @@
 //! The subcommand `piece`.
 
 ghost use Rattle.std.specs.Prelude.{◌≡◌, ◌≤◌, map, length};
-ghost use Rattle.shelves.specs.History.{History};
+ghost use Rattle.cli_shelves.specs.History.{History};
 ghost use Rattle.share_board.specs.Events.{event_of};
-ghost use Rattle.program_answers.specs.Answers.{answer_of, Comes};
-ghost use Rattle.command_runs.specs.PieceCourse.{said_step, piece_course};
+ghost use Rattle.cli_answers.specs.Answers.{answer_of, Comes};
+ghost use Rattle.cli_runs.specs.PieceCourse.{said_step, piece_course};
 
 use crate::board_files::load_named_events;
 use crate::end::{End, Ending};
 use crate::files::load_grouping;
 use crate::problem::load_problem;
-use command_runs::{PieceEnd, piece_and_say};
-use command_words::PieceWords;
+use cli_answers::{Refusal, RunAnswer, refuse_board};
+use cli_runs::{PieceEnd, piece_and_say};
+use cli_shelves::Shelf;
+use cli_words::PieceWords;
 use county_codes::Grouping;
-use grouping_problem::Problem;
-use program_answers::{Refusal, RunAnswer, refuse_board};
+use county_problem::Problem;
 use share_board::Event;
-use shelves::Shelf;
 use std::alloc::Global;
 
 /// The end of a piece.
@@ -37,7 +37,8 @@ fn proved(
     words: PieceWords<'_>,
     end: &mut End,
 ) -> Result<RunAnswer, Refusal>
-    ensures { (history : History) → Comes answer_of result (said_step problem.now grouping.now.groups.items words.entry (map event_of events.items) history history) }
+    ensures { (history : History)
+        → Comes answer_of result (said_step problem.now grouping.now.groups.items words.entry (map event_of events.items) history history) }
 {
     match piece_and_say(alloc, problem, grouping, words, events) {
         Ok(said) => {

@@ -2,19 +2,19 @@
 
 ghost use Rattle.std.specs.Prelude.{◌≡◌, ◌≤◌, ◌<◌, All, IfOk, map, vec_len};
 ghost use Rattle.std.specs.List.Sorted.{IsStrictlyIncreasing};
-ghost use Rattle.shelves.specs.History.{History};
-ghost use Rattle.program_answers.specs.Answers.{Comes};
+ghost use Rattle.cli_shelves.specs.History.{History};
+ghost use Rattle.cli_answers.specs.Answers.{Comes};
 ghost use Rattle.cli.specs.Streams.{loaded_blocks};
-ghost use Rattle.command_runs.specs.PlanCourse.{blocks_in, blocks_of, assignments_in, assignments_of};
+ghost use Rattle.cli_runs.specs.PlanCourse.{blocks_in, blocks_of, assignments_in, plan_assignments};
 
 use crate::end::{End, Ending, FileFault, FileOption};
 use crate::files::{census_refused, load};
 use crate::readers::stream_blocks;
 use baf_auditor::{Assignment, read_assignments};
-use command_words::CommonWords;
+use cli_answers::{Refusal, refuse_assignments, refuse_file};
+use cli_shelves::Shelf;
+use cli_words::CommonWords;
 use pl94_counties::{Block, read_blocks};
-use program_answers::{Refusal, refuse_assignments, refuse_file};
-use shelves::Shelf;
 use std::alloc::Global;
 
 /// The census blocks that two files give.
@@ -26,7 +26,8 @@ fn blocks_from(
     end: &mut End,
 ) -> Result<Vec<Block>, Refusal>
     requires { state ≤ 99 }
-    ensures course { (history : History) → Comes (λ v. v.items) result (blocks_in state geo.items segment.items history history) }
+    ensures course { (history : History)
+        → Comes (λ v. v.items) result (blocks_in state geo.items segment.items history history) }
     ensures ascending { IfOk result (λ v. IsStrictlyIncreasing (map (λ b. b.code) v.items)) }
     ensures small { IfOk result (λ v. All (λ b. b.code < 1000000000000000) v.items) }
 {
@@ -100,7 +101,7 @@ pub(crate) fn load_assignments<H: Shelf>(
     shelf: &mut H,
     end: &mut End,
 ) -> Result<Vec<Assignment>, Refusal>
-    ensures course { Comes (λ v. v.items) result (assignments_of (H.contents shelf.old) name.now (H.history shelf.old) (H.history shelf.new)) }
+    ensures course { Comes (λ v. v.items) result (plan_assignments (H.contents shelf.old) name.now (H.history shelf.old) (H.history shelf.new)) }
     ensures few { IfOk result (λ v. vec_len v ≤ 4000000) }
     ensures same { H.contents shelf.new ≡ H.contents shelf.old }
     ensures kept { H.stored shelf.new ≡ H.stored shelf.old }

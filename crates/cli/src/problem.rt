@@ -1,21 +1,21 @@
 //! The problem that a command works on.
 
 ghost use Rattle.std.specs.Prelude.{◌≡◌, ◌≤◌};
-ghost use Rattle.shelves.specs.History.{History};
-ghost use Rattle.program_answers.specs.Answers.{Comes};
-ghost use Rattle.command_runs.specs.ProblemCourse.{build_step, problem_over, problem_in};
-ghost use Rattle.command_runs.specs.TableCourse.{named_problem_in, tabled_problem_in};
-ghost use Rattle.command_runs.specs.Texts.{tabled_of};
+ghost use Rattle.cli_shelves.specs.History.{History};
+ghost use Rattle.cli_answers.specs.Answers.{Comes};
+ghost use Rattle.cli_runs.specs.ProblemCourse.{build_step, problem_over, problem_course};
+ghost use Rattle.cli_runs.specs.TableCourse.{named_problem_in, tabled_problem_in};
+ghost use Rattle.cli_runs.specs.Texts.{tabled_of};
 
 use crate::end::End;
 use crate::files::{load_adjacency, load_counties, load_withdrawn};
 use crate::table_files::{load_named_counties, without_names};
-use command_runs::Tabled;
-use command_words::ProblemWords;
+use cli_answers::{Refusal, refuse_problem};
+use cli_runs::Tabled;
+use cli_shelves::Shelf;
+use cli_words::ProblemWords;
 use county_codes::{County, CountyCode, Window, Withdrawn};
-use grouping_problem::Problem;
-use program_answers::{Refusal, refuse_problem};
-use shelves::Shelf;
+use county_problem::Problem;
 use std::alloc::Global;
 
 /// The problem, or the refusal of its first fault.
@@ -28,7 +28,8 @@ pub(crate) fn build(
     window: Window,
     end: &mut End,
 ) -> Result<Problem, Refusal>
-    ensures { (history : History) → Comes (λ p. p) result (build_step chamber window counties.now pairs.now withdrawn.now history history) }
+    ensures { (history : History)
+        → Comes (λ p. p) result (build_step chamber window counties.now pairs.now withdrawn.now history history) }
 {
     match Problem::build_with(alloc, counties, pairs, withdrawn, chamber, window) {
         Ok(problem) => Ok(problem),
@@ -72,7 +73,7 @@ pub(crate) fn load_problem<H: Shelf>(
     end: &mut End,
 ) -> Result<Problem, Refusal>
     requires { words.common.state ≤ 99 }
-    ensures course { Comes (λ p. p) result (problem_in (H.contents shelf.old) words.entry (H.history shelf.old) (H.history shelf.new)) }
+    ensures course { Comes (λ p. p) result (problem_course (H.contents shelf.old) words.entry (H.history shelf.old) (H.history shelf.new)) }
     ensures same { H.contents shelf.new ≡ H.contents shelf.old }
     ensures kept { H.stored shelf.new ≡ H.stored shelf.old }
 {

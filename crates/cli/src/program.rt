@@ -1,21 +1,21 @@
 //! What the program does: a command by its words, or a case by its input.
 
 ghost use Rattle.std.specs.Prelude.{◌≡◌, ◌≢◌, ◌⊎◌, ℕ, false, List, [], Option, Result};
-ghost use Rattle.shelves.specs.Files.{NamedFile};
-ghost use Rattle.shelves.specs.declared.whole.WholeFault.{WholeFault};
-ghost use Rattle.program_answers.specs.Answer.{Answered};
-ghost use Rattle.command_runs.specs.Storing.{HasStored};
-ghost use Rattle.command_runs.specs.Run.{IsRunAnswer};
-ghost use Rattle.command_runs.specs.Told.{RunTells};
+ghost use Rattle.cli_shelves.specs.Files.{NamedFile};
+ghost use Rattle.cli_shelves.specs.declared.whole.WholeFault.{WholeFault};
+ghost use Rattle.cli_answers.specs.Answer.{Answered};
+ghost use Rattle.cli_runs.specs.Storing.{HasStored};
+ghost use Rattle.cli_runs.specs.Run.{IsRunAnswer};
+ghost use Rattle.cli_runs.specs.Told.{RunTells};
 ghost use Rattle.cli.specs.Delivery.{Delivers, texts};
-ghost use Rattle.cli.specs.CaseRun.{IsWhole, IsReadAnswer, DeliversCase};
+ghost use Rattle.cli.specs.CaseRun.{IsWholeSource, IsReadAnswer, DeliversCase};
 
 use crate::case::run_case_with_end;
 use crate::command::run_with_end;
 use crate::end::End;
 use branch_bound::Watcher;
+use cli_shelves::{Shelf, Sink};
 use field_lines::Source;
-use shelves::{Shelf, Sink};
 use std::alloc::Global;
 
 /// What the program does, its exit status, and how the run ended: with words it runs their command over the shelf's
@@ -41,7 +41,7 @@ pub fn run_program<H: Shelf, R: Source, W: Sink, V: Watcher>(
 
     // Without any, the case was run that the input holds.
     ensures case { words.now ≡ [] → (read : Result (List ℕ) WholeFault)
-        × IsWhole (R.content input.old) (R.is_failed input.new) read
+        × IsWholeSource (R.content input.old) (R.is_failed input.new) read
         × (a : Option Answered)
         × IsReadAnswer read a
         × DeliversCase out.old out.new W.is_failed W.contents a result.0 }

@@ -1,21 +1,22 @@
 //! Files that are read as they come: they are opened, and their readers are given back.
 
-ghost use Rattle.std.specs.Prelude.{◌≡◌, ◌<◌, ◌≤◌, All, map, false, true, [], Ok, Err, IfOk, IfSome, MatchResult, List, ℕ};
+ghost use Rattle.std.specs.Prelude.{◌≡◌, ◌<◌, ◌≤◌, All, map, false, true, [], Ok, Err, IfOk, IfSome, MatchResult, List};
+ghost use Rattle.std.specs.Prelude.{ℕ};
 ghost use Rattle.std.specs.List.Sorted.{IsStrictlyIncreasing};
-ghost use Rattle.shelves.specs.History.{History};
-ghost use Rattle.program_answers.specs.Answers.{Comes, Meets, Refuses};
-ghost use Rattle.program_answers.specs.Refusals.{shelf_answer};
-ghost use Rattle.command_runs.specs.Reading.{GivenBack, open_step, read_step, back_step, read_both};
-ghost use Rattle.command_runs.specs.ProblemCourse.{counties_of};
-ghost use Rattle.command_runs.specs.PlanCourse.{blocks_of};
-ghost use Rattle.cli.specs.Streams.{IsWhole, AreWhole, Streams};
+ghost use Rattle.cli_shelves.specs.History.{History};
+ghost use Rattle.cli_answers.specs.Answers.{Comes, AnswerMeets, RefusalShows};
+ghost use Rattle.cli_answers.specs.Refusals.{shelf_answer};
+ghost use Rattle.cli_runs.specs.Reading.{GivenBack, open_step, read_step, back_step, read_both};
+ghost use Rattle.cli_runs.specs.ProblemCourse.{counties_course};
+ghost use Rattle.cli_runs.specs.PlanCourse.{blocks_of};
+ghost use Rattle.cli.specs.Streams.{IsWholeReader, AreWhole, Streams};
 
 use crate::end::{End, FileOption};
-use command_words::CommonWords;
+use cli_answers::{Refusal, refuse_load};
+use cli_shelves::{ReadEnd, Shelf, ShelfFault};
+use cli_words::CommonWords;
 use county_codes::County;
 use pl94_counties::{Block, Pl94Fault, read_blocks_from, read_counties_from};
-use program_answers::{Refusal, refuse_load};
-use shelves::{ReadEnd, Shelf, ShelfFault};
 use std::alloc::Global;
 
 /// The refusal of what the shelf says of the file of an option.
@@ -26,7 +27,7 @@ pub(crate) fn refuse_named(
     fault: ShelfFault,
     end: &mut End,
 ) -> Refusal
-    ensures { Refuses (shelf_answer name.now fault) result }
+    ensures { RefusalShows (shelf_answer name.now fault) result }
 {
     end.note_unloaded(alloc, option, name, fault);
     refuse_load(alloc, name, fault)
@@ -60,7 +61,8 @@ fn is_whole(
     answer: Result<ReadEnd, ShelfFault>,
     end: &mut End,
 ) -> Result<bool, Refusal>
-    ensures { (bytes : List ℕ) (now : History) → IsWhole name.now (record { bytes = bytes; answer = answer }) now result }
+    ensures { (bytes : List ℕ) (now : History)
+        → IsWholeReader name.now (record { bytes = bytes; answer = answer }) now result }
 {
     match answer {
         Ok(ReadEnd::Whole) => Ok(true),
@@ -81,7 +83,7 @@ pub(crate) fn give_one_back<H: Shelf>(
     ensures back { (given : GivenBack)
         × (given.bytes ≡ H.Reader.given reader)
         × read_step (H.contents shelf.old) name.now (H.history shelf.old) (H.history shelf.new) (Ok given)
-        × IsWhole name.now given (H.history shelf.new) result }
+        × IsWholeReader name.now given (H.history shelf.new) result }
     ensures same { H.contents shelf.new ≡ H.contents shelf.old }
     ensures kept { H.stored shelf.new ≡ H.stored shelf.old }
 {
@@ -99,7 +101,7 @@ fn open_both<H: Shelf>(
     ensures opened { MatchResult
         result
         (λ _. H.history shelf.new ≡ H.history shelf.old)
-        (λ refusal. Meets refusal (λ a. read_both (H.contents shelf.old) words.entry.geo.now words.entry.segment.now (H.history shelf.old) (H.history shelf.new) (Err a))) }
+        (λ refusal. AnswerMeets refusal (λ a. read_both (H.contents shelf.old) words.entry.geo.now words.entry.segment.now (H.history shelf.old) (H.history shelf.new) (Err a))) }
     ensures given { IfOk result (λ both. (H.Reader.given both.0 ≡ []) × (H.Reader.given both.1 ≡ [])) }
     ensures sound { IfOk result (λ both. (H.Reader.is_failed both.0 ≡ false) × (H.Reader.is_failed both.1 ≡ false)) }
     ensures same { H.contents shelf.new ≡ H.contents shelf.old }
@@ -118,7 +120,8 @@ fn are_whole(
     segment: Result<ReadEnd, ShelfFault>,
     end: &mut End,
 ) -> Result<bool, Refusal>
-    ensures { (g h : List ℕ) (now : History) → AreWhole words.entry.geo.now words.entry.segment.now (record { bytes = g; answer = geo }, record { bytes = h; answer = segment }) now result }
+    ensures { (g h : List ℕ) (now : History)
+        → AreWhole words.entry.geo.now words.entry.segment.now (record { bytes = g; answer = geo }, record { bytes = h; answer = segment }) now result }
 {
     match (segment, geo) {
         (Ok(ReadEnd::Whole), Ok(ReadEnd::Whole)) => Ok(true),
@@ -175,7 +178,7 @@ pub(crate) fn stream_counties<H: Shelf>(
     end: &mut End,
 ) -> Result<Option<Vec<County>>, Refusal>
     requires { words.state ≤ 99 }
-    ensures course { Streams (λ v. v.items) (counties_of (H.contents shelf.old) words.entry) (read_both (H.contents shelf.old) words.entry.geo.now words.entry.segment.now) result (H.history shelf.old) (H.history shelf.new) }
+    ensures course { Streams (λ v. v.items) (counties_course (H.contents shelf.old) words.entry) (read_both (H.contents shelf.old) words.entry.geo.now words.entry.segment.now) result (H.history shelf.old) (H.history shelf.new) }
     ensures same { H.contents shelf.new ≡ H.contents shelf.old }
     ensures kept { H.stored shelf.new ≡ H.stored shelf.old }
 {

@@ -1,14 +1,14 @@
 //! The record of a run, which is stored behind the files of its command.
 
 ghost use Rattle.std.specs.Prelude.{◌≡◌, ◌-◌, ◌^◌, ◌∷◌, [], true, List, Option, length, min};
-ghost use Rattle.shelves.specs.Files.{NamedFile};
-ghost use Rattle.shelves.specs.History.{History};
-ghost use Rattle.record_report.specs.RecordFiles.{record_name_of};
-ghost use Rattle.program_answers.specs.Answer.{Answered, memory_answer};
-ghost use Rattle.program_answers.specs.Answers.{answer_of};
-ghost use Rattle.command_runs.specs.Storing.{HasStored, said_after, store_steps};
-ghost use Rattle.command_runs.specs.Recording.{RecordEnds, is_recorded as must_be_recorded};
-ghost use Rattle.command_runs.specs.Run.{HasState, RunsAsAsked, RunsWithRecord};
+ghost use Rattle.cli_shelves.specs.Files.{NamedFile};
+ghost use Rattle.cli_shelves.specs.History.{History};
+ghost use Rattle.cli_record.specs.RecordFiles.{record_name_of};
+ghost use Rattle.cli_answers.specs.Answer.{Answered, memory_answer};
+ghost use Rattle.cli_answers.specs.Answers.{answer_of};
+ghost use Rattle.cli_runs.specs.Storing.{HasStored, said_after, store_steps};
+ghost use Rattle.cli_runs.specs.Recording.{RecordEnds, is_recorded as must_be_recorded};
+ghost use Rattle.cli_runs.specs.Run.{HasState, RunsAsAsked, RunsWithRecord};
 ghost use Rattle.cli.specs.Delivery.{texts};
 ghost use Rattle.cli.specs.Ends.{refusal_by, said_of};
 
@@ -16,10 +16,10 @@ use crate::command::command_answer;
 use crate::end::{End, Ending, FileOption};
 use crate::storing::store_named;
 use branch_bound::Watcher;
-use command_words::CommandWords;
-use program_answers::{Refusal, RunAnswer};
-use record_report::{record_file, record_since};
-use shelves::Shelf;
+use cli_answers::{Refusal, RunAnswer};
+use cli_record::{record_file, record_since};
+use cli_shelves::Shelf;
+use cli_words::CommandWords;
 use std::alloc::{AllocError, Global};
 
 /// Whether a run with this status stores its record.
@@ -62,7 +62,8 @@ fn store_bytes<H: Shelf>(
 ) -> Result<RunAnswer, AllocError>
     ensures { (last : List NamedFile) × (refusal : Option Answered)
         × HasStored (H.contents shelf.old) (H.contents shelf.new) (H.stored shelf.old) (H.stored shelf.new) last
-        × store_steps (record { name = name.now; bytes = bytes.items } ∷ []) (H.history shelf.old) (H.history shelf.new) last refusal
+        × store_steps (record { name = name.now; bytes = bytes.items }
+        ∷ []) (H.history shelf.old) (H.history shelf.new) last refusal
         × (said_of result ≡ said_after refusal (answer_of answer)) }
 {
     let option = FileOption::Record;

@@ -1,13 +1,13 @@
 //! The subcommand `share`.
 
 ghost use Rattle.std.specs.Prelude.{◌≡◌, ◌≤◌, List, map, length};
-ghost use Rattle.shelves.specs.Files.{NamedFile};
-ghost use Rattle.shelves.specs.History.{History};
+ghost use Rattle.cli_shelves.specs.Files.{NamedFile};
+ghost use Rattle.cli_shelves.specs.History.{History};
 ghost use Rattle.share_board.specs.Events.{event_of};
-ghost use Rattle.program_answers.specs.Answers.{answer_of, Comes, said_by};
-ghost use Rattle.command_runs.specs.Storing.{HasStored};
-ghost use Rattle.command_runs.specs.ShareCourse.{share_answer, share_step, share_course};
-ghost use Rattle.command_runs.specs.Run.{CommandRun};
+ghost use Rattle.cli_answers.specs.Answers.{answer_of, Comes, said_by};
+ghost use Rattle.cli_runs.specs.Storing.{HasStored};
+ghost use Rattle.cli_runs.specs.ShareCourse.{share_answer, share_step, share_course};
+ghost use Rattle.cli_runs.specs.Run.{CommandRun};
 
 use crate::board_files::load_events;
 use crate::end::{End, Ending, FileOption};
@@ -15,13 +15,13 @@ use crate::files::load_grouping;
 use crate::problem::load_problem;
 use crate::storing::store_named;
 use board_report::Shared;
-use command_runs::share_events;
-use command_words::{CommandWords, ShareWords};
+use cli_answers::{Refusal, RunAnswer, refuse_board};
+use cli_runs::share_events;
+use cli_shelves::Shelf;
+use cli_words::{CommandWords, ShareWords};
 use county_codes::Grouping;
-use grouping_problem::Problem;
-use program_answers::{Refusal, RunAnswer, refuse_board};
+use county_problem::Problem;
 use share_board::Event;
-use shelves::Shelf;
 use std::alloc::Global;
 
 /// What a board comes to that takes the events.
@@ -33,7 +33,8 @@ fn taken(
     words: ShareWords<'_>,
     end: &mut End,
 ) -> Result<Shared, Refusal>
-    ensures { (history : History) → Comes (λ s. s) result (share_step problem.now grouping.now.groups.items words.entry (map event_of events.items) history history) }
+    ensures { (history : History)
+        → Comes (λ s. s) result (share_step problem.now grouping.now.groups.items words.entry (map event_of events.items) history history) }
 {
     match share_events(
         alloc,

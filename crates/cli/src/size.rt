@@ -1,16 +1,16 @@
 //! The subcommand `size`.
 
 ghost use Rattle.std.specs.Prelude.{◌≡◌, ◌≤◌};
-ghost use Rattle.program_answers.specs.Answers.{answer_of, Comes};
-ghost use Rattle.command_runs.specs.JudgeCourse.{size_course};
+ghost use Rattle.cli_answers.specs.Answers.{answer_of, Comes};
+ghost use Rattle.cli_runs.specs.JudgeCourse.{size_course};
 
 use crate::end::{End, Ending};
 use crate::files::load_counties;
 use crate::problem::build;
-use command_words::CommonWords;
+use cli_answers::{Refusal, RunAnswer};
+use cli_shelves::Shelf;
+use cli_words::CommonWords;
 use grouping_report::size_table;
-use program_answers::{Refusal, RunAnswer};
-use shelves::Shelf;
 use std::alloc::Global;
 
 /// The size table of the counties; the first fault met is the answer.

@@ -1,22 +1,22 @@
 //! The subcommand `solve`.
 
 ghost use Rattle.std.specs.Prelude.{◌≡◌, ◌≤◌, List};
-ghost use Rattle.shelves.specs.Files.{NamedFile};
-ghost use Rattle.program_answers.specs.Answers.{Comes, said_by};
-ghost use Rattle.command_runs.specs.Storing.{HasStored, store_steps};
-ghost use Rattle.command_runs.specs.SolveCourse.{solve_course, files_to_store};
-ghost use Rattle.command_runs.specs.Run.{CommandRun};
-ghost use Rattle.command_runs.specs.Texts.{solved_of};
+ghost use Rattle.cli_shelves.specs.Files.{NamedFile};
+ghost use Rattle.cli_answers.specs.Answers.{Comes, said_by};
+ghost use Rattle.cli_runs.specs.Storing.{HasStored, store_steps};
+ghost use Rattle.cli_runs.specs.SolveCourse.{solve_course, files_to_store};
+ghost use Rattle.cli_runs.specs.Run.{CommandRun};
+ghost use Rattle.cli_runs.specs.Texts.{solved_of};
 ghost use Rattle.cli.specs.Ends.{refusal_by};
 
 use crate::end::{End, Ending, FileOption};
 use crate::problem::load_tabled_problem;
 use crate::storing::store_named;
 use branch_bound::Watcher;
-use command_runs::{Solved, solve_and_say};
-use command_words::{CommandWords, SolveWords};
-use program_answers::{Refusal, RunAnswer};
-use shelves::Shelf;
+use cli_answers::{Refusal, RunAnswer};
+use cli_runs::{Solved, solve_and_say};
+use cli_shelves::Shelf;
+use cli_words::{CommandWords, SolveWords};
 use std::alloc::Global;
 
 /// What `solve` says of the problem of the files, before anything is stored.

@@ -1,17 +1,17 @@
 //! Files that a command stores.
 
 ghost use Rattle.std.specs.Prelude.{◌≡◌, List, [], ◌∷◌, Option, option_map};
-ghost use Rattle.program_answers.specs.Answer.{Answered};
-ghost use Rattle.program_answers.specs.Answers.{answer_of, said_by};
-ghost use Rattle.shelves.specs.Files.{NamedFile};
-ghost use Rattle.command_runs.specs.Storing.{HasStored, named_file, said_after, store_steps};
-ghost use Rattle.command_runs.specs.Texts.{reported_of};
+ghost use Rattle.cli_answers.specs.Answer.{Answered};
+ghost use Rattle.cli_answers.specs.Answers.{answer_of, said_by};
+ghost use Rattle.cli_shelves.specs.Files.{NamedFile};
+ghost use Rattle.cli_runs.specs.Storing.{HasStored, named_file, said_after, store_steps};
+ghost use Rattle.cli_runs.specs.Texts.{reported_of};
 ghost use Rattle.cli.specs.Ends.{refusal_by};
 
 use crate::end::{End, FileOption};
-use command_runs::Reported;
-use program_answers::{Refusal, RunAnswer, refuse_load};
-use shelves::Shelf;
+use cli_answers::{Refusal, RunAnswer, refuse_load};
+use cli_runs::Reported;
+use cli_shelves::Shelf;
 use std::alloc::Global;
 
 /// Stores a file, or refuses what the shelf says of it.
@@ -25,7 +25,8 @@ fn store<H: Shelf>(
 ) -> Result<(), Refusal>
     ensures { (stored : List NamedFile)
         × HasStored (H.contents shelf.old) (H.contents shelf.new) (H.stored shelf.old) (H.stored shelf.new) stored
-        × store_steps (record { name = name.now; bytes = bytes.now } ∷ []) (H.history shelf.old) (H.history shelf.new) stored (refusal_by result) }
+        × store_steps (record { name = name.now; bytes = bytes.now }
+        ∷ []) (H.history shelf.old) (H.history shelf.new) stored (refusal_by result) }
 {
     match shelf.store(alloc, name, bytes) {
         Ok(()) => {

@@ -1,18 +1,18 @@
 //! What the census files give for a table: counties with their names.
 
 ghost use Rattle.std.specs.Prelude.{◌≡◌, ◌≤◌, IfOk, map};
-ghost use Rattle.shelves.specs.History.{History};
-ghost use Rattle.program_answers.specs.Answers.{Comes};
+ghost use Rattle.cli_shelves.specs.History.{History};
+ghost use Rattle.cli_answers.specs.Answers.{Comes};
 ghost use Rattle.pl94_counties.specs.Named.{county_name};
-ghost use Rattle.command_runs.specs.TableCourse.{named_counties_in, named_counties_of};
+ghost use Rattle.cli_runs.specs.TableCourse.{named_counties_in, named_counties_of};
 
 use crate::end::{End, Ending, FileFault, FileOption};
 use crate::files::{census_refused, load};
-use command_words::CommonWords;
+use cli_answers::{Refusal, refuse_named_counties};
+use cli_shelves::Shelf;
+use cli_words::CommonWords;
 use county_codes::County;
 use pl94_counties::{NamedCounty, NamedFault, read_named_counties};
-use program_answers::{Refusal, refuse_named_counties};
-use shelves::Shelf;
 use std::alloc::{AllocError, Global};
 
 /// The end at a fault of the two census files or of the NAME of a county, with the text of the file at fault.
@@ -34,7 +34,8 @@ fn named_from(
     end: &mut End,
 ) -> Result<Vec<NamedCounty>, Refusal>
     requires { state ≤ 99 }
-    ensures { (history : History) → Comes (λ v. map county_name v.items) result (named_counties_in state geo.items segment.items history history) }
+    ensures { (history : History)
+        → Comes (λ v. map county_name v.items) result (named_counties_in state geo.items segment.items history history) }
 {
     match read_named_counties(alloc, &geo, &segment, state) {
         Ok(named) => Ok(named),

@@ -4,8 +4,8 @@ ghost use Rattle.std.specs.Prelude.{◌≡◌, ℕ, ◌+◌, ◌-◌, ◌*◌, �
 ghost use Rattle.grouping_laws.specs.SeatWindow.{seat_run};
 ghost use Rattle.connected_groups.specs.Search.{problem_at, places_in, size_in};
 
-use county_regions::{Growth, GrowthGround, GrowthTest};
-use ordered_counties::Ordered;
+use connected_sets::{Growth, GrowthInput, GrowthTest};
+use county_problem::Ordered;
 use place_sets::CountySet;
 use std::alloc::{AllocError, Global};
 
@@ -18,22 +18,17 @@ pub(crate) struct SeatTest {
 }
 
 /// Whether the set has too few people for a seat, whatever free places join it.
-fn stays_small<C: CountySet>(
-    ground: &GrowthGround<C>,
-    test: &SeatTest,
-    set: &C,
-    people: u64,
-) -> bool
-    requires growth { size_in ground.now (C.test set.now) ≤ ground.now.limit }
-    requires below { (x : ℕ) → C.test set.now x ≡ true → x < places_in ground.now }
+fn stays_small<C: CountySet>(input: &GrowthInput<C>, test: &SeatTest, set: &C, people: u64) -> bool
+    requires growth { size_in input.now (C.test set.now) ≤ input.now.limit }
+    requires below { (x : ℕ) → C.test set.now x ≡ true → x < places_in input.now }
     requires bound { people ≤ 2 ^ 40 }
     ensures { result
         ≡ nat_lt
-        (people + (ground.now.limit - size_in ground.now (C.test set.now)) * test.now.most)
+        (people + (input.now.limit - size_in input.now (C.test set.now)) * test.now.most)
         test.now.least }
 {
     let most = u64::from(test.most);
-    let room = u64::from(ground.limit) - u64::from(set.size());
+    let room = u64::from(input.limit) - u64::from(set.size());
     people + room * most < test.least
 }
 
@@ -59,10 +54,10 @@ impl<C: CountySet> GrowthTest<C> for SeatTest {
     fn is_passed_over(
         &self,
         alloc: Global,
-        ground: &GrowthGround<C>,
+        input: &GrowthInput<C>,
         growth: &Growth<C>,
     ) -> Result<bool, AllocError> {
-        Ok(stays_small(ground, self, &growth.set, growth.people))
+        Ok(stays_small(input, self, &growth.set, growth.people))
     }
 
     fn next_place(&self, ordered: &Ordered, front: &C) -> Option<u16> {
@@ -72,10 +67,10 @@ impl<C: CountySet> GrowthTest<C> for SeatTest {
     fn is_kept(
         &self,
         alloc: Global,
-        ground: &GrowthGround<C>,
+        input: &GrowthInput<C>,
         growth: &Growth<C>,
     ) -> Result<bool, AllocError> {
-        Ok(suits(ground.ordered, growth.people))
+        Ok(suits(input.ordered, growth.people))
     }
 
     ghost shrinks = { λ t p n limit free less lower k. (k.0, λ c e. k.1 c (lower c e)) };

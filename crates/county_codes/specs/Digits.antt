@@ -4,7 +4,9 @@ use Rattle.std.specs.List.{flat_map}
 
 -- the five digits of a county's code
 abbrev pub five_digits : ℕ → List ℕ
-five_digits code = (48 + code / 10000) ∷ (48 + code / 1000 % 10) ∷ (48 + code / 100 % 10) ∷ (48 + code / 10 % 10) ∷ (48 + code % 10) ∷ []
+five_digits code =
+    (48 + code / 10000) ∷ (48 + code / 1000 % 10) ∷ (48 + code / 100 % 10) ∷ (48 + code / 10 % 10) ∷ (48 + code % 10)
+    ∷ []
 
 -- codes, each after a mark
 abbrev pub each_after : List ℕ → List ℕ → List ℕ

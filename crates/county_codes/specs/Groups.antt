@@ -14,4 +14,5 @@ abbrev pub same_groups : List Group → List Group → Bool
 same_groups = pointwise same_group
 
 pub same_groups_equiv : IsEquivalence same_groups
-same_groups_equiv = lists_equiv (and_equiv (on_equiv (λ g. g.seats) nat_eq_equiv) (on_equiv (λ g. g.codes) nat_list_eq_equiv))
+same_groups_equiv =
+    lists_equiv (and_equiv (on_equiv (λ g. g.seats) nat_eq_equiv) (on_equiv (λ g. g.codes) nat_list_eq_equiv))

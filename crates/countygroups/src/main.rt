@@ -5,8 +5,9 @@
 mod progress;
 
 use crate::progress::Progress;
-use cli::{End, FileShelf, Sink, Writing, run_program};
-use explanations::{Ended, explain, explain_before};
+use cli::{End, run_program};
+use cli_explanations::{Ended, explain, explain_before};
+use cli_shelves::{FileShelf, Sink, Writing};
 use field_lines::Reading;
 use std::alloc::AllocError;
 use std::io::{ErrorKind, IsTerminal};

@@ -1,8 +1,8 @@
 //! How far a search is, told while it runs.
 
-use cli::Watcher;
+use branch_bound::Watcher;
 use county_codes::Grouping;
-use ordered_counties::Steps;
+use county_problem::Steps;
 use std::alloc::{AllocError, Global};
 use std::io::IsTerminal;
 use std::time::Instant;

@@ -11,7 +11,7 @@ use Rattle.field_lines.specs.Cut.{Cut, cut_of, fault_at, fault_in}
 use Rattle.field_lines.specs.Held.{Pulled, MayCome}
 use Rattle.field_lines.specs.Taken.{taken_bytes, TakesFirst}
 use Rattle.field_lines.specs.declared.taken.TakenPiece.{TakenPiece}
-use Rattle.field_lines.specs.Front.{HasNoLf, HasLfAt, IsAllOf, IsFront}
+use Rattle.field_lines.specs.Front.{HasNoLf, HasLfAt, IsAllOf, IsFrontPiece}
 use Rattle.field_lines.specs.LinesFrom.{no_line}
 use Rattle.field_lines.specs.declared.fault.LineFault.{LineFault}
 use Rattle.field_lines.proofs.SplitLemmas.{Parts, parts_of, numbered-ended, numbered-last}
@@ -41,7 +41,7 @@ all_first bytes ended count n later is none =
     rw (none, take_all count bytes short, drop_of_length-le bytes short, append-nil bytes, slice_split_none is_lf bytes is.no_lf) (numbered-last n bytes some)
 
 -- the first piece of the bytes that are held, whatever comes later, where it isn't too long
-pub front_first : (bytes : List ℕ) (ended lf : Bool) (count : ℕ) → IsFront bytes ended count lf → count ≤ most_bytes → (n : ℕ) (later : List ℕ) → MayCome ended later
+pub front_first : (bytes : List ℕ) (ended lf : Bool) (count : ℕ) → IsFrontPiece bytes ended count lf → count ≤ most_bytes → (n : ℕ) (later : List ℕ) → MayCome ended later
     → raw_lines_from n (bytes ++ later) ≡ record { number = n; bytes = take count bytes; ended = lf } ∷ raw_lines_from (n + 1) (drop (with_end count lf) bytes ++ later)
 front_first bytes ended true count is short n later may = lf_first bytes count n later is
 front_first bytes ended false count is short n later may = all_first bytes ended count n later is (may (is.last short))
@@ -74,7 +74,7 @@ fault_stays : (n : ℕ) (xs ys : List ℕ) (f : LineFault) → fault_at n xs ≡
 fault_stays n xs ys f is = let long = length-append xs ys in grind (arith, nat_tests)
 
 -- the fault of the piece at the front is that of the cut, whatever comes later
-pub front_faulty : (bytes : List ℕ) (ended lf : Bool) (count n : ℕ) (f : LineFault) → IsFront bytes ended count lf → fault_at n (take count bytes) ≡ Some f
+pub front_faulty : (bytes : List ℕ) (ended lf : Bool) (count n : ℕ) (f : LineFault) → IsFrontPiece bytes ended count lf → fault_at n (take count bytes) ≡ Some f
     → (later : List ℕ) → cut_of (raw_lines_from n (bytes ++ later)) ≡ no_line (Some f)
 front_faulty bytes ended true count n f is at later =
     ap cut_of (lf_first bytes count n later is) ∙ cut_of-faulty (record { number = n; bytes = take count bytes; ended = true }) (raw_lines_from (n + 1) (drop (count + 1) bytes ++ later)) f at
@@ -93,7 +93,7 @@ taken_at before bytes count taken le =
     ∙ take-take count taken bytes le
 
 -- the first of the pieces was taken
-pub takes_first : (bytes : List ℕ) (ended lf : Bool) (count taken : ℕ) (after : Pulled) (t : TakenPiece) → IsFront bytes ended count lf → count ≤ most_bytes → taken ≡ with_end count lf
+pub takes_first : (bytes : List ℕ) (ended lf : Bool) (count taken : ℕ) (after : Pulled) (t : TakenPiece) → IsFrontPiece bytes ended count lf → count ≤ most_bytes → taken ≡ with_end count lf
     → taken_bytes after t ≡ take count bytes → t.ended ≡ lf → after.bytes ≡ drop taken bytes → after.ended ≡ ended → TakesFirst bytes after t
 takes_first bytes ended lf count taken after t front short taken_is bytes_are ended_is rest stays n later may =
     rw (bytes_are, ended_is, rest, taken_is) (front_first bytes ended lf count front short n later (subst (λ (b : Bool). MayCome b later) stays may))

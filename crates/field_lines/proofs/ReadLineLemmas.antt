@@ -7,9 +7,9 @@ use Rattle.field_lines.specs.Raw.{RawLine, raw_lines_from}
 use Rattle.field_lines.specs.Fault.{most_lines, most_bytes}
 use Rattle.field_lines.specs.Cut.{Cut, Line, cut_of, fault_at, line_bytes, in_front, line_of}
 use Rattle.field_lines.specs.Held.{Pulled, MayCome, StaysEnded, Pulls}
-use Rattle.field_lines.specs.Front.{IsFront}
+use Rattle.field_lines.specs.Front.{IsFrontPiece}
 use Rattle.field_lines.specs.Taken.{IsPlace, taken_bytes, piece_at, line_at}
-use Rattle.field_lines.specs.LinesFrom.{no_line, AnswersCut, FailsOnly, Held, lines_held, IsNextFrom, AnswersRead, IsNextRead, fault_answered, line_answered, IsAtLine}
+use Rattle.field_lines.specs.LinesFrom.{no_line, AnswersCut, FailsOnly, LinesHeld, lines_held, IsNextFrom, AnswersRead, IsNextRead, fault_answered, line_answered, IsAtLine}
 use Rattle.field_lines.specs.ReadLine.{pieces_held, AnswersPiece, TakesPiece, TakesLine}
 use Rattle.field_lines.specs.declared.fault.LineFault.{LineFault}
 use Rattle.field_lines.specs.declared.fault.LineFault.TheVariants.{LineTooLong, TooManyLines, ReadFault, Memory}
@@ -37,7 +37,7 @@ may_come {before} {after} {pulled} {later} stays may = λ is.
     ap (λ (l : List ℕ). l ++ later) end.0 ∙ may end.1
 
 -- a piece at the front is at fault
-pub piece_faulty : (n : ℕ) (old new : Pulled) (g h : List ℕ) (d e lf : Bool) (count : ℕ) (fault : LineFault) → Pulls g h old new → IsFront new.bytes new.ended count lf → (d ≡ false → e ≡ false)
+pub piece_faulty : (n : ℕ) (old new : Pulled) (g h : List ℕ) (d e lf : Bool) (count : ℕ) (fault : LineFault) → Pulls g h old new → IsFrontPiece new.bytes new.ended count lf → (d ≡ false → e ≡ false)
     → fault_at n (take count new.bytes) ≡ Some fault → TakesPiece n old g d (Err fault) new h e
 piece_faulty n old new g h d e lf count fault pulls front ok is =
     let faulty : (f : LineFault) → fault_at n (take count new.bytes) ≡ Some f → (later : List ℕ) → cut_of (pieces_held n old (pulls.pulled ++ later)) ≡ no_line (Some f) =
@@ -155,15 +155,15 @@ module _ (first number : ℕ) (old now new : Pulled) (g h i : List ℕ) (d e f :
   takes_fault Memory p = absurd p.answers
 
 -- an answer of a reader that has answered no fault so far
-pub reads_next : (old new : Held) (g h : List ℕ) (d e : Bool) (answer : Result (Option (ℕ × Bor (List ℕ))) LineFault) → old.fault ≡ None
+pub reads_next : (old new : LinesHeld) (g h : List ℕ) (d e : Bool) (answer : Result (Option (ℕ × Bor (List ℕ))) LineFault) → old.fault ≡ None
     → IsNextFrom (lines_held old) g d (line_answered answer) (lines_held new) h e → new.fault ≡ fault_answered answer → IsAtLine answer new.number → IsNextRead old g d answer new h e
 reads_next old new g h d e answer sound next fault at = subst (λ (o : Option LineFault). AnswersRead o old g d answer new h e) (sym sound) (next, fault, at)
 
 module _ (number number_after : ℕ) (old new : Pulled) (fault : Option LineFault) (g h : List ℕ) (d e : Bool) (none : fault ≡ None) where
-  abbrev before : Held
+  abbrev before : LinesHeld
   before = record { bytes = old.bytes; ended = old.ended; number = number; fault = fault }
 
-  abbrev after : Held
+  abbrev after : LinesHeld
   after = record { bytes = new.bytes; ended = new.ended; number = number_after; fault = fault }
 
   -- a line was taken

@@ -6,10 +6,10 @@ use Rattle.field_lines.specs.Raw.{RawLine, raw_lines_from}
 use Rattle.field_lines.specs.Piece.{raw_of}
 use Rattle.field_lines.specs.Fault.{most_bytes}
 use Rattle.field_lines.specs.Held.{Pulled, Pulls}
-use Rattle.field_lines.specs.Front.{IsFront}
+use Rattle.field_lines.specs.Front.{IsFrontPiece}
 use Rattle.field_lines.specs.Taken.{piece_at}
 use Rattle.field_lines.specs.ReadLine.{pieces_held}
-use Rattle.field_lines.specs.LinesFrom.{Held, fault_answered, IsAtLine}
+use Rattle.field_lines.specs.LinesFrom.{LinesHeld, fault_answered, IsAtLine}
 use Rattle.field_lines.specs.PiecesFrom.{BeginsTooLong, IsNextPieceFrom, pieces_left, AnswersRaw, IsRawRead, IsPastNumbers}
 use Rattle.field_lines.specs.ReadPiece.{raw_fault_at, TakesRaw}
 use Rattle.field_lines.specs.declared.fault.LineFault.{LineFault}
@@ -19,7 +19,7 @@ use Rattle.field_lines.specs.declared.taken.TakenPiece.{TakenPiece}
 use Rattle.field_lines.proofs.FrontLemmas.{lf_first, begins_with}
 
 -- the piece at the front is too long, whatever comes later
-front_long : (bytes : List ℕ) (ended lf : Bool) (count n : ℕ) → IsFront bytes ended count lf → most_bytes < count → (later : List ℕ) → BeginsTooLong n (raw_lines_from n (bytes ++ later))
+front_long : (bytes : List ℕ) (ended lf : Bool) (count n : ℕ) → IsFrontPiece bytes ended count lf → most_bytes < count → (later : List ℕ) → BeginsTooLong n (raw_lines_from n (bytes ++ later))
 front_long bytes ended true count n is long later =
     let le : count ≤ length bytes = omega (arith, is.within) in
     subst (BeginsTooLong n) (sym (lf_first bytes count n later is)) (refl, omega (arith, long, length-take-le count bytes le))
@@ -34,7 +34,7 @@ raw_fault_by P n count f false true test last long past is = let same : Memory �
 raw_fault_by P n count f false false test last long past is = absurd cc
 
 -- a piece at the front is at fault
-pub raw_faulty : (n : ℕ) (old new : Pulled) (g h : List ℕ) (d e lf : Bool) (count : ℕ) (fault : LineFault) → Pulls g h old new → IsFront new.bytes new.ended count lf → (d ≡ false → e ≡ false)
+pub raw_faulty : (n : ℕ) (old new : Pulled) (g h : List ℕ) (d e lf : Bool) (count : ℕ) (fault : LineFault) → Pulls g h old new → IsFrontPiece new.bytes new.ended count lf → (d ≡ false → e ≡ false)
     → raw_fault_at n count ≡ Some fault → TakesRaw n old g d (Err fault) new h e
 raw_faulty n old new g h d e lf count fault pulls front ok is =
     let begins : most_bytes < count → (later : List ℕ) → BeginsTooLong n (pieces_held n old (pulls.pulled ++ later)) =
@@ -47,15 +47,15 @@ raw_faulty n old new g h d e lf count fault pulls front ok is =
     is
 
 -- an answer of a reader that has answered no fault so far
-reads_next : (old new : Held) (g h : List ℕ) (d e : Bool) (answer : Result (Option Piece) LineFault) → old.fault ≡ None
+reads_next : (old new : LinesHeld) (g h : List ℕ) (d e : Bool) (answer : Result (Option Piece) LineFault) → old.fault ≡ None
     → IsNextPieceFrom (pieces_left old) g d answer (pieces_left new) h e → new.fault ≡ fault_answered answer → IsAtLine answer new.number → IsPastNumbers answer new.number → IsRawRead old g d answer new h e
 reads_next old new g h d e answer sound next fault at past = subst (λ (o : Option LineFault). AnswersRaw o old g d answer new h e) (sym sound) (next, fault, at, past)
 
 module _ (number : ℕ) (old new : Pulled) (fault : Option LineFault) (g h : List ℕ) (d e : Bool) (none : fault ≡ None) where
-  abbrev before : Held
+  abbrev before : LinesHeld
   before = record { bytes = old.bytes; ended = old.ended; number = number; fault = fault }
 
-  abbrev after : ℕ → Held
+  abbrev after : ℕ → LinesHeld
   after n = record { bytes = new.bytes; ended = new.ended; number = n; fault = fault }
 
   -- a piece was taken

@@ -5,7 +5,7 @@ use Rattle.std.proofs.lemmas.List.{append-nil}
 use Rattle.field_lines.specs.Fault.{IsOfText}
 use Rattle.field_lines.specs.Cut.{Cut, Line, in_front, line_of}
 use Rattle.field_lines.specs.Held.{MayCome, StaysEnded}
-use Rattle.field_lines.specs.LinesFrom.{LinesLeft, no_line, IsNext, IsNextFrom}
+use Rattle.field_lines.specs.LinesFrom.{LinesLeft, no_line, IsNextAnswer, IsNextFrom}
 use Rattle.field_lines.specs.declared.fault.LineFault.{LineFault}
 use Rattle.field_lines.specs.declared.fault.LineFault.TheVariants.{LineTooLong, TooManyLines, ReadFault, Memory}
 use Rattle.field_lines.proofs.ReadLineLemmas.{may_come}
@@ -42,7 +42,7 @@ module _ {R : Type 0} (start now new : LinesLeft) (g h i : List ℕ) (d e : Bool
     pub given : i ≡ g ++ pulled
     pub is : P → Whole (start.cut pulled) ≡ value
 
-  module _ (r : ℕ × Bor (List ℕ)) (next : IsNext now h d (Ok (Some r)) new i e) where
+  module _ (r : ℕ × Bor (List ℕ)) (next : IsNextAnswer now h d (Ok (Some r)) new i e) where
     -- a line is added
     pub reads_more : (Next : Cut → R) → ((c : Cut) → Now (in_front (line_of r) c) ≡ Next c) → ReadsOn start g Whole new i e Next
     reads_more Next adds =
@@ -69,16 +69,16 @@ module _ {R : Type 0} (start now new : LinesLeft) (g h i : List ℕ) (d e : Bool
     works_more = (next s.sound).failed s.works
 
   -- no line is left
-  pub reads_end : (P : Type 0) → IsNext now h d (Ok None) new i e → Comes P (Now (no_line None))
+  pub reads_end : (P : Type 0) → IsNextAnswer now h d (Ok None) new i e → Comes P (Now (no_line None))
   reads_end P next =
       let n = next s.sound in
       record { pulled = s.pulled ++ n.pulled; given = both_given n.pulled n.given; is = λ p. sym (all_same n.pulled n.end) ∙ ap Now n.answers.1 }
 
-  pub works_end : IsNext now h d (Ok None) new i e → e ≡ false
+  pub works_end : IsNextAnswer now h d (Ok None) new i e → e ≡ false
   works_end next = (next s.sound).failed s.works
 
   -- the text has a fault
-  pub reads_fault : (P : Type 0) (fault : LineFault) → IsOfText fault → IsNext now h d (Err fault) new i e → Comes P (Now (no_line (Some fault)))
+  pub reads_fault : (P : Type 0) (fault : LineFault) → IsOfText fault → IsNextAnswer now h d (Err fault) new i e → Comes P (Now (no_line (Some fault)))
   reads_fault P (LineTooLong line) of next =
       let n = next s.sound in
       record { pulled = s.pulled ++ n.pulled; given = both_given n.pulled n.given; is = λ p. sym (all_same n.pulled n.end) ∙ ap (λ (l : List ℕ). Now (now.cut l)) (sym (append-nil n.pulled)) ∙ ap Now (n.answers [] (λ is. refl)) }
@@ -88,18 +88,18 @@ module _ {R : Type 0} (start now new : LinesLeft) (g h i : List ℕ) (d e : Bool
   reads_fault P (ReadFault line) of next = absurd of
   reads_fault P Memory of next = absurd of
 
-  pub works_fault : (fault : LineFault) → IsOfText fault → IsNext now h d (Err fault) new i e → e ≡ false
+  pub works_fault : (fault : LineFault) → IsOfText fault → IsNextAnswer now h d (Err fault) new i e → e ≡ false
   works_fault (LineTooLong line) of next = (next s.sound).failed s.works
   works_fault TooManyLines of next = (next s.sound).failed s.works
   works_fault (ReadFault line) of next = absurd of
   works_fault Memory of next = absurd of
 
   -- a read failed
-  pub fails_fault : (line : ℕ) → IsNext now h d (Err (ReadFault line)) new i e → e ≡ true
+  pub fails_fault : (line : ℕ) → IsNextAnswer now h d (Err (ReadFault line)) new i e → e ≡ true
   fails_fault line next = (next s.sound).failed
 
-  pub given_fault : (fault : LineFault) → IsNext now h d (Err fault) new i e → (pulled : List ℕ) × (i ≡ g ++ pulled)
+  pub given_fault : (fault : LineFault) → IsNextAnswer now h d (Err fault) new i e → (pulled : List ℕ) × (i ≡ g ++ pulled)
   given_fault fault next = let n = next s.sound in (s.pulled ++ n.pulled, both_given n.pulled n.given)
 
-  pub never_memory : IsNext now h d (Err Memory) new i e → ⊥
+  pub never_memory : IsNextAnswer now h d (Err Memory) new i e → ⊥
   never_memory next = (next s.sound).answers

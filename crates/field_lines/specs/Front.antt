@@ -1,5 +1,6 @@
 -- The piece at the front of bytes that were pulled.
-use Rattle.std.specs.Prelude.{◌≡◌, ℕ, ◌+◌, ◌<◌, ◌≤◌, Bool, true, false, List, [], ◌∷◌, ◌++◌, Option, Some, None, take, drop, length, All}
+use Rattle.std.specs.Prelude.{◌≡◌, ℕ, ◌+◌, ◌<◌, ◌≤◌, Bool, true, false, List, [], ◌∷◌, ◌++◌, Option, Some, None, take}
+use Rattle.std.specs.Prelude.{drop, length, All}
 use Rattle.field_lines.specs.Raw.{is_lf}
 use Rattle.field_lines.specs.Fault.{most_bytes}
 use Rattle.field_lines.specs.declared.front.FrontPiece.{FrontPiece}
@@ -22,11 +23,11 @@ pub record IsAllOf (bytes : List ℕ) (ended : Bool) (count : ℕ) : Type 0 wher
   pub last : count ≤ most_bytes → ended ≡ true
 
 -- a piece of so many bytes stands at the front, with an LF or without
-abbrev pub IsFront : List ℕ → Bool → ℕ → Bool → Type 0
-IsFront bytes ended count true = HasLfAt bytes count
-IsFront bytes ended count false = IsAllOf bytes ended count
+abbrev pub IsFrontPiece : List ℕ → Bool → ℕ → Bool → Type 0
+IsFrontPiece bytes ended count true = HasLfAt bytes count
+IsFrontPiece bytes ended count false = IsAllOf bytes ended count
 
 -- the piece at the front, or the end
 abbrev pub HasFront : List ℕ → Bool → Option FrontPiece → Type 0
-HasFront bytes ended (Some front) = IsFront bytes ended front.length front.ended
+HasFront bytes ended (Some front) = IsFrontPiece bytes ended front.length front.ended
 HasFront bytes ended None = (bytes ≡ []) × (ended ≡ true)

@@ -1,5 +1,6 @@
 -- Lines that are read from a source.
-use Rattle.std.specs.Prelude.{◌≡◌, ℕ, ◌+◌, ◌-◌, ◌<◌, Bool, true, false, List, [], ◌++◌, length, Option, Some, None, Result, Ok, Err, OnOk, OnSome, IfOk}
+use Rattle.std.specs.Prelude.{◌≡◌, ℕ, ◌+◌, ◌-◌, ◌<◌, Bool, true, false, List, [], ◌++◌, length, Option, Some, None}
+use Rattle.std.specs.Prelude.{Result, Ok, Err, OnOk, OnSome, IfOk}
 use Rattle.std.specs.Borrow.{Bor}
 use Rattle.field_lines.specs.Raw.{raw_lines_from}
 use Rattle.field_lines.specs.Fault.{most_lines}
@@ -10,14 +11,14 @@ use Rattle.field_lines.specs.declared.fault.LineFault.TheVariants.{LineTooLong, 
 
 -- what a reader of lines has: the bytes that it holds, whether the source has ended, the number of the next line, and
 -- its fault
-pub record Held : Type 0 where
+pub record LinesHeld : Type 0 where
   pub bytes : List ℕ
   pub ended : Bool
   pub number : ℕ
   pub fault : Option LineFault
 
 -- nothing was read so far
-abbrev pub nothing_read : Held
+abbrev pub nothing_read : LinesHeld
 nothing_read = record { bytes = []; ended = false; number = 1; fault = None }
 
 -- what is left of lines that are read: their cut, by the bytes that come later; whether the source has ended; the fault
@@ -29,7 +30,7 @@ pub record LinesLeft : Type 0 where
   pub most : ℕ
 
 -- what a reader of lines has left
-abbrev pub lines_held : Held → LinesLeft
+abbrev pub lines_held : LinesHeld → LinesLeft
 lines_held h = record {
   cut = λ later. cut_of (raw_lines_from h.number (h.bytes ++ later));
   ended = h.ended;
@@ -48,11 +49,13 @@ no_line fault = record { lines = []; fault = fault }
 -- What is answered where `old` was left, and these bytes were pulled: whatever comes later, the first of the lines, or
 -- the fault of a cut that has none; at the end that there is no line. A read that failed says nothing of the lines.
 abbrev pub AnswersCut : (List ℕ → Cut) → List ℕ → (List ℕ → Cut) → Bool → Result (Option Line) LineFault → Type 0
-AnswersCut old pulled new ended (Ok (Some line)) = (later : List ℕ) → MayCome ended later → old (pulled ++ later) ≡ in_front line (new later)
+AnswersCut old pulled new ended (Ok (Some line)) =
+    (later : List ℕ) → MayCome ended later → old (pulled ++ later) ≡ in_front line (new later)
 AnswersCut old pulled new ended (Ok None) = (ended ≡ true) × (old pulled ≡ no_line None) × (new [] ≡ no_line None)
 AnswersCut old pulled new ended (Err (ReadFault number)) = Unit {0}
 AnswersCut old pulled new ended (Err Memory) = ⊥
-AnswersCut old pulled new ended (Err fault) = (later : List ℕ) → MayCome ended later → old (pulled ++ later) ≡ no_line (Some fault)
+AnswersCut old pulled new ended (Err fault) =
+    (later : List ℕ) → MayCome ended later → old (pulled ++ later) ≡ no_line (Some fault)
 
 -- a source fails exactly where a read fault is answered
 abbrev pub FailsOnly : {X : Type 0} → Bool → Result X LineFault → Bool → Type 0
@@ -66,7 +69,9 @@ line_answered (Ok None) = Ok None
 line_answered (Err fault) = Err fault
 
 -- What a call answers that has answered no fault so far. The source gave `pulled` meanwhile.
-pub record IsNextFrom (old : LinesLeft) (given_before : List ℕ) (failed_before : Bool) (answer : Result (Option Line) LineFault) (new : LinesLeft) (given_after : List ℕ) (failed_after : Bool) : Type 0 where
+pub record IsNextFrom (old : LinesLeft) (given_before : List ℕ) (failed_before : Bool)
+    (answer : Result (Option Line) LineFault) (new : LinesLeft) (given_after : List ℕ)
+    (failed_after : Bool) : Type 0 where
   pub pulled : List ℕ
   pub given : given_after ≡ given_before ++ pulled
   pub end : StaysEnded old.ended pulled new.ended
@@ -86,19 +91,24 @@ IsAtLine (Err (ReadFault number)) line = number ≡ line
 IsAtLine answer line = Unit {0}
 
 -- What a reader answers that has this fault: it stays, and nothing is pulled. Without one it answers the next line.
-abbrev pub AnswersRead : Option LineFault → Held → List ℕ → Bool → Result (Option (ℕ × Bor (List ℕ))) LineFault → Held → List ℕ → Bool → Type 0
-AnswersRead (Some fault) old given_before failed_before answer new given_after failed_after = (answer ≡ Err fault) × (new ≡ old) × (given_after ≡ given_before) × (failed_after ≡ failed_before)
+abbrev pub AnswersRead : Option LineFault → LinesHeld → List ℕ → Bool → Result (Option (ℕ × Bor (List ℕ))) LineFault
+    → LinesHeld → List ℕ → Bool → Type 0
+AnswersRead (Some fault) old given_before failed_before answer new given_after failed_after =
+    (answer ≡ Err fault) × (new ≡ old) × (given_after ≡ given_before) × (failed_after ≡ failed_before)
 AnswersRead None old given_before failed_before answer new given_after failed_after =
     IsNextFrom (lines_held old) given_before failed_before (line_answered answer) (lines_held new) given_after failed_after
     × (new.fault ≡ fault_answered answer) × IsAtLine answer new.number
 
 -- what a call of a reader answers
-abbrev pub IsNextRead : Held → List ℕ → Bool → Result (Option (ℕ × Bor (List ℕ))) LineFault → Held → List ℕ → Bool → Type 0
-IsNextRead old given_before failed_before answer new given_after failed_after = AnswersRead old.fault old given_before failed_before answer new given_after failed_after
+abbrev pub IsNextRead : LinesHeld → List ℕ → Bool → Result (Option (ℕ × Bor (List ℕ))) LineFault → LinesHeld → List ℕ
+    → Bool → Type 0
+IsNextRead old given_before failed_before answer new given_after failed_after =
+    AnswersRead old.fault old given_before failed_before answer new given_after failed_after
 
 -- what a call of any reader of lines answers, where the reader has answered no fault so far
-abbrev pub IsNext : LinesLeft → List ℕ → Bool → Result (Option (ℕ × Bor (List ℕ))) LineFault → LinesLeft → List ℕ → Bool → Type 0
-IsNext old given_before failed_before answer new given_after failed_after =
+abbrev pub IsNextAnswer : LinesLeft → List ℕ → Bool → Result (Option (ℕ × Bor (List ℕ))) LineFault → LinesLeft → List ℕ
+    → Bool → Type 0
+IsNextAnswer old given_before failed_before answer new given_after failed_after =
     old.fault ≡ None → IsNextFrom old given_before failed_before (line_answered answer) new given_after failed_after
 
 -- What a reading of a whole text comes to, of a cut that holds for the bytes that the source gave meanwhile.

@@ -1,10 +1,11 @@
 -- Pieces that are read from a source.
-use Rattle.std.specs.Prelude.{◌≡◌, ℕ, ◌+◌, ◌-◌, ◌^◌, ◌<◌, Bool, true, List, [], ◌∷◌, ◌++◌, length, Option, Some, None, Result, Ok, Err, OnOk, OnSome, IfOk}
+use Rattle.std.specs.Prelude.{◌≡◌, ℕ, ◌+◌, ◌-◌, ◌^◌, ◌<◌, Bool, true, List, [], ◌∷◌, ◌++◌, length, Option, Some, None}
+use Rattle.std.specs.Prelude.{Result, Ok, Err, OnOk, OnSome, IfOk}
 use Rattle.field_lines.specs.Raw.{RawLine, raw_lines_from}
 use Rattle.field_lines.specs.Piece.{raw_of}
 use Rattle.field_lines.specs.Fault.{most_bytes}
 use Rattle.field_lines.specs.Held.{MayCome, StaysEnded}
-use Rattle.field_lines.specs.LinesFrom.{Held, FailsOnly, fault_answered, IsAtLine}
+use Rattle.field_lines.specs.LinesFrom.{LinesHeld, FailsOnly, fault_answered, IsAtLine}
 use Rattle.field_lines.specs.declared.raw.Piece.{Piece}
 use Rattle.field_lines.specs.declared.fault.LineFault.{LineFault}
 use Rattle.field_lines.specs.declared.fault.LineFault.TheVariants.{LineTooLong, TooManyLines, ReadFault, Memory}
@@ -18,7 +19,7 @@ pub record PiecesLeft : Type 0 where
   pub most : ℕ
 
 -- what a reader of pieces has left
-abbrev pub pieces_left : Held → PiecesLeft
+abbrev pub pieces_left : LinesHeld → PiecesLeft
 pieces_left h = record {
   pieces = λ later. raw_lines_from h.number (h.bytes ++ later);
   ended = h.ended;
@@ -37,16 +38,21 @@ BeginsTooLong number (p ∷ ps) = (p.number ≡ number) × (most_bytes < length 
 
 -- What is answered where `old` was left, and these bytes were pulled: whatever comes later, the first of the pieces, or
 -- that it is too long; at the end that there is none.
-abbrev pub AnswersPieces : (List ℕ → List RawLine) → List ℕ → (List ℕ → List RawLine) → Bool → Result (Option Piece) LineFault → Type 0
-AnswersPieces old pulled new ended (Ok (Some p)) = (later : List ℕ) → MayCome ended later → old (pulled ++ later) ≡ raw_of p ∷ new later
+abbrev pub AnswersPieces : (List ℕ → List RawLine) → List ℕ → (List ℕ → List RawLine) → Bool
+    → Result (Option Piece) LineFault → Type 0
+AnswersPieces old pulled new ended (Ok (Some p)) =
+    (later : List ℕ) → MayCome ended later → old (pulled ++ later) ≡ raw_of p ∷ new later
 AnswersPieces old pulled new ended (Ok None) = (ended ≡ true) × (old pulled ≡ []) × (new [] ≡ [])
-AnswersPieces old pulled new ended (Err (LineTooLong number)) = (later : List ℕ) → MayCome ended later → BeginsTooLong number (old (pulled ++ later))
+AnswersPieces old pulled new ended (Err (LineTooLong number)) =
+    (later : List ℕ) → MayCome ended later → BeginsTooLong number (old (pulled ++ later))
 AnswersPieces old pulled new ended (Err (ReadFault number)) = Unit {0}
 AnswersPieces old pulled new ended (Err Memory) = Unit {0}
 AnswersPieces old pulled new ended (Err TooManyLines) = ⊥
 
 -- What a call answers that has answered no fault so far. The source gave `pulled` meanwhile.
-pub record IsNextPieceFrom (old : PiecesLeft) (given_before : List ℕ) (failed_before : Bool) (answer : Result (Option Piece) LineFault) (new : PiecesLeft) (given_after : List ℕ) (failed_after : Bool) : Type 0 where
+pub record IsNextPieceFrom (old : PiecesLeft) (given_before : List ℕ) (failed_before : Bool)
+    (answer : Result (Option Piece) LineFault) (new : PiecesLeft) (given_after : List ℕ)
+    (failed_after : Bool) : Type 0 where
   pub pulled : List ℕ
   pub given : given_after ≡ given_before ++ pulled
   pub end : StaysEnded old.ended pulled new.ended
@@ -61,17 +67,21 @@ IsPastNumbers (Err Memory) number = number ≡ 2 ^ 64 - 1
 IsPastNumbers answer number = Unit {0}
 
 -- What a reader answers that has this fault: it stays, and nothing is pulled. Without one it answers the next piece.
-abbrev pub AnswersRaw : Option LineFault → Held → List ℕ → Bool → Result (Option Piece) LineFault → Held → List ℕ → Bool → Type 0
-AnswersRaw (Some fault) old given_before failed_before answer new given_after failed_after = (answer ≡ Err fault) × (new ≡ old) × (given_after ≡ given_before) × (failed_after ≡ failed_before)
+abbrev pub AnswersRaw : Option LineFault → LinesHeld → List ℕ → Bool → Result (Option Piece) LineFault → LinesHeld
+    → List ℕ → Bool → Type 0
+AnswersRaw (Some fault) old given_before failed_before answer new given_after failed_after =
+    (answer ≡ Err fault) × (new ≡ old) × (given_after ≡ given_before) × (failed_after ≡ failed_before)
 AnswersRaw None old given_before failed_before answer new given_after failed_after =
     IsNextPieceFrom (pieces_left old) given_before failed_before answer (pieces_left new) given_after failed_after
     × (new.fault ≡ fault_answered answer) × IsAtLine answer new.number × IsPastNumbers answer new.number
 
 -- what a call of a reader of pieces answers
-abbrev pub IsRawRead : Held → List ℕ → Bool → Result (Option Piece) LineFault → Held → List ℕ → Bool → Type 0
-IsRawRead old given_before failed_before answer new given_after failed_after = AnswersRaw old.fault old given_before failed_before answer new given_after failed_after
+abbrev pub IsRawRead : LinesHeld → List ℕ → Bool → Result (Option Piece) LineFault → LinesHeld → List ℕ → Bool → Type 0
+IsRawRead old given_before failed_before answer new given_after failed_after =
+    AnswersRaw old.fault old given_before failed_before answer new given_after failed_after
 
 -- what a call of any reader of pieces answers, where the reader has answered no fault so far
-abbrev pub IsNextOf : PiecesLeft → List ℕ → Bool → Result (Option Piece) LineFault → PiecesLeft → List ℕ → Bool → Type 0
-IsNextOf old given_before failed_before answer new given_after failed_after =
+abbrev pub IsNextPieceOf : PiecesLeft → List ℕ → Bool → Result (Option Piece) LineFault → PiecesLeft → List ℕ → Bool
+    → Type 0
+IsNextPieceOf old given_before failed_before answer new given_after failed_after =
     old.fault ≡ None → IsNextPieceFrom old given_before failed_before answer new given_after failed_after

@@ -1,5 +1,6 @@
 -- What taking a piece or a line of the bytes that were pulled answers.
-use Rattle.std.specs.Prelude.{◌≡◌, ℕ, ◌+◌, ◌<◌, ◌≤◌, Bool, true, List, [], ◌∷◌, ◌++◌, length, slice_range, Option, Some, None, Result, Ok, Err}
+use Rattle.std.specs.Prelude.{◌≡◌, ℕ, ◌+◌, ◌<◌, ◌≤◌, Bool, true, List, [], ◌∷◌, ◌++◌, length, slice_range, Option}
+use Rattle.std.specs.Prelude.{Some, None, Result, Ok, Err}
 use Rattle.field_lines.specs.Raw.{RawLine, raw_lines_from}
 use Rattle.field_lines.specs.Fault.{most_bytes}
 use Rattle.field_lines.specs.Cut.{Line, fault_at, cut_of, line_bytes}
@@ -19,14 +20,18 @@ pieces_held number held later = raw_lines_from number (held.bytes ++ later)
 abbrev pub AnswersPiece : ℕ → Pulled → List ℕ → Result (Option TakenPiece) LineFault → Pulled → Type 0
 AnswersPiece number old pulled (Ok (Some t)) new =
     IsPlace new t.from t.to × (fault_at number (taken_bytes new t) ≡ None)
-    × ((later : List ℕ) → MayCome new.ended later → pieces_held number old (pulled ++ later) ≡ piece_at number new t ∷ pieces_held (number + 1) new later)
+    × ((later : List ℕ) → MayCome new.ended later
+    → pieces_held number old (pulled ++ later) ≡ piece_at number new t ∷ pieces_held (number + 1) new later)
 AnswersPiece number old pulled (Ok None) new = (new.ended ≡ true) × (old.bytes ++ pulled ≡ []) × (new.bytes ≡ [])
 AnswersPiece number old pulled (Err (ReadFault line)) new = line ≡ number
 AnswersPiece number old pulled (Err Memory) new = ⊥
-AnswersPiece number old pulled (Err fault) new = (later : List ℕ) → cut_of (pieces_held number old (pulled ++ later)) ≡ no_line (Some fault)
+AnswersPiece number old pulled (Err fault) new =
+    (later : List ℕ) → cut_of (pieces_held number old (pulled ++ later)) ≡ no_line (Some fault)
 
 -- the piece of a number is taken
-pub record TakesPiece (number : ℕ) (old : Pulled) (given_before : List ℕ) (failed_before : Bool) (answer : Result (Option TakenPiece) LineFault) (new : Pulled) (given_after : List ℕ) (failed_after : Bool) : Type 0 where
+pub record TakesPiece (number : ℕ) (old : Pulled) (given_before : List ℕ) (failed_before : Bool)
+    (answer : Result (Option TakenPiece) LineFault) (new : Pulled) (given_after : List ℕ)
+    (failed_after : Bool) : Type 0 where
   pub pulled : List ℕ
   pub given : given_after ≡ given_before ++ pulled
   pub end : StaysEnded old.ended pulled new.ended
@@ -35,11 +40,16 @@ pub record TakesPiece (number : ℕ) (old : Pulled) (given_before : List ℕ) (f
 
 -- where a line lies, and which it is
 abbrev pub IsLine : ℕ → Pulled → Result (Option TakenLine) LineFault → Type 0
-IsLine number held (Ok (Some t)) = IsPlace held t.from t.to × (t.number + 1 ≡ number) × (1 ≤ length (line_bytes t.number (slice_range held.taken t.from t.to))) × (length (slice_range held.taken t.from t.to) ≤ most_bytes)
+IsLine number held (Ok (Some t)) =
+    IsPlace held t.from t.to × (t.number + 1 ≡ number)
+    × (1 ≤ length (line_bytes t.number (slice_range held.taken t.from t.to)))
+    × (length (slice_range held.taken t.from t.to) ≤ most_bytes)
 IsLine number held answer = Unit {0}
 
 -- the next line that isn't blank is taken
-pub record TakesLine (number_before : ℕ) (old : Pulled) (given_before : List ℕ) (failed_before : Bool) (answer : Result (Option TakenLine) LineFault) (number : ℕ) (new : Pulled) (given_after : List ℕ) (failed_after : Bool) : Type 0 where
+pub record TakesLine (number_before : ℕ) (old : Pulled) (given_before : List ℕ) (failed_before : Bool)
+    (answer : Result (Option TakenLine) LineFault) (number : ℕ) (new : Pulled) (given_after : List ℕ)
+    (failed_after : Bool) : Type 0 where
   pub pulled : List ℕ
   pub given : given_after ≡ given_before ++ pulled
   pub end : StaysEnded old.ended pulled new.ended

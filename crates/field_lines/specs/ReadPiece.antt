@@ -1,5 +1,6 @@
 -- What taking a piece answers where only its length is limited.
-use Rattle.std.specs.Prelude.{◌≡◌, ℕ, ◌+◌, ◌-◌, ◌^◌, ◌<◌, ◌≤◌, ◌==◌, nat_lt, Bool, true, List, [], ◌∷◌, ◌++◌, length, Option, Some, None, Result, Ok, Err, if◌then◌else◌}
+use Rattle.std.specs.Prelude.{◌≡◌, ℕ, ◌+◌, ◌-◌, ◌^◌, ◌<◌, ◌≤◌, ◌==◌, nat_lt, Bool, true, List, [], ◌∷◌, ◌++◌, length}
+use Rattle.std.specs.Prelude.{Option, Some, None, Result, Ok, Err, if◌then◌else◌}
 use Rattle.field_lines.specs.Fault.{most_bytes}
 use Rattle.field_lines.specs.Held.{Pulled, MayCome, StaysEnded}
 use Rattle.field_lines.specs.Taken.{IsPlace, taken_bytes, piece_at}
@@ -21,15 +22,19 @@ raw_fault_at number count =
 abbrev pub AnswersTaken : ℕ → Pulled → List ℕ → Result (Option TakenPiece) LineFault → Pulled → Type 0
 AnswersTaken number old pulled (Ok (Some t)) new =
     IsPlace new t.from t.to × (length (taken_bytes new t) ≤ most_bytes) × (number + 1 < 2 ^ 64)
-    × ((later : List ℕ) → MayCome new.ended later → pieces_held number old (pulled ++ later) ≡ piece_at number new t ∷ pieces_held (number + 1) new later)
+    × ((later : List ℕ) → MayCome new.ended later
+    → pieces_held number old (pulled ++ later) ≡ piece_at number new t ∷ pieces_held (number + 1) new later)
 AnswersTaken number old pulled (Ok None) new = (new.ended ≡ true) × (old.bytes ++ pulled ≡ []) × (new.bytes ≡ [])
-AnswersTaken number old pulled (Err (LineTooLong line)) new = (line ≡ number) × ((later : List ℕ) → BeginsTooLong number (pieces_held number old (pulled ++ later)))
+AnswersTaken number old pulled (Err (LineTooLong line)) new =
+    (line ≡ number) × ((later : List ℕ) → BeginsTooLong number (pieces_held number old (pulled ++ later)))
 AnswersTaken number old pulled (Err (ReadFault line)) new = line ≡ number
 AnswersTaken number old pulled (Err Memory) new = number ≡ 2 ^ 64 - 1
 AnswersTaken number old pulled (Err TooManyLines) new = ⊥
 
 -- the piece of a number is taken
-pub record TakesRaw (number : ℕ) (old : Pulled) (given_before : List ℕ) (failed_before : Bool) (answer : Result (Option TakenPiece) LineFault) (new : Pulled) (given_after : List ℕ) (failed_after : Bool) : Type 0 where
+pub record TakesRaw (number : ℕ) (old : Pulled) (given_before : List ℕ) (failed_before : Bool)
+    (answer : Result (Option TakenPiece) LineFault) (new : Pulled) (given_after : List ℕ)
+    (failed_after : Bool) : Type 0 where
   pub pulled : List ℕ
   pub given : given_after ≡ given_before ++ pulled
   pub end : StaysEnded old.ended pulled new.ended

@@ -1,5 +1,6 @@
 -- What is taken of the bytes that were pulled.
-use Rattle.std.specs.Prelude.{◌≡◌, ℕ, ◌+◌, ◌≤◌, Bool, List, ◌∷◌, ◌++◌, slice_range, length, Option, Some, None, Result, Ok, Err}
+use Rattle.std.specs.Prelude.{◌≡◌, ℕ, ◌+◌, ◌≤◌, Bool, List, ◌∷◌, ◌++◌, slice_range, length, Option, Some, None, Result}
+use Rattle.std.specs.Prelude.{Ok, Err}
 use Rattle.field_lines.specs.Raw.{RawLine, raw_lines_from}
 use Rattle.field_lines.specs.Cut.{Line, line_bytes}
 use Rattle.field_lines.specs.Held.{Pulled, MayCome}
@@ -22,7 +23,9 @@ piece_at number held t = record { number = number; bytes = taken_bytes held t; e
 -- Whatever comes later, the first of the pieces is the one that was taken, and the others are those of the bytes after.
 abbrev pub TakesFirst : List ℕ → Pulled → TakenPiece → Type 0
 TakesFirst before after t =
-    (number : ℕ) (later : List ℕ) → MayCome after.ended later → raw_lines_from number (before ++ later) ≡ piece_at number after t ∷ raw_lines_from (number + 1) (after.bytes ++ later)
+    (number : ℕ) (later : List ℕ) → MayCome after.ended later
+    → raw_lines_from number (before ++ later)
+    ≡ piece_at number after t ∷ raw_lines_from (number + 1) (after.bytes ++ later)
 
 -- a line that was taken
 abbrev pub line_at : Pulled → TakenLine → Line

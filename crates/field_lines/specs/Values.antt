@@ -22,7 +22,8 @@ unless_fault None None values = Ok values
 
 -- The values of lines in their order, or the first fault: that of the first line at fault as `at_line` says it, else
 -- that of the cut as `at_cut` says it.
-abbrev pub values_of : {X K F : Type 0} → (List ℕ → Result X K) → (K → ℕ → F) → (LineFault → F) → List Line → Option LineFault → Result (List X) F
+abbrev pub values_of : {X K F : Type 0} → (List ℕ → Result X K) → (K → ℕ → F) → (LineFault → F) → List Line
+    → Option LineFault → Result (List X) F
 values_of read at_line at_cut lines fault =
     unless_fault (option_map (λ f. at_line f.0 f.1) (slice_get (filter_map (fault_on read) lines) 0)) (option_map at_cut fault) (filter_map (value_on read) lines)
 

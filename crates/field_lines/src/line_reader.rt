@@ -78,11 +78,11 @@ pub struct LineReader {
 impl Model for LineReader {
     ghost use Rattle.std.specs.Prelude.{◌≤◌, ◌+◌, IfSome};
     ghost use Rattle.field_lines.specs.Fault.{most_lines, line_of_fault};
-    ghost use Rattle.field_lines.specs.LinesFrom.{Held};
+    ghost use Rattle.field_lines.specs.LinesFrom.{LinesHeld};
 
     /// The bytes that are held, whether the source has ended, the number of the next line, and the fault that was
     /// answered.
-    ghost Value = { Held };
+    ghost Value = { LinesHeld };
 
     ghost view = { λ r. record { bytes = r.pulled.bytes; ended = r.pulled.ended; number = r.number; fault = r.fault } };
 

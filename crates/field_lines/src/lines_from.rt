@@ -4,7 +4,7 @@ ghost use Rattle.std.specs.Prelude.{ℕ, Bool, false, List, [], ◌≤◌, ◌+�
 ghost use Rattle.std.specs.Borrow.{sem};
 ghost use Rattle.std.specs.Io.BufRead.{Rests};
 ghost use Rattle.field_lines.specs.Fault.{most_lines, most_bytes, line_of_fault};
-ghost use Rattle.field_lines.specs.LinesFrom.{LinesLeft, lines_of_cut, lines_held, IsNext};
+ghost use Rattle.field_lines.specs.LinesFrom.{LinesLeft, lines_of_cut, lines_held, IsNextAnswer};
 
 use crate::fault::LineFault;
 use crate::line_reader::LineReader;
@@ -32,7 +32,7 @@ pub trait LinesFrom<F> {
         ensures number { IfOk result (λ next. IfSome next (λ l. (1 ≤ l.0) × (l.0 ≤ most_lines))) }
         ensures bytes { IfOk result (λ next. IfSome next (λ l. (1 ≤ length l.1.now) × (length l.1.now ≤ most_bytes))) }
         ensures fault { IfErr result (λ f. (1 ≤ line_of_fault f) × (line_of_fault f ≤ most_lines + 1)) }
-        ensures* next { sem 𝓛 (Rests Self.row self.entry (λ new. IsNext (left self.old) (given from.old) (is_failed from.old) result (left new) (given from.new) (is_failed from.new))) };
+        ensures* next { sem 𝓛 (Rests Self.row self.entry (λ new. IsNextAnswer (left self.old) (given from.old) (is_failed from.old) result (left new) (given from.new) (is_failed from.new))) };
 }
 
 /// Nothing is pulled: the text stands in memory.

@@ -3,7 +3,7 @@
 ghost use Rattle.std.specs.Prelude.{ℕ, Bool, false, List, []};
 ghost use Rattle.std.specs.Borrow.{sem};
 ghost use Rattle.std.specs.Io.BufRead.{Rests};
-ghost use Rattle.field_lines.specs.PiecesFrom.{PiecesLeft, pieces_of_text, pieces_left, IsNextOf};
+ghost use Rattle.field_lines.specs.PiecesFrom.{PiecesLeft, pieces_of_text, pieces_left, IsNextPieceOf};
 
 use crate::fault::LineFault;
 use crate::raw::{Piece, RawLines};
@@ -27,7 +27,7 @@ pub trait PiecesFrom<F> {
     ///
     /// As `RawReader::next_piece`. A text in memory has none.
     fn next_from(&mut self, from: &mut F) -> Result<Option<Piece<'_>>, LineFault>
-        ensures* next { sem 𝓛 (Rests Self.row self.entry (λ new. IsNextOf (left self.old) (given from.old) (is_failed from.old) result (left new) (given from.new) (is_failed from.new))) };
+        ensures* next { sem 𝓛 (Rests Self.row self.entry (λ new. IsNextPieceOf (left self.old) (given from.old) (is_failed from.old) result (left new) (given from.new) (is_failed from.new))) };
 }
 
 /// Nothing is pulled: the text stands in memory.

@@ -1,6 +1,7 @@
 //! Bytes that were pulled from a source and aren't taken yet.
 
-ghost use Rattle.std.specs.Prelude.{◌≡◌, ◌==◌, ◌+◌, ◌<◌, ◌≤◌, ◌++◌, false, None, Some, take, length, IfOk, OnErr, slice_range, if◌then◌else◌};
+ghost use Rattle.std.specs.Prelude.{◌≡◌, ◌==◌, ◌+◌, ◌<◌, ◌≤◌, ◌++◌, false, None, Some, take, length, IfOk, OnErr};
+ghost use Rattle.std.specs.Prelude.{slice_range, if◌then◌else◌};
 ghost use Rattle.std.specs.Result.{is_err};
 
 use crate::front::{FrontPiece, lf_after};
@@ -64,10 +65,11 @@ fn rest_of(count: usize) -> Option<FrontPiece>
 }
 
 impl PulledBytes {
-    ghost use Rattle.std.specs.Prelude.{◌≡◌, ◌+◌, ◌<◌, ◌≤◌, Bool, true, false, List, [], ◌++◌, ◌==◌, take, drop, length, IfOk, OnOk, OnErr, MatchOption, slice_range, vec_len};
+    ghost use Rattle.std.specs.Prelude.{◌≡◌, ◌+◌, ◌<◌, ◌≤◌, Bool, true, false, List, [], ◌++◌, ◌==◌, take, drop};
+    ghost use Rattle.std.specs.Prelude.{length, IfOk, OnOk, OnErr, MatchOption, slice_range, vec_len};
     ghost use Rattle.std.specs.Result.{is_err};
     ghost use Rattle.field_lines.specs.Held.{no_bytes, Pulls};
-    ghost use Rattle.field_lines.specs.Front.{IsFront, HasFront};
+    ghost use Rattle.field_lines.specs.Front.{IsFrontPiece, HasFront};
     ghost use Rattle.field_lines.specs.Taken.{IsPlace, taken_bytes, TakesFirst};
 
     /// No byte so far.
@@ -180,7 +182,7 @@ impl PulledBytes {
     }
     /// The bytes of the piece at the front.
     pub(crate) fn piece(&self, front: FrontPiece) -> &[u8]
-        requires { IsFront self.now.bytes self.now.ended front.length front.ended }
+        requires { IsFrontPiece self.now.bytes self.now.ended front.length front.ended }
         ensures value { result.now ≡ take front.length self.now.bytes }
         ensures length { length result.now ≡ front.length }
     {
@@ -189,7 +191,7 @@ impl PulledBytes {
 
     /// Takes the piece at the front, and says where it lies.
     pub(crate) fn take_piece(&mut self, front: FrontPiece) -> TakenPiece
-        requires front { IsFront self.old.bytes self.old.ended front.length front.ended }
+        requires front { IsFrontPiece self.old.bytes self.old.ended front.length front.ended }
         requires short { front.length ≤ 65536 }
         ensures place { IsPlace self.new result.from result.to }
         ensures bytes { taken_bytes self.new result ≡ take front.length self.old.bytes }

@@ -55,11 +55,11 @@ pub struct RawReader {
 }
 
 impl Model for RawReader {
-    ghost use Rattle.field_lines.specs.LinesFrom.{Held};
+    ghost use Rattle.field_lines.specs.LinesFrom.{LinesHeld};
 
     /// The bytes that are held, whether the source has ended, the number of the next piece, and the fault that was
     /// answered.
-    ghost Value = { Held };
+    ghost Value = { LinesHeld };
 
     ghost view = { λ r. record { bytes = r.pulled.bytes; ended = r.pulled.ended; number = r.number; fault = r.fault } };
 }

@@ -1,5 +1,6 @@
 -- The lawful groups from a place of an order of the counties.
-use Rattle.std.specs.Prelude.{ℕ, suc, ◌≡◌, ◌≤◌, ◌<◌, cond, Bool, List, [], ◌∷◌, map, length, ◌==◌, AllPairs, Contains, filter, ◌⊎◌, ◌↔◌}
+use Rattle.std.specs.Prelude.{ℕ, suc, ◌≡◌, ◌≤◌, ◌<◌, cond, Bool, List, [], ◌∷◌, map, length, ◌==◌, AllPairs, Contains}
+use Rattle.std.specs.Prelude.{filter, ◌⊎◌, ◌↔◌}
 use Rattle.grouping_laws.specs.Sets.{digit, often, member, Inside}
 use Rattle.grouping_laws.specs.Problem.{Problem, Connected, LawfulGroup}
 
@@ -19,7 +20,8 @@ IsLesser _ _ = ⊥
 
 -- sets stand by size, then by list of places
 abbrev pub IsBefore : List ℕ → List ℕ → List ℕ → Type 0
-IsBefore order g h = (length g < length h) ⊎ ((length g ≡ length h) × IsLesser (map (place order) g) (map (place order) h))
+IsBefore order g h =
+    (length g < length h) ⊎ ((length g ≡ length h) × IsLesser (map (place order) g) (map (place order) h))
 
 -- a list begins with c
 abbrev pub BeginsWith : ℕ → List ℕ → Type 0
@@ -35,7 +37,8 @@ pub record IsGroupFrom (p : Problem) (order : List ℕ) (limit county : ℕ) (re
   pub inside : Inside region g
 
 -- all of them, sorted by size and then by lists of places
-pub record AreGroupsFrom (p : Problem) (order : List ℕ) (limit county : ℕ) (region : ℕ → Bool) (groups : List (List ℕ)) : Type 0 where
+pub record AreGroupsFrom (p : Problem) (order : List ℕ) (limit county : ℕ) (region : ℕ → Bool)
+    (groups : List (List ℕ)) : Type 0 where
   pub each : (g : List ℕ) → Contains groups g ↔ IsGroupFrom p order limit county region g
   pub sorted : AllPairs (IsBefore order) groups
 

@@ -13,4 +13,5 @@ GreaterIsTransitive = (f g h : ℕ → ℕ) → IsGreater f g → IsGreater g h 
 -- of the counts of two lists of sets one is greater, or they are the same at each size
 abbrev pub GreaterIsTotal : Type 0
 GreaterIsTotal =
-    (xs ys : List (List ℕ)) → IsGreater (counts xs) (counts ys) ⊎ (IsGreater (counts ys) (counts xs) ⊎ ((i : ℕ) → 1 ≤ i → counts xs i ≡ counts ys i))
+    (xs ys : List (List ℕ)) → IsGreater (counts xs) (counts ys) ⊎ (IsGreater (counts ys) (counts xs)
+    ⊎ ((i : ℕ) → 1 ≤ i → counts xs i ≡ counts ys i))

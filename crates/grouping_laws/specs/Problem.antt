@@ -27,12 +27,14 @@ people_of p codes = total p.people codes
 -- some county of the set in the part is adjacent to one of the set outside the part
 abbrev pub HasBorder : Problem → List ℕ → (ℕ → Bool) → Type 0
 HasBorder p codes part =
-    (x : ℕ) × (y : ℕ) × (member codes x ≡ true) × (member codes y ≡ true) × (part x ≡ true) × (part y ≡ false) × (p.adjacent x y ≡ true)
+    (x : ℕ) × (y : ℕ) × (member codes x ≡ true) × (member codes y ≡ true) × (part x ≡ true) × (part y ≡ false)
+    × (p.adjacent x y ≡ true)
 
 -- not empty, and each part that has some county of the set but not every one is adjacent to the rest of the set
 pub record Connected (p : Problem) (codes : List ℕ) : Type 0 where
   pub some_county : 1 ≤ length codes
-  pub joined : (part : ℕ → Bool) (within without : ℕ) → member codes within ≡ true → part within ≡ true → member codes without ≡ true → part without ≡ false → HasBorder p codes part
+  pub joined : (part : ℕ → Bool) (within without : ℕ) → member codes within ≡ true → part within ≡ true
+      → member codes without ≡ true → part without ≡ false → HasBorder p codes part
 
 -- a connected set of counties of the problem whose people suit some number of seats
 pub record LawfulGroup (p : Problem) (codes : List ℕ) : Type 0 where

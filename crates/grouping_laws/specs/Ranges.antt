@@ -18,7 +18,10 @@ pub record IsMost (p : Problem) (codes : List ℕ) (k : ℕ) : Type 0 where
 
 -- so many people suit no number of seats, or there is a least and a greatest number that they suit
 abbrev pub HasRange : Problem → ℕ → Type 0
-HasRange p people = ((k : ℕ) → Suits p people k → ⊥) ⊎ ((low : ℕ) × (high : ℕ) × Suits p people low × Suits p people high × ((k : ℕ) → Suits p people k → (low ≤ k) × (k ≤ high)))
+HasRange p people =
+    ((k : ℕ) → Suits p people k → ⊥)
+    ⊎ ((low : ℕ) × (high : ℕ) × Suits p people low × Suits p people high
+    × ((k : ℕ) → Suits p people k → (low ≤ k) × (k ≤ high)))
 
 -- sets with a number of seats for each
 abbrev pub seated : List (List ℕ) → List ℕ → Grouping

@@ -1,5 +1,6 @@
 -- How many seats suit how many people.
-use Rattle.std.specs.Prelude.{ℕ, ◌+◌, ◌-◌, ◌*◌, ◌/◌, ◌≤◌, ◌↔◌, Bool, ◌&&◌, Option, Some, None, max, nat_le, if◌then◌else◌}
+use Rattle.std.specs.Prelude.{ℕ, ◌+◌, ◌-◌, ◌*◌, ◌/◌, ◌≤◌, ◌↔◌, Bool, ◌&&◌, Option, Some, None, max, nat_le}
+use Rattle.std.specs.Prelude.{if◌then◌else◌}
 use Rattle.std.specs.Int.{div_ceil}
 use Rattle.grouping_laws.specs.Problem.{Problem, Suits}
 
@@ -31,7 +32,8 @@ bounds_of below whole above total chamber seats =
 
 -- the numbers of seats that the people suit in a problem
 abbrev pub seat_run : Problem → ℕ → Option (ℕ × ℕ)
-seat_run p people = seats_between (p.scale - p.tolerance) p.scale (p.scale + p.tolerance) p.total_people p.chamber people
+seat_run p people =
+    seats_between (p.scale - p.tolerance) p.scale (p.scale + p.tolerance) p.total_people p.chamber people
 
 -- the bounds of so many seats in a problem
 abbrev pub people_bounds : Problem → ℕ → ℕ × ℕ

@@ -10,7 +10,7 @@ use Rattle.field_lines.specs.Number.{number_in}
 use Rattle.field_lines.proofs.NumbersBack.{number_in_back, Digit, decimal_digits, no_byte}
 use Rattle.county_codes.specs.Digits.{five_digits, each_after}
 use Rattle.county_codes.proofs.DigitsBack.{five_digits_back, code_digits}
-use Rattle.seat_lines.specs.SeatLine.{codes_on, seat_line}
+use Rattle.grouping_reader.specs.SeatLine.{codes_on, seat_line}
 use Rattle.grouping_report.specs.GroupingText.{group_fields}
 
 -- a byte between two others

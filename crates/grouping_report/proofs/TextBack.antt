@@ -15,8 +15,8 @@ use Rattle.field_lines.specs.Values.{fault_on, value_on, values_of}
 use Rattle.field_lines.proofs.SplitLemmas.{numbered-ended}
 use Rattle.field_lines.proofs.CutLemmas.{cut_of-line}
 use Rattle.grouping_report.specs.GroupingText.{group_fields, grouping_text, IsReadable}
-use Rattle.seat_lines.specs.Faults.{line_fault, cut_fault}
-use Rattle.seat_lines.specs.GroupingLines.{group_on, grouping_list}
+use Rattle.grouping_reader.specs.Faults.{code_line_fault, code_line_cut_fault}
+use Rattle.grouping_reader.specs.GroupingLines.{group_on, grouping_list}
 use Rattle.grouping_report.proofs.FieldsBack.{Within, fields_back, fields_within, fields_some}
 
 -- no byte of the line is a CR
@@ -99,7 +99,7 @@ all_values n (s ∷ ss) lines = rw (group_back s lines.0) (ap (λ (g : Grouping)
 
 lines_back : (g : Grouping) → AllByRecursion IsLine g → length g ≤ most_lines → grouping_list (grouping_text g) ≡ Ok g
 lines_back g lines few =
-    ap (λ (c : Cut). values_of group_on line_fault cut_fault c.lines c.fault) (cut_back 1 g lines (omega (arith, few)))
+    ap (λ (c : Cut). values_of group_on code_line_fault code_line_cut_fault c.lines c.fault) (cut_back 1 g lines (omega (arith, few)))
     ∙ rw (no_faults 1 g lines, all_values 1 g lines) refl
 
 -- what the types of seats and codes say

@@ -10,7 +10,8 @@ use Rattle.grouping_report.specs.FaultWords.{with_number, grouping_fault_words}
 
 -- the fifteen digits of a block
 unfoldable pub fifteen_digits : ℕ → List ℕ
-fifteen_digits block = five_digits (block / 10000000000 % 100000) ++ five_digits (block / 100000 % 100000) ++ five_digits (block % 100000)
+fifteen_digits block =
+    five_digits (block / 10000000000 % 100000) ++ five_digits (block / 100000 % 100000) ++ five_digits (block % 100000)
 
 -- words and a block
 unfoldable pub with_block : List ℕ → ℕ → List ℕ
@@ -31,11 +32,14 @@ with_label words label = words ++ label
 
 -- a district with two sets
 abbrev pub crossing_words : List ℕ → Set → Set → List ℕ
-crossing_words label first second = with_label (codes "Crosses ") label ++ with_set (codes " ") first ++ with_set (codes " ") second
+crossing_words label first second =
+    with_label (codes "Crosses ") label ++ with_set (codes " ") first ++ with_set (codes " ") second
 
 -- a set with its seats and its districts
 abbrev pub number_words : Set → ℕ → ℕ → List ℕ
-number_words set seats districts = with_set (codes "WrongNumber ") set ++ with_number (codes " seats ") seats ++ with_number (codes " districts ") districts
+number_words set seats districts =
+    with_set (codes "WrongNumber ") set ++ with_number (codes " seats ") seats
+    ++ with_number (codes " districts ") districts
 
 -- a district with its people
 abbrev pub size_words : List ℕ → ℕ → List ℕ
@@ -53,4 +57,5 @@ finding_words (findings.DistrictSize label people) = size_words label people
 
 -- how many findings there are, and then a line for each
 abbrev pub findings_text : List Finding → List ℕ
-findings_text list = (with_number (codes "findings ") (length list) ++ codes "\n") ++ flat_map (λ f. finding_words f ++ codes "\n") list
+findings_text list =
+    (with_number (codes "findings ") (length list) ++ codes "\n") ++ flat_map (λ f. finding_words f ++ codes "\n") list

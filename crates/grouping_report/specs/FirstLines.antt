@@ -2,7 +2,7 @@
 use Rattle.std.specs.Prelude.{List, [], ℕ, ◌++◌, Option, Some, None, codes, decimal}
 use Rattle.county_codes.specs.declared.window.Window.{Window}
 use Rattle.grouping_laws.specs.Allowance.{named_window}
-use Rattle.grouping_problem.specs.ProblemValue.{ProblemValue, problem_of}
+use Rattle.county_problem.specs.ProblemValue.{ProblemValue, problem_of}
 
 -- the line of an allowance: its part and its whole
 unfoldable pub named_line : Window → List ℕ
@@ -16,4 +16,5 @@ window_line (Some w) = named_line w
 -- the people and the chamber of a problem, and its allowance, which isn't named where it is one twentieth
 unfoldable pub first_lines : ProblemValue → List ℕ
 first_lines v =
-    codes "people " ++ decimal v.total_people ++ codes "\nchamber " ++ decimal v.chamber ++ codes "\n" ++ window_line (named_window (problem_of v))
+    codes "people " ++ decimal v.total_people ++ codes "\nchamber " ++ decimal v.chamber ++ codes "\n"
+    ++ window_line (named_window (problem_of v))

@@ -1,6 +1,6 @@
 -- What is reported of a problem.
 use Rattle.std.specs.Prelude.{◌≡◌, ℕ, ◌++◌, List, Some, None, codes}
-use Rattle.grouping_problem.specs.ProblemValue.{ProblemValue, problem_of}
+use Rattle.county_problem.specs.ProblemValue.{ProblemValue, problem_of}
 use Rattle.grouping_laws.specs.Grouping as grouping
 use Rattle.grouping_report.specs.declared.outcome.Outcome.{Outcome}
 use Rattle.grouping_report.specs.declared.outcome.Outcome.TheVariants.{Lawful, Best, Impossible, Open}

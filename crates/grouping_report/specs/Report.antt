@@ -1,7 +1,7 @@
 -- The text of a report.
 use Rattle.std.specs.Prelude.{ℕ, zero, suc, ◌+◌, List, [], ◌∷◌, ◌++◌, length, max, codes, decimal}
 use Rattle.grouping_laws.specs.Problem.{Problem, people_of}
-use Rattle.grouping_problem.specs.ProblemValue.{ProblemValue, problem_of}
+use Rattle.county_problem.specs.ProblemValue.{ProblemValue, problem_of}
 use Rattle.grouping_laws.specs.Grouping.{Grouping, sets_of, counts}
 use Rattle.county_codes.specs.Digits.{each_after}
 use Rattle.grouping_report.specs.FirstLines.{first_lines}
@@ -9,7 +9,8 @@ use Rattle.grouping_report.specs.FirstLines.{first_lines}
 -- the people, the chamber, the allowance where it isn't one twentieth, the seats left, and how many counties there are
 unfoldable pub head_lines : ProblemValue → List ℕ
 head_lines v =
-    first_lines v ++ codes "seats left " ++ decimal v.seats_left ++ codes "\ncounties " ++ decimal (length v.counties) ++ codes "\n"
+    first_lines v ++ codes "seats left " ++ decimal v.seats_left ++ codes "\ncounties " ++ decimal (length v.counties)
+    ++ codes "\n"
 
 -- what the answer is
 abbrev pub answer_line : List ℕ → List ℕ
@@ -33,7 +34,8 @@ counts_line (s ∷ ss) = codes "counts" ++ numbers_to (counts (s ∷ ss)) (longe
 -- the line of a group: its number, its seats, its people and its codes
 unfoldable pub group_line : ℕ → ℕ → ℕ → List ℕ → List ℕ
 group_line i seats people county_codes =
-    codes "group " ++ decimal i ++ codes " seats " ++ decimal seats ++ codes " people " ++ decimal people ++ codes " counties"
+    codes "group " ++ decimal i ++ codes " seats " ++ decimal seats ++ codes " people " ++ decimal people
+    ++ codes " counties"
     ++ each_after (codes " ") county_codes ++ codes "\n"
 
 -- the lines of groups, the first of which has number i

@@ -1,7 +1,7 @@
 -- The text of a size table.
 use Rattle.std.specs.Prelude.{ℕ, List, ◌++◌, Option, Some, None, codes, decimal, nat_le, if◌then◌else◌}
 use Rattle.std.specs.List.{flat_map}
-use Rattle.grouping_problem.specs.ProblemValue.{ProblemValue, problem_of}
+use Rattle.county_problem.specs.ProblemValue.{ProblemValue, problem_of}
 use Rattle.grouping_laws.specs.SeatWindow.{seat_run, people_bounds}
 use Rattle.county_codes.specs.declared.county.County.{County}
 use Rattle.county_codes.specs.Digits.{five_digits}

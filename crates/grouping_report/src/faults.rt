@@ -4,8 +4,8 @@ ghost use Rattle.std.specs.Prelude.{◌≡◌, ◌++◌, OnOk};
 ghost use Rattle.grouping_report.specs.FaultWords.{with_number, with_code, grouping_fault_words};
 
 use county_codes::{CountyCode, push_code};
+use county_problem::GroupingFault;
 use field_lines::push_number;
-use grouping_judge::GroupingFault;
 use std::alloc::AllocError;
 
 /// Appends words and a number. It fails only where a growth was refused.

@@ -5,7 +5,7 @@ ghost use Rattle.grouping_report.specs.FirstLines.{first_lines as first_lines_of
 
 use crate::faults::push_words_number;
 use county_codes::Window;
-use grouping_problem::Problem;
+use county_problem::Problem;
 use std::alloc::AllocError;
 
 /// Appends the line of an allowance.

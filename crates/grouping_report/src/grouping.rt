@@ -1,7 +1,7 @@
 //! The text of a grouping: a line for each group.
 
 ghost use Rattle.std.specs.Prelude.{◌≡◌, ◌<◌, ◌≤◌, ◌++◌, All, Ok, OnOk, IfOk, codes};
-ghost use Rattle.seat_lines.specs.GroupingLines.{grouping_list};
+ghost use Rattle.grouping_reader.specs.GroupingLines.{grouping_list};
 ghost use Rattle.grouping_report.specs.GroupingText.{group_fields, grouping_text as text_of, IsReadable};
 
 use county_codes::{Group, Grouping, push_codes};
@@ -11,7 +11,8 @@ use std::alloc::{AllocError, Global};
 /// Appends the line of a group.
 #[tactic(auto, unfolding(crate::specs::GroupingText::group_fields))]
 fn push_group(out: &mut Vec<u8>, group: &Group) -> Result<(), AllocError>
-    ensures text { OnOk result (out.new.items ≡ out.old.items ++ (group_fields group.now.seats group.now.codes ++ codes "\n")) }
+    ensures text { OnOk result (out.new.items
+        ≡ out.old.items ++ (group_fields group.now.seats group.now.codes ++ codes "\n")) }
     ensures seats { OnOk result (group.now.seats < 65536) }
     ensures codes { OnOk result (All (λ code. code ≤ 99999) group.now.codes) }
 {
@@ -24,7 +25,8 @@ fn push_group(out: &mut Vec<u8>, group: &Group) -> Result<(), AllocError>
 /// only where a growth was refused.
 pub fn grouping_text(alloc: Global, grouping: &Grouping) -> Result<Vec<u8>, AllocError>
     ensures text { IfOk result (λ v. v.items ≡ text_of grouping.now.groups.items) }
-    ensures back { IfOk result (λ v. IsReadable grouping.now.groups.items → grouping_list v.items ≡ Ok grouping.now.groups.items) }
+    ensures back { IfOk result (λ v. IsReadable grouping.now.groups.items
+        → grouping_list v.items ≡ Ok grouping.now.groups.items) }
 {
     let mut out = Vec::new(alloc);
     for group in &grouping.groups {

@@ -1,5 +1,5 @@
 //! The texts of a problem and its groupings: the size table, the report, the grouping text and the findings of an
-//! audit. `seat_lines` reads groupings from their lines.
+//! audit. `grouping_reader` reads groupings from their lines.
 #![tactic(auto)]
 
 mod faults;
@@ -13,9 +13,7 @@ mod table;
 pub use faults::{push_grouping_fault, push_words_number};
 pub use findings::findings_text;
 pub use grouping::grouping_text;
+pub use grouping_reader::{CodeLineFault, CodeLineKind, read_grouping};
 pub use outcome::Outcome;
 pub use reports::{push_answer, push_counts, push_head, report};
-pub use seat_lines::{
-    CodeLineFault as GroupingTextFault, CodeLineKind as GroupingTextKind, read_grouping,
-};
 pub use table::size_table;

@@ -2,17 +2,18 @@
 
 ghost use Rattle.std.specs.Prelude.{◌≡◌, ℕ, ◌++◌, ◌≤◌, OnOk, IfOk, codes};
 ghost use Rattle.grouping_laws.specs.Sets.{stands};
-ghost use Rattle.grouping_problem.specs.ProblemValue.{problem_of};
+ghost use Rattle.county_problem.specs.ProblemValue.{problem_of};
 ghost use Rattle.grouping_laws.specs.Grouping.{Lawful, sets_of, counts as counts_by_size};
-ghost use Rattle.grouping_report.specs.Report.{head_lines, answer_line, longest_size, numbers_to, counts_line, group_line, group_lines, report_text, open_words};
+ghost use Rattle.grouping_report.specs.Report.{head_lines, answer_line, longest_size, numbers_to, counts_line};
+ghost use Rattle.grouping_report.specs.Report.{group_line, group_lines, report_text, open_words};
 ghost use Rattle.grouping_report.specs.Outcomes.{NamesLawful, outcome_text};
 
 use crate::faults::push_words_number;
 use crate::first_lines::push_first_lines;
 use crate::outcome::Outcome;
 use county_codes::{Group, Grouping, push_codes};
+use county_problem::Problem;
 use field_lines::push_number;
-use grouping_problem::Problem;
 use std::alloc::{AllocError, Global};
 
 /// Appends the people, the chamber, the allowance, the seats left and the number of counties.
@@ -59,7 +60,8 @@ fn groups_of_size(groups: &[Group], size: usize) -> usize
 
 /// Appends how many groups have each size from 1 to the longest, each number after a blank.
 fn push_numbers(out: &mut Vec<u8>, groups: &[Group]) -> Result<(), AllocError>
-    ensures { OnOk result (out.new.items ≡ out.old.items ++ numbers_to (counts_by_size (sets_of groups.now)) (longest_size (sets_of groups.now))) }
+    ensures { OnOk result (out.new.items
+        ≡ out.old.items ++ numbers_to (counts_by_size (sets_of groups.now)) (longest_size (sets_of groups.now))) }
 {
     for shorter in 0..longest_group(groups) {
         out.extend_from_slice(b" ")?;
@@ -147,7 +149,8 @@ fn open_answer(alloc: Global, steps: u64) -> Result<Vec<u8>, AllocError>
 
 /// The report of a problem that is open after so many steps, none of which found a lawful grouping.
 fn open_report(alloc: Global, problem: &Problem, steps: u64) -> Result<Vec<u8>, AllocError>
-    ensures { IfOk result (λ v. v.items ≡ (head_lines problem.now ++ answer_line (open_words steps)) ++ codes "grouping none\n") }
+    ensures { IfOk result (λ v. v.items
+        ≡ (head_lines problem.now ++ answer_line (open_words steps)) ++ codes "grouping none\n") }
 {
     let answer = open_answer(alloc, steps)?;
     let mut out = top_report(alloc, problem, &answer)?;

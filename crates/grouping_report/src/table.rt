@@ -1,13 +1,14 @@
 //! The size table: the bounds of a district, and for each county its people and the seats that they suit.
 
 ghost use Rattle.std.specs.Prelude.{◌≡◌, ◌≤◌, ℕ, ◌++◌, OnOk, IfOk, decimal};
-ghost use Rattle.grouping_report.specs.SizeTable.{size_text, county_line, lines_text, run_text, bounds_text, district_line};
-ghost use Rattle.grouping_problem.specs.Building.{people_in};
+ghost use Rattle.grouping_report.specs.SizeTable.{size_text, county_line, lines_text, run_text, bounds_text};
+ghost use Rattle.grouping_report.specs.SizeTable.{district_line};
+ghost use Rattle.county_problem.specs.Building.{people_in};
 
 use crate::first_lines::push_first_lines;
 use county_codes::{County, push_code};
+use county_problem::Problem;
 use field_lines::push_number;
-use grouping_problem::Problem;
 use std::alloc::{AllocError, Global};
 
 /// Appends the least and the greatest number of seats.

@@ -6,10 +6,10 @@ use Rattle.county_codes.specs.Counties.{people_in, people_at}
 use Rattle.grouping_laws.specs.Sets.{digit, total, often, member}
 use Rattle.grouping_laws.specs.Problem.{people_of}
 use Rattle.grouping_laws.specs.Grouping.{sets_of}
-use Rattle.grouping_problem.specs.ProblemValue.{problem_of, codes_of}
+use Rattle.county_problem.specs.ProblemValue.{problem_of, codes_of}
 use Rattle.grouping_laws.proofs.Elements.{has_set, all_from_has}
 use Rattle.grouping_laws.proofs.Sizes.{often-le-stands}
-use Rattle.place_lists.proofs.Sums.{total_add, often_some, digit_one}
+use Rattle.place_laws.proofs.Sums.{total_add, often_some, digit_one}
 use Rattle.list_report.specs.Listing.{people_inside}
 use Rattle.list_report.specs.GroupPeople.{PeopleAreOfGroups}
 

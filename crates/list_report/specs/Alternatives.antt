@@ -19,12 +19,13 @@ alternatives listed counties = fold add_choice [] (map (sets_inside counties) li
 
 -- the regions with their alternatives
 abbrev pub with_alternatives : List (List (List ℕ)) → List (List ℕ) → List Region
-with_alternatives listed parts = map (λ counties. record { counties = counties; alternatives = alternatives listed counties }) parts
+with_alternatives listed parts =
+    map (λ counties. record { counties = counties; alternatives = alternatives listed counties }) parts
 
 -- the number, from 1, of the first alternative that has the same sets
-abbrev pub number_of : List (List (List ℕ)) → List (List ℕ) → ℕ
-number_of [] choice = 1
-number_of (x ∷ xs) choice = if same_sets x choice then 1 else 1 + number_of xs choice
+abbrev pub number_of_alternative : List (List (List ℕ)) → List (List ℕ) → ℕ
+number_of_alternative [] choice = 1
+number_of_alternative (x ∷ xs) choice = if same_sets x choice then 1 else 1 + number_of_alternative xs choice
 
 -- the product of the numbers of alternatives
 abbrev pub product : List Region → ℕ

@@ -9,11 +9,13 @@ use Rattle.list_report.specs.Regions.{unshared_counties, first_county, regions}
 -- a chain of the sets from one county to another: each set has the county where the next begins
 pub data Joined (sets : List (List ℕ)) : ℕ → ℕ → Type 0 where
   here : (x : ℕ) → Joined sets x x
-  along : (x y z : ℕ) (s : List ℕ) → Contains sets s → member s x ≡ true → member s y ≡ true → Joined sets y z → Joined sets x z
+  along : (x y z : ℕ) (s : List ℕ) → Contains sets s → member s x ≡ true → member s y ≡ true → Joined sets y z
+      → Joined sets x z
 
 -- two counties lie in one of the regions
 abbrev pub InOneRegion : List ℕ → List (List ℕ) → ℕ → ℕ → Type 0
-InOneRegion unshared sets x y = (region : List ℕ) × Contains (regions unshared sets) region × (member region x ≡ true) × (member region y ≡ true)
+InOneRegion unshared sets x y =
+    (region : List ℕ) × Contains (regions unshared sets) region × (member region x ≡ true) × (member region y ≡ true)
 
 -- of lawful groupings: two counties that no shared set has lie in one region exactly where a chain of sets that are not
 -- shared joins them

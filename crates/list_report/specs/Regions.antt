@@ -13,7 +13,8 @@ met unshared first s = map first (filter (member s) unshared)
 
 -- the set makes one region of those that it meets; the least of their first counties is its first
 abbrev pub join : List ℕ → (ℕ → ℕ) → List ℕ → ℕ → ℕ
-join unshared first s c = if member (met unshared first s) (first c) then fold min (first c) (met unshared first s) else first c
+join unshared first s c =
+    if member (met unshared first s) (first c) then fold min (first c) (met unshared first s) else first c
 
 -- the first county of each county's region: each county begins as a region of its own, and then set after set joins
 abbrev pub first_county : List ℕ → List (List ℕ) → ℕ → ℕ

@@ -4,7 +4,8 @@ ghost use Rattle.std.specs.Prelude.{◌≡◌, ℕ, ◌++◌, ◌==◌, ◌≤�
 ghost use Rattle.std.specs.List.{list_any, list_all};
 ghost use Rattle.grouping_laws.specs.Sets.{member};
 ghost use Rattle.list_report.specs.Shared.{same_sets};
-ghost use Rattle.list_report.specs.Alternatives.{sets_inside, add_choice, alternatives as alternatives_in, with_alternatives, number_of, product};
+ghost use Rattle.list_report.specs.Alternatives.{sets_inside, add_choice, alternatives as alternatives_in};
+ghost use Rattle.list_report.specs.Alternatives.{with_alternatives, number_of_alternative, product};
 
 use crate::sets::Sets;
 use county_codes::{Codes, CountyCode, has_code};
@@ -120,7 +121,7 @@ pub(crate) fn regions_with(
 
 /// The number, from 1, of the first alternative that has the same sets.
 pub(crate) fn alternative_number(choices: &[Sets], choice: &Sets) -> usize
-    ensures { result ≡ number_of choices.now choice.now }
+    ensures { result ≡ number_of_alternative choices.now choice.now }
 {
     for (i, other) in choices.iter().enumerate() {
         if other.is_same(choice) {

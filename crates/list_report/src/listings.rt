@@ -11,7 +11,7 @@ use crate::sets::{Sets, listed_sets};
 use crate::shared::{not_shared, shared_by_all};
 use crate::texts::{push_choices, push_regions, push_shared};
 use county_codes::{Codes, County, Grouping};
-use grouping_problem::Problem;
+use county_problem::Problem;
 use grouping_report::{push_answer, push_counts, push_head};
 use std::alloc::{AllocError, Global};
 

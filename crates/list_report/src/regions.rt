@@ -100,7 +100,8 @@ fn first_now(met: &[CountyCode], first: CountyCode) -> CountyCode
 
 /// The places once the set has joined the regions that it meets.
 fn after_join(alloc: Global, places: &[Place], set: &[CountyCode]) -> Result<Vec<Place>, AllocError>
-    ensures { IfOk result (λ v. v.items ≡ map (λ p. record { county = p.county; first = moved (places_met places.now set.now) p.first }) places.now) }
+    ensures { IfOk result (λ v. v.items
+        ≡ map (λ p. record { county = p.county; first = moved (places_met places.now set.now) p.first }) places.now) }
 {
     let met = met_by(alloc, places, set)?;
     let mut joined = Vec::new(alloc);
@@ -143,7 +144,8 @@ fn region_of(alloc: Global, places: &[Place], first: CountyCode) -> Result<Codes
 
 /// The regions of the places, each where its first county stands.
 fn place_regions(alloc: Global, places: &[Place]) -> Result<Vec<Codes>, AllocError>
-    ensures { IfOk result (λ v. v.items ≡ map (λ q. map (λ p. p.county) (filter (λ p. p.first == q.county) places.now)) (filter (λ q. q.first == q.county) places.now)) }
+    ensures { IfOk result (λ v. v.items
+        ≡ map (λ q. map (λ p. p.county) (filter (λ p. p.first == q.county) places.now)) (filter (λ q. q.first == q.county) places.now)) }
 {
     let mut regions = Vec::new(alloc);
     for place in places {

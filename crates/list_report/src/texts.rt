@@ -3,14 +3,16 @@
 ghost use Rattle.std.specs.Prelude.{◌≡◌, ℕ, ◌+◌, ◌++◌, ◌==◌, ◌≤◌, List, length, map, filter, codes, IfOk, OnOk};
 ghost use Rattle.grouping_laws.specs.Sets.{member};
 ghost use Rattle.grouping_report.specs.FaultWords.{with_number};
-ghost use Rattle.list_report.specs.Alternatives.{sets_inside, number_of, product};
-ghost use Rattle.list_report.specs.Listing.{people_inside, seats_words, set_line, set_lines, alternatives_text, region_line, regions_text, choice_numbers, choice_lines, choices_text, shared_text};
+ghost use Rattle.list_report.specs.Alternatives.{sets_inside, number_of_alternative, product};
+ghost use Rattle.list_report.specs.Listing.{people_inside, seats_words, set_line, set_lines, alternatives_text};
+ghost use Rattle.list_report.specs.Listing.{region_line, regions_text, choice_numbers, choice_lines, choices_text};
+ghost use Rattle.list_report.specs.Listing.{shared_text};
 
 use crate::alternatives::{Region, alternative_number, has_product, inside};
 use crate::sets::Sets;
 use county_codes::{Codes, County, CountyCode, has_code, push_codes};
+use county_problem::Problem;
 use field_lines::push_number;
-use grouping_problem::Problem;
 use grouping_report::push_words_number;
 use std::alloc::{AllocError, Global};
 
@@ -95,7 +97,9 @@ fn push_alternative(
     number: u64,
     sets: &[Codes],
 ) -> Result<(), AllocError>
-    ensures { OnOk result (out.new.items ≡ out.old.items ++ (with_number (codes "alternative ") number ++ codes "\n" ++ set_lines problem.now sets.now)) }
+    ensures { OnOk result (out.new.items
+        ≡ out.old.items ++ (with_number (codes "alternative ") number ++ codes "\n"
+        ++ set_lines problem.now sets.now)) }
 {
     push_words_number(out, b"alternative ", number)?;
     out.extend_from_slice(b"\n")?;
@@ -138,7 +142,9 @@ fn push_region(
     number: u64,
     region: &Region,
 ) -> Result<(), AllocError>
-    ensures { OnOk result (out.new.items ≡ out.old.items ++ (region_line number (length region.now.counties) (length region.now.alternatives) ++ alternatives_text problem.now 1 region.now.alternatives)) }
+    ensures { OnOk result (out.new.items
+        ≡ out.old.items ++ (region_line number (length region.now.counties) (length region.now.alternatives)
+        ++ alternatives_text problem.now 1 region.now.alternatives)) }
 {
     let alternatives = region.alternatives.as_slice();
     let counties = region.counties.as_slice().len() as u64;
@@ -185,7 +191,9 @@ fn push_choice_line(
     number: u64,
     sets: &[Codes],
 ) -> Result<(), AllocError>
-    ensures { OnOk result (out.new.items ≡ out.old.items ++ (with_number (codes "grouping ") number ++ codes " alternatives" ++ choice_numbers regions.now sets.now ++ codes "\n")) }
+    ensures { OnOk result (out.new.items
+        ≡ out.old.items ++ (with_number (codes "grouping ") number ++ codes " alternatives"
+        ++ choice_numbers regions.now sets.now ++ codes "\n")) }
 {
     push_words_number(out, b"grouping ", number)?;
     out.extend_from_slice(b" alternatives")?;

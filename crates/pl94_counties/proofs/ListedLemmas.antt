@@ -19,12 +19,12 @@ use Rattle.pl94_counties.specs.declared.fault.Pl94Fault.{Pl94Fault}
 use Rattle.pl94_counties.specs.declared.fault.Pl94Kind.{Pl94Kind}
 use Rattle.pl94_counties.specs.declared.geo.Area.{Area}
 use Rattle.pl94_counties.specs.declared.geo.Area.TheVariants as areas
-use Rattle.pl94_counties.specs.Numbered.{by_number, unless_fault}
+use Rattle.pl94_counties.specs.Numbered.{by_number, unless_entry_fault}
 use Rattle.pl94_counties.specs.Geo.{area_on}
 use Rattle.pl94_counties.specs.Numbered.{entries_on}
 use Rattle.pl94_counties.specs.Areas.{area_list, found_list}
 use Rattle.pl94_counties.specs.Counties.{county_of, block_of, county_list, block_list}
-use Rattle.pl94_counties.specs.Joined.{IsJoined, IsListed}
+use Rattle.pl94_counties.specs.Joined.{IsJoined, IsListedArea}
 use Rattle.pl94_counties.specs.Listed.{AreCounties, AreBlocks}
 use Rattle.pl94_counties.proofs.ListLemmas.{codes_made, listed_made}
 use Rattle.pl94_counties.proofs.LawLemmas.{from_lines, each_line}
@@ -74,7 +74,7 @@ by_number_rises : (es : List (ℕ × ℕ)) → IsStrictlyIncreasing (map (λ e. 
 by_number_rises es = rising_fold [] es (λ i within. absurd (omega arith))
 
 -- ---- what is found is by number
-no_fault : (file : File) (first : Option (Pl94Kind × ℕ)) (fault : Option LineFault) (entries found : List (ℕ × ℕ)) → unless_fault file first fault entries ≡ Ok found → entries ≡ found
+no_fault : (file : File) (first : Option (Pl94Kind × ℕ)) (fault : Option LineFault) (entries found : List (ℕ × ℕ)) → unless_entry_fault file first fault entries ≡ Ok found → entries ≡ found
 no_fault file (Some f) fault entries found is = cc
 no_fault file None (Some fault) entries found is = cc
 no_fault file None None entries found is = cc

@@ -1,7 +1,7 @@
 -- Reading the lines of a file from any source.
 use Rattle.std.proofs.Common.{◌≡◌, ◌≢◌, inl, inr, ℕ, Bool, false, List, Some, Result, Ok, Err, refl, ap}
 use Rattle.std.specs.Borrow.{Bor}
-use Rattle.field_lines.specs.LinesFrom.{LinesLeft, IsNext, ReadsText}
+use Rattle.field_lines.specs.LinesFrom.{LinesLeft, IsNextAnswer, ReadsText}
 use Rattle.field_lines.proofs.ReadingLemmas.{ReadsOn, reads_more, reads_stop, reads_fault, given_fault, never_memory}
 use Rattle.field_lines.specs.Cut.{Cut, Line, in_front, line_of}
 use Rattle.field_lines.specs.declared.fault.LineFault.{LineFault}
@@ -11,13 +11,13 @@ use Rattle.pl94_counties.specs.declared.fault.Pl94Kind.{Pl94Kind}
 use Rattle.pl94_counties.specs.declared.fault.Pl94Kind.TheVariants.{TooFewFields, BadCode, BadNumber, DoubleRecord, NoRecord, DoubleCounty, DoubleBlock, NoCounties, NoBlocks, TooMany, Lower, Memory}
 use Rattle.pl94_counties.specs.declared.fault.File.{File}
 use Rattle.pl94_counties.specs.declared.fault.Pl94Fault.{Pl94Fault}
-use Rattle.pl94_counties.specs.Numbered.{Given, Rule, with_given, cut_fault}
-use Rattle.pl94_counties.specs.OfText.{IsOfText}
-use Rattle.pl94_counties.specs.Readers.{is_read_fault, IsRefused}
+use Rattle.pl94_counties.specs.Numbered.{LineEntry, Rule, with_given, pl94_cut_fault}
+use Rattle.pl94_counties.specs.OfText.{IsPl94OfText}
+use Rattle.pl94_counties.specs.Readers.{is_pl94_read_fault, IsPl94Refused}
 use Rattle.pl94_counties.proofs.CollectLemmas.{collect_from}
 
 -- a text's own fault is no failure of its source
-pub own_fault : (k : Pl94Kind) → IsOfText k → is_read_fault k ≡ false
+pub own_fault : (k : Pl94Kind) → IsPl94OfText k → is_pl94_read_fault k ≡ false
 own_fault (Lower (LineTooLong number)) of = refl
 own_fault (Lower TooManyLines) of = refl
 own_fault (Lower (ReadFault number)) of = absurd of
@@ -34,7 +34,7 @@ own_fault NoBlocks of = refl
 own_fault TooMany of = refl
 own_fault Memory of = refl
 
-module _ (read : List ℕ → Given) (rule : Rule) (file : File) where
+module _ (read : List ℕ → LineEntry) (rule : Rule) (file : File) where
   -- what a loop answers that has found these entries, on the cut that is left
   abbrev pub collect_cut : List (ℕ × ℕ) → Cut → Result (List (ℕ × ℕ)) Pl94Fault
   collect_cut placed c = collect_from read rule file placed c.lines c.fault
@@ -54,11 +54,11 @@ module _ (read : List ℕ → Given) (rule : Rule) (file : File) where
 
 -- what is given is this fault, unless it is a refusal
 abbrev pub StopsAt : Pl94Fault → Result (List (ℕ × ℕ)) Pl94Fault → Type 0
-StopsAt fault given = (IsRefused fault → ⊥) → given ≡ Err fault
+StopsAt fault given = (IsPl94Refused fault → ⊥) → given ≡ Err fault
 
-module _ (read : List ℕ → Given) (rule : Rule) (file : File) (start now new : LinesLeft) (g h i : List ℕ) (d e : Bool) (Whole : Cut → Result (List (ℕ × ℕ)) Pl94Fault) (placed : List (ℕ × ℕ))
+module _ (read : List ℕ → LineEntry) (rule : Rule) (file : File) (start now new : LinesLeft) (g h i : List ℕ) (d e : Bool) (Whole : Cut → Result (List (ℕ × ℕ)) Pl94Fault) (placed : List (ℕ × ℕ))
     (s : ReadsOn start g Whole now h d (collect_cut read rule file placed)) where
-  module _ (r : ℕ × Bor (List ℕ)) (next : IsNext now h d (Ok (Some r)) new i e) where
+  module _ (r : ℕ × Bor (List ℕ)) (next : IsNextAnswer now h d (Ok (Some r)) new i e) where
     -- a line is added to those before
     pub line_more : (more : List (ℕ × ℕ)) → with_given rule placed (read r.1.now) ≡ Ok more → ReadsOn start g Whole new i e (collect_cut read rule file more)
     line_more more is = reads_more start now new g h i d e Whole (collect_cut read rule file placed) s r next (collect_cut read rule file more) (λ c. line_added read rule file placed (line_of r) c more is)
@@ -68,17 +68,17 @@ module _ (read : List ℕ → Given) (rule : Rule) (file : File) (start now new 
         → ReadsText start.cut g i (λ c. StopsAt (record { kind = kind; file = file; line = r.0 }) (Whole c))
     line_stops kind is =
         let fault : Pl94Fault = record { kind = kind; file = file; line = r.0 } in
-        let comes = reads_stop start now new g h i d e Whole (collect_cut read rule file placed) s r next (IsRefused fault → ⊥) (Err fault)
-        (λ (kept : IsRefused fault → ⊥) (c : Cut). line_refused read rule file placed (line_of r) c kind (is (λ (m : kind ≡ Memory). kept (inl m)))) in
+        let comes = reads_stop start now new g h i d e Whole (collect_cut read rule file placed) s r next (IsPl94Refused fault → ⊥) (Err fault)
+        (λ (kept : IsPl94Refused fault → ⊥) (c : Cut). line_refused read rule file placed (line_of r) c kind (is (λ (m : kind ≡ Memory). kept (inl m)))) in
         record { pulled = comes.pulled; given = comes.given; holds = comes.is }
 
   -- the text ends in a fault, or a read failed
-  pub text_stops : (fault : LineFault) → IsNext now h d (Err fault) new i e → ReadsText start.cut g i (λ c. StopsAt (cut_fault file fault) (Whole c))
+  pub text_stops : (fault : LineFault) → IsNextAnswer now h d (Err fault) new i e → ReadsText start.cut g i (λ c. StopsAt (pl94_cut_fault file fault) (Whole c))
   text_stops (LineTooLong line) next =
-      let comes = reads_fault start now new g h i d e Whole (collect_cut read rule file placed) s (IsRefused (cut_fault file (LineTooLong line)) → ⊥) (LineTooLong line) tt next in
+      let comes = reads_fault start now new g h i d e Whole (collect_cut read rule file placed) s (IsPl94Refused (pl94_cut_fault file (LineTooLong line)) → ⊥) (LineTooLong line) tt next in
       record { pulled = comes.pulled; given = comes.given; holds = comes.is }
   text_stops TooManyLines next =
-      let comes = reads_fault start now new g h i d e Whole (collect_cut read rule file placed) s (IsRefused (cut_fault file TooManyLines) → ⊥) TooManyLines tt next in
+      let comes = reads_fault start now new g h i d e Whole (collect_cut read rule file placed) s (IsPl94Refused (pl94_cut_fault file TooManyLines) → ⊥) TooManyLines tt next in
       record { pulled = comes.pulled; given = comes.given; holds = comes.is }
   text_stops (ReadFault line) next =
       let given = given_fault start now new g h i d e Whole (collect_cut read rule file placed) s (ReadFault line) next in

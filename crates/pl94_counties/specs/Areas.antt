@@ -8,13 +8,13 @@ use Rattle.pl94_counties.specs.declared.geo.Area.{Area}
 use Rattle.pl94_counties.specs.declared.geo.Area.TheVariants.{County, Block}
 use Rattle.field_lines.specs.Cut.{Cut, cut}
 use Rattle.field_lines.specs.Chain.{◌>>=◌}
-use Rattle.pl94_counties.specs.Numbered.{people_in}
+use Rattle.pl94_counties.specs.Numbered.{people_of_numbers}
 use Rattle.pl94_counties.specs.Segment.{record_list_in}
 use Rattle.pl94_counties.specs.Geo.{rule_of, area_on}
 
 -- the people of each area of the state by its code, or the first fault of a cut
 abbrev pub found_list_in : Area → ℕ → List (ℕ × ℕ) → Cut → Result (List (ℕ × ℕ)) Pl94Fault
-found_list_in area state records geo = people_in (area_on area state records) (rule_of area) Geo geo
+found_list_in area state records geo = people_of_numbers (area_on area state records) (rule_of area) Geo geo
 
 -- the people of each area of the state by its code, or the first fault of geo
 abbrev pub found_list : Area → ℕ → List (ℕ × ℕ) → List ℕ → Result (List (ℕ × ℕ)) Pl94Fault

@@ -35,8 +35,17 @@ geo_fields line = do
   geocode ← field 10 line
   of_state ← field 13 line
   county ← field 15 line
-  Some (record { level = level; component = component; record_number = record_number; geocode = geocode; of_state = of_state; county = county })
+  Some (record {
+    level =
+        level;
+    component = component;
+    record_number = record_number;
+    geocode = geocode;
+    of_state = of_state;
+    county = county;
+  })
 
 -- the fields that a `GeoLine` refers to
 abbrev pub fields_shown : GeoLine → GeoFields
-fields_shown g = record { level = g.level.now; component = g.component.now; record_number = g.record_number.now; geocode = g.geocode.now; of_state = g.state.now; county = g.county.now }
+fields_shown g =
+    record { level = g.level.now; component = g.component.now; record_number = g.record_number.now; geocode = g.geocode.now; of_state = g.state.now; county = g.county.now }

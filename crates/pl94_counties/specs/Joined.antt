@@ -42,6 +42,6 @@ pub record IsJoined (area : Area) (geo segment1 : List Line) (state code people 
 
 -- If a line of geo is for such an area, what is made of its code is listed, with the people of the one record with the
 -- line's LOGRECNO.
-abbrev pub IsListed : {X : Type 0} → (ℕ → ℕ → X) → Area → List Line → ℕ → List X → Line → Type 0
-IsListed made area segment1 state list line = (code number : ℕ) → IsAreaLine area state line.bytes code number
+abbrev pub IsListedArea : {X : Type 0} → (ℕ → ℕ → X) → Area → List Line → ℕ → List X → Line → Type 0
+IsListedArea made area segment1 state list line = (code number : ℕ) → IsAreaLine area state line.bytes code number
     → (people : ℕ) × StandsOnce segment1 number people × Contains list (made code people)

@@ -1,5 +1,6 @@
 -- The counties of a state with their names.
-use Rattle.std.specs.Prelude.{ℕ, ◌≡◌, ◌==◌, ◌&&◌, not, nat_lt, Bool, false, List, [], Option, Some, None, Result, Ok, Err, is_some, unwrap_or, find, map, if◌then◌else◌}
+use Rattle.std.specs.Prelude.{ℕ, ◌≡◌, ◌==◌, ◌&&◌, not, nat_lt, Bool, false, List, [], Option, Some, None, Result, Ok}
+use Rattle.std.specs.Prelude.{Err, is_some, unwrap_or, find, map, if◌then◌else◌}
 use Rattle.std.specs.List.{filter_map}
 use Rattle.std.specs.Option.{option_map, option_map_or, option_and_then}
 use Rattle.std.specs.Str.{is_utf8}
@@ -70,9 +71,9 @@ is_after Geo line number = nat_lt number line
 is_after Segment1 line number = false
 
 -- the fault of the files, unless a bad name stands on a line of geo before it
-abbrev pub first_fault : Pl94Fault → Option ℕ → NamedFault
-first_fault fault None = Files fault
-first_fault fault (Some number) = if is_after fault.file fault.line number then BadName number else Files fault
+abbrev pub first_named_fault : Pl94Fault → Option ℕ → NamedFault
+first_named_fault fault None = Files fault
+first_named_fault fault (Some number) = if is_after fault.file fault.line number then BadName number else Files fault
 
 -- what is found, unless a name is bad
 abbrev pub unless_bad : {X : Type 0} → Option ℕ → List X → Result (List X) NamedFault
@@ -81,8 +82,9 @@ unless_bad (Some number) found = Err (BadName number)
 
 -- the counties with their names, or the first fault, by the lines of geo
 abbrev pub named_by_lines : List Line → ℕ → Result (List County) Pl94Fault → Result (List CountyName) NamedFault
-named_by_lines lines state (Ok counties) = unless_bad (bad_name state lines) (with_names (names_on state lines) counties)
-named_by_lines lines state (Err fault) = Err (first_fault fault (bad_name state lines))
+named_by_lines lines state (Ok counties) =
+    unless_bad (bad_name state lines) (with_names (names_on state lines) counties)
+named_by_lines lines state (Err fault) = Err (first_named_fault fault (bad_name state lines))
 
 -- the counties of a state by code with their names, or the first fault
 abbrev pub named_list : List ℕ → List ℕ → ℕ → Result (List CountyName) NamedFault

@@ -2,7 +2,7 @@
 use Rattle.std.specs.Prelude.{◌≡◌, ◌⊎◌, ◌&&◌, ◌++◌, ℕ, Bool, true, false, List, Result, Ok, Err}
 use Rattle.field_lines.specs.Values.{GivesUnless}
 use Rattle.field_lines.specs.declared.fault.LineFault.TheVariants.{ReadFault}
-use Rattle.pl94_counties.specs.Numbered.{IsMemory}
+use Rattle.pl94_counties.specs.Numbered.{IsPl94Memory}
 use Rattle.pl94_counties.specs.declared.fault.Pl94Kind.{Pl94Kind}
 use Rattle.pl94_counties.specs.declared.fault.Pl94Kind.TheVariants.{Lower}
 use Rattle.pl94_counties.specs.declared.fault.File.{File}
@@ -10,9 +10,9 @@ use Rattle.pl94_counties.specs.declared.fault.File.TheVariants.{Geo, Segment1}
 use Rattle.pl94_counties.specs.declared.fault.Pl94Fault.{Pl94Fault}
 
 -- whether a line could not be read
-abbrev pub is_read_fault : Pl94Kind → Bool
-is_read_fault (Lower (ReadFault number)) = true
-is_read_fault _ = false
+abbrev pub is_pl94_read_fault : Pl94Kind → Bool
+is_pl94_read_fault (Lower (ReadFault number)) = true
+is_pl94_read_fault _ = false
 
 -- whether both are the same file
 abbrev pub same_file : File → File → Bool
@@ -23,17 +23,18 @@ same_file _ _ = false
 -- whether an answer is that this file could not be read
 abbrev pub read_failed : {X : Type 0} → File → Result X Pl94Fault → Bool
 read_failed file (Ok x) = false
-read_failed file (Err fault) = is_read_fault fault.kind && same_file file fault.file
+read_failed file (Err fault) = is_pl94_read_fault fault.kind && same_file file fault.file
 
 -- memory was refused, or a file could not be read
-abbrev pub IsRefused : Pl94Fault → Type 0
-IsRefused fault = IsMemory fault ⊎ (is_read_fault fault.kind ≡ true)
+abbrev pub IsPl94Refused : Pl94Fault → Type 0
+IsPl94Refused fault = IsPl94Memory fault ⊎ (is_pl94_read_fault fault.kind ≡ true)
 
 -- What is answered for two sources: the value or the first fault of the bytes that they gave meanwhile, unless it was
 -- refused.
-pub record ReadsBoth {X Y : Type 0} (view : X → Y) (geo_before geo_after segment1_before segment1_after : List ℕ) (answer : Result X Pl94Fault) (given : List ℕ → List ℕ → Result Y Pl94Fault) : Type 0 where
+pub record ReadsBoth {X Y : Type 0} (view : X → Y) (geo_before geo_after segment1_before segment1_after : List ℕ)
+    (answer : Result X Pl94Fault) (given : List ℕ → List ℕ → Result Y Pl94Fault) : Type 0 where
   pub geo : List ℕ
   pub segment1 : List ℕ
   pub geo_given : geo_after ≡ geo_before ++ geo
   pub segment1_given : segment1_after ≡ segment1_before ++ segment1
-  pub value : GivesUnless IsRefused view answer (given geo segment1)
+  pub value : GivesUnless IsPl94Refused view answer (given geo segment1)

@@ -5,12 +5,12 @@ ghost use Rattle.std.specs.List.Sorted.{IsStrictlyIncreasing};
 ghost use Rattle.field_lines.specs.Values.{GivesUnless};
 ghost use Rattle.field_lines.specs.Cut.{cut};
 ghost use Rattle.field_lines.specs.LinesFrom.{ReadsText};
-ghost use Rattle.pl94_counties.specs.Numbered.{Adds, IsMemory};
+ghost use Rattle.pl94_counties.specs.Numbered.{Adds, IsPl94Memory};
 ghost use Rattle.pl94_counties.specs.Geo.{rule_of, area_on};
 ghost use Rattle.pl94_counties.specs.Areas.{found_list_in, some_areas, area_list_in, area_list};
-ghost use Rattle.pl94_counties.specs.Readers.{IsRefused, ReadsBoth, read_failed};
-ghost use Rattle.pl94_counties.specs.Joined.{IsJoined, IsListed};
-ghost use Rattle.pl94_counties.specs.OfText.{IsOfText};
+ghost use Rattle.pl94_counties.specs.Readers.{IsPl94Refused, ReadsBoth, read_failed};
+ghost use Rattle.pl94_counties.specs.Joined.{IsJoined, IsListedArea};
+ghost use Rattle.pl94_counties.specs.OfText.{IsPl94OfText};
 
 use crate::fault::{File, Pl94Fault, Pl94Kind};
 use crate::geo::{Area, area_in};
@@ -27,7 +27,7 @@ fn put_area(
     people: u32,
 ) -> Result<(), Pl94Kind>
     ensures adds { Adds (rule_of area) found.old.entries (Ok (Some (code, people))) result found.new.entries }
-    ensures of_text { IfErr result IsOfText }
+    ensures of_text { IfErr result IsPl94OfText }
 {
     let full = area.is_full(found.len());
     match found.insert(code, people) {
@@ -48,7 +48,7 @@ fn add_line(
 ) -> Result<(), Pl94Kind>
     requires { state ≤ 99 }
     ensures adds { Adds (rule_of area) found.old.entries (area_on area state records.now.entries line.now) result found.new.entries }
-    ensures of_text { IfErr result IsOfText }
+    ensures of_text { IfErr result IsPl94OfText }
 {
     match area_in(area, state, records, line)? {
         Some((code, people)) => put_area(found, area, code, people),
@@ -68,7 +68,7 @@ fn join<F, L: LinesFrom<F>>(
     requires digits { state ≤ 99 }
     requires sound { (L.left lines.old).fault ≡ None }
     requires works { L.is_failed from.old ≡ false }
-    ensures reads { ReadsText (L.left lines.old).cut (L.given from.old) (L.given from.new) (λ c. GivesUnless IsRefused (λ m. m.entries) result (found_list_in area state records.now.entries c)) }
+    ensures reads { ReadsText (L.left lines.old).cut (L.given from.old) (L.given from.new) (λ c. GivesUnless IsPl94Refused (λ m. m.entries) result (found_list_in area state records.now.entries c)) }
     ensures failed { L.is_failed from.new ≡ read_failed File.Geo result }
     ensures segment_sound { read_failed File.Segment1 result ≡ false }
 {
@@ -92,8 +92,8 @@ fn join<F, L: LinesFrom<F>>(
 
 /// The areas that were found; none is a fault.
 fn some_areas(found: BTreeMap<u64, u32>, area: Area) -> Result<BTreeMap<u64, u32>, Pl94Fault>
-    ensures value { GivesUnless IsMemory (λ m. m.entries) result (some_areas area found.entries) }
-    ensures of_text { IfErr result (λ f. IsOfText f.kind) }
+    ensures value { GivesUnless IsPl94Memory (λ m. m.entries) result (some_areas area found.entries) }
+    ensures of_text { IfErr result (λ f. IsPl94OfText f.kind) }
     ensures ascending { IfOk result (λ m. IsStrictlyIncreasing (map (λ e. e.0) m.entries)) }
 {
     match found.len() {
@@ -141,7 +141,7 @@ fn read_texts(
     state: u8,
 ) -> Result<BTreeMap<u64, u32>, Pl94Fault>
     requires { state ≤ 99 }
-    ensures value { GivesUnless IsMemory (λ m. m.entries) result (area_list area geo.now segment1.now state) }
+    ensures value { GivesUnless IsPl94Memory (λ m. m.entries) result (area_list area geo.now segment1.now state) }
     ensures ascending { IfOk result (λ m. IsStrictlyIncreasing (map (λ e. e.0) m.entries)) }
 {
     let mut geo_lines = Lines::new(geo);
@@ -166,11 +166,11 @@ pub(crate) fn read_areas(
     state: u8,
 ) -> Result<BTreeMap<u64, u32>, Pl94Fault>
     requires { state ≤ 99 }
-    ensures value { GivesUnless IsMemory (λ m. m.entries) result (area_list area geo.now segment1.now state) }
-    ensures of_text { IfErr result (λ f. IsOfText f.kind) }
+    ensures value { GivesUnless IsPl94Memory (λ m. m.entries) result (area_list area geo.now segment1.now state) }
+    ensures of_text { IfErr result (λ f. IsPl94OfText f.kind) }
     ensures ascending { IfOk result (λ m. IsStrictlyIncreasing (map (λ e. e.0) m.entries)) }
     ensures from_lines { IfOk result (λ m. All (λ e. IsJoined area (cut geo.now).lines (cut segment1.now).lines state e.0 e.1) m.entries) }
-    ensures each_line { IfOk result (λ m. All (IsListed (λ code people. (code, people)) area (cut segment1.now).lines state m.entries) (cut geo.now).lines) }
+    ensures each_line { IfOk result (λ m. All (IsListedArea (λ code people. (code, people)) area (cut segment1.now).lines state m.entries) (cut geo.now).lines) }
 {
     match read_texts(alloc, area, geo, segment1, state) {
         Ok(found) => Ok(found),
@@ -215,7 +215,7 @@ pub(crate) fn read_areas_from<G: Source, S: Source>(
 
 /// The fault of memory that was refused.
 pub(crate) fn no_memory() -> Pl94Fault
-    ensures { IsMemory result }
+    ensures { IsPl94Memory result }
 {
     Pl94Fault {
         kind: Pl94Kind::Memory,

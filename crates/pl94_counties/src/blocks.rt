@@ -4,9 +4,9 @@ ghost use Rattle.std.specs.Prelude.{◌≡◌, ◌≤◌, false, ◌<◌, ◌^�
 ghost use Rattle.std.specs.List.Sorted.{IsStrictlyIncreasing};
 ghost use Rattle.field_lines.specs.Values.{GivesUnless};
 ghost use Rattle.field_lines.specs.Cut.{cut};
-ghost use Rattle.pl94_counties.specs.Numbered.{IsMemory};
-ghost use Rattle.pl94_counties.specs.Joined.{IsJoined, IsListed};
-ghost use Rattle.pl94_counties.specs.OfText.{IsOfText};
+ghost use Rattle.pl94_counties.specs.Numbered.{IsPl94Memory};
+ghost use Rattle.pl94_counties.specs.Joined.{IsJoined, IsListedArea};
+ghost use Rattle.pl94_counties.specs.OfText.{IsPl94OfText};
 ghost use Rattle.pl94_counties.specs.Readers.{ReadsBoth, read_failed};
 ghost use Rattle.pl94_counties.specs.Counties.{block_of, block_list};
 ghost use Rattle.pl94_counties.specs.declared.geo.Area.TheVariants as areas;
@@ -55,12 +55,12 @@ pub fn read_blocks(
     state: u8,
 ) -> Result<Vec<Block>, Pl94Fault>
     requires { state ≤ 99 }
-    ensures value { GivesUnless IsMemory (λ v. v.items) result (block_list geo.now segment1.now state) }
-    ensures of_text { IfErr result (λ f. IsOfText f.kind) }
+    ensures value { GivesUnless IsPl94Memory (λ v. v.items) result (block_list geo.now segment1.now state) }
+    ensures of_text { IfErr result (λ f. IsPl94OfText f.kind) }
     ensures ascending { IfOk result (λ v. IsStrictlyIncreasing (map (λ b. b.code) v.items)) }
     ensures small { IfOk result (λ v. All (λ b. b.code < 1000000000000000) v.items) }
     ensures from_lines { IfOk result (λ v. All (λ b. IsJoined areas.Block (cut geo.now).lines (cut segment1.now).lines state b.code b.people) v.items) }
-    ensures each_line { IfOk result (λ v. All (IsListed block_of areas.Block (cut segment1.now).lines state v.items) (cut geo.now).lines) }
+    ensures each_line { IfOk result (λ v. All (IsListedArea block_of areas.Block (cut segment1.now).lines state v.items) (cut geo.now).lines) }
 {
     let found = read_areas(alloc, Area::Block, geo, segment1, state)?;
     let blocks = list(alloc, &found).map_err(|_| Pl94Fault {

@@ -5,9 +5,9 @@ ghost use Rattle.std.specs.List.{filter_map};
 ghost use Rattle.std.specs.List.Sorted.{IsStrictlyIncreasing};
 ghost use Rattle.field_lines.specs.Values.{GivesUnless};
 ghost use Rattle.field_lines.specs.Cut.{cut};
-ghost use Rattle.pl94_counties.specs.Numbered.{IsMemory};
-ghost use Rattle.pl94_counties.specs.Joined.{IsJoined, IsListed};
-ghost use Rattle.pl94_counties.specs.OfText.{IsOfText};
+ghost use Rattle.pl94_counties.specs.Numbered.{IsPl94Memory};
+ghost use Rattle.pl94_counties.specs.Joined.{IsJoined, IsListedArea};
+ghost use Rattle.pl94_counties.specs.OfText.{IsPl94OfText};
 ghost use Rattle.pl94_counties.specs.Readers.{ReadsBoth, read_failed};
 ghost use Rattle.pl94_counties.specs.Counties.{county_of, county_in, county_list};
 ghost use Rattle.pl94_counties.specs.declared.geo.Area.TheVariants as areas;
@@ -60,11 +60,11 @@ pub fn read_counties(
     state: u8,
 ) -> Result<Vec<County>, Pl94Fault>
     requires { state ≤ 99 }
-    ensures value { GivesUnless IsMemory (λ v. v.items) result (county_list geo.now segment1.now state) }
-    ensures of_text { IfErr result (λ f. IsOfText f.kind) }
+    ensures value { GivesUnless IsPl94Memory (λ v. v.items) result (county_list geo.now segment1.now state) }
+    ensures of_text { IfErr result (λ f. IsPl94OfText f.kind) }
     ensures ascending { IfOk result (λ v. IsStrictlyIncreasing (map (λ c. c.code) v.items)) }
     ensures from_lines { IfOk result (λ v. All (λ c. IsJoined areas.County (cut geo.now).lines (cut segment1.now).lines state c.code c.people) v.items) }
-    ensures each_line { IfOk result (λ v. All (IsListed county_of areas.County (cut segment1.now).lines state v.items) (cut geo.now).lines) }
+    ensures each_line { IfOk result (λ v. All (IsListedArea county_of areas.County (cut segment1.now).lines state v.items) (cut geo.now).lines) }
 {
     let found = read_areas(alloc, Area::County, geo, segment1, state)?;
     let counties = list(alloc, &found).map_err(|_| Pl94Fault {

@@ -1,6 +1,7 @@
 //! The counties of a state with their names.
 
-ghost use Rattle.std.specs.Prelude.{◌≡◌, ℕ, ◌≤◌, ◌++◌, ◌∷◌, [], true, false, Some, IfOk, IfErr, OnOk, MatchOption, ◌==◌, find, map, option_to_list};
+ghost use Rattle.std.specs.Prelude.{◌≡◌, ℕ, ◌≤◌, ◌++◌, ◌∷◌, [], true, false, Some, IfOk, IfErr, OnOk, MatchOption};
+ghost use Rattle.std.specs.Prelude.{◌==◌, find, map, option_to_list};
 ghost use Rattle.std.specs.Option.{option_copied};
 ghost use Rattle.std.specs.List.Sorted.{IsStrictlyIncreasing};
 ghost use Rattle.std.specs.Str.{is_utf8};
@@ -8,7 +9,10 @@ ghost use Rattle.county_codes.specs.Counties.{codes_of};
 ghost use Rattle.field_lines.specs.Values.{GivesUnless};
 ghost use Rattle.field_lines.specs.Cut.{cut};
 ghost use Rattle.pl94_counties.specs.Counties.{county_list};
-ghost use Rattle.pl94_counties.specs.Named.{IsNoMemory, code_name, county_name, name_on as name_on_line, code_on, has_bad_name, bad_name, named_on, names_on, name_of as name_of_code, with_names as named_by, is_after, first_fault, unless_bad, named_list};
+ghost use Rattle.pl94_counties.specs.Named.{IsNoMemory, code_name, county_name, name_on as name_on_line, code_on};
+ghost use Rattle.pl94_counties.specs.Named.{has_bad_name, bad_name, named_on, names_on, name_of as name_of_code};
+ghost use Rattle.pl94_counties.specs.Named.{with_names as named_by, is_after, first_named_fault, unless_bad};
+ghost use Rattle.pl94_counties.specs.Named.{named_list};
 
 use crate::areas::no_memory;
 use crate::counties::read_counties;
@@ -115,7 +119,8 @@ fn push_name(
 ) -> Result<(), NamedFault>
     ensures text { OnOk result (names.new.items ≡ names.old.items ++ code_name code name.now ∷ []) }
     ensures good { OnOk result (is_utf8 name.now ≡ true) }
-    ensures bad { IfErr result (λ f. (IsNoMemory f → ⊥) → (f ≡ NamedFault.BadName number) × (is_utf8 name.now ≡ false)) }
+    ensures bad { IfErr result (λ f. (IsNoMemory f → ⊥)
+        → (f ≡ NamedFault.BadName number) × (is_utf8 name.now ≡ false)) }
 {
     match text_of(name) {
         None => Err(NamedFault::BadName(number)),
@@ -136,7 +141,8 @@ fn add_name(
     requires { state ≤ 99 }
     ensures text { OnOk result (names.new.items ≡ names.old.items ++ option_to_list (named_on state line.now)) }
     ensures good { OnOk result (has_bad_name state line.now ≡ false) }
-    ensures bad { IfErr result (λ f. (IsNoMemory f → ⊥) → (f ≡ NamedFault.BadName number) × (has_bad_name state line.now ≡ true)) }
+    ensures bad { IfErr result (λ f. (IsNoMemory f → ⊥)
+        → (f ≡ NamedFault.BadName number) × (has_bad_name state line.now ≡ true)) }
 {
     match county_on(state, line) {
         None => Ok(()),
@@ -215,7 +221,7 @@ fn comes_after(fault: Pl94Fault, number: u32) -> bool
 /// fault.
 fn fault_before(alloc: Global, fault: Pl94Fault, geo: &[u8], state: u8) -> NamedFault
     requires { state ≤ 99 }
-    ensures { (IsNoMemory result → ⊥) → result ≡ first_fault fault (bad_name state (cut geo.now).lines) }
+    ensures { (IsNoMemory result → ⊥) → result ≡ first_named_fault fault (bad_name state (cut geo.now).lines) }
 {
     match names_in(alloc, geo, state) {
         Ok(_) => NamedFault::Files(fault),

@@ -1,8 +1,8 @@
 -- The pieces below the branches that have no number.
 use Rattle.std.proofs.Common.{ℕ, List, ◌⊎◌, inl, inr, ⊎_elim, Option, Some, None}
 use Rattle.grouping_laws.proofs.Elements.{Has, has_append}
-use Rattle.proof_trees.specs.Tree.{Tree, leaf, branch, Takes, no_take, take}
-use Rattle.shared_proofs.specs.Skeleton.{Skeleton, waits, proved, split, Parts, no_part, part, pieces, pieces_in, put, put_in}
+use Rattle.certificate_data.specs.Tree.{Tree, leaf, branch, Takes, no_take, take}
+use Rattle.board_laws.specs.Skeleton.{Skeleton, waits, proved, split, Parts, no_part, part, pieces, pieces_in, put, put_in}
 use Rattle.share_board.specs.declared.piece.Fate.{Fate}
 use Rattle.share_board.specs.Held.{Shows, ShowsAbove, PartsShowAbove}
 

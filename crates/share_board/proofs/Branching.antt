@@ -2,26 +2,26 @@
 use Rattle.std.proofs.Common.{◌≡◌, ℕ, ◌+◌, ◌*◌, ◌-◌, ◌<◌, ◌≤◌, ◌⊎◌, Bool, List, [], ◌∷◌, ◌++◌, length, get_or, drop, refl, sym, ap, ◌∙◌, subst, arith, None}
 use Rattle.std.proofs.lemmas.List.{length-append, drop_more, drop_all}
 use Rattle.grouping_laws.specs.Problem.{Problem}
-use Rattle.certificate_text.specs.Trees.{take_onto, list_of_takes}
-use Rattle.certificate_text.specs.declared.tree.Take.{Take}
-use Rattle.certificate_text.proofs.CopyLaws.{takes_onto}
-use Rattle.certificate_languages.specs.declared.language.Language.{Language}
-use Rattle.certificate_languages.specs.declared.language.Language.TheVariants.{Plain, Wide}
-use Rattle.proof_trees.specs.Round.{Round}
-use Rattle.proof_trees.specs.State.{State, empty_state, close, raise}
-use Rattle.proof_trees.specs.declared.state.State.{State as StateHeld}
-use Rattle.proof_trees.specs.Groups.{AreGroupsAt}
-use Rattle.proof_trees.specs.Tree.{Tree, leaf, seats, Takes, no_take, take}
-use Rattle.proof_trees.specs.Proving.{NamesLimit, CanBranch}
-use Rattle.line_verdicts.specs.Placed.{state_at, codes_of_set, codes_of_sets, IsPlaced}
-use Rattle.county_regions.specs.declared.stop.Stop.{Stop}
-use Rattle.county_regions.specs.declared.stop.Stop.TheVariants as search
+use Rattle.certificate_data.specs.TreeValue.{take_onto, list_of_takes}
+use Rattle.certificate_data.specs.declared.tree.Take.{Take}
+use Rattle.certificate_data.proofs.CopyLaws.{takes_onto}
+use Rattle.certificate_data.specs.declared.language.Language.{Language}
+use Rattle.certificate_data.specs.declared.language.Language.TheVariants.{Plain, Wide}
+use Rattle.certificate_data.specs.Round.{Round}
+use Rattle.certificate_laws.specs.State.{State, empty_state, close, raise}
+use Rattle.state_groups.specs.declared.state.State.{State as StateHeld}
+use Rattle.certificate_laws.specs.Groups.{AreGroupsAt}
+use Rattle.certificate_data.specs.Tree.{Tree, leaf, seats, Takes, no_take, take}
+use Rattle.certificate_laws.specs.Proving.{NamesLimit, CanBranch}
+use Rattle.state_judge.specs.Placed.{state_at, codes_of_set, codes_of_sets, IsPlaced}
+use Rattle.connected_sets.specs.declared.stop.Stop.{Stop}
+use Rattle.connected_sets.specs.declared.stop.Stop.TheVariants as search
 use Rattle.share_board.specs.OpeningStops.{opening_stop}
 use Rattle.share_board.specs.declared.stop.OpeningStop.{OpeningStop}
 use Rattle.share_board.specs.declared.stop.OpeningStop.TheVariants as stop
 use Rattle.share_board.specs.Replies.{most_opening}
-use Rattle.share_board.specs.BoardValue.{IsStateAt}
-use Rattle.share_board.specs.Opened.{IsOpened, AreOpened, EachOpensWithMore, AreKept, NoneIsOpen, IsBelowLine, IsHalted, AreHalted, IsOpeningStop}
+use Rattle.share_board.specs.BoardValue.{IsPieceState}
+use Rattle.share_board.specs.Opened.{IsOpened, AreOpened, EachOpensWithMore, StatesAreKept, NoneIsOpen, IsBelowLine, IsHalted, AreHalted, IsOpeningStop}
 use Rattle.share_board.proofs.Onto.{takes_more, takes_all}
 use Rattle.share_board.proofs.Openings.{opened_kept, piece_opened, none_opened, more_opened, group_more, others_more, takes_more as takes_have_more, raised_more}
 use Rattle.share_board.proofs.NewPieces.{state_pushed, state_last}
@@ -32,8 +32,8 @@ plain_names Plain e = tt
 plain_names Wide e = absurd (cc)
 
 -- one more state behind others
-pub pushed_kept : {C : Type 0} (order : List ℕ) (test : C → ℕ → Bool) (states news : List (StateHeld C)) (x : StateHeld C) → news ≡ states ++ x ∷ [] → AreKept order test states news
-pushed_kept order test states news x e k t h = subst (λ z. IsStateAt order test z k t) (sym e) (state_pushed order test states x (length states) k t refl h.0 h)
+pub pushed_kept : {C : Type 0} (order : List ℕ) (test : C → ℕ → Bool) (states news : List (StateHeld C)) (x : StateHeld C) → news ≡ states ++ x ∷ [] → StatesAreKept order test states news
+pushed_kept order test states news x e k t h = subst (λ z. IsPieceState order test z k t) (sym e) (state_pushed order test states x (length states) k t refl h.0 h)
 
 pub pushed_count : {X : Type 0} (states news : List X) (x : X) → news ≡ states ++ x ∷ [] → length news ≡ length states + 1
 pushed_count states news x e = omega (arith, ap length e, length-append states (x ∷ []))
@@ -43,8 +43,8 @@ pub placed : {C : Type 0} (test : C → ℕ → Bool) (p : Problem) (round : Rou
     → (depth ≡ 0) ⊎ NoneIsOpen round (state_at order test x) → news ≡ states ++ x ∷ [] → tree ≡ leaf seats → IsOpened test p round depth (state_at order test x) tree (length states) (length news) news
 placed test p round order depth states news x tree same is why e seat =
     let last = state_last order test states x (length states) (state_at order test x) refl is refl in
-    let there = subst (λ z. IsStateAt order test z (length states) (state_at order test x)) (sym e) last in
-    let kept = subst (λ z. IsStateAt z test news (length states) (state_at order test x)) same there in
+    let there = subst (λ z. IsPieceState order test z (length states) (state_at order test x)) (sym e) last in
+    let kept = subst (λ z. IsPieceState z test news (length states) (state_at order test x)) same there in
     subst (λ z. IsOpened test p round depth (state_at order test x) z (length states) (length news) news) (sym seat)
     (subst (λ z. IsOpened test p round depth (state_at order test x) (leaf seats) (length states) z news) (sym (pushed_count states news x e))
     (piece_opened test p round depth (state_at order test x) seats (length states) news why kept))
@@ -83,12 +83,12 @@ MoreOn p round depth s first all rest here = EachOpensWithMore p round depth s r
 -- the takes so far: where the others open so do all
 module _ {C : Type 0} (test : C → ℕ → Bool) (p : Problem) (round : Round) (depth : ℕ) (s : State) (first : ℕ) (all : List (List ℕ)) where
   abbrev pub OpenOn : List (List ℕ) → List Take → List (StateHeld C) → Type 0
-  OpenOn rest takes states = (others : Takes) (next : ℕ) (news : List (StateHeld C)) → AreKept round.order test states news → AreOpened test p round depth s rest others (length states) next news
+  OpenOn rest takes states = (others : Takes) (next : ℕ) (news : List (StateHeld C)) → StatesAreKept round.order test states news → AreOpened test p round depth s rest others (length states) next news
       → AreOpened test p round depth s all (takes_onto takes others) first next news
 
   -- one more take
   pub open_more : (g : List ℕ) (rest : List (List ℕ)) (takes news : List Take) (t : Take) (tree : Tree) (states later : List (StateHeld C)) → ((others : Takes) → take_onto t others ≡ take g tree others) → news ≡ takes ++ t ∷ []
-      → IsOpened test p round depth (close g s) tree (length states) (length later) later → AreKept round.order test states later → OpenOn (g ∷ rest) takes states → OpenOn rest news later
+      → IsOpened test p round depth (close g s) tree (length states) (length later) later → StatesAreKept round.order test states later → OpenOn (g ∷ rest) takes states → OpenOn rest news later
   open_more g rest takes news t tree states later made pushed o kept on others next last still a =
       let whole = on (take g tree others) next last (λ k u h. still k u (kept k u h)) (more_opened test p round depth s g rest tree others (length states) (length later) next last (opened_kept test p round depth (close g s) tree (length states) (length later) later last o still) a) in
       subst (λ z. AreOpened test p round depth s all z first next last) (ap (takes_onto takes) (sym (made others)) ∙ sym (takes_more takes t others) ∙ ap (λ (l : List Take). takes_onto l others) (sym pushed)) whole

@@ -1,13 +1,13 @@
 -- Joining below the branches that have no number, part by part.
 use Rattle.std.proofs.Common.{◌≡◌, ℕ, zero, suc, ◌+◌, ◌<◌, ◌≤◌, List, [], ◌∷◌, length, drop, get_or, refl, sym, ap, ◌∙◌, subst, Option, Some, None, arith}
 use Rattle.std.proofs.lemmas.List.{drop_more}
-use Rattle.proof_trees.specs.Tree.{Tree, leaf, branch, Takes, no_take, take}
-use Rattle.certificate_text.specs.Trees.{leaf_of, tree_of, branch_onto, take_onto, list_of_takes}
-use Rattle.certificate_text.specs.declared.tree.Tree.{Tree as TreeHeld, out-Tree, roll-out-Tree}
-use Rattle.certificate_text.specs.declared.tree.Branch.{Branch, out-Branch, roll-out-Branch}
-use Rattle.certificate_text.specs.declared.tree.Take.{Take, out-Take, roll-out-Take}
-use Rattle.certificate_text.proofs.TreeViews.{list_onto, made_tree, made_takes}
-use Rattle.shared_proofs.specs.Skeleton.{Skeleton, waits, proved, split, Parts, no_part, part, both, joined, joined_parts}
+use Rattle.certificate_data.specs.Tree.{Tree, leaf, branch, Takes, no_take, take}
+use Rattle.certificate_data.specs.TreeValue.{leaf_of, tree_of, branch_onto, take_onto, list_of_takes}
+use Rattle.certificate_data.specs.declared.tree.Tree.{Tree as TreeHeld, out-Tree, roll-out-Tree}
+use Rattle.certificate_data.specs.declared.tree.Branch.{Branch, out-Branch, roll-out-Branch}
+use Rattle.certificate_data.specs.declared.tree.Take.{Take, out-Take, roll-out-Take}
+use Rattle.certificate_data.proofs.TreeLists.{list_onto, made_tree, made_takes}
+use Rattle.board_laws.specs.Skeleton.{Skeleton, waits, proved, split, Parts, no_part, part, both, joined, joined_parts}
 use Rattle.share_board.specs.declared.piece.Fate.{Fate}
 use Rattle.share_board.specs.Held.{Shows, ShowsAbove, PartsShowAbove}
 use Rattle.share_board.proofs.Onto.{made_take}

@@ -2,13 +2,15 @@
 use Rattle.std.proofs.Common.{◌≡◌, ℕ, ◌-◌, ◌<◌, ◌≤◌, true, List, ◌∷◌, filter, refl, sym, ap, ◌∙◌, subst, arith, inl, inr, Option, Some, None}
 use Rattle.grouping_laws.specs.Problem.{Problem}
 use Rattle.grouping_laws.specs.GroupsFrom.{BeginsWith}
-use Rattle.proof_trees.specs.Round.{Language, Plain, Wide, Round}
-use Rattle.proof_trees.specs.State.{State, open_to, close, raise}
-use Rattle.proof_trees.specs.Groups.{AreGroupsAt}
-use Rattle.proof_trees.specs.Proving.{NamesLimit, GoesInOrder, CanBranch, limit_of}
-use Rattle.proof_trees.proofs.Decided.{leaves_are_decided}
-use Rattle.shared_proofs.specs.Skeleton.{Skeleton, waits, proved, split, Parts, no_part, part, groups_in}
-use Rattle.shared_proofs.specs.Content.{Opens, EachOpens}
+use Rattle.certificate_data.specs.declared.language.Language.{Language}
+use Rattle.certificate_data.specs.declared.language.Language.TheVariants.{Plain, Wide}
+use Rattle.certificate_data.specs.Round.{Round}
+use Rattle.certificate_laws.specs.State.{State, open_to, close, raise}
+use Rattle.certificate_laws.specs.Groups.{AreGroupsAt}
+use Rattle.certificate_laws.specs.Proving.{NamesLimit, GoesInOrder, CanBranch, limit_of}
+use Rattle.certificate_laws.proofs.Decided.{leaves_are_decided}
+use Rattle.board_laws.specs.Skeleton.{Skeleton, waits, proved, split, Parts, no_part, part, groups_in}
+use Rattle.board_laws.specs.Content.{Opens, EachOpens}
 
 -- the numbers go up
 mutual

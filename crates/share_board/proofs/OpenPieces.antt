@@ -3,9 +3,9 @@ use Rattle.std.proofs.Common.{◌≡◌, ℕ, zero, suc, ◌+◌, ◌<◌, Bool,
 use Rattle.std.specs.declared.alloc.AllocError.{AllocError}
 use Rattle.std.specs.List.Sorted.{IsStrictlyIncreasing}
 use Rattle.grouping_laws.proofs.Elements.{Has, has_from_contains, contains_from_has}
-use Rattle.certificate_text.specs.Trees.{tree_of}
-use Rattle.shared_proofs.specs.Skeleton.{waiting}
-use Rattle.shared_proofs.specs.Content.{Content}
+use Rattle.certificate_data.specs.TreeValue.{tree_of}
+use Rattle.board_laws.specs.Skeleton.{waiting}
+use Rattle.board_laws.specs.Content.{Content}
 use Rattle.share_board.specs.declared.piece.Fate.{Fate}
 use Rattle.share_board.specs.declared.board.Board.{Board}
 use Rattle.share_board.specs.Held.{is_waiting}

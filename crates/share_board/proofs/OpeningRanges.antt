@@ -3,18 +3,18 @@ use Rattle.std.proofs.Common.{◌≡◌, ℕ, ◌-◌, ◌≤◌, true, not, nat
 use Rattle.grouping_laws.specs.Sets.{member}
 use Rattle.grouping_laws.specs.Problem.{Problem}
 use Rattle.grouping_laws.proofs.Elements.{Has, contains_from_has}
-use Rattle.county_regions.proofs.Filling.{and_parts}
-use Rattle.certificate_languages.specs.declared.language.Language.{Language}
-use Rattle.certificate_languages.specs.declared.language.Language.TheVariants.{Plain, Wide}
+use Rattle.connected_sets.proofs.Filling.{and_parts}
+use Rattle.certificate_data.specs.declared.language.Language.{Language}
+use Rattle.certificate_data.specs.declared.language.Language.TheVariants.{Plain, Wide}
 use Rattle.certificate_lines.specs.Lines.{most}
 use Rattle.certificate_lines.specs.declared.item.Opening.TheVariants.{Branch}
 use Rattle.certificate_lines.specs.declared.item.Item.TheVariants.{Opens as OpensItem}
-use Rattle.proof_trees.specs.Round.{Round}
-use Rattle.proof_trees.specs.State.{State, empty_state, close, raise}
-use Rattle.proof_trees.specs.Groups.{AreGroupsAt}
-use Rattle.proof_trees.specs.Proving.{limit_of}
-use Rattle.shared_proofs.specs.Skeleton.{Skeleton, waits, proved, split, Parts, no_part, part, groups_in}
-use Rattle.shared_proofs.specs.Content.{Opens, EachOpens}
+use Rattle.certificate_data.specs.Round.{Round}
+use Rattle.certificate_laws.specs.State.{State, empty_state, close, raise}
+use Rattle.certificate_laws.specs.Groups.{AreGroupsAt}
+use Rattle.certificate_laws.specs.Proving.{limit_of}
+use Rattle.board_laws.specs.Skeleton.{Skeleton, waits, proved, split, Parts, no_part, part, groups_in}
+use Rattle.board_laws.specs.Content.{Opens, EachOpens}
 use Rattle.certificate_text.specs.TreeItems.{FitsInTree}
 use Rattle.share_board.specs.Spelled.{HasRanges, EachHasRanges, HasFiveDigits}
 use Rattle.share_board.proofs.OneOpening.{names_none}

@@ -1,34 +1,35 @@
 -- How the branches above the pieces are put together, from the pieces up.
 use Rattle.std.proofs.Common.{◌≡◌, ◌≢◌, ℕ, ◌+◌, ◌-◌, ◌≤◌, ◌⊎◌, inl, inr, Bool, true, List, [], ◌∷◌, refl, sym, ap, ◌∙◌, subst, arith, Some, None}
 use Rattle.grouping_laws.specs.Problem.{Problem}
-use Rattle.proof_trees.specs.Round.{Plain, Round}
-use Rattle.proof_trees.specs.State.{State, open_to, close, raise}
-use Rattle.proof_trees.specs.declared.state.State.{State as StateHeld}
-use Rattle.proof_trees.specs.Groups.{AreGroupsAt}
-use Rattle.proof_trees.specs.Tree.{Tree, Leaf, leaf, branch, Takes, no_take, take}
-use Rattle.proof_trees.specs.Proving.{NamesLimit, CanBranch, limit_of}
-use Rattle.proof_trees.proofs.Decided.{leaves_are_decided}
-use Rattle.shared_proofs.specs.Skeleton.{Skeleton, waits, proved, split, Parts, no_part, part, groups_in}
-use Rattle.shared_proofs.specs.Standing.{StandsAt, StandsIn}
-use Rattle.shared_proofs.specs.Content.{Opens, EachOpens}
+use Rattle.certificate_data.specs.declared.language.Language.TheVariants.{Plain}
+use Rattle.certificate_data.specs.Round.{Round}
+use Rattle.certificate_laws.specs.State.{State, open_to, close, raise}
+use Rattle.state_groups.specs.declared.state.State.{State as StateHeld}
+use Rattle.certificate_laws.specs.Groups.{AreGroupsAt}
+use Rattle.certificate_data.specs.Tree.{Tree, Leaf, leaf, branch, Takes, no_take, take}
+use Rattle.certificate_laws.specs.Proving.{NamesLimit, CanBranch, limit_of}
+use Rattle.certificate_laws.proofs.Decided.{leaves_are_decided}
+use Rattle.board_laws.specs.Skeleton.{Skeleton, waits, proved, split, Parts, no_part, part, groups_in}
+use Rattle.board_laws.specs.Standing.{StandsAt, StandsIn}
+use Rattle.board_laws.specs.Content.{Opens, EachOpens}
 use Rattle.share_board.specs.Replies.{most_opening, OpensWithMore}
-use Rattle.share_board.specs.BoardValue.{IsStateAt}
+use Rattle.share_board.specs.BoardValue.{IsPieceState}
 use Rattle.share_board.specs.Opened.{IsOpened, AreOpened, EachOpensWithMore}
 use Rattle.share_board.proofs.OneOpening.{opens_up, opens_up_in, opens_one, opens_one_in, one_county, at_limit}
 
 module _ {C : Type 0} (test : C → ℕ → Bool) (p : Problem) (round : Round) where
   -- what was opened stays so where states are kept
   pub opened_kept : (depth : ℕ) (s : State) (tree : Tree) (first next : ℕ) (states news : List (StateHeld C)) → IsOpened test p round depth s tree first next states
-      → ((k : ℕ) (t : State) → IsStateAt round.order test states k t → IsStateAt round.order test news k t) → IsOpened test p round depth s tree first next news
+      → ((k : ℕ) (t : State) → IsPieceState round.order test states k t → IsPieceState round.order test news k t) → IsOpened test p round depth s tree first next news
   opened_kept depth s tree first next states news o kept = record { skeleton = o.skeleton; opens = o.opens; shows = o.shows; stand = λ k t h. kept k t (o.stand k t h) }
 
   pub are_opened_kept : (depth : ℕ) (s : State) (groups : List (List ℕ)) (takes : Takes) (first next : ℕ) (states news : List (StateHeld C)) → AreOpened test p round depth s groups takes first next states
-      → ((k : ℕ) (t : State) → IsStateAt round.order test states k t → IsStateAt round.order test news k t) → AreOpened test p round depth s groups takes first next news
+      → ((k : ℕ) (t : State) → IsPieceState round.order test states k t → IsPieceState round.order test news k t) → AreOpened test p round depth s groups takes first next news
   are_opened_kept depth s groups takes first next states news o kept =
       record { parts = o.parts; groups_are = o.groups_are; opens = o.opens; shows = o.shows; stand = λ k t h. kept k t (o.stand k t h) }
 
   -- one piece
-  pub piece_opened : (depth : ℕ) (s : State) (l : Leaf) (first : ℕ) (states : List (StateHeld C)) → (depth ≡ 0) ⊎ ((c : ℕ) → open_to s round.limit c ≢ true) → IsStateAt round.order test states first s
+  pub piece_opened : (depth : ℕ) (s : State) (l : Leaf) (first : ℕ) (states : List (StateHeld C)) → (depth ≡ 0) ⊎ ((c : ℕ) → open_to s round.limit c ≢ true) → IsPieceState round.order test states first s
       → IsOpened test p round depth s (leaf l) first (first + 1) states
   piece_opened depth s l first states why kept = record {
     skeleton = waits (first + 1);
@@ -36,7 +37,7 @@ module _ {C : Type 0} (test : C → ℕ → Bool) (p : Problem) (round : Round) 
     shows = λ fates all. (refl, (refl, all first (omega arith) (omega arith)));
     stand = λ k t h.
         let place : first ≡ k = omega (arith, h.0) in
-        subst (λ z. IsStateAt round.order test states k z) (sym h.1) (subst (λ z. IsStateAt round.order test states z s) place kept);
+        subst (λ z. IsPieceState round.order test states k z) (sym h.1) (subst (λ z. IsPieceState round.order test states z s) place kept);
   }
 
   -- no group
@@ -57,7 +58,7 @@ module _ {C : Type 0} (test : C → ℕ → Bool) (p : Problem) (round : Round) 
         stand = stand;
       }
     where
-      stand : (k : ℕ) (t : State) → StandsAt o.skeleton round (close g s) (k + 1) t ⊎ StandsIn a.parts round s (k + 1) t → IsStateAt round.order test states k t
+      stand : (k : ℕ) (t : State) → StandsAt o.skeleton round (close g s) (k + 1) t ⊎ StandsIn a.parts round s (k + 1) t → IsPieceState round.order test states k t
       stand k t (inl h) = o.stand k t h
       stand k t (inr h) = a.stand k t h
 
@@ -75,7 +76,7 @@ module _ {C : Type 0} (test : C → ℕ → Bool) (p : Problem) (round : Round) 
         stand = stand;
       }
     where
-      stand : (k : ℕ) (t : State) → StandsAt (split None county None a.parts o.skeleton) round s (k + 1) t → IsStateAt round.order test states k t
+      stand : (k : ℕ) (t : State) → StandsAt (split None county None a.parts o.skeleton) round s (k + 1) t → IsPieceState round.order test states k t
       stand k t (inl h) = let clash : None ≡ Some (k + 1) = h.0 in absurd (cc)
       stand k t (inr (inl h)) = a.stand k t h
       stand k t (inr (inr h)) = o.stand k t h

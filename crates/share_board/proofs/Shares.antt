@@ -7,12 +7,12 @@ use Rattle.grouping_laws.proofs.Elements.{Has, has_from_contains, contains_from_
 use Rattle.grouping_laws.proofs.Parts.{has-filter}
 use Rattle.grouping_laws.proofs.Places.{has_member}
 use Rattle.grouping_laws.proofs.PlaceCodes.{member_has}
-use Rattle.county_regions.proofs.Filling.{and_parts}
-use Rattle.proof_trees.proofs.Kept.{filter_pairs, filter_has}
-use Rattle.proof_trees.specs.Round.{Round}
-use Rattle.proof_trees.specs.State.{State, open_to}
-use Rattle.proof_trees.specs.Groups.{IsSetAt}
-use Rattle.verdicts.specs.Cost.{AreSoMany}
+use Rattle.connected_sets.proofs.Filling.{and_parts}
+use Rattle.certificate_laws.proofs.Kept.{filter_pairs, filter_has}
+use Rattle.certificate_data.specs.Round.{Round}
+use Rattle.certificate_laws.specs.State.{State, open_to}
+use Rattle.certificate_laws.specs.Groups.{IsSetAt}
+use Rattle.checker_laws.specs.Cost.{AreSoMany}
 use Rattle.share_board.specs.Replies.{IsSmallSet}
 
 -- all counties of a set pass a test

@@ -1,7 +1,7 @@
 -- Which pieces of a board wait.
 use Rattle.std.specs.Prelude.{ℕ, ◌+◌, cond, List, [], ◌∷◌, Contains, ◌↔◌}
 use Rattle.std.specs.List.Sorted.{IsStrictlyIncreasing}
-use Rattle.shared_proofs.specs.Skeleton.{Skeleton, waiting}
+use Rattle.board_laws.specs.Skeleton.{Skeleton, waiting}
 use Rattle.share_board.specs.declared.piece.Fate.{Fate}
 use Rattle.share_board.specs.Held.{is_waiting}
 

@@ -2,74 +2,79 @@
 use Rattle.std.specs.Prelude.{ℕ, ◌+◌, ◌*◌, ◌≡◌, ◌≢◌, ◌≤◌, ◌<◌, Bool, true, List, length, All, ⊤}
 use Rattle.county_codes.specs.Limits.{most_counties}
 use Rattle.grouping_laws.specs.Problem.{Problem}
-use Rattle.grouping_problem.specs.ProblemValue.{problem_of}
-use Rattle.ordered_counties.specs.OrderedValue.{problem_at, code_at}
-use Rattle.county_regions.specs.Rows.{AreRows}
-use Rattle.proof_trees.specs.Round.{Round}
-use Rattle.proof_trees.specs.RoundValue.{round_of}
-use Rattle.proof_trees.specs.State.{State, empty_state, open_to}
-use Rattle.proof_trees.specs.declared.state.State.{State as StateHeld}
-use Rattle.proof_trees.specs.Groups.{AreGroupsAt}
-use Rattle.proof_trees.specs.Proving.{CanBranch}
-use Rattle.proof_trees.specs.Tree.{Tree, Takes}
-use Rattle.verdicts.specs.Cost.{AreSoMany}
-use Rattle.line_verdicts.specs.Placed.{state_at, codes_of_sets, IsClosable}
-use Rattle.line_verdicts.specs.declared.branch.Branching.{Branching}
-use Rattle.shared_proofs.specs.Skeleton.{Skeleton, Parts, groups_in}
-use Rattle.shared_proofs.specs.Standing.{StandsAt, StandsIn}
-use Rattle.shared_proofs.specs.Content.{Opens, EachOpens}
+use Rattle.county_problem.specs.ProblemValue.{problem_of}
+use Rattle.county_problem.specs.OrderedValue.{problem_at, code_at}
+use Rattle.connected_sets.specs.Rows.{AreRows}
+use Rattle.certificate_data.specs.Round.{Round}
+use Rattle.certificate_data.specs.RoundValue.{round_of}
+use Rattle.certificate_laws.specs.State.{State, empty_state, open_to}
+use Rattle.state_groups.specs.declared.state.State.{State as StateHeld}
+use Rattle.certificate_laws.specs.Groups.{AreGroupsAt}
+use Rattle.certificate_laws.specs.Proving.{CanBranch}
+use Rattle.certificate_data.specs.Tree.{Tree, Takes}
+use Rattle.checker_laws.specs.Cost.{AreSoMany}
+use Rattle.state_judge.specs.Placed.{state_at, codes_of_sets, IsClosable}
+use Rattle.state_judge.specs.declared.branch.Branching.{Branching}
+use Rattle.board_laws.specs.Skeleton.{Skeleton, Parts, groups_in}
+use Rattle.board_laws.specs.Standing.{StandsAt, StandsIn}
+use Rattle.board_laws.specs.Content.{Opens, EachOpens}
 use Rattle.share_board.specs.declared.piece.Fate.{Fate}
 use Rattle.share_board.specs.declared.piece.Fate.TheVariants.{Waits}
-use Rattle.share_board.specs.declared.ground.Ground.{Ground}
+use Rattle.share_board.specs.declared.input.OpeningInput.{OpeningInput}
 use Rattle.share_board.specs.declared.stop.OpeningStop.{OpeningStop}
 use Rattle.share_board.specs.declared.stop.OpeningStop.TheVariants as stop
 use Rattle.share_board.specs.declared.reply.Reply.{Reply as ReplyHeld}
 use Rattle.share_board.specs.declared.reply.Reply.TheVariants as held
-use Rattle.share_board.specs.Held.{IsAt, ShowsAbove, PartsShowAbove}
+use Rattle.share_board.specs.Held.{IsFateAt, ShowsAbove, PartsShowAbove}
 use Rattle.share_board.specs.Replies.{most_opening, IsSmallSet, OpensWithMore, IsBelowOpening}
-use Rattle.share_board.specs.BoardValue.{IsStateAt}
+use Rattle.share_board.specs.BoardValue.{IsPieceState}
 
 -- pieces wait at the places from one on up to another
 abbrev pub AllWait : List Fate → ℕ → ℕ → Type 0
-AllWait fates first next = (k : ℕ) → first ≤ k → k < next → IsAt fates k Waits
+AllWait fates first next = (k : ℕ) → first ≤ k → k < next → IsFateAt fates k Waits
 
 -- at a state the round may open with these branches, and with pieces that stand at the places from one on up to the
 -- next
-pub record IsOpened {C : Type 0} (test : C → ℕ → Bool) (p : Problem) (round : Round) (depth : ℕ) (s : State) (tree : Tree) (first next : ℕ) (states : List (StateHeld C)) : Type 0 where
+pub record IsOpened {C : Type 0} (test : C → ℕ → Bool) (p : Problem) (round : Round) (depth : ℕ) (s : State)
+    (tree : Tree) (first next : ℕ) (states : List (StateHeld C)) : Type 0 where
   pub skeleton : Skeleton
   pub opens : Opens depth skeleton p round s (first + 1) (next + 1)
   pub shows : (fates : List Fate) → AllWait fates first next → ShowsAbove fates tree first next skeleton
-  pub stand : (k : ℕ) (t : State) → StandsAt skeleton round s (k + 1) t → IsStateAt round.order test states k t
+  pub stand : (k : ℕ) (t : State) → StandsAt skeleton round s (k + 1) t → IsPieceState round.order test states k t
 
 -- at the states where each of these groups is closed the round may open with these takes, and with pieces that stand at
 -- the places from one on up to the next
-pub record AreOpened {C : Type 0} (test : C → ℕ → Bool) (p : Problem) (round : Round) (depth : ℕ) (s : State) (groups : List (List ℕ)) (takes : Takes) (first next : ℕ) (states : List (StateHeld C)) : Type 0 where
+pub record AreOpened {C : Type 0} (test : C → ℕ → Bool) (p : Problem) (round : Round) (depth : ℕ) (s : State)
+    (groups : List (List ℕ)) (takes : Takes) (first next : ℕ) (states : List (StateHeld C)) : Type 0 where
   pub parts : Parts
   pub groups_are : groups_in parts ≡ groups
   pub opens : EachOpens depth parts p round s (first + 1) (next + 1)
   pub shows : (fates : List Fate) → AllWait fates first next → PartsShowAbove fates takes first next parts
-  pub stand : (k : ℕ) (t : State) → StandsIn parts round s (k + 1) t → IsStateAt round.order test states k t
+  pub stand : (k : ℕ) (t : State) → StandsIn parts round s (k + 1) t → IsPieceState round.order test states k t
 
 -- where each of these groups is closed there are too many pieces, however the round opens there
 abbrev pub EachOpensWithMore : Problem → Round → ℕ → State → List (List ℕ) → ℕ → Type 0
-EachOpensWithMore p round depth s groups first = (parts : Parts) (next : ℕ) → groups_in parts ≡ groups → EachOpens depth parts p round s (first + 1) next → most_opening + 1 < next
+EachOpensWithMore p round depth s groups first =
+    (parts : Parts) (next : ℕ) → groups_in parts ≡ groups → EachOpens depth parts p round s (first + 1) next
+    → most_opening + 1 < next
 
 -- states that are kept stay where they are
-abbrev pub AreKept : {C : Type 0} → List ℕ → (C → ℕ → Bool) → List (StateHeld C) → List (StateHeld C) → Type 0
-AreKept order test states news = (k : ℕ) (t : State) → IsStateAt order test states k t → IsStateAt order test news k t
+abbrev pub StatesAreKept : {C : Type 0} → List ℕ → (C → ℕ → Bool) → List (StateHeld C) → List (StateHeld C) → Type 0
+StatesAreKept order test states news =
+    (k : ℕ) (t : State) → IsPieceState order test states k t → IsPieceState order test news k t
 
 -- what the opening of a round goes by, and a state of it
-abbrev pub problem_in : {C : Type 0} → Ground C → Problem
-problem_in g = problem_of g.ordered.now.problem
+abbrev pub board_problem : {C : Type 0} → OpeningInput C → Problem
+board_problem g = problem_of g.ordered.now.problem
 
-abbrev pub round_in : {C : Type 0} → Ground C → Round
-round_in g = round_of g.round.now
+abbrev pub board_round : {C : Type 0} → OpeningInput C → Round
+board_round g = round_of g.round.now
 
-abbrev pub state_in : {C : Type 0} → Ground C → (C → ℕ → Bool) → StateHeld C → State
-state_in g test s = state_at g.ordered.now.order test s
+abbrev pub board_state : {C : Type 0} → OpeningInput C → (C → ℕ → Bool) → StateHeld C → State
+board_state g test s = state_at g.ordered.now.order test s
 
 -- the rows are those of the order, which is the round's, and the sets have room for its places
-pub record IsGround {C : Type 0} (places : ℕ) (test : C → ℕ → Bool) (g : Ground C) : Type 0 where
+pub record IsOpeningInput {C : Type 0} (places : ℕ) (test : C → ℕ → Bool) (g : OpeningInput C) : Type 0 where
   pub fits : length g.ordered.now.order ≤ places
   pub rows : AreRows C test (problem_at g.ordered.now) (length g.ordered.now.order) g.near.now
   pub order : g.ordered.now.order ≡ g.round.now.order
@@ -80,10 +85,11 @@ abbrev pub NoneIsOpen : Round → State → Type 0
 NoneIsOpen round s = (c : ℕ) → open_to s round.limit c ≢ true
 
 -- the branch of a plain round at a state
-pub record IsBranching {C : Type 0} (test : C → ℕ → Bool) (g : Ground C) (state : StateHeld C) (branching : Branching C) : Type 0 where
+pub record IsBranching {C : Type 0} (test : C → ℕ → Bool) (g : OpeningInput C) (state : StateHeld C)
+    (branching : Branching C) : Type 0 where
   pub place : branching.place < length g.ordered.now.order
-  pub can : CanBranch (round_in g) (state_in g test state) (code_at g.ordered.now.order branching.place) g.round.now.limit
-  pub groups : AreGroupsAt (problem_in g) (round_in g) (state_in g test state) (code_at g.ordered.now.order branching.place) g.round.now.limit (codes_of_sets g.ordered.now.order test branching.groups.items)
+  pub can : CanBranch (board_round g) (board_state g test state) (code_at g.ordered.now.order branching.place) g.round.now.limit
+  pub groups : AreGroupsAt (board_problem g) (board_round g) (board_state g test state) (code_at g.ordered.now.order branching.place) g.round.now.limit (codes_of_sets g.ordered.now.order test branching.groups.items)
   pub closable : All (IsClosable test state) branching.groups.items
 
 -- the share of a branch is below the cost of a line

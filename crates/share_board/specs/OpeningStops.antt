@@ -1,6 +1,6 @@
 -- Why a round isn't opened, as values of the Rust types.
-use Rattle.county_regions.specs.declared.stop.Stop.{Stop}
-use Rattle.county_regions.specs.declared.stop.Stop.TheVariants as search
+use Rattle.connected_sets.specs.declared.stop.Stop.{Stop}
+use Rattle.connected_sets.specs.declared.stop.Stop.TheVariants as search
 use Rattle.share_board.specs.declared.fault.BoardFault.{BoardFault}
 use Rattle.share_board.specs.declared.fault.BoardFault.TheVariants as fault
 use Rattle.share_board.specs.declared.stop.OpeningStop.{OpeningStop}

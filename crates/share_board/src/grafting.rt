@@ -1,14 +1,14 @@
 //! The tree of a board whose round has branches above its pieces.
 
 ghost use Rattle.std.specs.Prelude.{◌≡◌, ℕ, ◌<◌, length, option_map, IfOk, IfSome};
-ghost use Rattle.shared_proofs.specs.Skeleton.{Skeleton, Parts, joined, joined_parts};
-ghost use Rattle.certificate_text.specs.Trees.{tree_of, list_of_takes};
-ghost use Rattle.certificate_text.specs.declared.tree.Branch.{out-Branch};
+ghost use Rattle.board_laws.specs.Skeleton.{Skeleton, Parts, joined, joined_parts};
+ghost use Rattle.certificate_data.specs.TreeValue.{tree_of, list_of_takes};
+ghost use Rattle.certificate_data.specs.declared.tree.Branch.{out-Branch};
 ghost use Rattle.share_board.specs.Held.{ShowsAbove, PartsShowAbove, GoesForward};
 
 use crate::joining::{behind, joined_tree};
 use crate::piece::Fate;
-use certificate_text::{Branch, Take, Tree};
+use certificate_data::{Branch, Take, Tree};
 use std::alloc::{AllocError, Global};
 
 /// The takes of a branch above the pieces, and the place behind their pieces; or none where one of these waits.
@@ -21,10 +21,12 @@ fn grafted_takes(
 ) -> Result<Option<(Vec<Take>, usize)>, AllocError>
     requires few { length fates.now < 4294967296 }
     requires forward { GoesForward fates.now }
-    requires shown { (parts : Parts) × (next : ℕ) × PartsShowAbove fates.now (list_of_takes (out-Branch branch.now).takes.items) at next parts }
+    requires shown { (parts : Parts) × (next : ℕ)
+        × PartsShowAbove fates.now (list_of_takes (out-Branch branch.now).takes.items) at next parts }
     ensures { (parts : Parts) (next : ℕ)
         → PartsShowAbove fates.now (list_of_takes (out-Branch branch.now).takes.items) at next parts
-        → IfOk result (λ r. (option_map (λ t. list_of_takes t.0.items) r ≡ joined_parts parts) × IfSome r (λ t. t.1 ≡ next)) }
+        → IfOk result (λ r. (option_map (λ t. list_of_takes t.0.items) r ≡ joined_parts parts)
+        × IfSome r (λ t. t.1 ≡ next)) }
 {
     let mut takes = Vec::new(alloc);
     let mut at = at;

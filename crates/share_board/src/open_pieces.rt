@@ -3,18 +3,18 @@
 ghost use Rattle.std.specs.Prelude.{◌≡◌, ℕ, ◌≤◌, ◌<◌, length, IfOk};
 ghost use Rattle.county_codes.specs.Limits.{most_counties};
 ghost use Rattle.grouping_laws.specs.GroupsFrom.{IsOrder};
-ghost use Rattle.grouping_problem.specs.ProblemValue.{problem_of};
-ghost use Rattle.proof_trees.specs.RoundValue.{round_of};
-ghost use Rattle.proof_trees.specs.State.{State as StateValue, IsState, empty_state};
-ghost use Rattle.shared_proofs.specs.Content.{Content};
-ghost use Rattle.shared_proofs.specs.Standing.{StandsAt};
+ghost use Rattle.county_problem.specs.ProblemValue.{problem_of};
+ghost use Rattle.certificate_data.specs.RoundValue.{round_of};
+ghost use Rattle.certificate_laws.specs.State.{State as StateValue, IsState, empty_state};
+ghost use Rattle.board_laws.specs.Content.{Content};
+ghost use Rattle.board_laws.specs.Standing.{StandsAt};
 ghost use Rattle.share_board.specs.BoardValue.{IsOf};
 ghost use Rattle.share_board.specs.OpenPieces.{AreOpen, numbers as numbers_of};
 
 use crate::board::Board;
 use crate::piece::Fate;
+use certificate_data::Round;
 use place_sets::CountySet;
-use proof_trees::Round;
 use std::alloc::{AllocError, Global};
 
 /// The numbers of the pieces that wait, in the order of the list.
@@ -49,7 +49,8 @@ impl<C: CountySet> Board<C> {
     pub fn proof_round(&self) -> &Round
         ensures round { (b : Content) → IsOf C.test self.now b → round_of result.now ≡ b.round }
         ensures same_order { result.now.order ≡ self.now.round.order }
-        ensures order { (b : Content) → IsOf C.test self.now b → IsOrder (problem_of self.now.problem) result.now.order }
+        ensures order { (b : Content) → IsOf C.test self.now b
+            → IsOrder (problem_of self.now.problem) result.now.order }
         ensures small { (b : Content) → IsOf C.test self.now b → result.now.limit ≤ most_counties }
         ensures states { (b : Content) (n : ℕ) (s : StateValue)
             → IsOf C.test self.now b

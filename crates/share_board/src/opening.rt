@@ -2,26 +2,28 @@
 
 ghost use Rattle.std.specs.Prelude.{◌≡◌, ℕ, ◌-◌, ◌≤◌, All, length, IfOk, IfErr};
 ghost use Rattle.county_codes.specs.Limits.{most_counties};
-ghost use Rattle.certificate_text.specs.Trees.{tree_of, list_of_takes};
-ghost use Rattle.grouping_problem.specs.ProblemValue.{problem_of};
-ghost use Rattle.line_verdicts.specs.Placed.{codes_of_sets, IsPlaced, IsClosable};
-ghost use Rattle.proof_trees.specs.Round.{Plain};
-ghost use Rattle.proof_trees.specs.RoundValue.{round_of};
-ghost use Rattle.proof_trees.specs.State.{empty_state};
+ghost use Rattle.certificate_data.specs.TreeValue.{tree_of, list_of_takes};
+ghost use Rattle.county_problem.specs.ProblemValue.{problem_of};
+ghost use Rattle.state_judge.specs.Placed.{codes_of_sets, IsPlaced, IsClosable};
+ghost use Rattle.certificate_data.specs.declared.language.Language.TheVariants.{Plain};
+ghost use Rattle.certificate_data.specs.RoundValue.{round_of};
+ghost use Rattle.certificate_laws.specs.State.{empty_state};
 ghost use Rattle.share_board.specs.Replies.{most_opening};
-ghost use Rattle.share_board.specs.Opened.{AllWait, IsOpened, AreOpened, AreKept, problem_in, round_in, state_in, IsGround, IsBranching, IsHalted, AreHalted, IsOpeningStop};
+ghost use Rattle.share_board.specs.Opened.{AllWait, IsOpened, AreOpened, StatesAreKept, board_problem, board_round};
+ghost use Rattle.share_board.specs.Opened.{board_state, IsOpeningInput, IsBranching, IsHalted, AreHalted};
+ghost use Rattle.share_board.specs.Opened.{IsOpeningStop};
 
 use crate::changing::waiting;
-use crate::ground::Ground;
+use crate::input::OpeningInput;
 use crate::piece::Fate;
 use crate::steps::{branched, next_branch, place_piece, put_take, share_of};
 use crate::stop::OpeningStop;
-use certificate_text::{Take, Tree};
-use county_regions::neighbour_rows;
-use line_verdicts::{Branching, closed_state, first_state, raise_place};
-use ordered_counties::Ordered;
+use certificate_data::{Round, Take, Tree};
+use connected_sets::neighbour_rows;
+use county_problem::Ordered;
 use place_sets::CountySet;
-use proof_trees::{Round, State};
+use state_groups::State;
+use state_judge::{Branching, closed_state, first_state, raise_place};
 use std::alloc::Global;
 
 /// What a round begins with: the branches above its pieces, which all wait, and the states at which the pieces stand.
@@ -35,34 +37,34 @@ pub(crate) struct Opening<C> {
 /// The takes of a branch: for each group the tree where it is closed.
 #[cycle(opening)]
 fn open_takes<C: CountySet>(
-    ground: &Ground<C>,
+    input: &OpeningInput<C>,
     depth: u8,
     state: &State<C>,
     groups: &[C],
     states: &mut Vec<State<C>>,
 ) -> Result<Vec<Take>, OpeningStop>
-    requires ground { IsGround C.PLACES C.test ground.now }
-    requires plain { ground.now.round.now.language ≡ Plain }
-    requires placed { IsPlaced (length ground.now.ordered.now.order) C.test state.now }
+    requires input { IsOpeningInput C.PLACES C.test input.now }
+    requires plain { input.now.round.now.language ≡ Plain }
+    requires placed { IsPlaced (length input.now.ordered.now.order) C.test state.now }
     requires groups { All (IsClosable C.test state.now) groups.now }
     requires few { length states.old.items ≤ most_opening }
     ensures opened { IfOk
         result
-        (λ takes. AreOpened C.test (problem_in ground.now) (round_in ground.now) depth (state_in ground.now C.test state.now) (codes_of_sets ground.now.ordered.now.order C.test groups.now) (list_of_takes takes.items) (length states.old.items) (length states.new.items) states.new.items) }
-    ensures kept { IfOk result (λ _. AreKept ground.now.round.now.order C.test states.old.items states.new.items) }
+        (λ takes. AreOpened C.test (board_problem input.now) (board_round input.now) depth (board_state input.now C.test state.now) (codes_of_sets input.now.ordered.now.order C.test groups.now) (list_of_takes takes.items) (length states.old.items) (length states.new.items) states.new.items) }
+    ensures kept { IfOk result (λ _. StatesAreKept input.now.round.now.order C.test states.old.items states.new.items) }
     ensures few { IfOk result (λ _. length states.new.items ≤ most_opening) }
     ensures stopped { IfErr
         result
-        (AreHalted (problem_in ground.now) (round_in ground.now) ground.now.share depth (state_in ground.now C.test state.now) (codes_of_sets ground.now.ordered.now.order C.test groups.now) (length states.old.items)) }
+        (AreHalted (board_problem input.now) (board_round input.now) input.now.share depth (board_state input.now C.test state.now) (codes_of_sets input.now.ordered.now.order C.test groups.now) (length states.old.items)) }
 {
-    let mut takes = Vec::new(ground.alloc);
+    let mut takes = Vec::new(input.alloc);
     'taking: for group in groups {
-        let closed = closed_state(ground.alloc, ground.ordered, state, group)?;
-        let tree = match open_tree(ground, depth, closed, states) {
+        let closed = closed_state(input.alloc, input.ordered, state, group)?;
+        let tree = match open_tree(input, depth, closed, states) {
             Ok(tree) => tree,
             Err(stop) => return Err(stop),
         };
-        put_take(ground, group, tree, &mut takes)?;
+        put_take(input, group, tree, &mut takes)?;
     }
     Ok(takes)
 }
@@ -70,43 +72,43 @@ fn open_takes<C: CountySet>(
 /// The tree of a branch: its takes, and then the tree where its county is raised.
 #[cycle(opening)]
 fn open_branch<C: CountySet>(
-    ground: &Ground<C>,
+    input: &OpeningInput<C>,
     depth: u8,
     state: State<C>,
     branching: &Branching<C>,
     states: &mut Vec<State<C>>,
 ) -> Result<Tree, OpeningStop>
-    requires ground { IsGround C.PLACES C.test ground.now }
-    requires plain { ground.now.round.now.language ≡ Plain }
+    requires input { IsOpeningInput C.PLACES C.test input.now }
+    requires plain { input.now.round.now.language ≡ Plain }
     requires some { 1 ≤ depth }
-    requires placed { IsPlaced (length ground.now.ordered.now.order) C.test state }
-    requires branching { IsBranching C.test ground.now state branching.now }
+    requires placed { IsPlaced (length input.now.ordered.now.order) C.test state }
+    requires branching { IsBranching C.test input.now state branching.now }
     requires few { length states.old.items ≤ most_opening }
     ensures opened { IfOk
         result
-        (λ tree. IsOpened C.test (problem_in ground.now) (round_in ground.now) depth (state_in ground.now C.test state) (tree_of tree) (length states.old.items) (length states.new.items) states.new.items) }
-    ensures kept { IfOk result (λ _. AreKept ground.now.round.now.order C.test states.old.items states.new.items) }
+        (λ tree. IsOpened C.test (board_problem input.now) (board_round input.now) depth (board_state input.now C.test state) (tree_of tree) (length states.old.items) (length states.new.items) states.new.items) }
+    ensures kept { IfOk result (λ _. StatesAreKept input.now.round.now.order C.test states.old.items states.new.items) }
     ensures few { IfOk result (λ _. length states.new.items ≤ most_opening) }
     ensures stopped { IfErr
         result
-        (IsHalted (problem_in ground.now) (round_in ground.now) ground.now.share depth (state_in ground.now C.test state) (length states.old.items)) }
+        (IsHalted (board_problem input.now) (board_round input.now) input.now.share depth (board_state input.now C.test state) (length states.old.items)) }
 {
-    let takes = match open_takes(ground, depth - 1, &state, &branching.groups, states) {
+    let takes = match open_takes(input, depth - 1, &state, &branching.groups, states) {
         Ok(takes) => takes,
         Err(stop) => return Err(stop),
     };
     let mut state = state;
     raise_place(
-        ground.ordered,
+        input.ordered,
         &mut state,
         branching.place,
-        ground.round.limit,
+        input.round.limit,
     );
-    let raised = match open_tree(ground, depth - 1, state, states) {
+    let raised = match open_tree(input, depth - 1, state, states) {
         Ok(tree) => tree,
         Err(stop) => return Err(stop),
     };
-    Ok(branched(ground, branching.place, takes, raised)?)
+    Ok(branched(input, branching.place, takes, raised)?)
 }
 
 /// The tree of so many branchings at the state, or of fewer where no county is open any more; its pieces stand behind
@@ -115,30 +117,30 @@ fn open_branch<C: CountySet>(
 /// It goes as deep as twice the branchings.
 #[cycle(opening)]
 fn open_tree<C: CountySet>(
-    ground: &Ground<C>,
+    input: &OpeningInput<C>,
     depth: u8,
     state: State<C>,
     states: &mut Vec<State<C>>,
 ) -> Result<Tree, OpeningStop>
-    requires ground { IsGround C.PLACES C.test ground.now }
-    requires plain { 1 ≤ depth → ground.now.round.now.language ≡ Plain }
-    requires placed { IsPlaced (length ground.now.ordered.now.order) C.test state }
+    requires input { IsOpeningInput C.PLACES C.test input.now }
+    requires plain { 1 ≤ depth → input.now.round.now.language ≡ Plain }
+    requires placed { IsPlaced (length input.now.ordered.now.order) C.test state }
     requires few { length states.old.items ≤ most_opening }
     ensures opened { IfOk
         result
-        (λ tree. IsOpened C.test (problem_in ground.now) (round_in ground.now) depth (state_in ground.now C.test state) (tree_of tree) (length states.old.items) (length states.new.items) states.new.items) }
-    ensures kept { IfOk result (λ _. AreKept ground.now.round.now.order C.test states.old.items states.new.items) }
+        (λ tree. IsOpened C.test (board_problem input.now) (board_round input.now) depth (board_state input.now C.test state) (tree_of tree) (length states.old.items) (length states.new.items) states.new.items) }
+    ensures kept { IfOk result (λ _. StatesAreKept input.now.round.now.order C.test states.old.items states.new.items) }
     ensures few { IfOk result (λ _. length states.new.items ≤ most_opening) }
     ensures stopped { IfErr
         result
-        (IsHalted (problem_in ground.now) (round_in ground.now) ground.now.share depth (state_in ground.now C.test state) (length states.old.items)) }
+        (IsHalted (board_problem input.now) (board_round input.now) input.now.share depth (board_state input.now C.test state) (length states.old.items)) }
 {
     if depth == 0 {
-        return place_piece(ground, depth, state, states);
+        return place_piece(input, depth, state, states);
     }
-    match next_branch(ground, &state) {
-        Ok(None) => place_piece(ground, depth, state, states),
-        Ok(Some(branching)) => open_branch(ground, depth, state, &branching, states),
+    match next_branch(input, &state) {
+        Ok(None) => place_piece(input, depth, state, states),
+        Ok(Some(branching)) => open_branch(input, depth, state, &branching, states),
         Err(stop) => Err(OpeningStop::from(stop)),
     }
 }
@@ -171,7 +173,7 @@ pub(crate) fn opened<C: CountySet>(
 {
     let near = neighbour_rows(alloc, ordered)?;
     let state = first_state(alloc, ordered)?;
-    let ground = Ground {
+    let input = OpeningInput {
         alloc,
         ordered,
         near: &near,
@@ -179,7 +181,7 @@ pub(crate) fn opened<C: CountySet>(
         share: share_of(budget, depth),
     };
     let mut states = Vec::new(alloc);
-    let above = match open_tree(&ground, depth, state, &mut states) {
+    let above = match open_tree(&input, depth, state, &mut states) {
         Ok(tree) => tree,
         Err(stop) => return Err(stop),
     };

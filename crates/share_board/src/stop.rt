@@ -4,7 +4,7 @@ ghost use Rattle.std.specs.Prelude.{◌≡◌};
 ghost use Rattle.share_board.specs.OpeningStops.{opening_stop};
 ghost use Rattle.share_board.specs.declared.stop.OpeningStop.TheVariants.{Memory};
 
-use fitting_groups::Stop;
+use connected_sets::Stop;
 use std::alloc::AllocError;
 
 /// Why a round isn't opened.

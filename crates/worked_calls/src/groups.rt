@@ -5,11 +5,10 @@ ghost use Rattle.std.specs.Prelude.{◌≤◌};
 use crate::room::room_for;
 use crate::sketch::{ONE_AND_FIVE, RING_OF_FOUR, STRANDING_PATH, Sketch};
 use anyhow::{Error, Result};
-use connected_groups::{GroupList, Stop, groups_from};
+use connected_groups::{GroupList, groups_from};
+use connected_sets::{Stop, place_list};
 use county_codes::listed_codes;
-use county_regions::place_list;
-use grouping_problem::Problem;
-use ordered_counties::{Ordered, Steps};
+use county_problem::{Ordered, Problem, Steps};
 use place_sets::CountySet;
 
 /// A path whose first two counties have too few people for a seat.

@@ -2,7 +2,7 @@
 
 use crate::sketch::{THREE_PAIRS, grouping};
 use anyhow::{Error, Result};
-use grouping_judge::{Counts, GroupingFault, compare, judge};
+use county_problem::{Counts, GroupingFault, compare, judge};
 use std::alloc::Global;
 
 /// Sets with their seats.

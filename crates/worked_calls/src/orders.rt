@@ -2,8 +2,7 @@
 
 use crate::sketch::{STRANDING_PATH, Sketch, THIRTY_NINE_SEATS, codes};
 use anyhow::{Context, Error, Result};
-use grouping_problem::Problem;
-use ordered_counties::{OrderFault, Ordered, Steps, allot};
+use county_problem::{OrderFault, Ordered, Problem, Steps, allot};
 
 /// Prints the county at a place.
 fn show_place(rt: &HostRuntime, ordered: &Ordered, place: u16) -> Result<()> {

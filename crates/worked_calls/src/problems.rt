@@ -3,7 +3,7 @@
 use crate::sketch::{Sketch, code};
 use anyhow::{Error, Result};
 use county_codes::CountyCode;
-use grouping_problem::{Problem, ProblemFault};
+use county_problem::{Problem, ProblemFault};
 
 /// Prints the counties of a problem.
 fn show_counties(rt: &HostRuntime, problem: &Problem) -> Result<()> {

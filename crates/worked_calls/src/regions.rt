@@ -6,10 +6,9 @@ use crate::groups::show_places;
 use crate::room::room_for;
 use crate::sketch::RING_OF_FOUR;
 use anyhow::Result;
+use connected_sets::{neighbour_rows, part_around};
 use county_codes::listed_codes;
-use county_regions::{neighbour_rows, part_around};
-use grouping_problem::Problem;
-use ordered_counties::Ordered;
+use county_problem::{Ordered, Problem};
 use place_sets::CountySet;
 
 /// Prints a part, and what is left without it.

@@ -3,7 +3,7 @@
 ghost use Rattle.std.specs.Prelude.{◌≤◌, length, IfOk};
 
 use anyhow::{Error, Result};
-use ordered_counties::Ordered;
+use county_problem::Ordered;
 use place_sets::CountySet;
 
 /// An error if the form of sets has fewer places than the order.

@@ -1,7 +1,7 @@
 //! The files of the machine, and files in memory.
 
 use anyhow::{Error, Result};
-use shelves::{FileShelf, MemoryShelf, Shelf, ShelfFault};
+use cli_shelves::{FileShelf, MemoryShelf, Shelf, ShelfFault};
 use std::fs;
 
 /// Prints what a name gives, and how often the device has failed.

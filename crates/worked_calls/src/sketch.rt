@@ -1,7 +1,7 @@
 //! Small problems of a few counties, with their codes, pairs, withdrawn sets and groupings.
 
 use county_codes::{Codes, County, CountyCode, Group, Grouping, Withdrawn};
-use grouping_problem::{Problem, ProblemFault};
+use county_problem::{Problem, ProblemFault};
 use std::alloc::{AllocError, Global};
 
 /// A small problem of counties of North Carolina, each named by the last three digits of its code.

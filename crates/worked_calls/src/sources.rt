@@ -3,8 +3,8 @@
 ghost use Rattle.std.specs.Prelude.{◌≡◌, false};
 
 use anyhow::{Error, Result};
+use cli_shelves::{WholeFault, read_whole};
 use field_lines::{Reading, Source, SourceFault};
-use shelves::{WholeFault, read_whole};
 use std::io;
 use std::io::{ErrorKind, Read};
 

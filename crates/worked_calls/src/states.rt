@@ -7,11 +7,11 @@ use crate::groups::show_places;
 use crate::room::room_for;
 use crate::sketch::{STRANDING_PATH, codes, grouping};
 use anyhow::Result;
+use certificate_data::{Language, Round};
 use county_codes::{Codes, Grouping, listed_codes};
-use grouping_problem::Problem;
-use ordered_counties::Ordered;
+use county_problem::{Ordered, Problem};
 use place_sets::CountySet;
-use proof_trees::{Language, Round, State};
+use state_groups::State;
 use std::alloc::Global;
 
 /// Prints closed groups.

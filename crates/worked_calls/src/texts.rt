@@ -2,8 +2,8 @@
 
 use anyhow::{Context, Result};
 use county_codes::{CountyCode, push_code};
+use county_problem::GroupingFault;
 use field_lines::push_number;
-use grouping_judge::GroupingFault;
 use grouping_report::push_grouping_fault;
 
 /// Prints a number and a code.

@@ -1,8 +1,8 @@
 -- Lists of groups, one for each size from a first one on, and one list more.
 use Rattle.std.proofs.Common.{◌≡◌, ℕ, ◌+◌, Bool, List, [], ◌∷◌, ◌++◌, map, length, subst, sym, arith}
 use Rattle.grouping_laws.specs.Problem.{Problem}
-use Rattle.proof_trees.specs.Round.{Round}
-use Rattle.proof_trees.specs.State.{State}
+use Rattle.certificate_data.specs.Round.{Round}
+use Rattle.certificate_laws.specs.State.{State}
 use Rattle.bound_proofs.specs.CountLeaves.{IsListOf, AreListsFrom}
 
 -- the lists with that of the next size behind them

@@ -4,11 +4,9 @@ ghost use Rattle.std.specs.Prelude.{◌<◌, ◌≤◌};
 ghost use Rattle.county_codes.specs.Limits.{most_counties};
 
 use anyhow::{Context, Result};
-use certificate_text::{
-    Allowance, Branch, Leaf, Take, Tree, Weight, Weights, read_tree, write_tree,
-};
+use certificate_data::{Allowance, Branch, Language, Leaf, Take, Tree, Weight, Weights};
+use certificate_text::{read_tree, write_tree};
 use county_codes::{Codes, CountyCode};
-use proof_trees::Language;
 use std::alloc::Global;
 
 /// Numbers that look random, the same in each run.

@@ -3,29 +3,27 @@
 ghost use Rattle.std.specs.Prelude.{◌≡◌, ◌≤◌, map, length, IfOk};
 ghost use Rattle.std.specs.Vec.{vec_items};
 ghost use Rattle.county_codes.specs.Limits.{most_counties};
-ghost use Rattle.county_regions.specs.Rows.{AreRows};
-ghost use Rattle.grouping_problem.specs.ProblemValue.{problem_of};
-ghost use Rattle.ordered_counties.specs.OrderedValue.{problem_at};
-ghost use Rattle.proof_trees.specs.RoundValue.{round_of, target_of};
-ghost use Rattle.line_verdicts.specs.Placed.{state_at, IsPlaced};
+ghost use Rattle.connected_sets.specs.Rows.{AreRows};
+ghost use Rattle.county_problem.specs.ProblemValue.{problem_of};
+ghost use Rattle.county_problem.specs.OrderedValue.{problem_at};
+ghost use Rattle.certificate_data.specs.RoundValue.{round_of, target_of};
+ghost use Rattle.state_judge.specs.Placed.{state_at, IsPlaced};
 ghost use Rattle.bound_proofs.specs.CountLeaves.{AreListsFrom};
 ghost use Rattle.grouping_laws.specs.GroupsFrom.{IsOrder};
-ghost use Rattle.verdicts.specs.Verdict.{IsLawfulTarget};
+ghost use Rattle.checker_laws.specs.Verdict.{IsLawfulTarget};
 
 use anyhow::{Error, Result};
 use bound_proofs::find_leaf;
 use certificate_checker::{TreeVerdict, check_tree};
-use certificate_text::{Leaf, Tree};
+use certificate_data::{Language, Leaf, Round, Tree};
+use connected_sets::neighbour_rows;
 use county_codes::{Codes, Grouping, MAX_COUNTIES, listed_codes};
-use county_regions::neighbour_rows;
-use grouping_judge::judge;
-use grouping_problem::Problem;
-use known_groups::all_groups_of_size;
-use line_verdicts::first_state;
-use ordered_counties::{Ordered, Steps};
+use county_problem::{Ordered, Problem, Steps, judge};
+use grouping_reader::read_grouping;
 use place_sets::{CountySet, MaskSet, fits_mask};
-use proof_trees::{Language, Round, State};
-use seat_lines::read_grouping;
+use search_groups::all_groups_of_size;
+use state_groups::State;
+use state_judge::first_state;
 use std::alloc::Global;
 
 /// More steps than the groups of a worked problem take.

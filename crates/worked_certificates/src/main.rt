@@ -26,7 +26,7 @@ use crate::pulled::show_check;
 use crate::readings::reading;
 use crate::unspelled::without_spelling;
 use anyhow::{Context, Result};
-use grouping_problem::Problem;
+use county_problem::Problem;
 use std::fs;
 
 /// How many trees are made.

@@ -3,7 +3,7 @@
 
 use anyhow::{Context, Result};
 use county_codes::{Codes, County, CountyCode, Withdrawn};
-use grouping_problem::Problem;
+use county_problem::Problem;
 use std::alloc::Global;
 use std::str;
 

@@ -2,9 +2,10 @@
 
 use crate::script::source_of;
 use anyhow::{Error, Result};
-use certificate_checker::{CheckFault, CheckStop, Verdict, check, check_from};
+use certificate_checker::{CheckStop, Verdict, check, check_from};
 use county_codes::{Group, Grouping};
-use grouping_problem::Problem;
+use county_problem::Problem;
+use state_judge::CheckFault;
 use std::alloc::Global;
 
 /// More steps than a check of the texts here takes.

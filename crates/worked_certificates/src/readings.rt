@@ -1,10 +1,9 @@
 //! What is said of a case: a tree, a tree in front of other bytes, or a line of words.
 
 use anyhow::{Error, Result};
-use certificate_text::{
-    ItemSource, Items, TextFault, TextKind, Words, front_tree, read_tree, write_tree,
-};
-use proof_trees::Language;
+use certificate_data::Language;
+use certificate_lines::{ItemSource, Items, TextFault, TextKind, Words};
+use certificate_text::{front_tree, read_tree, write_tree};
 use std::alloc::Global;
 
 /// What a comparison showed.

@@ -4,12 +4,12 @@ ghost use Rattle.std.specs.Prelude.{◌≤◌};
 ghost use Rattle.county_codes.specs.Limits.{most_counties};
 
 use anyhow::{Context, Error, Result};
-use certificate_text::{
-    Allowance, Branch, Certificate, Leaf, Take, Tree, Weight, Weights, WriteFault, read, write,
-    write_tree,
+use certificate_data::{
+    Allowance, Branch, Certificate, Language, Leaf, Take, Tree, Weight, Weights,
 };
+use certificate_lines::WriteFault;
+use certificate_text::{read, write, write_tree};
 use county_codes::{Codes, CountyCode, Group, Window};
-use proof_trees::Language;
 use std::alloc::Global;
 use std::fmt::Display;
 

@@ -4,7 +4,7 @@ use crate::show_solved;
 use adjacency_reader::read_pairs;
 use anyhow::Result;
 use county_codes::listed_codes;
-use grouping_problem::Problem;
+use county_problem::Problem;
 use pl94_counties::read_counties;
 use std::fs;
 

@@ -7,11 +7,11 @@ mod carolina;
 mod small;
 
 use anyhow::Result;
-use best_groupings::{Listing, all_best};
 use branch_bound::{Answer, solve};
 use certificate_text::write;
 use county_codes::Grouping;
-use grouping_problem::Problem;
+use county_problem::Problem;
+use list_groupings::{Listing, all_best};
 use list_report::listing;
 
 /// More steps than the desk takes here, and a greater budget than its certificates cost.

@@ -3,7 +3,7 @@
 use crate::{show_listed, show_solved};
 use anyhow::{Context, Result};
 use county_codes::{Codes, County, CountyCode, Withdrawn};
-use grouping_problem::Problem;
+use county_problem::Problem;
 use std::alloc::Global;
 
 /// A small problem of counties of North Carolina, each named by the last three digits of its code.

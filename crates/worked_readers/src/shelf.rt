@@ -1,8 +1,8 @@
 //! Files in memory and a file of the machine: what their readers gave, where they stood, and what is stored.
 
 use anyhow::{Error, Result};
+use cli_shelves::{FileShelf, MemoryFile, MemoryShelf, ReadEnd, Shelf, ShelfFault};
 use field_lines::Source;
-use shelves::{FileShelf, MemoryFile, MemoryShelf, ReadEnd, Shelf, ShelfFault};
 use std::alloc::Global;
 use std::{fs, str};
 

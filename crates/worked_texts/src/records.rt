@@ -1,7 +1,7 @@
 //! Records of runs, sums in pieces, and the answers that texts give.
 
 use anyhow::Result;
-use run_record::{
+use cli_record_text::{
     FileRead, FileStored, ReadFile, Run, RunningSum, StoreOption, answer_of, record_text, sum_of,
 };
 

@@ -2,7 +2,7 @@
 
 use anyhow::{Context, Result};
 use county_codes::{Codes, County, CountyCode, Group, Withdrawn};
-use county_table::county_table;
+use grouping_table::county_table;
 use pl94_counties::NamedCounty;
 
 /// A code.

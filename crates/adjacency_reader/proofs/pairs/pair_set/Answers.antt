@@ -1,7 +1,7 @@
 use Rattle.std.proofs.Common.{ℕ, ◌+◌, ◌&&◌, ◌||◌, nat_lt, List, drop, refl, sym, ap, ◌∙◌}
 use Rattle.std.proofs.lemmas.List.{drop_all}
 use Rattle.std.specs.BTreeSet.{contains}
-use Rattle.grouping_problem.specs.ProblemValue.{names_both}
+use Rattle.county_problem.specs.ProblemValue.{names_both}
 use Rattle.adjacency_reader.specs.Pairs.{by_codes}
 use Rattle.adjacency_reader.proofs.PairLemmas.{after_row, after_rows, drop_item}
 use Rattle.adjacency_reader.proofs.pairs.pair_set.Goals as goal

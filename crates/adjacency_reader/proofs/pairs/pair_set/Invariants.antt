@@ -1,6 +1,6 @@
 use Rattle.std.proofs.Common.{◌≡◌, ℕ, ◌&&◌, ◌||◌, nat_lt, drop}
 use Rattle.std.specs.BTreeSet.{contains}
-use Rattle.grouping_problem.specs.ProblemValue.{names_both}
+use Rattle.county_problem.specs.ProblemValue.{names_both}
 use Rattle.adjacency_reader.specs.Pairs.{by_codes}
 use Rattle.adjacency_reader.proofs.pairs.pair_set.Given as goal
 

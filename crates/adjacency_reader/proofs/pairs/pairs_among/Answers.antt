@@ -2,7 +2,7 @@ use Rattle.std.proofs.Common.{ℕ, ◌&&◌, nat_lt, List, ap, sym, subst, ◌�
 use Rattle.std.specs.Ordering.{nat_cmp}
 use Rattle.std.specs.BTreeSet.{contains}
 use Rattle.std.proofs.lemmas.Result.{IfOk-weaker}
-use Rattle.grouping_problem.specs.ProblemValue.{names_both}
+use Rattle.county_problem.specs.ProblemValue.{names_both}
 use Rattle.adjacency_reader.specs.Pairs.{ArePairs}
 use Rattle.adjacency_reader.proofs.LinkLemmas.{pairs_from}
 use Rattle.adjacency_reader.proofs.pairs.pairs_among.Goals as goal

@@ -1,7 +1,7 @@
 use Rattle.std.proofs.Common.{◌≡◌, ℕ, List, Some, true, cond, rules, subst}
 use Rattle.std.specs.Ordering.{nat_cmp}
 use Rattle.std.specs.BTreeMap.{get, is_at}
-use Rattle.assignment_file.specs.Labels.{assigns}
+use Rattle.baf_auditor.specs.Labels.{assigns}
 use Rattle.baf_auditor.specs.Giving.{by_label}
 use Rattle.baf_auditor.proofs.GivingLemmas.{put_given}
 use Rattle.baf_auditor.proofs.given.add_given.Goals as goal

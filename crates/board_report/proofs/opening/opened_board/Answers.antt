@@ -2,7 +2,7 @@ use Rattle.std.proofs.Common.{◌∙◌, ap, subst, List}
 use Rattle.std.specs.List.Sorted.{IsStrictlyIncreasing}
 use Rattle.county_codes.specs.Counties.{codes_of}
 use Rattle.county_codes.specs.declared.county.County.{County}
-use Rattle.grouping_problem.specs.ProblemValue.{problem_of}
+use Rattle.county_problem.specs.ProblemValue.{problem_of}
 use Rattle.board_report.proofs.FirstRounds.{first_by_code, opened_so, order_so}
 use Rattle.board_report.proofs.opening.opened_board.Goals as goal
 

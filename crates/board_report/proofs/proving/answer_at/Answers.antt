@@ -1,11 +1,11 @@
 use Rattle.std.proofs.Common.{◌≤◌, length, sym, ap, ◌∙◌, subst, arith}
-use Rattle.grouping_problem.specs.ProblemValue.{problem_of}
+use Rattle.county_problem.specs.ProblemValue.{problem_of}
 use Rattle.grouping_laws.specs.GroupsFrom.{IsOrder}
-use Rattle.proof_trees.specs.Round.{Round}
-use Rattle.proof_trees.specs.RoundValue.{round_of}
-use Rattle.proof_trees.specs.State.{IsState, empty_state}
-use Rattle.line_verdicts.specs.Placed.{state_at, IsPlaced}
-use Rattle.shared_proofs.specs.Standing.{StandsAt}
+use Rattle.certificate_data.specs.Round.{Round}
+use Rattle.certificate_data.specs.RoundValue.{round_of}
+use Rattle.certificate_laws.specs.State.{IsState, empty_state}
+use Rattle.state_judge.specs.Placed.{state_at, IsPlaced}
+use Rattle.board_laws.specs.Standing.{StandsAt}
 use Rattle.share_board.specs.Spelled.{HasFiveDigits}
 use Rattle.branch_bound.specs.Pieces.{IsPiece}
 use Rattle.board_report.specs.Proved.{IsStateHeld}

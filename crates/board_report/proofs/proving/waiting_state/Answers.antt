@@ -1,9 +1,9 @@
 use Rattle.std.proofs.Common.{length, ap, subst, Contains}
-use Rattle.grouping_problem.specs.ProblemValue.{problem_of}
-use Rattle.proof_trees.specs.State.{empty_state}
-use Rattle.line_verdicts.specs.Placed.{state_at}
-use Rattle.shared_proofs.specs.Skeleton.{waiting}
-use Rattle.shared_proofs.specs.Standing.{StandsAt}
+use Rattle.county_problem.specs.ProblemValue.{problem_of}
+use Rattle.certificate_laws.specs.State.{empty_state}
+use Rattle.state_judge.specs.Placed.{state_at}
+use Rattle.board_laws.specs.Skeleton.{waiting}
+use Rattle.board_laws.specs.Standing.{StandsAt}
 use Rattle.share_board.specs.BoardValue.{reply_of, HandsPlaced}
 use Rattle.board_report.proofs.Handing.{piece_handed, nothing_left, another}
 use Rattle.board_report.proofs.proving.waiting_state.Goals as goal

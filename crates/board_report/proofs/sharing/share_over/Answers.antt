@@ -1,5 +1,5 @@
 use Rattle.std.proofs.Common.{map}
-use Rattle.grouping_problem.specs.ProblemValue.{problem_of}
+use Rattle.county_problem.specs.ProblemValue.{problem_of}
 use Rattle.share_board.specs.Events.{event_of}
 use Rattle.board_report.specs.Rounds.{round_by_code}
 use Rattle.board_report.proofs.Courses.{shared_so}

@@ -1,5 +1,5 @@
 use Rattle.std.proofs.Common.{map}
-use Rattle.shared_proofs.specs.Content.{Content}
+use Rattle.board_laws.specs.Content.{Content}
 use Rattle.share_board.specs.BoardValue.{IsOf, Keeps}
 use Rattle.share_board.specs.Events.{event_of}
 use Rattle.board_report.specs.Taking.{HasTold}

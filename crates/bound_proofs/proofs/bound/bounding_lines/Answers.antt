@@ -1,10 +1,10 @@
 use Rattle.std.proofs.Common.{◌≡◌, sym, ap, map, length, arith}
 use Rattle.std.specs.Vec.{vec_items}
 use Rattle.std.proofs.lemmas.List.{length-map, length-take-le}
-use Rattle.grouping_problem.specs.ProblemValue.{problem_of}
-use Rattle.proof_trees.specs.RoundValue.{round_of, target_of}
-use Rattle.certificate_text.specs.Trees.{allowance_of}
-use Rattle.line_verdicts.specs.Placed.{state_at}
+use Rattle.county_problem.specs.ProblemValue.{problem_of}
+use Rattle.certificate_data.specs.RoundValue.{round_of, target_of}
+use Rattle.certificate_data.specs.TreeValue.{allowance_of}
+use Rattle.state_judge.specs.Placed.{state_at}
 use Rattle.bound_proofs.proofs.CountSteps.{first_lists}
 use Rattle.bound_proofs.proofs.bound.bounding_lines.Goals as goal
 

@@ -1,7 +1,7 @@
 use Rattle.std.proofs.Common.{◌∙◌, ◌≤◌, ap, arith, length}
 use Rattle.std.proofs.lemmas.List.Kept.{AllPairs-from_increasing}
 use Rattle.county_codes.specs.Counties.{codes_of}
-use Rattle.grouping_problem.specs.ProblemValue.{ProblemValue, problem_of}
+use Rattle.county_problem.specs.ProblemValue.{ProblemValue, problem_of}
 use Rattle.bound_proofs.specs.CountLeaves.{has_county}
 use Rattle.bound_proofs.proofs.CountedPlaces.{counted_tests}
 use Rattle.bound_proofs.proofs.CountSteps.{made_of_weights}

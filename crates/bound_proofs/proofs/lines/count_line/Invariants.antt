@@ -1,6 +1,6 @@
 use Rattle.std.proofs.Common.{◌≡◌, ◌++◌, map, filter, drop}
 use Rattle.county_codes.specs.Counties.{codes_of}
-use Rattle.certificate_text.specs.Trees.{weight_of}
+use Rattle.certificate_data.specs.TreeValue.{weight_of}
 use Rattle.bound_proofs.specs.CountLeaves.{has_county}
 use Rattle.bound_proofs.proofs.CountWeights.{one_for}
 use Rattle.bound_proofs.proofs.lines.count_line.Given as goal

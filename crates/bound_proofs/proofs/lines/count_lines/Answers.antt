@@ -1,7 +1,7 @@
 use Rattle.std.proofs.Common.{◌+◌, arith}
 use Rattle.std.specs.Vec.{vec_items}
-use Rattle.grouping_problem.specs.ProblemValue.{problem_of}
-use Rattle.certificate_text.specs.Trees.{allowance_of}
+use Rattle.county_problem.specs.ProblemValue.{problem_of}
+use Rattle.certificate_data.specs.TreeValue.{allowance_of}
 use Rattle.bound_proofs.proofs.CountBounds.{pushed_line}
 use Rattle.bound_proofs.proofs.CountSteps.{list_here}
 use Rattle.bound_proofs.proofs.lines.count_lines.Goals as goal

@@ -1,10 +1,10 @@
 use Rattle.std.proofs.Common.{◌≡◌, map, length}
 use Rattle.std.specs.Vec.{vec_items}
-use Rattle.grouping_problem.specs.ProblemValue.{problem_of}
-use Rattle.proof_trees.specs.Round.{Round}
-use Rattle.proof_trees.specs.State.{State}
-use Rattle.proof_trees.specs.Search.{AreCountLines}
-use Rattle.certificate_text.specs.Trees.{allowance_of}
+use Rattle.county_problem.specs.ProblemValue.{problem_of}
+use Rattle.certificate_data.specs.Round.{Round}
+use Rattle.certificate_laws.specs.State.{State}
+use Rattle.certificate_laws.specs.Search.{AreCountLines}
+use Rattle.certificate_data.specs.TreeValue.{allowance_of}
 use Rattle.bound_proofs.specs.CountLeaves.{AreListsFrom}
 use Rattle.bound_proofs.proofs.lines.count_lines.Given as goal
 

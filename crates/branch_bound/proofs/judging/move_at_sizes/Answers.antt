@@ -1,24 +1,24 @@
 use Rattle.std.proofs.Common.{◌+◌, subst, refl, ◌∙◌, arith}
-use Rattle.proof_trees.specs.Leaves.{IsStuck}
-use Rattle.proof_trees.specs.Groups.{AreGroupsOf}
-use Rattle.line_verdicts.specs.Placed.{codes_of_sets}
-use Rattle.branch_bound.specs.Searching.{problem_in, round_in, state_in, IsEnd, IsBetter, IsNextSize, IsNextMove}
+use Rattle.certificate_laws.specs.Leaves.{IsStuck}
+use Rattle.certificate_laws.specs.Groups.{AreGroupsOf}
+use Rattle.state_judge.specs.Placed.{codes_of_sets}
+use Rattle.branch_bound.specs.Searching.{search_problem, search_round, search_state, IsEnd, IsBetter, IsNextSize, IsNextMove}
 use Rattle.branch_bound.proofs.Searches.{own}
 use Rattle.branch_bound.proofs.NextMoves.{sized_at}
 use Rattle.branch_bound.proofs.judging.move_at_sizes.Goals as goal
 
 pub next_size-requires-clause-no_stuck : goal.next_size-requires-clause-no_stuck
-next_size-requires-clause-no_stuck g c = λ x stuck. c.requires.no_stuck x (subst (λ z. IsStuck (problem_in c.args.ground.now) (state_in c.args.ground.now g.C.CountySet.test z) x) c.loop-position.invariant.state stuck)
+next_size-requires-clause-no_stuck g c = λ x stuck. c.requires.no_stuck x (subst (λ z. IsStuck (search_problem c.args.input.now) (search_state c.args.input.now g.C.CountySet.test z) x) c.loop-position.invariant.state stuck)
 
 pub loop-position-preserved : goal.loop-position-preserved
 loop-position-preserved g c =
     let test = g.C.CountySet.test in
-    let ground = c.args.ground.now in
+    let input = c.args.input.now in
     let inv = c.loop-position.invariant in
     let size = c.loop-position.position.size in
-    let found = subst (λ z. IsNextSize test ground (state_in ground test c.loop-position.position.state) size z) c.in-Ok-Groups.field-0-is c.in-Ok-Groups.ensures.next in
+    let found = subst (λ z. IsNextSize test input (search_state input test c.loop-position.position.state) size z) c.in-Ok-Groups.field-0-is c.in-Ok-Groups.ensures.next in
     record {
-      at = sized_at g.row.C.Denot test g.C.CountySet.PLACES ground c.requires.ground c.places-places.ensures.order (state_in ground test c.args.position.state) c.loop-position.position inv.at _ c.in-Ok-Groups.ensures.none refl refl found.0 found.1 (subst (λ z. AreGroupsOf (problem_in ground) (round_in ground) (state_in ground test z) (size + 1) (codes_of_sets ground.ordered.now.order test c.in-Ok-Groups.groups.items)) inv.state found.2) refl c.new.ensures.items;
+      at = sized_at g.row.C.Denot test g.C.CountySet.PLACES input c.requires.input c.places-places.ensures.order (search_state input test c.args.position.state) c.loop-position.position inv.at _ c.in-Ok-Groups.ensures.none refl refl found.0 found.1 (subst (λ z. AreGroupsOf (search_problem input) (search_round input) (search_state input test z) (size + 1) (codes_of_sets input.ordered.now.order test c.in-Ok-Groups.groups.items)) inv.state found.2) refl c.new.ensures.items;
       state = inv.state;
       lists = c.next_size.ensures.lists;
       more = omega (arith, inv.more, c.next_size.ensures.more);
@@ -28,27 +28,27 @@ loop-position-preserved g c =
 pub returns-in-Ok-Leaf-clause-next_move : goal.returns-in-Ok-Leaf-clause-next_move
 returns-in-Ok-Leaf-clause-next_move g c =
     let test = g.C.CountySet.test in
-    let ground = c.args.ground.now in
+    let input = c.args.input.now in
     let at = c.loop-position.position in
-    subst (λ z. IsEnd (problem_in ground) (round_in ground) (state_in ground test z) c.in-Ok-Leaf.leaf) c.loop-position.invariant.state
-    (subst (λ z. IsNextSize test ground (state_in ground test at.state) at.size z) c.in-Ok-Leaf.field-0-is c.in-Ok-Leaf.ensures.next)
+    subst (λ z. IsEnd (search_problem input) (search_round input) (search_state input test z) c.in-Ok-Leaf.leaf) c.loop-position.invariant.state
+    (subst (λ z. IsNextSize test input (search_state input test at.state) at.size z) c.in-Ok-Leaf.field-0-is c.in-Ok-Leaf.ensures.next)
 
 pub returns-in-Ok-Better-clause-next_move : goal.returns-in-Ok-Better-clause-next_move
 returns-in-Ok-Better-clause-next_move g c =
     let test = g.C.CountySet.test in
-    let ground = c.args.ground.now in
+    let input = c.args.input.now in
     let at = c.loop-position.position in
-    subst (λ z. IsBetter (problem_in ground) (round_in ground) (state_in ground test z) c.in-Ok-Better.found) c.loop-position.invariant.state
-    (subst (λ z. IsNextSize test ground (state_in ground test at.state) at.size z) c.in-Ok-Better.field-0-is c.in-Ok-Better.ensures.next)
+    subst (λ z. IsBetter (search_problem input) (search_round input) (search_state input test z) c.in-Ok-Better.found) c.loop-position.invariant.state
+    (subst (λ z. IsNextSize test input (search_state input test at.state) at.size z) c.in-Ok-Better.field-0-is c.in-Ok-Better.ensures.next)
 
 pub move_at_groups-requires-clause-at : goal.move_at_groups-requires-clause-at
 move_at_groups-requires-clause-at g c =
-    own g.row.C.Denot g.C.CountySet.test c.args.ground.now (state_in c.args.ground.now g.C.CountySet.test c.args.position.state) c.loop-position.position c.loop-position.invariant.at
+    own g.row.C.Denot g.C.CountySet.test c.args.input.now (search_state c.args.input.now g.C.CountySet.test c.args.position.state) c.loop-position.position c.loop-position.invariant.at
 
 pub next_size-requires-clause-at : goal.next_size-requires-clause-at
 next_size-requires-clause-at g c =
-    own g.row.C.Denot g.C.CountySet.test c.args.ground.now (state_in c.args.ground.now g.C.CountySet.test c.args.position.state) c.loop-position.position c.loop-position.invariant.at
+    own g.row.C.Denot g.C.CountySet.test c.args.input.now (search_state c.args.input.now g.C.CountySet.test c.args.position.state) c.loop-position.position c.loop-position.invariant.at
 
 pub returns-in-Ok-clause-next_move : goal.returns-in-Ok-clause-next_move
 returns-in-Ok-clause-next_move g c =
-    subst (λ z. IsNextMove g.C.CountySet.test c.args.ground.now (state_in c.args.ground.now g.C.CountySet.test z) c.in-Ok.next_move) c.loop-position.invariant.state c.in-Ok.ensures
+    subst (λ z. IsNextMove g.C.CountySet.test c.args.input.now (search_state c.args.input.now g.C.CountySet.test z) c.in-Ok.next_move) c.loop-position.invariant.state c.in-Ok.ensures

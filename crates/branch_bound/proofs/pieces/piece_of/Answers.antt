@@ -1,5 +1,5 @@
 use Rattle.std.proofs.Common.{subst}
-use Rattle.proof_trees.specs.RoundValue.{round_of}
+use Rattle.certificate_data.specs.RoundValue.{round_of}
 use Rattle.branch_bound.specs.Searching.{IsOutcome}
 use Rattle.branch_bound.proofs.pieces.piece_of.Goals as goal
 

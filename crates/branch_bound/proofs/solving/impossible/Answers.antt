@@ -1,5 +1,5 @@
 use Rattle.std.proofs.Common.{arith}
-use Rattle.grouping_problem.specs.ProblemValue.{problem_of}
+use Rattle.county_problem.specs.ProblemValue.{problem_of}
 use Rattle.branch_bound.proofs.Rounds.{impossible_certified}
 use Rattle.branch_bound.proofs.solving.impossible.Goals as goal
 

@@ -1,5 +1,5 @@
 use Rattle.std.proofs.Common.{◌≡◌, Err, length, refl, ap, arith}
-use Rattle.ordered_counties.specs.OrderedValue.{problem_at}
+use Rattle.county_problem.specs.OrderedValue.{problem_at}
 use Rattle.branch_bound.proofs.Orders.{stands_in_order}
 use Rattle.branch_bound.proofs.solving.improve.Goals as goal
 

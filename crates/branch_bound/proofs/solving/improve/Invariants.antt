@@ -1,8 +1,8 @@
 use Rattle.std.proofs.Common.{◌≡◌, ◌-◌}
 use Rattle.std.proofs.Common.{length}
-use Rattle.grouping_problem.specs.ProblemValue.{problem_of}
-use Rattle.ordered_counties.specs.OrderedValue.{problem_at}
-use Rattle.known_groups.specs.PartLists.{AreListsOf}
+use Rattle.county_problem.specs.ProblemValue.{problem_of}
+use Rattle.county_problem.specs.OrderedValue.{problem_at}
+use Rattle.search_groups.specs.PartLists.{AreListsOf}
 use Rattle.branch_bound.specs.Solving.{IsTarget}
 use Rattle.branch_bound.proofs.solving.improve.Given as goal
 

@@ -1,8 +1,8 @@
 use Rattle.std.proofs.Common.{sym, subst}
-use Rattle.grouping_problem.specs.ProblemValue.{problem_of}
-use Rattle.proof_trees.specs.RoundValue.{round_of}
-use Rattle.proof_trees.specs.State.{State, IsState}
-use Rattle.proof_trees.proofs.Branches.{branch_keeps_state}
+use Rattle.county_problem.specs.ProblemValue.{problem_of}
+use Rattle.certificate_data.specs.RoundValue.{round_of}
+use Rattle.certificate_laws.specs.State.{State, IsState}
+use Rattle.certificate_laws.proofs.Branches.{branch_keeps_state}
 use Rattle.branch_bound.proofs.solving.parts_found.Goals as goal
 
 pub finished_grouping-requires-clause-state : goal.finished_grouping-requires-clause-state

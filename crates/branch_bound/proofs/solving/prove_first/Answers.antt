@@ -1,7 +1,7 @@
 use Rattle.std.proofs.Common.{IfOk, subst}
-use Rattle.grouping_problem.specs.ProblemValue.{problem_of}
-use Rattle.proof_trees.specs.RoundValue.{round_of}
-use Rattle.proof_trees.specs.State.{empty_state}
+use Rattle.county_problem.specs.ProblemValue.{problem_of}
+use Rattle.certificate_data.specs.RoundValue.{round_of}
+use Rattle.certificate_laws.specs.State.{empty_state}
 use Rattle.branch_bound.specs.Searching.{IsOutcome}
 use Rattle.branch_bound.proofs.Searches.{own}
 use Rattle.branch_bound.proofs.solving.prove_first.Goals as goal

@@ -1,6 +1,6 @@
 use Rattle.std.proofs.Common.{ap, ◌∙◌}
-use Rattle.grouping_problem.specs.ProblemValue.{problem_of, codes_of}
-use Rattle.ordered_counties.specs.OrderedValue.{OrderedValue}
+use Rattle.county_problem.specs.ProblemValue.{problem_of, codes_of}
+use Rattle.county_problem.specs.OrderedValue.{OrderedValue}
 use Rattle.branch_bound.proofs.Rounds.{solved_best, solved_complete, solved_whether, listed_order}
 use Rattle.branch_bound.proofs.solving.solve_over.Goals as goal
 

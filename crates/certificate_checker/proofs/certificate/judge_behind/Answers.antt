@@ -1,11 +1,11 @@
 use Rattle.std.proofs.Common.{◌≤◌, ◌+◌, ◌∷◌, [], length, sym, ap, subst}
 use Rattle.grouping_laws.specs.GroupsFrom.{IsOrder}
-use Rattle.grouping_problem.specs.ProblemValue.{problem_of}
-use Rattle.proof_trees.specs.RoundValue.{round_of, target_of}
-use Rattle.proof_trees.specs.State.{empty_state}
-use Rattle.verdicts.specs.Lines.{window_line}
-use Rattle.verdicts.specs.Verdict.{IsOrderFault, IsLimitFault, IsTargetFault}
-use Rattle.verdicts.specs.Work.{a_tree}
+use Rattle.county_problem.specs.ProblemValue.{problem_of}
+use Rattle.certificate_data.specs.RoundValue.{round_of, target_of}
+use Rattle.certificate_laws.specs.State.{empty_state}
+use Rattle.checker_laws.specs.Lines.{window_line}
+use Rattle.checker_laws.specs.Verdict.{IsOrderFault, IsLimitFault, IsTargetFault}
+use Rattle.checker_laws.specs.Work.{a_tree}
 use Rattle.certificate_checker.specs.Feeding.{stream_of, fed_by}
 use Rattle.certificate_checker.specs.Judging.{IsJudged}
 use Rattle.certificate_checker.proofs.Targets.{order_fits}

@@ -1,7 +1,7 @@
 use Rattle.std.proofs.Common.{◌∷◌, [], subst}
-use Rattle.grouping_problem.specs.ProblemValue.{problem_of}
-use Rattle.proof_trees.specs.RoundValue.{round_of}
-use Rattle.verdicts.specs.Work.{a_tree}
+use Rattle.county_problem.specs.ProblemValue.{problem_of}
+use Rattle.certificate_data.specs.RoundValue.{round_of}
+use Rattle.checker_laws.specs.Work.{a_tree}
 use Rattle.certificate_checker.specs.Feeding.{stream_of, fed_by}
 use Rattle.certificate_checker.specs.Judging.{IsJudged}
 use Rattle.certificate_checker.proofs.certificate.judge_first.Goals as goal

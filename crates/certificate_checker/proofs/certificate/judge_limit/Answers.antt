@@ -1,6 +1,6 @@
 use Rattle.std.proofs.Common.{◌+◌, nat_lt, length, refl, sym, ◌∙◌, ap}
 use Rattle.std.specs.List.{list_any}
-use Rattle.verdicts.specs.Fault.{LimitTooSmall}
+use Rattle.checker_laws.specs.Fault.{LimitTooSmall}
 use Rattle.certificate_checker.proofs.Targets.{limit_fault}
 use Rattle.certificate_checker.proofs.certificate.judge_limit.Goals as goal
 

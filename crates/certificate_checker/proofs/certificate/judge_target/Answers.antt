@@ -1,7 +1,7 @@
 use Rattle.std.proofs.Common.{◌+◌, subst}
-use Rattle.grouping_problem.specs.ProblemValue.{problem_of}
-use Rattle.proof_trees.specs.RoundValue.{target_of}
-use Rattle.verdicts.specs.Verdict.{IsTargetFault}
+use Rattle.county_problem.specs.ProblemValue.{problem_of}
+use Rattle.certificate_data.specs.RoundValue.{target_of}
+use Rattle.checker_laws.specs.Verdict.{IsTargetFault}
 use Rattle.certificate_checker.specs.Certificates.{StopsAt}
 use Rattle.certificate_checker.proofs.Targets.{target_stopped}
 use Rattle.certificate_checker.proofs.certificate.judge_target.Goals as goal

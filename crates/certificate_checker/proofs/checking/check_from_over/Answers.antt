@@ -1,5 +1,5 @@
 use Rattle.std.proofs.Common.{Ok}
-use Rattle.grouping_problem.specs.ProblemValue.{problem_of}
+use Rattle.county_problem.specs.ProblemValue.{problem_of}
 use Rattle.std.specs.declared.alloc.AllocError.{AllocError}
 use Rattle.certificate_checker.proofs.Answering.{checked_bytes, bytes_best, bytes_impossible}
 use Rattle.certificate_checker.proofs.checking.check_from_over.Goals as goal

@@ -1,4 +1,4 @@
-use Rattle.grouping_problem.specs.ProblemValue.{problem_of}
+use Rattle.county_problem.specs.ProblemValue.{problem_of}
 use Rattle.certificate_checker.proofs.Answering.{names_best, shows_impossible, checked_text}
 use Rattle.certificate_checker.proofs.checking.check_over.Goals as goal
 

@@ -1,5 +1,5 @@
 use Rattle.std.proofs.Common.{Ok, Err, IfOk, refl, sym, ◌∙◌, ap, subst}
-use Rattle.grouping_problem.specs.ProblemValue.{problem_of}
+use Rattle.county_problem.specs.ProblemValue.{problem_of}
 use Rattle.certificate_lines.specs.ItemsLeft.{course_by}
 use Rattle.certificate_checker.specs.Feeding.{FeedValue, stream_of, fed_by, IsFed}
 use Rattle.certificate_checker.specs.Answered.{IsCheckAnswer}

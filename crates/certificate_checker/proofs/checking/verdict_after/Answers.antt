@@ -1,5 +1,5 @@
 use Rattle.std.proofs.Common.{Err, refl, sym, ap, ◌∙◌, subst}
-use Rattle.certificate_lines.specs.Courses.{Course}
+use Rattle.certificate_lines.specs.Courses.{Unread}
 use Rattle.certificate_checker.specs.Feeding.{stream_of, fed_by, IsRestRead}
 use Rattle.certificate_checker.proofs.Answering.{lines_found, text_found}
 use Rattle.certificate_checker.proofs.checking.verdict_after.Goals as goal
@@ -16,7 +16,7 @@ returns-in-Err-Budget g c all sees =
 pub returns-in-Ok : goal.returns-in-Ok
 returns-in-Ok g c all sees =
     let r = c.in-Ok.ensures all sees in
-    (r.0, λ p text start course line fed sure. sure (sym (ap (λ (z : Course). z.fault) course) ∙ (sym fed.fault ∙ r.1)))
+    (r.0, λ p text start course line fed sure. sure (sym (ap (λ (z : Unread). z.fault) course) ∙ (sym fed.fault ∙ r.1)))
 
 pub returns-in-Err-Text : goal.returns-in-Err-Text
 returns-in-Err-Text g c all sees =
@@ -24,5 +24,5 @@ returns-in-Err-Text g c all sees =
       r.0,
       λ p text start course line fed found.
           text_found p text start.limit c.in-Err-Text.fault
-          (sym (ap (λ (z : Course). z.fault) course) ∙ (sym fed.fault ∙ subst (λ s. IsRestRead (fed_by (stream_of g.S.ItemSource.left g.S.ItemSource.given c.args.feed.now c.args.from.now) all) (Err s)) c.in-Err-Text.field-0-is r.1)),
+          (sym (ap (λ (z : Unread). z.fault) course) ∙ (sym fed.fault ∙ subst (λ s. IsRestRead (fed_by (stream_of g.S.ItemSource.left g.S.ItemSource.given c.args.feed.now c.args.from.now) all) (Err s)) c.in-Err-Text.field-0-is r.1)),
     )

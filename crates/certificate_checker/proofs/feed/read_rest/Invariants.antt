@@ -1,11 +1,11 @@
 use Rattle.std.proofs.Common.{◌≡◌, ◌+◌, ◌-◌, length}
-use Rattle.certificate_checker.specs.Feeding.{stream_of, Through}
+use Rattle.certificate_checker.specs.Feeding.{stream_of, FeedsThrough}
 use Rattle.certificate_checker.proofs.feed.read_rest.Given as goal
 
 abbrev pub invariant-loop-feed : goal.invariant-loop-feed
 invariant-loop-feed g l = record {
   limit : l.feed.steps.limit ≡ l.fn.feed.steps.limit;
-  read : Through (stream_of g.S.ItemSource.left g.S.ItemSource.given l.fn.feed l.fn.from) (stream_of g.S.ItemSource.left g.S.ItemSource.given l.feed l.from) (λ a b. (b.course.fault ≡ a.course.fault) × (b.line + length b.course.items ≡ a.line + length a.course.items));
+  read : FeedsThrough (stream_of g.S.ItemSource.left g.S.ItemSource.given l.fn.feed l.fn.from) (stream_of g.S.ItemSource.left g.S.ItemSource.given l.feed l.from) (λ a b. (b.course.fault ≡ a.course.fault) × (b.line + length b.course.items ≡ a.line + length a.course.items));
 }
 
 abbrev pub decreases-loop-feed : goal.decreases-loop-feed

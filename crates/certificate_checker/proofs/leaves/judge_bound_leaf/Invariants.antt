@@ -1,13 +1,13 @@
 use Rattle.std.proofs.Common.{◌≡◌, ◌≤◌, ◌++◌, List, length, Some}
 use Rattle.county_codes.specs.Limits.{most_counties}
 use Rattle.grouping_laws.specs.Grouping.{Grouping}
-use Rattle.grouping_problem.specs.ProblemValue.{problem_of}
-use Rattle.proof_trees.specs.RoundValue.{round_of, target_of}
-use Rattle.proof_trees.specs.Tree.{Allowance as AllowanceValue}
+use Rattle.county_problem.specs.ProblemValue.{problem_of}
+use Rattle.certificate_data.specs.RoundValue.{round_of, target_of}
+use Rattle.certificate_data.specs.Tree.{Allowance as AllowanceValue}
 use Rattle.certificate_lines.specs.declared.item.Item.{Item as ItemValue}
-use Rattle.line_verdicts.specs.Placed.{state_at}
-use Rattle.certificate_checker.specs.Readable.{AreSpelled}
-use Rattle.certificate_checker.specs.Feeding.{stream_of, CountsSteps, Through, ForEach, Fed}
+use Rattle.state_judge.specs.Placed.{state_at}
+use Rattle.certificate_checker.specs.Readable.{AllowancesAreSpelled}
+use Rattle.certificate_checker.specs.Feeding.{stream_of, CountsSteps, FeedsThrough, ForEach, Fed}
 use Rattle.certificate_checker.specs.Judging.{line_items}
 use Rattle.certificate_checker.proofs.BoundLoop.{LinesLeft}
 use Rattle.certificate_checker.proofs.leaves.judge_bound_leaf.Given as goal
@@ -15,12 +15,12 @@ use Rattle.certificate_checker.proofs.leaves.judge_bound_leaf.Given as goal
 abbrev pub invariant-judging : goal.invariant-judging
 invariant-judging g l = record {
   counts : CountsSteps l.fn.feed l.feed;
-  fed : Through (stream_of g.S.ItemSource.left g.S.ItemSource.given l.fn.feed l.fn.from) (stream_of g.S.ItemSource.left g.S.ItemSource.given l.feed l.from) Fed;
+  fed : FeedsThrough (stream_of g.S.ItemSource.left g.S.ItemSource.given l.fn.feed l.fn.from) (stream_of g.S.ItemSource.left g.S.ItemSource.given l.feed l.from) Fed;
   used : l.used ≤ most_counties;
   left : ForEach (stream_of g.S.ItemSource.left g.S.ItemSource.given l.fn.feed l.fn.from) (stream_of g.S.ItemSource.left g.S.ItemSource.given l.feed l.from) (λ a b. (lines : List AllowanceValue) (rest : List ItemValue) (target : Grouping)
-      → AreSpelled lines
+      → AllowancesAreSpelled lines
       → length lines ≡ l.count
       → a.course.items ≡ line_items lines ++ rest
-      → target_of l.ground.round.now.target ≡ Some target
-      → LinesLeft (problem_of l.ground.ordered.now.problem) (round_of l.ground.round.now) (state_at l.ground.ordered.now.order g.C.CountySet.test l.state) target a b lines rest l.before l.used);
+      → target_of l.input.round.now.target ≡ Some target
+      → LinesLeft (problem_of l.input.ordered.now.problem) (round_of l.input.round.now) (state_at l.input.ordered.now.order g.C.CountySet.test l.state) target a b lines rest l.before l.used);
 }

@@ -1,6 +1,6 @@
 use Rattle.std.proofs.Common.{◌≡◌, Option}
 use Rattle.county_codes.specs.declared.window.Window.{Window}
-use Rattle.certificate_languages.specs.declared.language.Language.{Language}
+use Rattle.certificate_data.specs.declared.language.Language.{Language}
 use Rattle.certificate_checker.specs.Feeding.{stream_of, fed_by}
 use Rattle.certificate_checker.proofs.Reaching.{fed_twice}
 use Rattle.certificate_checker.proofs.HeadsRead.{head_stops}

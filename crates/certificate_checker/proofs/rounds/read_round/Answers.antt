@@ -1,7 +1,7 @@
 use Rattle.std.proofs.Common.{◌≡◌, ◌∷◌, ◌++◌, Option, Ok, Err}
 use Rattle.county_codes.specs.declared.group.Grouping.{Grouping as GroupingHeld}
-use Rattle.proof_trees.specs.RoundValue.{round_of, target_of}
-use Rattle.proof_trees.specs.declared.round.Round.{Round as RoundHeld}
+use Rattle.certificate_data.specs.RoundValue.{round_of, target_of}
+use Rattle.certificate_data.specs.declared.round.Round.{Round as RoundHeld}
 use Rattle.certificate_lines.specs.declared.item.Item.TheVariants as item
 use Rattle.certificate_text.specs.Trees.{items_of_head, items_of_target}
 use Rattle.certificate_checker.specs.Feeding.{stream_of, fed_by}

@@ -1,13 +1,13 @@
 use Rattle.std.proofs.Common.{◌≡◌, ◌-◌, ◌∷◌, ◌++◌, List, All, length}
-use Rattle.grouping_problem.specs.ProblemValue.{problem_of}
-use Rattle.proof_trees.specs.RoundValue.{round_of}
-use Rattle.proof_trees.specs.Tree.{Tree, Takes}
+use Rattle.county_problem.specs.ProblemValue.{problem_of}
+use Rattle.certificate_data.specs.RoundValue.{round_of}
+use Rattle.certificate_data.specs.Tree.{Tree, Takes}
 use Rattle.certificate_text.specs.Trees.{items_of_tree}
 use Rattle.certificate_lines.specs.declared.item.Item.{Item as ItemValue}
-use Rattle.verdicts.specs.Work.{Open, a_tree, some_takes}
-use Rattle.line_verdicts.specs.Placed.{state_at, codes_of_sets, IsPlaced, IsClosable}
+use Rattle.checker_laws.specs.Work.{Open, a_tree, some_takes}
+use Rattle.state_judge.specs.Placed.{state_at, codes_of_sets, IsPlaced, IsClosable}
 use Rattle.certificate_checker.specs.Readable.{IsReadable, AreReadable}
-use Rattle.certificate_checker.specs.Feeding.{stream_of, CountsSteps, Through, ForEach, Fed, Reaches, items_to_mark}
+use Rattle.certificate_checker.specs.Feeding.{stream_of, CountsSteps, FeedsThrough, ForEach, Fed, Reaches, items_to_mark}
 use Rattle.certificate_checker.proofs.tree.+tree_judging.Given as goal
 
 abbrev pub decreases-judge_takes : goal.decreases-judge_takes
@@ -19,21 +19,21 @@ decreases-judge_tree g l = l.feed.now.steps.limit - l.feed.now.steps.used
 abbrev pub invariant-judge_takes-taking : goal.invariant-judge_takes-taking
 invariant-judge_takes-taking g l = record {
   counts : CountsSteps l.fn.feed l.feed;
-  fed : Through (stream_of g.S.ItemSource.left g.S.ItemSource.given l.fn.feed l.fn.from) (stream_of g.S.ItemSource.left g.S.ItemSource.given l.feed l.from) Fed;
+  fed : FeedsThrough (stream_of g.S.ItemSource.left g.S.ItemSource.given l.fn.feed l.fn.from) (stream_of g.S.ItemSource.left g.S.ItemSource.given l.feed l.from) Fed;
   groups : All (IsClosable g.C.CountySet.test l.state) l.left;
   left : ForEach (stream_of g.S.ItemSource.left g.S.ItemSource.given l.fn.feed l.fn.from) (stream_of g.S.ItemSource.left g.S.ItemSource.given l.feed l.from) (λ a b. (takes : Takes) (rest : List ItemValue) (more : List Open)
-      → AreReadable l.ground.round.now.language takes
+      → AreReadable l.input.round.now.language takes
       → a.course.items ≡ items_to_mark takes ++ rest
       → (others : Takes)
-      × AreReadable l.ground.round.now.language others
+      × AreReadable l.input.round.now.language others
       × (b.course.items ≡ items_to_mark others ++ rest)
       × Reaches
-      (problem_of l.ground.ordered.now.problem)
-      (round_of l.ground.round.now)
+      (problem_of l.input.ordered.now.problem)
+      (round_of l.input.round.now)
       a
       b
-      (some_takes takes (state_at l.ground.ordered.now.order g.C.CountySet.test l.state) (codes_of_sets l.ground.ordered.now.order g.C.CountySet.test l.fn.groups) ∷ more)
-      (some_takes others (state_at l.ground.ordered.now.order g.C.CountySet.test l.state) (codes_of_sets l.ground.ordered.now.order g.C.CountySet.test l.left) ∷ more));
+      (some_takes takes (state_at l.input.ordered.now.order g.C.CountySet.test l.state) (codes_of_sets l.input.ordered.now.order g.C.CountySet.test l.fn.groups) ∷ more)
+      (some_takes others (state_at l.input.ordered.now.order g.C.CountySet.test l.state) (codes_of_sets l.input.ordered.now.order g.C.CountySet.test l.left) ∷ more));
 }
 
 abbrev pub decreases-judge_takes-taking : goal.decreases-judge_takes-taking
@@ -42,21 +42,21 @@ decreases-judge_takes-taking g l = l.feed.steps.limit - l.feed.steps.used
 abbrev pub invariant-judge_tree-branching : goal.invariant-judge_tree-branching
 invariant-judge_tree-branching g l = record {
   counts : CountsSteps l.fn.feed l.feed;
-  fed : Through (stream_of g.S.ItemSource.left g.S.ItemSource.given l.fn.feed l.fn.from) (stream_of g.S.ItemSource.left g.S.ItemSource.given l.feed l.from) Fed;
-  placed : IsPlaced (length l.ground.ordered.now.order) g.C.CountySet.test l.state;
+  fed : FeedsThrough (stream_of g.S.ItemSource.left g.S.ItemSource.given l.fn.feed l.fn.from) (stream_of g.S.ItemSource.left g.S.ItemSource.given l.feed l.from) Fed;
+  placed : IsPlaced (length l.input.ordered.now.order) g.C.CountySet.test l.state;
   left : ForEach (stream_of g.S.ItemSource.left g.S.ItemSource.given l.fn.feed l.fn.from) (stream_of g.S.ItemSource.left g.S.ItemSource.given l.feed l.from) (λ a b. (tree : Tree) (rest : List ItemValue) (more : List Open)
-      → IsReadable l.ground.round.now.language tree
+      → IsReadable l.input.round.now.language tree
       → a.course.items ≡ items_of_tree tree ++ rest
       → (raised : Tree)
-      × IsReadable l.ground.round.now.language raised
+      × IsReadable l.input.round.now.language raised
       × (b.course.items ≡ items_of_tree raised ++ rest)
       × Reaches
-      (problem_of l.ground.ordered.now.problem)
-      (round_of l.ground.round.now)
+      (problem_of l.input.ordered.now.problem)
+      (round_of l.input.round.now)
       a
       b
-      (a_tree tree (state_at l.ground.ordered.now.order g.C.CountySet.test l.fn.state) ∷ more)
-      (a_tree raised (state_at l.ground.ordered.now.order g.C.CountySet.test l.state) ∷ more));
+      (a_tree tree (state_at l.input.ordered.now.order g.C.CountySet.test l.fn.state) ∷ more)
+      (a_tree raised (state_at l.input.ordered.now.order g.C.CountySet.test l.state) ∷ more));
 }
 
 abbrev pub decreases-judge_tree-branching : goal.decreases-judge_tree-branching

@@ -1,8 +1,8 @@
 use Rattle.std.proofs.Common.{◌≡◌, [], None, length, IfOk, refl, sym, ◌∙◌, ap, subst}
-use Rattle.grouping_problem.specs.ProblemValue.{problem_of}
-use Rattle.proof_trees.specs.RoundValue.{round_of}
-use Rattle.certificate_lines.specs.Courses.{Course, tree_course}
-use Rattle.line_verdicts.specs.Placed.{state_at}
+use Rattle.county_problem.specs.ProblemValue.{problem_of}
+use Rattle.certificate_data.specs.RoundValue.{round_of}
+use Rattle.certificate_lines.specs.Courses.{Unread, tree_course}
+use Rattle.state_judge.specs.Placed.{state_at}
 use Rattle.certificate_text.specs.TreeFault.{lines_of_tree}
 use Rattle.certificate_checker.specs.Feeding.{FeedValue, feed_at}
 use Rattle.certificate_checker.specs.TreeAnswered.{IsTreeAnswer}
@@ -18,6 +18,6 @@ returns g c tree is numbers =
     ap (λ n. tree_course c.args.round.now.language n c.args.lines.now) (c.places-places.ensures.value ∙ ap length c.requires.order) ∙ ap (tree_course c.args.round.now.language (length c.args.round.now.order)) is in
     let start : FeedValue = record { course = c.of_tree.result; line = 0; limit = c.new.result.limit; used = c.new.result.used } in
     let none : (tree_course c.args.round.now.language (length c.args.round.now.order) (lines_of_tree tree)).fault ≡ None =
-    sym (ap (λ (z : Course). z.fault) same) ∙ (sym c.in_ok-fault.ensures ∙ c.in_default.is) in
+    sym (ap (λ (z : Unread). z.fault) same) ∙ (sym c.in_ok-fault.ensures ∙ c.in_default.is) in
     subst (λ n. IfOk c.said_of.result (IsTreeAnswer p round s tree n)) c.new.ensures.limit
     (tree_said p round s tree start (feed_at c.judge_placed-judged.new.feed.source c.judge_placed-judged.new.feed) refl c.new.ensures.used numbers (c.of_tree.ensures ∙ same) none c.judge_placed-judged.result c.said_of.result (c.judge_placed-judged.ensures.judged [] (record { later = []; text = refl; may = λ ended. refl })) c.said_of.ensures)

@@ -1,7 +1,7 @@
 use Rattle.std.proofs.Common.{List, All, ◌≤◌, subst, arith, take_all}
 use Rattle.std.proofs.lemmas.Grind.{common_steps}
 use Rattle.std.proofs.lemmas.List.Elements.{All-more}
-use Rattle.certificate_lines.specs.declared.weights.Weight.{Weight}
+use Rattle.certificate_data.specs.declared.weights.Weight.{Weight}
 use Rattle.certificate_lines.proofs.writing_words.push_weights.Goals as goal
 
 pub loop-weight-preserved : goal.loop-weight-preserved

@@ -1,16 +1,17 @@
 use Rattle.std.proofs.Common.{◌≡◌, ◌∙◌, ◌+◌, ◌-◌, ◌++◌, ◌∷◌, [], ℕ, List, take, ap, sym, subst, arith, take_all}
 use Rattle.std.specs.List.{flat_map}
-use Rattle.proof_trees.specs.Depth.{after_raise}
+use Rattle.certificate_laws.specs.Depth.{after_raise}
 use Rattle.certificate_lines.specs.Fits.{IsSet}
 use Rattle.certificate_lines.specs.Writes.{DontFit}
-use Rattle.certificate_text.specs.Trees.{tree_of, leaf_of, leaf_items, items_of_tree, items_of_takes, list_of_takes}
+use Rattle.certificate_data.specs.TreeValue.{tree_of, leaf_of, list_of_takes}
+use Rattle.certificate_text.specs.Trees.{leaf_items, items_of_tree, items_of_takes}
 use Rattle.certificate_text.specs.Tests.{Fitting}
 use Rattle.certificate_lines.specs.declared.item.Item.{Item}
 use Rattle.certificate_lines.specs.declared.item.Item.TheVariants as item
 use Rattle.certificate_lines.specs.declared.item.Wanted.TheVariants as want
-use Rattle.certificate_text.specs.declared.tree.Tree.{out-Tree}
-use Rattle.certificate_text.specs.declared.tree.Branch.{Branch, out-Branch}
-use Rattle.certificate_text.specs.declared.tree.Take.{Take, out-Take}
+use Rattle.certificate_data.specs.declared.tree.Tree.{out-Tree}
+use Rattle.certificate_data.specs.declared.tree.Branch.{Branch, out-Branch}
+use Rattle.certificate_data.specs.declared.tree.Take.{Take, out-Take}
 use Rattle.certificate_text.proofs.LoopLaws.{after_raise-le}
 use Rattle.certificate_text.proofs.TreeViews.{items_of_branch, items_of_take}
 use Rattle.certificate_text.proofs.TreeFits.{take_fitting, take_unfit, take_refused, branch_fitting, branch_unfit, branch_refused, take_parts, branch_parts, takes_flat, tree_parts}

@@ -1,14 +1,14 @@
 use Rattle.std.proofs.Common.{◌-◌, ℕ, true, false, length, refl}
-use Rattle.certificate_lines.specs.Fits.{Fits}
-use Rattle.certificate_lines.specs.declared.item.Allowance.{Allowance}
-use Rattle.certificate_lines.specs.declared.item.Allowance.TheVariants.{Room, Weigh}
+use Rattle.certificate_lines.specs.Fits.{IsWanted}
+use Rattle.certificate_data.specs.declared.allowance.Allowance.{Allowance}
+use Rattle.certificate_data.specs.declared.allowance.Allowance.TheVariants.{Room, Weigh}
 use Rattle.certificate_lines.specs.declared.item.Item.TheVariants as item
 use Rattle.certificate_lines.specs.declared.item.Wanted.TheVariants as want
 use Rattle.certificate_text.proofs.FitLaws.{run_goes, run_stops}
 use Rattle.certificate_text.proofs.fitting.allowances_fit.Goals as goal
 
 -- how many lines are wanted is no matter
-fits_at : (n m : ℕ) (a : Allowance) → Fits (want.Allowances n) (item.Allows a) → Fits (want.Allowances m) (item.Allows a)
+fits_at : (n m : ℕ) (a : Allowance) → IsWanted (want.Allowances n) (item.Allows a) → IsWanted (want.Allowances m) (item.Allows a)
 fits_at n m Room h = h
 fits_at n m (Weigh quota ws) h = h
 

@@ -1,16 +1,17 @@
 use Rattle.std.proofs.Common.{[], ◌∷◌, Bool, true, false, refl, IsTrue, ◌↔◌}
-use Rattle.certificate_languages.specs.declared.language.Language.{Language}
-use Rattle.proof_trees.specs.Tree.{Tree}
-use Rattle.certificate_lines.specs.Spelling.{text_of}
+use Rattle.certificate_data.specs.declared.language.Language.{Language}
+use Rattle.certificate_data.specs.Tree.{Tree}
+use Rattle.certificate_lines.specs.Spelling.{text_of_items}
 use Rattle.certificate_lines.specs.declared.item.Wanted.TheVariants as want
-use Rattle.certificate_text.specs.Trees.{tree_of, items_of_tree}
+use Rattle.certificate_data.specs.TreeValue.{tree_of}
+use Rattle.certificate_text.specs.Trees.{items_of_tree}
 use Rattle.certificate_text.specs.Spelled.{IsTreeSpelling}
 use Rattle.certificate_text.specs.Tests.{Tests}
 use Rattle.certificate_text.proofs.FitLaws.{whole, unfit_whole}
 use Rattle.certificate_text.proofs.fitting.has_tree_text.Goals as goal
 
 told : (language : Language) (counties : _) (tree : Tree) (r : Bool) → Tests (want.Tree language counties ∷ []) (items_of_tree tree) [] r → IsTrue r ↔ ((text : _) × IsTreeSpelling language counties text tree)
-told language counties tree true h = ((λ e. (text_of (items_of_tree tree), record { fits = whole (want.Tree language counties) (items_of_tree tree) h; text_is = refl })), (λ s. refl))
+told language counties tree true h = ((λ e. (text_of_items (items_of_tree tree), record { fits = whole (want.Tree language counties) (items_of_tree tree) h; text_is = refl })), (λ s. refl))
 told language counties tree false h = ((λ e. cc), (λ s. absurd (unfit_whole (want.Tree language counties) (items_of_tree tree) h s.1.fits)))
 
 pub returns : goal.returns

@@ -1,8 +1,9 @@
 use Rattle.std.proofs.Common.{List, [], ◌∷◌, map, subst}
-use Rattle.certificate_lines.specs.declared.item.Allowance.{Allowance}
+use Rattle.certificate_data.specs.declared.allowance.Allowance.{Allowance}
 use Rattle.certificate_lines.specs.declared.item.Wanted.TheVariants as want
-use Rattle.proof_trees.specs.Tree.{bound}
-use Rattle.certificate_text.specs.Trees.{allowance_of, leaf_items}
+use Rattle.certificate_data.specs.Tree.{bound}
+use Rattle.certificate_data.specs.TreeValue.{allowance_of}
+use Rattle.certificate_text.specs.Trees.{leaf_items}
 use Rattle.certificate_text.specs.Tests.{Tests}
 use Rattle.certificate_text.proofs.PartsTested.{stuck_tested}
 use Rattle.certificate_text.proofs.TreeFits.{seats_fitting}

@@ -3,10 +3,11 @@ use Rattle.std.specs.List.{flat_map}
 use Rattle.certificate_lines.specs.declared.item.Opening.TheVariants as opening
 use Rattle.certificate_lines.specs.declared.item.Item.{Item}
 use Rattle.certificate_lines.specs.declared.item.Item.TheVariants as item
-use Rattle.certificate_text.specs.Trees.{tree_of, leaf_of, leaf_items, items_of_tree}
-use Rattle.certificate_text.specs.declared.tree.Tree.{out-Tree}
-use Rattle.certificate_text.specs.declared.tree.Branch.{Branch, out-Branch}
-use Rattle.certificate_text.specs.declared.tree.Take.{Take}
+use Rattle.certificate_data.specs.TreeValue.{tree_of, leaf_of}
+use Rattle.certificate_text.specs.Trees.{leaf_items, items_of_tree}
+use Rattle.certificate_data.specs.declared.tree.Tree.{out-Tree}
+use Rattle.certificate_data.specs.declared.tree.Branch.{Branch, out-Branch}
+use Rattle.certificate_data.specs.declared.tree.Take.{Take}
 use Rattle.certificate_text.specs.Added.{branch_items, take_items}
 use Rattle.certificate_text.proofs.AddedLaws.{adds_after, adds_as}
 use Rattle.certificate_text.proofs.Parts.{takes_are, tree_is}

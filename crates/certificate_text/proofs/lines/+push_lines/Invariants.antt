@@ -2,7 +2,7 @@ use Rattle.std.proofs.Common.{[], ◌∷◌, ◌++◌, take}
 use Rattle.std.specs.List.{flat_map}
 use Rattle.certificate_lines.specs.declared.item.Opening.TheVariants as opening
 use Rattle.certificate_lines.specs.declared.item.Item.TheVariants as item
-use Rattle.certificate_text.specs.declared.tree.Branch.{out-Branch}
+use Rattle.certificate_data.specs.declared.tree.Branch.{out-Branch}
 use Rattle.certificate_text.specs.Added.{Added, branch_items, take_items}
 use Rattle.certificate_text.proofs.lines.+push_lines.Given as goal
 

@@ -1,5 +1,5 @@
 use Rattle.std.proofs.Common.{List, map, take, ap, arith, take_all}
-use Rattle.certificate_lines.specs.declared.item.Allowance.{Allowance}
+use Rattle.certificate_data.specs.declared.allowance.Allowance.{Allowance}
 use Rattle.certificate_lines.specs.declared.item.Item.TheVariants as item
 use Rattle.certificate_text.proofs.AddedLaws.{added_none, added_as, item_added}
 use Rattle.certificate_text.proofs.lines.push_allowances.Goals as goal

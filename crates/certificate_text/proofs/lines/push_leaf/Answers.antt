@@ -1,9 +1,10 @@
 use Rattle.std.proofs.Common.{◌≡◌, ◌∷◌, ◌++◌, ◌<◌, ◌^◌, [], List, ℕ, OnOk, length, map, codes, decimal, refl, sym, subst, arith}
-use Rattle.certificate_lines.specs.declared.item.Allowance.{Allowance}
+use Rattle.certificate_data.specs.declared.allowance.Allowance.{Allowance}
 use Rattle.certificate_lines.specs.declared.item.Opening.TheVariants as opening
 use Rattle.certificate_lines.specs.declared.item.Item.TheVariants as item
-use Rattle.proof_trees.specs.Tree.{bound}
-use Rattle.certificate_text.specs.Trees.{allowance_of, leaf_items}
+use Rattle.certificate_data.specs.Tree.{bound}
+use Rattle.certificate_data.specs.TreeValue.{allowance_of}
+use Rattle.certificate_text.specs.Trees.{leaf_items}
 use Rattle.certificate_text.proofs.TreeViews.{bound_items}
 use Rattle.certificate_text.specs.Added.{Added}
 use Rattle.certificate_text.proofs.AddedLaws.{added_line, adds_after, adds_as}

@@ -2,7 +2,7 @@ use Rattle.std.proofs.Common.{◌∙◌, ◌<◌, ◌^◌, ◌∷◌, ◌++◌, 
 use Rattle.std.specs.List.{flat_map}
 use Rattle.certificate_lines.specs.Spelling.{weight_word}
 use Rattle.certificate_lines.proofs.WordsWritten.{weights_line}
-use Rattle.certificate_lines.specs.declared.item.Allowance.TheVariants as allowance
+use Rattle.certificate_data.specs.declared.allowance.Allowance.TheVariants as allowance
 use Rattle.certificate_lines.specs.declared.item.Item.TheVariants as item
 use Rattle.certificate_text.proofs.AddedLaws.{added_line, weights_range}
 use Rattle.certificate_text.proofs.lines.push_weigh_line.Goals as goal

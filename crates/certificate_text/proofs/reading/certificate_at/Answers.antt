@@ -1,8 +1,9 @@
 use Rattle.std.proofs.Common.{◌≡◌, ◌∙◌, ◌≤◌, Ok, List, length, ap, arith}
 use Rattle.std.proofs.lemmas.Result.{err_from_is_err_and}
-use Rattle.proof_trees.specs.RoundValue.{target_of}
+use Rattle.certificate_data.specs.RoundValue.{target_of}
 use Rattle.certificate_lines.specs.Lines.{most}
-use Rattle.certificate_text.specs.Trees.{tree_of, items_of_head, items_of_tree, items_of_target}
+use Rattle.certificate_data.specs.TreeValue.{tree_of}
+use Rattle.certificate_text.specs.Trees.{items_of_head, items_of_tree, items_of_target}
 use Rattle.certificate_lines.specs.declared.item.Item.{Item}
 use Rattle.certificate_lines.specs.declared.item.Item.TheVariants as item
 use Rattle.certificate_lines.proofs.ReadLaws.{order_taken}

@@ -1,14 +1,15 @@
 use Rattle.std.proofs.Common.{◌≡◌, ◌∙◌, ◌-◌, ◌++◌, ◌∷◌, [], ℕ, List, length, take, ap, sym, subst, refl, arith, append-nil, length-append}
 use Rattle.std.proofs.Math.Seq.{take-append_seam}
 use Rattle.std.proofs.lemmas.Result.{err_from_is_err_and}
-use Rattle.certificate_languages.specs.declared.language.Language.{Language}
-use Rattle.proof_trees.specs.Tree.{Tree as TreeValue}
+use Rattle.certificate_data.specs.declared.language.Language.{Language}
+use Rattle.certificate_data.specs.Tree.{Tree as TreeValue}
 use Rattle.certificate_lines.specs.Rest.{Rest}
-use Rattle.certificate_lines.specs.Reads.{Reads, items_at}
-use Rattle.certificate_lines.specs.Spelling.{text_of}
+use Rattle.certificate_lines.specs.Reads.{ReadsItems, items_at}
+use Rattle.certificate_lines.specs.Spelling.{text_of_items}
 use Rattle.certificate_text.specs.Spelled.{IsTreeSpelling}
 use Rattle.certificate_lines.specs.Fits.{AllFit}
-use Rattle.certificate_text.specs.Trees.{tree_of, items_of_tree}
+use Rattle.certificate_data.specs.TreeValue.{tree_of}
+use Rattle.certificate_text.specs.Trees.{items_of_tree}
 use Rattle.certificate_lines.specs.declared.item.Item.{Item}
 use Rattle.certificate_lines.specs.declared.item.Wanted.TheVariants as want
 use Rattle.certificate_text.proofs.FrontLaws.{memory_refused}
@@ -16,7 +17,7 @@ use Rattle.certificate_text.proofs.OneSpelling.{one_front, one_tree}
 use Rattle.certificate_text.proofs.reading.front_tree.Goals as goal
 
 -- the items that were read spell the front before what is left
-front_spelled : (language : Language) (counties : ℕ) (t : TreeValue) (old new : Rest) → Reads (want.Tree language counties ∷ []) old (items_of_tree t) [] new → IsTreeSpelling language counties (text_of (items_of_tree t)) t
+front_spelled : (language : Language) (counties : ℕ) (t : TreeValue) (old new : Rest) → ReadsItems (want.Tree language counties ∷ []) old (items_of_tree t) [] new → IsTreeSpelling language counties (text_of_items (items_of_tree t)) t
 front_spelled language counties t old new read = record {
   fits = subst (λ (l : List Item). AllFit (want.Tree language counties ∷ []) l) (append-nil (items_of_tree t)) (read.fits [] [] tt);
   text_is = refl;
@@ -29,7 +30,7 @@ place_is text front rest whole = omega (arith, ap length whole, length-append fr
 pub returns-clause-found : goal.returns-clause-found
 returns-clause-found c =
     let read = c.in_ok-tree.ensures.read in
-    let front = text_of (items_of_tree (tree_of c.in_ok-tree.tree)) in
+    let front = text_of_items (items_of_tree (tree_of c.in_ok-tree.tree)) in
     let whole : c.args.text.now ≡ front ++ c.rest.result.now =
     ap (λ (r : Rest). r.text) (sym c.new-cursor.ensures) ∙ read.text ∙ ap (λ (l : List ℕ). front ++ l) (sym c.rest.ensures) in
     let taken : take (length c.args.text.now - length c.rest.result.now) c.args.text.now ≡ front =
@@ -40,7 +41,7 @@ pub returns-clause-only : goal.returns-clause-only
 returns-clause-only c front rest t begins is =
     let read = c.in_ok-tree.ensures.read in
     let tree = tree_of c.in_ok-tree.tree in
-    let own = text_of (items_of_tree tree) in
+    let own = text_of_items (items_of_tree tree) in
     let whole : c.args.text.now ≡ own ++ c.rest.result.now =
     ap (λ (r : Rest). r.text) (sym c.new-cursor.ensures) ∙ read.text ∙ ap (λ (l : List ℕ). own ++ l) (sym c.rest.ensures) in
     let spelled = front_spelled c.args.language c.args.counties tree _ _ read in

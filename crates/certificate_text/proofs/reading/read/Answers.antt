@@ -1,6 +1,7 @@
 use Rattle.std.proofs.Common.{[], ◌∷◌}
 use Rattle.certificate_text.specs.Spelled.{IsSpelling}
-use Rattle.certificate_text.specs.Trees.{certificate_of, items_of_certificate}
+use Rattle.certificate_data.specs.TreeValue.{certificate_of}
+use Rattle.certificate_text.specs.Trees.{items_of_certificate}
 use Rattle.certificate_lines.specs.declared.item.Wanted.TheVariants as want
 use Rattle.certificate_text.proofs.GiveLaws.{gives_found, gives_fault, gives_only}
 use Rattle.certificate_text.proofs.OneSpelling.{certificate_back}

@@ -1,7 +1,7 @@
 use Rattle.std.proofs.Common.{refl, length, map}
 use Rattle.share_board.specs.Events.{event_of}
-use Rattle.command_runs.specs.BoardCourse.{language_of, events_in}
-use Rattle.command_runs.proofs.RunLemmas.{read_file}
+use Rattle.cli_runs.specs.BoardCourse.{language_of, events_in}
+use Rattle.cli_runs.proofs.RunLemmas.{read_file}
 use Rattle.cli.proofs.board_files.load_events.Goals as goal
 
 pub returns-clause-course : goal.returns-clause-course

@@ -1,10 +1,10 @@
 use Rattle.std.proofs.lemmas.Bool.{false_from_ne_true}
 use Rattle.std.proofs.Common.{◌≡◌, false, ◌≤◌, ℕ, List, Some, None, ap, refl, inl, inr, rules, subst, length}
 use Rattle.std.specs.Prelude.{Ok, Err, codes}
-use Rattle.shelves.specs.declared.whole.WholeFault.{WholeFault}
-use Rattle.shelves.specs.declared.whole.WholeFault.TheVariants.{TooLarge, Failed, Memory}
-use Rattle.program_answers.specs.Answer.{Answered, memory_answer}
-use Rattle.program_answers.specs.Answers.{answer_of}
+use Rattle.cli_shelves.specs.declared.whole.WholeFault.{WholeFault}
+use Rattle.cli_shelves.specs.declared.whole.WholeFault.TheVariants.{TooLarge, Failed, Memory}
+use Rattle.cli_answers.specs.Answer.{Answered, memory_answer}
+use Rattle.cli_answers.specs.Answers.{answer_of}
 use Rattle.cli.specs.Delivery.{Delivers}
 use Rattle.cli.specs.CaseRun.{IsCaseAnswer}
 use Rattle.cli.proofs.case.run_case_with_end.Goals as goal

@@ -1,9 +1,9 @@
 use Rattle.std.proofs.Common.{◌≡◌, ◌==◌, ◌∙◌, ℕ, List, Some, ap, subst}
 use Rattle.std.specs.Prelude.{reverse}
 use Rattle.std.specs.List.{slice_split}
-use Rattle.program_answers.specs.Answers.{answer_of}
-use Rattle.shelves.specs.Files.{NamedFile}
-use Rattle.shelves.specs.Memory.{files_of}
+use Rattle.cli_answers.specs.Answers.{answer_of}
+use Rattle.cli_shelves.specs.Files.{NamedFile}
+use Rattle.cli_shelves.specs.Memory.{files_of}
 use Rattle.cli.specs.Delivery.{texts}
 use Rattle.cli.specs.CaseRun.{WordsOver}
 use Rattle.cli.proofs.CaseLemmas.{words_over, files-reverse}

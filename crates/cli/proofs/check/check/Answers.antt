@@ -1,9 +1,9 @@
 use Rattle.std.proofs.Common.{[]}
-use Rattle.program_answers.specs.Answers.{said_by}
-use Rattle.command_runs.specs.CheckCourse.{check_course}
-use Rattle.command_runs.specs.Storing.{named_file}
-use Rattle.command_runs.specs.Texts.{reported_of}
-use Rattle.command_runs.proofs.StoreLemmas.{none_stored}
+use Rattle.cli_answers.specs.Answers.{said_by}
+use Rattle.cli_runs.specs.CheckCourse.{check_course}
+use Rattle.cli_runs.specs.Storing.{named_file}
+use Rattle.cli_runs.specs.Texts.{reported_of}
+use Rattle.cli_runs.proofs.StoreLemmas.{none_stored}
 use Rattle.cli.proofs.StoringLemmas.{from_start, refused_run, said_run}
 use Rattle.cli.proofs.check.check.Goals as goal
 

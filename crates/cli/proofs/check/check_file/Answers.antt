@@ -1,12 +1,12 @@
 use Rattle.std.proofs.Common.{Option, subst}
 use Rattle.std.specs.Prelude.{Ok}
-use Rattle.shelves.specs.Files.{Files}
-use Rattle.program_answers.specs.Answers.{Comes}
-use Rattle.command_runs.specs.declared.checker_report.Checked.{Checked}
-use Rattle.command_runs.specs.Course.{value_step}
-use Rattle.command_runs.specs.Reading.{read_one}
-use Rattle.command_runs.specs.CheckCourse.{IsChecked}
-use Rattle.command_runs.specs.Texts.{tabled_of, reported_of}
+use Rattle.cli_shelves.specs.Files.{Files}
+use Rattle.cli_answers.specs.Answers.{Comes}
+use Rattle.cli_runs.specs.declared.checker_report.Checked.{Checked}
+use Rattle.cli_runs.specs.Course.{value_step}
+use Rattle.cli_runs.specs.Reading.{read_one}
+use Rattle.cli_runs.specs.CheckCourse.{IsChecked}
+use Rattle.cli_runs.specs.Texts.{tabled_of, reported_of}
 use Rattle.cli.specs.Streams.{Streams, checked_text, loaded_check}
 use Rattle.cli.proofs.ReaderLemmas.{text_reloaded}
 use Rattle.cli.proofs.check.check_file.Goals as goal

@@ -1,9 +1,9 @@
 use Rattle.std.proofs.Common.{Option, subst}
-use Rattle.shelves.specs.Files.{Files}
-use Rattle.program_answers.specs.Answers.{Comes}
-use Rattle.command_runs.specs.TableCourse.{tabled_problem_in}
-use Rattle.command_runs.specs.Texts.{tabled_of, reported_of}
-use Rattle.command_runs.proofs.RunLemmas.{went_on}
+use Rattle.cli_shelves.specs.Files.{Files}
+use Rattle.cli_answers.specs.Answers.{Comes}
+use Rattle.cli_runs.specs.TableCourse.{tabled_problem_in}
+use Rattle.cli_runs.specs.Texts.{tabled_of, reported_of}
+use Rattle.cli_runs.proofs.RunLemmas.{went_on}
 use Rattle.cli.specs.Streams.{checked_text}
 use Rattle.cli.proofs.check.check_files.Goals as goal
 

@@ -1,11 +1,11 @@
 use Rattle.std.proofs.Common.{ℕ, List, Option, subst}
 use Rattle.std.specs.Prelude.{Ok, IfOk}
-use Rattle.shelves.specs.Files.{Files}
-use Rattle.command_runs.specs.declared.checker_report.Checked.{Checked}
-use Rattle.command_runs.specs.Course.{value_step}
-use Rattle.command_runs.specs.Reading.{read_step}
-use Rattle.command_runs.specs.CheckCourse.{IsChecked, ChecksGiven}
-use Rattle.command_runs.specs.Texts.{tabled_of, reported_of}
+use Rattle.cli_shelves.specs.Files.{Files}
+use Rattle.cli_runs.specs.declared.checker_report.Checked.{Checked}
+use Rattle.cli_runs.specs.Course.{value_step}
+use Rattle.cli_runs.specs.Reading.{read_step}
+use Rattle.cli_runs.specs.CheckCourse.{IsChecked, ChecksGiven}
+use Rattle.cli_runs.specs.Texts.{tabled_of, reported_of}
 use Rattle.cli.proofs.ReaderLemmas.{one_read, text_ended, text_failed, text_streamed, certificate_checked}
 use Rattle.cli.proofs.check.stream_check.Goals as goal
 

@@ -1,13 +1,13 @@
 use Rattle.std.proofs.Common.{List, [], refl, sym, subst}
-use Rattle.shelves.specs.Files.{NamedFile}
-use Rattle.command_words.specs.declared.words.CommandWords.{CommandWords}
-use Rattle.command_words.specs.declared.words.CommandWords.TheVariants.{Size, Audit, Piece}
-use Rattle.program_answers.specs.Answers.{said_by}
-use Rattle.command_runs.specs.JudgeCourse.{size_course, audit_course}
-use Rattle.command_runs.specs.PieceCourse.{piece_course}
-use Rattle.command_runs.specs.Storing.{HasStored}
-use Rattle.command_runs.specs.Run.{CommandRun}
-use Rattle.command_runs.proofs.StoreLemmas.{none_stored}
+use Rattle.cli_shelves.specs.Files.{NamedFile}
+use Rattle.cli_words.specs.declared.words.CommandWords.{CommandWords}
+use Rattle.cli_words.specs.declared.words.CommandWords.TheVariants.{Size, Audit, Piece}
+use Rattle.cli_answers.specs.Answers.{said_by}
+use Rattle.cli_runs.specs.JudgeCourse.{size_course, audit_course}
+use Rattle.cli_runs.specs.PieceCourse.{piece_course}
+use Rattle.cli_runs.specs.Storing.{HasStored}
+use Rattle.cli_runs.specs.Run.{CommandRun}
+use Rattle.cli_runs.proofs.StoreLemmas.{none_stored}
 use Rattle.cli.proofs.CommandLemmas.{quiet_run}
 use Rattle.cli.proofs.command.command_end.Goals as goal
 

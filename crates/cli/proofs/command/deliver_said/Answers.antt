@@ -1,7 +1,7 @@
 use Rattle.std.proofs.Common.{ℕ, List, subst, sym}
 use Rattle.std.specs.Prelude.{Result}
 use Rattle.std.specs.declared.alloc.AllocError.{AllocError}
-use Rattle.program_answers.specs.declared.answer.RunAnswer.{RunAnswer}
+use Rattle.cli_answers.specs.declared.answer.RunAnswer.{RunAnswer}
 use Rattle.cli.specs.Delivery.{Delivers}
 use Rattle.cli.specs.Ends.{said_of}
 use Rattle.cli.proofs.command.deliver_said.Goals as goal

@@ -1,4 +1,4 @@
-use Rattle.command_runs.proofs.Telling.{run_tells}
+use Rattle.cli_runs.proofs.Telling.{run_tells}
 use Rattle.cli.specs.Delivery.{texts}
 use Rattle.cli.specs.Ends.{said_of}
 use Rattle.cli.proofs.command.run_with_end.Goals as goal

@@ -1,5 +1,5 @@
 use Rattle.std.proofs.Common.{[], refl}
-use Rattle.command_runs.proofs.StoreLemmas.{none_stored}
+use Rattle.cli_runs.proofs.StoreLemmas.{none_stored}
 use Rattle.cli.specs.Delivery.{texts}
 use Rattle.cli.specs.Ends.{said_of}
 use Rattle.cli.proofs.CommandLemmas.{ended_words, meant_run}

@@ -1,6 +1,6 @@
 use Rattle.std.proofs.Common.{refl}
-use Rattle.command_runs.specs.ProblemCourse.{grouping_in}
-use Rattle.command_runs.proofs.RunLemmas.{read_file}
+use Rattle.cli_runs.specs.ProblemCourse.{grouping_in}
+use Rattle.cli_runs.proofs.RunLemmas.{read_file}
 use Rattle.cli.proofs.files.load_grouping.Goals as goal
 
 pub returns-clause-course : goal.returns-clause-course

@@ -1,7 +1,7 @@
 use Rattle.std.proofs.Common.{refl, ℕ, List, Option, Bor, subst, sym}
-use Rattle.program_answers.specs.Answers.{Comes}
-use Rattle.command_runs.specs.ProblemCourse.{links_in, links_of}
-use Rattle.command_runs.proofs.RunLemmas.{read_file}
+use Rattle.cli_answers.specs.Answers.{Comes}
+use Rattle.cli_runs.specs.ProblemCourse.{links_in, links_of}
+use Rattle.cli_runs.proofs.RunLemmas.{read_file}
 use Rattle.cli.proofs.files.load_links.Goals as goal
 
 pub returns-in_ok-text-in-Some-clause-course : goal.returns-in_ok-text-in-Some-clause-course

@@ -1,7 +1,7 @@
 use Rattle.std.proofs.Common.{refl, ℕ, List, Option, Bor, subst, sym}
-use Rattle.program_answers.specs.Answers.{Comes}
-use Rattle.command_runs.specs.ProblemCourse.{withdrawn_in, withdrawn_of}
-use Rattle.command_runs.proofs.RunLemmas.{read_file}
+use Rattle.cli_answers.specs.Answers.{Comes}
+use Rattle.cli_runs.specs.ProblemCourse.{withdrawn_in, withdrawn_of}
+use Rattle.cli_runs.proofs.RunLemmas.{read_file}
 use Rattle.cli.proofs.files.load_withdrawn.Goals as goal
 
 pub returns-in_ok-text-in-Some-clause-course : goal.returns-in_ok-text-in-Some-clause-course

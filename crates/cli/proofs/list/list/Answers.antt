@@ -1,10 +1,10 @@
 use Rattle.std.proofs.Common.{refl, [], List, ℕ, Option, None, ap, subst₂, sym, ◌∙◌}
 use Rattle.std.specs.Borrow.{Bor}
 use Rattle.std.specs.Prelude.{Err, option_map}
-use Rattle.command_runs.specs.Storing.{named_file, store_steps}
-use Rattle.command_runs.specs.ListCourse.{list_course, listed_file}
-use Rattle.command_runs.proofs.StoreLemmas.{none_stored}
-use Rattle.command_runs.specs.Texts.{listed_of}
+use Rattle.cli_runs.specs.Storing.{named_file, store_steps}
+use Rattle.cli_runs.specs.ListCourse.{list_course, listed_file}
+use Rattle.cli_runs.proofs.StoreLemmas.{none_stored}
+use Rattle.cli_runs.specs.Texts.{listed_of}
 use Rattle.cli.specs.Ends.{refusal_by}
 use Rattle.cli.proofs.StoringLemmas.{seen_lent, from_start, refused_run, stopped_run, ended_run}
 use Rattle.cli.proofs.list.list.Goals as goal

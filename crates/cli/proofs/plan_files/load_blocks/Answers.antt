@@ -1,10 +1,10 @@
 use Rattle.std.proofs.Common.{Option, Vec, Global, subst}
 use Rattle.std.specs.Prelude.{Ok}
 use Rattle.pl94_counties.specs.declared.blocks.Block.{Block}
-use Rattle.shelves.specs.Files.{Files}
-use Rattle.program_answers.specs.Answers.{Comes}
-use Rattle.command_runs.specs.PlanCourse.{blocks_in, blocks_of}
-use Rattle.command_runs.specs.Reading.{read_both}
+use Rattle.cli_shelves.specs.Files.{Files}
+use Rattle.cli_answers.specs.Answers.{Comes}
+use Rattle.cli_runs.specs.PlanCourse.{blocks_in, blocks_of}
+use Rattle.cli_runs.specs.Reading.{read_both}
 use Rattle.cli.specs.Streams.{Streams, loaded_blocks}
 use Rattle.cli.proofs.ReaderLemmas.{reloaded}
 use Rattle.cli.proofs.plan_files.load_blocks.Goals as goal

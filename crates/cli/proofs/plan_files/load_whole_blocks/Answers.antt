@@ -1,11 +1,11 @@
 use Rattle.std.proofs.Common.{Option, Vec, Global, refl, subst}
 use Rattle.pl94_counties.specs.declared.blocks.Block.{Block}
 use Rattle.std.specs.Prelude.{Ok, Err}
-use Rattle.shelves.specs.Files.{Files}
-use Rattle.program_answers.specs.Answers.{Meets}
-use Rattle.command_runs.specs.Course.{◌>>=◌, load_step}
-use Rattle.command_runs.specs.PlanCourse.{blocks_in}
-use Rattle.command_runs.proofs.RunLemmas.{handed_on, went_on, read_file}
+use Rattle.cli_shelves.specs.Files.{Files}
+use Rattle.cli_answers.specs.Answers.{AnswerMeets}
+use Rattle.cli_runs.specs.Course.{◌>>=◌, load_step}
+use Rattle.cli_runs.specs.PlanCourse.{blocks_in}
+use Rattle.cli_runs.proofs.RunLemmas.{handed_on, went_on, read_file}
 use Rattle.cli.proofs.ReaderLemmas.{paired}
 use Rattle.cli.proofs.plan_files.load_whole_blocks.Goals as goal
 
@@ -15,7 +15,7 @@ returns-in_err-segment-clause-course g c =
     let before = g.H.Shelf.history c.args.shelf.now in
     let between = g.H.Shelf.history c.load.new.shelf in
     let after = g.H.Shelf.history c.load-2.new.shelf in
-    let segment = subst (λ (known : Option Files). Meets c.in_err-segment.field-0.0 (λ a. load_step known c.args.words.segment.now between after (Err a))) c.load.ensures.same c.in_err-segment.ensures.course in
+    let segment = subst (λ (known : Option Files). AnswerMeets c.in_err-segment.field-0.0 (λ a. load_step known c.args.words.segment.now between after (Err a))) c.load.ensures.same c.in_err-segment.ensures.course in
     paired files c.args.words.geo.now c.args.words.segment.now (λ (v : Vec Block Global). v.items) (λ texts. blocks_in c.args.words.state texts.0 texts.1) before after c.from_residual-in_err-segment.result
     (went_on (λ v. v.items) c.from_residual-in_err-segment.result (load_step files c.args.words.geo.now) (λ geo. load_step files c.args.words.segment.now >>= blocks_in c.args.words.state geo) c.in_ok-geo.geo.items before between after c.in_ok-geo.ensures.course
     (handed_on (λ v. v.items) c.in_err-segment.field-0.0 c.from_residual-in_err-segment.result (load_step files c.args.words.segment.now) (blocks_in c.args.words.state c.in_ok-geo.geo.items) between after c.from_residual-in_err-segment.ensures.1 segment))

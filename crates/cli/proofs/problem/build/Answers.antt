@@ -1,7 +1,7 @@
-use Rattle.grouping_problem.specs.Building.{problem_fault}
-use Rattle.program_answers.specs.Refusals.{problem_answer}
-use Rattle.command_runs.specs.ProblemCourse.{IsBuilt}
-use Rattle.command_runs.proofs.RunLemmas.{refused, fault_stands}
+use Rattle.county_problem.specs.Building.{problem_fault}
+use Rattle.cli_answers.specs.Refusals.{problem_answer}
+use Rattle.cli_runs.specs.ProblemCourse.{IsBuilt}
+use Rattle.cli_runs.proofs.RunLemmas.{refused, fault_stands}
 use Rattle.cli.proofs.problem.build.Goals as goal
 
 pub returns-in-Err : goal.returns-in-Err

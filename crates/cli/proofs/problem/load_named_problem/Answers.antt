@@ -3,15 +3,15 @@ use Rattle.std.specs.Prelude.{Ok, Err}
 use Rattle.county_codes.specs.declared.county.County.{County}
 use Rattle.pl94_counties.specs.declared.named.NamedCounty.{NamedCounty}
 use Rattle.pl94_counties.specs.Named.{county_name}
-use Rattle.county_table.specs.Table.{counties_of as bare_of}
-use Rattle.shelves.specs.Files.{Files}
-use Rattle.program_answers.specs.Answers.{Meets}
-use Rattle.command_runs.specs.Course.{value_step}
-use Rattle.command_runs.specs.ProblemCourse.{problem_over}
-use Rattle.command_runs.specs.TableCourse.{tabled_by, named_counties_of, named_problem_over}
-use Rattle.command_runs.specs.declared.tabled.Tabled.{Tabled}
-use Rattle.command_runs.specs.Texts.{tabled_of}
-use Rattle.command_runs.proofs.RunLemmas.{handed_on, went_on}
+use Rattle.grouping_table.specs.Table.{unnamed_counties as bare_of}
+use Rattle.cli_shelves.specs.Files.{Files}
+use Rattle.cli_answers.specs.Answers.{AnswerMeets}
+use Rattle.cli_runs.specs.Course.{value_step}
+use Rattle.cli_runs.specs.ProblemCourse.{problem_over}
+use Rattle.cli_runs.specs.TableCourse.{tabled_by, named_counties_of, named_problem_over}
+use Rattle.cli_runs.specs.declared.tabled.Tabled.{Tabled}
+use Rattle.cli_runs.specs.Texts.{tabled_of}
+use Rattle.cli_runs.proofs.RunLemmas.{handed_on, went_on}
 use Rattle.cli.proofs.TableLemmas.{bare}
 use Rattle.cli.proofs.problem.load_named_problem.Goals as goal
 
@@ -26,8 +26,8 @@ returns-in_err-problem-clause-course g c =
     let listed : List County = c.deref-3.result.now in
     let same : listed ≡ bare_of named =
     c.deref-3.ensures.value ∙ c.in_ok-counties.ensures ∙ subst (λ (ks : List NamedCounty). map (λ k. k.county) c.deref.result.now ≡ map (λ k. k.county) ks) c.deref.ensures.value refl ∙ bare c.in_ok-named.named.items in
-    let over = subst (λ (f : Option Files). Meets c.in_err-problem.field-0.0 (λ a. problem_over f words listed between after (Err a))) c.load_named_counties.ensures.same c.in_err-problem.ensures.course in
-    let met = subst (λ (counties : List County). Meets c.in_err-problem.field-0.0 (λ a. problem_over files words counties between after (Err a))) same over in
+    let over = subst (λ (f : Option Files). AnswerMeets c.in_err-problem.field-0.0 (λ a. problem_over f words listed between after (Err a))) c.load_named_counties.ensures.same c.in_err-problem.ensures.course in
+    let met = subst (λ (counties : List County). AnswerMeets c.in_err-problem.field-0.0 (λ a. problem_over files words counties between after (Err a))) same over in
     went_on tabled_of c.from_residual-in_err-problem.result (named_counties_of files words.common) (named_problem_over files words) named before between after c.in_ok-named.ensures.course
     (handed_on tabled_of c.in_err-problem.field-0.0 c.from_residual-in_err-problem.result (problem_over files words (bare_of named)) (λ v. value_step (λ t. t ≡ tabled_by named v)) between after c.from_residual-in_err-problem.ensures.1 met)
 

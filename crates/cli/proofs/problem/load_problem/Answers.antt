@@ -1,9 +1,9 @@
 use Rattle.std.proofs.Common.{List, Option, subst}
 use Rattle.county_codes.specs.declared.county.County.{County}
-use Rattle.shelves.specs.Files.{Files}
-use Rattle.program_answers.specs.Answers.{Comes}
-use Rattle.command_runs.specs.ProblemCourse.{counties_of, problem_over}
-use Rattle.command_runs.proofs.RunLemmas.{went_on}
+use Rattle.cli_shelves.specs.Files.{Files}
+use Rattle.cli_answers.specs.Answers.{Comes}
+use Rattle.cli_runs.specs.ProblemCourse.{counties_course, problem_over}
+use Rattle.cli_runs.proofs.RunLemmas.{went_on}
 use Rattle.cli.proofs.problem.load_problem.Goals as goal
 
 pub returns-clause-course : goal.returns-clause-course
@@ -16,4 +16,4 @@ returns-clause-course g c =
     let counties = c.in_ok-counties.counties.items in
     let over = subst (λ (f : Option Files). Comes (λ p. p) c.load_problem_over.result (problem_over f words c.deref.result.now between after)) c.load_counties.ensures.same c.load_problem_over.ensures.course in
     let built = subst (λ (listed : List County). Comes (λ p. p) c.load_problem_over.result (problem_over files words listed between after)) c.deref.ensures.value over in
-    went_on (λ p. p) c.load_problem_over.result (counties_of files words.common) (problem_over files words) counties before between after c.in_ok-counties.ensures.course built
+    went_on (λ p. p) c.load_problem_over.result (counties_course files words.common) (problem_over files words) counties before between after c.in_ok-counties.ensures.course built

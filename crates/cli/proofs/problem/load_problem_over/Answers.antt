@@ -2,13 +2,13 @@ use Rattle.std.proofs.Common.{ℕ, List, Option, subst}
 use Rattle.std.specs.Prelude.{Ok, Err}
 use Rattle.county_codes.specs.declared.county.County.{County}
 use Rattle.county_codes.specs.declared.withdrawn.Withdrawn.{Withdrawn}
-use Rattle.grouping_problem.specs.ProblemValue.{ProblemValue, codes_of}
-use Rattle.command_words.specs.declared.words.ProblemWords.{ProblemWords}
-use Rattle.shelves.specs.Files.{Files}
-use Rattle.program_answers.specs.Answers.{Comes, Meets}
-use Rattle.command_runs.specs.Course.{Course, ◌>>=◌}
-use Rattle.command_runs.specs.ProblemCourse.{adjacency_of, withdrawn_of, build_step}
-use Rattle.command_runs.proofs.RunLemmas.{handed_on, went_on}
+use Rattle.county_problem.specs.ProblemValue.{ProblemValue, codes_of}
+use Rattle.cli_words.specs.declared.words.ProblemWords.{ProblemWords}
+use Rattle.cli_shelves.specs.Files.{Files}
+use Rattle.cli_answers.specs.Answers.{Comes, AnswerMeets}
+use Rattle.cli_runs.specs.Course.{Course, ◌>>=◌}
+use Rattle.cli_runs.specs.ProblemCourse.{adjacency_of, withdrawn_of, build_step}
+use Rattle.cli_runs.proofs.RunLemmas.{handed_on, went_on}
 use Rattle.cli.proofs.problem.load_problem_over.Goals as goal
 
 -- the problem, where the pairs are known
@@ -24,7 +24,7 @@ returns-in_err-withdrawn-clause-course g c =
     let after = g.H.Shelf.history c.load_withdrawn.new.shelf in
     let counties = c.args.counties.now in
     let pairs = c.in_ok-pairs.pairs.items in
-    let met = subst (λ (f : Option Files). Meets c.in_err-withdrawn.field-0.0 (λ a. withdrawn_of f c.args.words.withdrawn then after (Err a))) c.load_adjacency.ensures.same c.in_err-withdrawn.ensures.course in
+    let met = subst (λ (f : Option Files). AnswerMeets c.in_err-withdrawn.field-0.0 (λ a. withdrawn_of f c.args.words.withdrawn then after (Err a))) c.load_adjacency.ensures.same c.in_err-withdrawn.ensures.course in
     went_on (λ p. p) c.from_residual-in_err-withdrawn.result (adjacency_of files (codes_of counties) c.args.words) (with_pairs files c.args.words counties) pairs before then after c.in_ok-pairs.ensures.course
     (handed_on (λ p. p) c.in_err-withdrawn.field-0.0 c.from_residual-in_err-withdrawn.result (withdrawn_of files c.args.words.withdrawn) (build_step c.args.words.common.chamber c.args.words.common.window counties pairs) then after c.from_residual-in_err-withdrawn.ensures.1 met)
 

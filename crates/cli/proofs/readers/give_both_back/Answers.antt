@@ -1,7 +1,7 @@
 use Rattle.std.proofs.Common.{Option, refl, subst}
-use Rattle.shelves.specs.Files.{Files}
-use Rattle.shelves.specs.Shelf.{IsRead}
-use Rattle.command_runs.specs.Reading.{GivenBack}
+use Rattle.cli_shelves.specs.Files.{Files}
+use Rattle.cli_shelves.specs.Shelf.{IsRead}
+use Rattle.cli_runs.specs.Reading.{GivenBack}
 use Rattle.cli.proofs.ReaderLemmas.{both_back}
 use Rattle.cli.proofs.readers.give_both_back.Goals as goal
 

@@ -1,5 +1,5 @@
 use Rattle.std.proofs.Common.{refl}
-use Rattle.command_runs.specs.Reading.{GivenBack}
+use Rattle.cli_runs.specs.Reading.{GivenBack}
 use Rattle.cli.proofs.readers.give_one_back.Goals as goal
 
 pub returns-clause-back : goal.returns-clause-back

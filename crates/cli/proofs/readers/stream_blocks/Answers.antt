@@ -4,9 +4,9 @@ use Rattle.pl94_counties.specs.declared.blocks.Block.{Block}
 use Rattle.std.specs.Prelude.{Ok}
 use Rattle.pl94_counties.specs.Counties.{block_list}
 use Rattle.pl94_counties.specs.Readers.{ReadsBoth}
-use Rattle.shelves.specs.Files.{Files}
-use Rattle.command_runs.specs.Reading.{back_step}
-use Rattle.command_runs.specs.PlanCourse.{blocks_in}
+use Rattle.cli_shelves.specs.Files.{Files}
+use Rattle.cli_runs.specs.Reading.{back_step}
+use Rattle.cli_runs.specs.PlanCourse.{blocks_in}
 use Rattle.cli.proofs.ReaderLemmas.{both_read, census_read, kept_holds, stream_ended, stream_failed, streamed}
 use Rattle.cli.proofs.readers.stream_blocks.Goals as goal
 

@@ -3,9 +3,9 @@ use Rattle.county_codes.specs.declared.county.County.{County}
 use Rattle.std.specs.Prelude.{Ok}
 use Rattle.pl94_counties.specs.Counties.{county_list}
 use Rattle.pl94_counties.specs.Readers.{ReadsBoth}
-use Rattle.shelves.specs.Files.{Files}
-use Rattle.command_runs.specs.Reading.{back_step}
-use Rattle.command_runs.specs.ProblemCourse.{counties_in}
+use Rattle.cli_shelves.specs.Files.{Files}
+use Rattle.cli_runs.specs.Reading.{back_step}
+use Rattle.cli_runs.specs.ProblemCourse.{counties_in}
 use Rattle.cli.proofs.ReaderLemmas.{both_read, census_read, stream_ended, stream_failed, streamed}
 use Rattle.cli.proofs.readers.stream_counties.Goals as goal
 

@@ -1,8 +1,8 @@
 use Rattle.std.proofs.Common.{◌≡◌, List, ℕ, Option, Some, None, subst}
-use Rattle.shelves.specs.Files.{NamedFile}
-use Rattle.record_report.specs.RecordFiles.{record_name_of}
-use Rattle.command_runs.specs.Storing.{HasStored}
-use Rattle.command_runs.specs.Run.{RunsAsAsked}
+use Rattle.cli_shelves.specs.Files.{NamedFile}
+use Rattle.cli_record.specs.RecordFiles.{record_name_of}
+use Rattle.cli_runs.specs.Storing.{HasStored}
+use Rattle.cli_runs.specs.Run.{RunsAsAsked}
 use Rattle.cli.specs.Delivery.{texts}
 use Rattle.cli.specs.Ends.{said_of}
 use Rattle.cli.proofs.recording.answer_as_asked.Goals as goal

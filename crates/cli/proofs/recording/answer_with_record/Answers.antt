@@ -1,11 +1,11 @@
 use Rattle.std.proofs.Common.{◌++◌, List, [], Option, sym, subst, refl}
 use Rattle.std.proofs.lemmas.List.{append-nil}
-use Rattle.shelves.specs.Files.{Files}
-use Rattle.shelves.specs.History.{History}
-use Rattle.program_answers.specs.Answer.{memory_answer}
-use Rattle.program_answers.specs.Answers.{answer_of}
-use Rattle.command_runs.specs.Run.{CommandRun}
-use Rattle.command_runs.proofs.StoreLemmas.{stored_after}
+use Rattle.cli_shelves.specs.Files.{Files}
+use Rattle.cli_shelves.specs.History.{History}
+use Rattle.cli_answers.specs.Answer.{memory_answer}
+use Rattle.cli_answers.specs.Answers.{answer_of}
+use Rattle.cli_runs.specs.Run.{CommandRun}
+use Rattle.cli_runs.proofs.StoreLemmas.{stored_after}
 use Rattle.cli.specs.Delivery.{texts}
 use Rattle.cli.proofs.RecordLemmas.{unanswered}
 use Rattle.cli.proofs.StoringLemmas.{from_start}

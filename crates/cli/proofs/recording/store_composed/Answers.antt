@@ -1,7 +1,7 @@
 use Rattle.std.proofs.Common.{List, ℕ, [], inl, inr, refl, subst}
-use Rattle.record_report.specs.Recorded.{IsRecord, sums_between}
+use Rattle.cli_record.specs.Recorded.{IsRecord, sums_between}
 use Rattle.cli.specs.Delivery.{texts}
-use Rattle.command_runs.proofs.StoreLemmas.{none_stored}
+use Rattle.cli_runs.proofs.StoreLemmas.{none_stored}
 use Rattle.cli.proofs.recording.store_composed.Goals as goal
 
 pub returns-in-Some : goal.returns-in-Some

@@ -1,11 +1,11 @@
 use Rattle.std.proofs.Common.{refl, [], List, ℕ, Option, None, ap, subst, sym, ◌∙◌}
 use Rattle.std.specs.Prelude.{Err, option_map}
-use Rattle.command_runs.specs.Storing.{named_file, store_steps}
-use Rattle.command_runs.specs.ShareCourse.{share_answer, share_course, joined_file}
-use Rattle.command_words.specs.declared.words.CommandWords.TheVariants.{Share}
-use Rattle.program_answers.specs.Answer.{Answered}
-use Rattle.command_runs.specs.Run.{CommandRun}
-use Rattle.command_runs.proofs.StoreLemmas.{none_stored}
+use Rattle.cli_runs.specs.Storing.{named_file, store_steps}
+use Rattle.cli_runs.specs.ShareCourse.{share_answer, share_course, joined_file}
+use Rattle.cli_words.specs.declared.words.CommandWords.TheVariants.{Share}
+use Rattle.cli_answers.specs.Answer.{Answered}
+use Rattle.cli_runs.specs.Run.{CommandRun}
+use Rattle.cli_runs.proofs.StoreLemmas.{none_stored}
 use Rattle.cli.specs.Ends.{refusal_by}
 use Rattle.cli.proofs.StoringLemmas.{seen_lent, from_start, refused_run, stopped_run, ended_run}
 use Rattle.cli.proofs.share.share.Goals as goal

@@ -1,10 +1,10 @@
 use Rattle.std.proofs.Common.{map}
-use Rattle.grouping_problem.specs.ProblemValue.{problem_of}
+use Rattle.county_problem.specs.ProblemValue.{problem_of}
 use Rattle.share_board.specs.Events.{event_of}
 use Rattle.board_report.specs.Shared.{IsShared}
-use Rattle.program_answers.specs.Refusals.{board_answer}
-use Rattle.command_runs.specs.BoardCourse.{depth_of, AnswersOnBoard}
-use Rattle.command_runs.proofs.RunLemmas.{refused}
+use Rattle.cli_answers.specs.Refusals.{board_answer}
+use Rattle.cli_runs.specs.BoardCourse.{depth_of, AnswersOnBoard}
+use Rattle.cli_runs.proofs.RunLemmas.{refused}
 use Rattle.cli.proofs.share.taken.Goals as goal
 
 pub returns-in-Err : goal.returns-in-Err

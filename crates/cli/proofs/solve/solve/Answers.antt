@@ -1,8 +1,8 @@
 use Rattle.std.proofs.Common.{refl, []}
 use Rattle.std.specs.Prelude.{Err}
-use Rattle.command_runs.specs.SolveCourse.{solve_course, files_to_store}
-use Rattle.command_runs.proofs.StoreLemmas.{none_stored}
-use Rattle.command_runs.specs.Texts.{solved_of}
+use Rattle.cli_runs.specs.SolveCourse.{solve_course, files_to_store}
+use Rattle.cli_runs.proofs.StoreLemmas.{none_stored}
+use Rattle.cli_runs.specs.Texts.{solved_of}
 use Rattle.cli.proofs.StoringLemmas.{from_start, refused_run, stopped_run, ended_run}
 use Rattle.cli.proofs.solve.solve.Goals as goal
 

@@ -1,7 +1,7 @@
 use Rattle.std.proofs.Common.{◌++◌, List, ℕ, Option, None, ap, subst, sym, ◌∙◌}
 use Rattle.std.specs.Prelude.{Err, option_map}
-use Rattle.command_runs.specs.Storing.{named_file, store_steps}
-use Rattle.command_runs.proofs.StoreLemmas.{stored_after, stores_on}
+use Rattle.cli_runs.specs.Storing.{named_file, store_steps}
+use Rattle.cli_runs.proofs.StoreLemmas.{stored_after, stores_on}
 use Rattle.cli.specs.Ends.{refusal_by}
 use Rattle.cli.proofs.StoringLemmas.{seen_lent, stops_with}
 use Rattle.cli.proofs.solve.store_solved.Goals as goal

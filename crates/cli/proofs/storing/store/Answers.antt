@@ -1,12 +1,12 @@
 use Rattle.std.proofs.Common.{◌∷◌, [], Some, inl, inr, refl, ap}
-use Rattle.program_answers.specs.Answer.{Answered}
-use Rattle.program_answers.specs.Refusals.{shelf_answer}
-use Rattle.program_answers.specs.declared.answer.Refusal.{Refusal}
-use Rattle.program_answers.specs.declared.answer.Refusal.TheVariants.{Shown, Memory}
-use Rattle.program_answers.specs.Answers.{Refuses}
+use Rattle.cli_answers.specs.Answer.{Answered}
+use Rattle.cli_answers.specs.Refusals.{shelf_answer}
+use Rattle.cli_answers.specs.declared.answer.Refusal.{Refusal}
+use Rattle.cli_answers.specs.declared.answer.Refusal.TheVariants.{Shown, Memory}
+use Rattle.cli_answers.specs.Answers.{RefusalShows}
 use Rattle.std.specs.Prelude.{Err}
-use Rattle.command_runs.specs.Storing.{IsAnsweredBy}
-use Rattle.command_runs.proofs.StoreLemmas.{none_stored}
+use Rattle.cli_runs.specs.Storing.{IsAnsweredBy}
+use Rattle.cli_runs.proofs.StoreLemmas.{none_stored}
 use Rattle.cli.specs.Ends.{refusal_by}
 use Rattle.cli.proofs.storing.store.Goals as goal
 
@@ -18,7 +18,7 @@ returns-in-Ok g c = (
 )
 
 -- what is refused with this answer has it, or memory was refused
-answered : (a : Answered) (refusal : Refusal) → Refuses a refusal → IsAnsweredBy (refusal_by (Err refusal)) a
+answered : (a : Answered) (refusal : Refusal) → RefusalShows a refusal → IsAnsweredBy (refusal_by (Err refusal)) a
 answered a (Shown s) h = inl (ap (λ (b : Answered). Some b) h)
 answered a Memory h = inr refl
 

@@ -1,7 +1,7 @@
 use Rattle.std.proofs.Common.{List, ℕ, Option, None, refl, ap, subst, sym, ◌∙◌}
 use Rattle.std.specs.Prelude.{Err, option_map}
-use Rattle.program_answers.specs.Answers.{answer_of}
-use Rattle.command_runs.specs.Storing.{named_file, store_steps}
+use Rattle.cli_answers.specs.Answers.{answer_of}
+use Rattle.cli_runs.specs.Storing.{named_file, store_steps}
 use Rattle.cli.specs.Ends.{refusal_by}
 use Rattle.cli.proofs.StoringLemmas.{seen_lent, refused_said}
 use Rattle.cli.proofs.storing.store_reported.Goals as goal

@@ -1,6 +1,6 @@
 use Rattle.std.proofs.Common.{refl}
 use Rattle.std.proofs.lemmas.Result.{IfOk-from_err}
-use Rattle.county_regions.proofs.Failing.{refused_not_stopped}
+use Rattle.connected_sets.proofs.Failing.{refused_not_stopped}
 use Rattle.connected_groups.proofs.start.groups_from.Goals as goal
 
 pub returns-in_err-near-in_default-clause-groups : goal.returns-in_err-near-in_default-clause-groups

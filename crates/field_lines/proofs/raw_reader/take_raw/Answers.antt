@@ -1,5 +1,5 @@
 use Rattle.std.proofs.Common.{◌≡◌, Some, sym, ◌∙◌, rules}
-use Rattle.field_lines.specs.Front.{IsFront}
+use Rattle.field_lines.specs.Front.{IsFrontPiece}
 use Rattle.field_lines.specs.ReadPiece.{raw_fault_at}
 use Rattle.field_lines.proofs.ReadPieceLemmas.{raw_faulty}
 use Rattle.field_lines.proofs.raw_reader.take_raw.Goals as goal
@@ -11,5 +11,5 @@ returns-in-Some-raw_fault_at g c =
     let front = c.in-Some.front in
     let fault = c.in-Some-raw_fault_at.fault in
     let at : raw_fault_at n front.length ≡ Some fault = sym c.raw_fault_at.ensures ∙ c.in-Some-raw_fault_at.is in
-    let is_front : IsFront new.bytes new.ended front.length front.ended = rw c.in-Some.is at c.in-Ok.ensures.front in
+    let is_front : IsFrontPiece new.bytes new.ended front.length front.ended = rw c.in-Some.is at c.in-Ok.ensures.front in
     raw_faulty n c.args.pulled.now new _ _ (g.S.Source.is_failed c.args.source.now) (g.S.Source.is_failed c.front.new.source) front.ended front.length fault c.front.ensures.pulls is_front (search rules) at

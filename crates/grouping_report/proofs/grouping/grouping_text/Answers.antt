@@ -2,7 +2,7 @@ use Rattle.std.proofs.Common.{List, All, ◌≡◌, ◌∙◌, Ok, ap, subst, ar
 use Rattle.std.proofs.lemmas.Grind.{common_steps}
 use Rattle.std.proofs.lemmas.List.Elements.{All-more}
 use Rattle.county_codes.specs.declared.group.Group.{Group}
-use Rattle.seat_lines.specs.GroupingLines.{grouping_list}
+use Rattle.grouping_reader.specs.GroupingLines.{grouping_list}
 use Rattle.grouping_report.specs.GroupingText.{grouping_text, IsReadable}
 use Rattle.grouping_report.proofs.TextBack.{IsSpelled, text_back}
 use Rattle.grouping_report.proofs.grouping.grouping_text.Goals as goal

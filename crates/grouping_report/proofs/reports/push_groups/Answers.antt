@@ -1,7 +1,7 @@
 use Rattle.std.proofs.Common.{List, ℕ, ◌≤◌, ◌+◌, sym, subst, arith}
 use Rattle.std.proofs.lemmas.Grind.{common_steps}
 use Rattle.grouping_laws.specs.Sets.{often}
-use Rattle.grouping_problem.specs.ProblemValue.{problem_of}
+use Rattle.county_problem.specs.ProblemValue.{problem_of}
 use Rattle.grouping_report.proofs.ReportLemmas.{lines_at, stands_at}
 use Rattle.grouping_report.proofs.reports.push_groups.Goals as goal
 

@@ -1,7 +1,7 @@
 use Rattle.std.proofs.Common.{◌≡◌, ◌≤◌, ◌+◌, ◌++◌, ℕ, drop}
 use Rattle.grouping_laws.specs.Sets.{stands}
 use Rattle.grouping_laws.specs.Grouping.{sets_of}
-use Rattle.grouping_problem.specs.ProblemValue.{problem_of}
+use Rattle.county_problem.specs.ProblemValue.{problem_of}
 use Rattle.grouping_report.specs.Report.{group_lines}
 use Rattle.grouping_report.proofs.reports.push_groups.Given as goal
 

@@ -1,8 +1,8 @@
 use Rattle.std.proofs.Common.{◌∙◌, ◌++◌, ℕ, Option, ap, arith}
 use Rattle.std.proofs.lemmas.List.{at_drop_all}
 use Rattle.grouping_laws.specs.SeatWindow.{seat_run}
-use Rattle.grouping_problem.specs.ProblemValue.{problem_of}
-use Rattle.grouping_problem.specs.Building.{people_in}
+use Rattle.county_problem.specs.ProblemValue.{problem_of}
+use Rattle.county_problem.specs.Building.{people_in}
 use Rattle.grouping_report.specs.SizeTable.{lines_text, county_line}
 use Rattle.grouping_report.proofs.Appends.{step_more, step_done, from_read}
 use Rattle.grouping_report.proofs.table.push_counties.Goals as goal

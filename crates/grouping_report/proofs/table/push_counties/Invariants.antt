@@ -1,5 +1,5 @@
 use Rattle.std.proofs.Common.{◌≡◌, ◌≤◌, ◌++◌, drop}
-use Rattle.grouping_problem.specs.Building.{people_in}
+use Rattle.county_problem.specs.Building.{people_in}
 use Rattle.grouping_report.specs.SizeTable.{lines_text}
 use Rattle.grouping_report.proofs.table.push_counties.Given as goal
 

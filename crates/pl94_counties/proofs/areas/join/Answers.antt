@@ -1,7 +1,7 @@
 use Rattle.std.proofs.Common.{ℕ, List, Option, Result, Ok, sym, ap, ◌∙◌, subst}
 use Rattle.std.specs.Borrow.{Bor}
 use Rattle.field_lines.specs.Cut.{Cut}
-use Rattle.field_lines.specs.LinesFrom.{IsNext, ReadsText}
+use Rattle.field_lines.specs.LinesFrom.{IsNextAnswer, ReadsText}
 use Rattle.field_lines.specs.declared.fault.LineFault.{LineFault}
 use Rattle.field_lines.proofs.ReadingLemmas.{reads_start}
 use Rattle.pl94_counties.specs.declared.fault.Pl94Fault.{Pl94Fault}
@@ -27,7 +27,7 @@ returns-in-Err-add_line-clause-reads g c =
     let after = c.next_from.new.from in
     let new = c.next_from.follows.lender-at-none in
     let r : ℕ × Bor (List ℕ) = (c.in-Ok-Some.line_number, c.in-Ok-Some.line) in
-    let next = subst (λ (a : Result (Option (ℕ × Bor (List ℕ))) LineFault). IsNext (left now.lines) (given now.from) (failed now.from) a (left new) (given after) (failed after))
+    let next = subst (λ (a : Result (Option (ℕ × Bor (List ℕ))) LineFault). IsNextAnswer (left now.lines) (given now.from) (failed now.from) a (left new) (given after) (failed after))
     (c.in-Ok-Some.is ∙ ap (λ (o : Option (ℕ × Bor (List ℕ))). Ok o) c.in-Ok-Some.field-0-is) c.next_from.follows.holds-at-none in
     line_stops (area_on c.args.area c.args.state c.args.records.now.entries) (rule_of c.args.area) Geo (left c.args.lines.now) (left now.lines) (left new) (given c.args.from.now) (given now.from) (given after) (failed now.from) (failed after) (found_list_in c.args.area c.args.state c.args.records.now.entries) now.found.entries now.invariant r next c.in-Err-add_line.kind c.in-Err-add_line.ensures.adds
 
@@ -40,7 +40,7 @@ loop-line_number-preserved g c =
     let after = c.next_from.new.from in
     let new = c.next_from.follows.lender-at-none in
     let r : ℕ × Bor (List ℕ) = (c.in-Ok-Some.line_number, c.in-Ok-Some.line) in
-    let next = subst (λ (a : Result (Option (ℕ × Bor (List ℕ))) LineFault). IsNext (left now.lines) (given now.from) (failed now.from) a (left new) (given after) (failed after))
+    let next = subst (λ (a : Result (Option (ℕ × Bor (List ℕ))) LineFault). IsNextAnswer (left now.lines) (given now.from) (failed now.from) a (left new) (given after) (failed after))
     (c.in-Ok-Some.is ∙ ap (λ (o : Option (ℕ × Bor (List ℕ))). Ok o) c.in-Ok-Some.field-0-is) c.next_from.follows.holds-at-none in
     line_more (area_on c.args.area c.args.state c.args.records.now.entries) (rule_of c.args.area) Geo (left c.args.lines.now) (left now.lines) (left new) (given c.args.from.now) (given now.from) (given after) (failed now.from) (failed after) (found_list_in c.args.area c.args.state c.args.records.now.entries) now.found.entries now.invariant r next c.add_line.new.found.entries c.in_default.ensures.adds
 
@@ -53,7 +53,7 @@ returns-in-Err-clause-reads g c =
     let after = c.next_from.new.from in
     let new = c.next_from.follows.lender-at-none in
     let fault = c.in-Err.fault in
-    let next = subst (λ (a : Result (Option (ℕ × Bor (List ℕ))) LineFault). IsNext (left now.lines) (given now.from) (failed now.from) a (left new) (given after) (failed after))
+    let next = subst (λ (a : Result (Option (ℕ × Bor (List ℕ))) LineFault). IsNextAnswer (left now.lines) (given now.from) (failed now.from) a (left new) (given after) (failed after))
     c.in-Err.is c.next_from.follows.holds-at-none in
     subst (λ (f : Pl94Fault). ReadsText (left c.args.lines.now).cut (given c.args.from.now) (given after) (λ k. StopsAt f ((found_list_in c.args.area c.args.state c.args.records.now.entries) k))) (sym c.of_cut.ensures)
     (text_stops (area_on c.args.area c.args.state c.args.records.now.entries) (rule_of c.args.area) Geo (left c.args.lines.now) (left now.lines) (left new) (given c.args.from.now) (given now.from) (given after) (failed now.from) (failed after) (found_list_in c.args.area c.args.state c.args.records.now.entries) now.found.entries now.invariant fault next)

@@ -5,7 +5,7 @@ use Rattle.field_lines.specs.Cut.{cut}
 use Rattle.pl94_counties.specs.declared.blocks.Block.{Block}
 use Rattle.pl94_counties.specs.declared.geo.Area.TheVariants as areas
 use Rattle.pl94_counties.specs.Counties.{block_of}
-use Rattle.pl94_counties.specs.Joined.{IsJoined, IsListed}
+use Rattle.pl94_counties.specs.Joined.{IsJoined, IsListedArea}
 use Rattle.pl94_counties.proofs.ListLemmas.{codes_made, listed_made, blocks_small}
 use Rattle.pl94_counties.proofs.blocks.read_blocks.Goals as goal
 
@@ -27,7 +27,7 @@ pub returns-clause-each_line : goal.returns-clause-each_line
 returns-clause-each_line c =
     let entries = c.in_ok-found.found.entries in
     let items : c.in_ok-blocks.blocks.items ≡ map (λ e. block_of e.0 e.1) entries = search rules in
-    subst (λ (xs : List Block). All (IsListed block_of areas.Block (cut c.args.segment1.now).lines c.args.state xs) (cut c.args.geo.now).lines) (sym items)
+    subst (λ (xs : List Block). All (IsListedArea block_of areas.Block (cut c.args.segment1.now).lines c.args.state xs) (cut c.args.geo.now).lines) (sym items)
     (listed_made block_of areas.Block (cut c.args.segment1.now).lines c.args.state entries (cut c.args.geo.now).lines c.in_ok-found.ensures.each_line)
 
 pub returns-clause-small : goal.returns-clause-small

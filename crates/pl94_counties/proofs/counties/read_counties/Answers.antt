@@ -9,7 +9,7 @@ use Rattle.pl94_counties.specs.declared.geo.Area.TheVariants as areas
 use Rattle.pl94_counties.specs.Counties.{county_of, county_in}
 use Rattle.pl94_counties.specs.Areas.{area_list}
 use Rattle.pl94_counties.specs.declared.fault.Pl94Fault.{Pl94Fault}
-use Rattle.pl94_counties.specs.Joined.{IsJoined, IsListed}
+use Rattle.pl94_counties.specs.Joined.{IsJoined, IsListedArea}
 use Rattle.pl94_counties.proofs.ListLemmas.{codes_made, listed_made, counties_kept, codes_small}
 use Rattle.pl94_counties.proofs.counties.read_counties.Goals as goal
 
@@ -44,5 +44,5 @@ pub returns-clause-each_line : goal.returns-clause-each_line
 returns-clause-each_line c =
     let entries = c.in_ok-found.found.entries in
     let items : c.in_ok-counties.counties.items ≡ map (λ e. county_of e.0 e.1) entries = listed c.args.geo.now c.args.segment1.now c.args.state entries c.in_ok-counties.counties.items c.requires c.in_ok-found.ensures.from_lines (search rules) in
-    subst (λ (xs : List County). All (IsListed county_of areas.County (cut c.args.segment1.now).lines c.args.state xs) (cut c.args.geo.now).lines) (sym items)
+    subst (λ (xs : List County). All (IsListedArea county_of areas.County (cut c.args.segment1.now).lines c.args.state xs) (cut c.args.geo.now).lines) (sym items)
     (listed_made county_of areas.County (cut c.args.segment1.now).lines c.args.state entries (cut c.args.geo.now).lines c.in_ok-found.ensures.each_line)

@@ -2,17 +2,17 @@ use Rattle.std.proofs.Common.{◌≡◌, ℕ, rules, true, List, Option, Some, N
 use Rattle.pl94_counties.specs.declared.fault.Pl94Kind.TheVariants.{TooFewFields, NoRecord}
 use Rattle.pl94_counties.specs.declared.geo.Area.{Area}
 use Rattle.pl94_counties.specs.Fields.{small_number, GeoFields, geo_fields, fields_shown}
-use Rattle.pl94_counties.specs.Numbered.{Given, people_of}
+use Rattle.pl94_counties.specs.Numbered.{LineEntry, people_at_number}
 use Rattle.pl94_counties.specs.Geo.{area_code, is_line_of, joined, area_on}
 use Rattle.pl94_counties.proofs.LawLemmas.{joined_of, with_people}
 use Rattle.pl94_counties.proofs.geo.area_in.Goals as goal
 
 -- what a line of an area of the state gives, by what its fields spell
 given_people : (area : Area) (state : ℕ) (records : List (ℕ × ℕ)) (line : List ℕ) (g : GeoFields) (code number : ℕ) → geo_fields line ≡ Some g → is_line_of area state g ≡ true
-    → area_code area state g ≡ Some code → small_number g.record_number ≡ Some number → area_on area state records line ≡ with_people code (people_of number records)
+    → area_code area state g ≡ Some code → small_number g.record_number ≡ Some number → area_on area state records line ≡ with_people code (people_at_number number records)
 unfolding area_on
 given_people area state records line g code number has of code_is number_is =
-    ap (λ (o : Option GeoFields). elim o as (λ _. Given) [
+    ap (λ (o : Option GeoFields). elim o as (λ _. LineEntry) [
       | Some g ↦ if is_line_of area state g then joined area state records g else Ok None
       | None ↦ Err TooFewFields
     ]) has
@@ -31,7 +31,7 @@ returns-in_err-people c =
     let of : is_line_of c.args.area c.args.state g ≡ true = search rules in
     let code_is : area_code c.args.area c.args.state g ≡ Some code = search rules in
     let number_is : small_number g.record_number ≡ Some number = search rules in
-    let read : people_of number records ≡ c.copied.result = cc in
+    let read : people_at_number number records ≡ c.copied.result = cc in
     let none : c.copied.result ≡ None = search rules in
     let is : c.from_residual-in_err-people.result ≡ Err NoRecord = search rules in
     is ∙ sym (given_people c.args.area c.args.state records line g code number has of code_is number_is ∙ ap (λ (q : Option ℕ). with_people code q) (read ∙ none))
@@ -47,6 +47,6 @@ returns c =
     let of : is_line_of c.args.area c.args.state g ≡ true = search rules in
     let code_is : area_code c.args.area c.args.state g ≡ Some code = search rules in
     let number_is : small_number g.record_number ≡ Some number = search rules in
-    let read : people_of number records ≡ c.copied.result = cc in
+    let read : people_at_number number records ≡ c.copied.result = cc in
     let some : c.copied.result ≡ Some c.in_ok-people.people = search rules in
     sym (given_people c.args.area c.args.state records line g code number has of code_is number_is ∙ ap (λ (q : Option ℕ). with_people code q) (read ∙ some))

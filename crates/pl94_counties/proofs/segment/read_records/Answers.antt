@@ -1,7 +1,7 @@
 use Rattle.std.proofs.Common.{ℕ, List, Option, Result, Ok, sym, ap, ◌∙◌, subst}
 use Rattle.std.specs.Borrow.{Bor}
 use Rattle.field_lines.specs.Cut.{Cut}
-use Rattle.field_lines.specs.LinesFrom.{IsNext, ReadsText}
+use Rattle.field_lines.specs.LinesFrom.{IsNextAnswer, ReadsText}
 use Rattle.field_lines.specs.declared.fault.LineFault.{LineFault}
 use Rattle.field_lines.proofs.ReadingLemmas.{reads_start}
 use Rattle.pl94_counties.specs.declared.fault.Pl94Fault.{Pl94Fault}
@@ -26,7 +26,7 @@ returns-in-Err-add_record-clause-reads g c =
     let after = c.next_from.new.from in
     let new = c.next_from.follows.lender-at-none in
     let r : ℕ × Bor (List ℕ) = (c.in-Ok-Some.line_number, c.in-Ok-Some.line) in
-    let next = subst (λ (a : Result (Option (ℕ × Bor (List ℕ))) LineFault). IsNext (left now.lines) (given now.from) (failed now.from) a (left new) (given after) (failed after))
+    let next = subst (λ (a : Result (Option (ℕ × Bor (List ℕ))) LineFault). IsNextAnswer (left now.lines) (given now.from) (failed now.from) a (left new) (given after) (failed after))
     (c.in-Ok-Some.is ∙ ap (λ (o : Option (ℕ × Bor (List ℕ))). Ok o) c.in-Ok-Some.field-0-is) c.next_from.follows.holds-at-none in
     line_stops record_on record_rule Segment1 (left c.args.lines.now) (left now.lines) (left new) (given c.args.from.now) (given now.from) (given after) (failed now.from) (failed after) record_list_in now.records.entries now.invariant r next c.in-Err-add_record.kind c.in-Err-add_record.ensures.adds
 
@@ -39,7 +39,7 @@ loop-line_number-preserved g c =
     let after = c.next_from.new.from in
     let new = c.next_from.follows.lender-at-none in
     let r : ℕ × Bor (List ℕ) = (c.in-Ok-Some.line_number, c.in-Ok-Some.line) in
-    let next = subst (λ (a : Result (Option (ℕ × Bor (List ℕ))) LineFault). IsNext (left now.lines) (given now.from) (failed now.from) a (left new) (given after) (failed after))
+    let next = subst (λ (a : Result (Option (ℕ × Bor (List ℕ))) LineFault). IsNextAnswer (left now.lines) (given now.from) (failed now.from) a (left new) (given after) (failed after))
     (c.in-Ok-Some.is ∙ ap (λ (o : Option (ℕ × Bor (List ℕ))). Ok o) c.in-Ok-Some.field-0-is) c.next_from.follows.holds-at-none in
     line_more record_on record_rule Segment1 (left c.args.lines.now) (left now.lines) (left new) (given c.args.from.now) (given now.from) (given after) (failed now.from) (failed after) record_list_in now.records.entries now.invariant r next c.add_record.new.records.entries c.in_default.ensures.adds
 
@@ -52,7 +52,7 @@ returns-in-Err-clause-reads g c =
     let after = c.next_from.new.from in
     let new = c.next_from.follows.lender-at-none in
     let fault = c.in-Err.fault in
-    let next = subst (λ (a : Result (Option (ℕ × Bor (List ℕ))) LineFault). IsNext (left now.lines) (given now.from) (failed now.from) a (left new) (given after) (failed after))
+    let next = subst (λ (a : Result (Option (ℕ × Bor (List ℕ))) LineFault). IsNextAnswer (left now.lines) (given now.from) (failed now.from) a (left new) (given after) (failed after))
     c.in-Err.is c.next_from.follows.holds-at-none in
     subst (λ (f : Pl94Fault). ReadsText (left c.args.lines.now).cut (given c.args.from.now) (given after) (λ k. StopsAt f (record_list_in k))) (sym c.of_cut.ensures)
     (text_stops record_on record_rule Segment1 (left c.args.lines.now) (left now.lines) (left new) (given c.args.from.now) (given now.from) (given after) (failed now.from) (failed after) record_list_in now.records.entries now.invariant fault next)

@@ -1,13 +1,13 @@
 use Rattle.std.proofs.Common.{◌≡◌, ℕ, ◌+◌, drop, option_map, Some, None, IfSome, sym, ap, ◌∙◌, subst, arith}
 use Rattle.std.proofs.lemmas.List.{drop_all}
-use Rattle.proof_trees.specs.Tree.{leaf, branch, take}
-use Rattle.certificate_text.specs.Trees.{leaf_of, tree_of, list_of_takes}
-use Rattle.certificate_text.specs.declared.tree.Tree.{Tree as TreeHeld, out-Tree}
-use Rattle.certificate_text.specs.declared.tree.Branch.{out-Branch}
-use Rattle.certificate_text.specs.declared.tree.Take.{out-Take, roll-Take}
-use Rattle.certificate_text.proofs.TreeViews.{list_onto}
-use Rattle.certificate_text.proofs.CopyLaws.{takes_onto}
-use Rattle.shared_proofs.specs.Skeleton.{joined, joined_parts}
+use Rattle.certificate_data.specs.Tree.{leaf, branch, take}
+use Rattle.certificate_data.specs.TreeValue.{leaf_of, tree_of, list_of_takes}
+use Rattle.certificate_data.specs.declared.tree.Tree.{Tree as TreeHeld, out-Tree}
+use Rattle.certificate_data.specs.declared.tree.Branch.{out-Branch}
+use Rattle.certificate_data.specs.declared.tree.Take.{out-Take, roll-Take}
+use Rattle.certificate_data.proofs.TreeLists.{list_onto}
+use Rattle.certificate_data.proofs.CopyLaws.{takes_onto}
+use Rattle.board_laws.specs.Skeleton.{joined, joined_parts}
 use Rattle.share_board.specs.Held.{ShowsAbove, PartsShowAbove}
 use Rattle.share_board.proofs.Onto.{takes_all, made_take}
 use Rattle.share_board.proofs.Joins.{both_none, one_take, one_branch}

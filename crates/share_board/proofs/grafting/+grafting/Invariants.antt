@@ -1,11 +1,11 @@
 use Rattle.std.proofs.Common.{◌≡◌, ℕ, drop, option_map}
-use Rattle.proof_trees.specs.Tree.{Tree}
-use Rattle.shared_proofs.specs.Skeleton.{Skeleton, Parts, joined, joined_parts}
-use Rattle.certificate_text.specs.Trees.{tree_of, list_of_takes}
-use Rattle.certificate_text.specs.declared.tree.Branch.{out-Branch}
+use Rattle.certificate_data.specs.Tree.{Tree}
+use Rattle.board_laws.specs.Skeleton.{Skeleton, Parts, joined, joined_parts}
+use Rattle.certificate_data.specs.TreeValue.{tree_of, list_of_takes}
+use Rattle.certificate_data.specs.declared.tree.Branch.{out-Branch}
 use Rattle.share_board.proofs.Grafts.{deep, deep_in}
-use Rattle.certificate_text.proofs.TreeViews.{list_onto}
-use Rattle.certificate_text.proofs.CopyLaws.{takes_onto}
+use Rattle.certificate_data.proofs.TreeLists.{list_onto}
+use Rattle.certificate_data.proofs.CopyLaws.{takes_onto}
 use Rattle.share_board.specs.Held.{ShowsAbove, PartsShowAbove}
 use Rattle.share_board.proofs.grafting.+grafting.Given as goal
 

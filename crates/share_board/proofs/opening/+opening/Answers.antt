@@ -1,9 +1,9 @@
 use Rattle.std.proofs.Common.{◌-◌, ◌+◌, Err, length, drop, sym, ap, subst, arith}
-use Rattle.certificate_text.specs.Trees.{tree_of, list_of_takes}
-use Rattle.certificate_text.specs.declared.tree.Take.{roll-Take}
-use Rattle.ordered_counties.specs.OrderedValue.{code_at}
-use Rattle.line_verdicts.specs.Placed.{codes_of_set, codes_of_sets, IsClosable}
-use Rattle.share_board.specs.Opened.{IsOpened, AreOpened, problem_in, round_in, state_in, IsHalted, AreHalted}
+use Rattle.certificate_data.specs.TreeValue.{tree_of, list_of_takes}
+use Rattle.certificate_data.specs.declared.tree.Take.{roll-Take}
+use Rattle.county_problem.specs.OrderedValue.{code_at}
+use Rattle.state_judge.specs.Placed.{codes_of_set, codes_of_sets, IsClosable}
+use Rattle.share_board.specs.Opened.{IsOpened, AreOpened, board_problem, board_round, board_state, IsHalted, AreHalted}
 use Rattle.share_board.proofs.Onto.{made_take}
 use Rattle.share_board.proofs.Openings.{are_opened_kept, branch_opened}
 use Rattle.share_board.proofs.Branching.{plain_names, OpenOn, MoreOn, take_halted, takes_halted, raised_halted, line_halted, open_more, more_more, open_end, left_sets, no_sets_left}
@@ -12,25 +12,25 @@ use Rattle.share_board.proofs.opening.+opening.Goals as goal
 pub open_branch-returns-in-Err-clause-stopped : goal.open_branch-returns-in-Err-clause-stopped
 open_branch-returns-in-Err-clause-stopped g t c =
     let test = g.C.CountySet.test in
-    let ground = c.args.ground.now in
-    let order = ground.ordered.now.order in
-    let p = problem_in ground in
-    let round = round_in ground in
-    let s = state_in ground test c.args.state in
+    let input = c.args.input.now in
+    let order = input.ordered.now.order in
+    let p = board_problem input in
+    let round = board_round input in
+    let s = board_state input test c.args.state in
     let first = length c.args.states.now.items in
     let branching = c.args.branching.now in
     let is = c.requires.branching in
-    takes_halted p round c.requires.plain ground.share c.args.depth s (code_at order branching.place) (codes_of_sets order test branching.groups.items) first c.requires.some is.can is.groups c.in-Err.stop
-    (subst (λ z. AreHalted p round ground.share (c.args.depth - 1) s (codes_of_sets order test z) first c.in-Err.stop) c.deref.ensures.value c.in-Err.ensures.stopped)
+    takes_halted p round c.requires.plain input.share c.args.depth s (code_at order branching.place) (codes_of_sets order test branching.groups.items) first c.requires.some is.can is.groups c.in-Err.stop
+    (subst (λ z. AreHalted p round input.share (c.args.depth - 1) s (codes_of_sets order test z) first c.in-Err.stop) c.deref.ensures.value c.in-Err.ensures.stopped)
 
 pub open_branch-returns-in-Err-open_tree-clause-stopped : goal.open_branch-returns-in-Err-open_tree-clause-stopped
 open_branch-returns-in-Err-open_tree-clause-stopped g t c =
     let test = g.C.CountySet.test in
-    let ground = c.args.ground.now in
-    let order = ground.ordered.now.order in
-    let p = problem_in ground in
-    let round = round_in ground in
-    let s = state_in ground test c.args.state in
+    let input = c.args.input.now in
+    let order = input.ordered.now.order in
+    let p = board_problem input in
+    let round = board_round input in
+    let s = board_state input test c.args.state in
     let first = length c.args.states.now.items in
     let middle = c.open_takes.new.states.items in
     let branching = c.args.branching.now in
@@ -38,18 +38,18 @@ open_branch-returns-in-Err-open_tree-clause-stopped g t c =
     let stop = c.in-Err-open_tree.stop in
     let takes = list_of_takes c.in-Ok.takes.items in
     let opened = subst (λ z. AreOpened test p round (c.args.depth - 1) s (codes_of_sets order test z) takes first (length middle) middle) c.deref.ensures.value c.in-Ok.ensures.opened in
-    let halted = subst (λ z. IsHalted p round ground.share (c.args.depth - 1) z (length middle) stop) c.raise_place.ensures.value c.in-Err-open_tree.ensures.stopped in
-    raised_halted p round c.requires.plain ground.share c.args.depth s (code_at order branching.place) (codes_of_sets order test branching.groups.items) first c.requires.some is.can is.groups test takes (length middle) middle stop opened halted
+    let halted = subst (λ z. IsHalted p round input.share (c.args.depth - 1) z (length middle) stop) c.raise_place.ensures.value c.in-Err-open_tree.ensures.stopped in
+    raised_halted p round c.requires.plain input.share c.args.depth s (code_at order branching.place) (codes_of_sets order test branching.groups.items) first c.requires.some is.can is.groups test takes (length middle) middle stop opened halted
 
 pub open_branch-returns-clause-opened : goal.open_branch-returns-clause-opened
 open_branch-returns-clause-opened g t c =
     let test = g.C.CountySet.test in
-    let ground = c.args.ground.now in
-    let order = ground.ordered.now.order in
-    let p = problem_in ground in
-    let round = round_in ground in
+    let input = c.args.input.now in
+    let order = input.ordered.now.order in
+    let p = board_problem input in
+    let round = board_round input in
     let depth = c.args.depth in
-    let s = state_in ground test c.args.state in
+    let s = board_state input test c.args.state in
     let first = length c.args.states.now.items in
     let middle = c.open_takes.new.states.items in
     let last = c.open_tree.new.states.items in
@@ -74,11 +74,11 @@ open_takes-closed_state-requires-clause-group g t c = subst (IsClosable g.C.Coun
 pub open_takes-returns-in-Err-clause-stopped : goal.open_takes-returns-in-Err-clause-stopped
 open_takes-returns-in-Err-clause-stopped g t c =
     let test = g.C.CountySet.test in
-    let ground = c.args.ground.now in
-    let order = ground.ordered.now.order in
-    let p = problem_in ground in
-    let round = round_in ground in
-    let s = state_in ground test c.args.state.now in
+    let input = c.args.input.now in
+    let order = input.ordered.now.order in
+    let p = board_problem input in
+    let round = board_round input in
+    let s = board_state input test c.args.state.now in
     let first = length c.args.states.now.items in
     let here = length c.taking.states.items in
     let groups = c.args.groups.now in
@@ -86,19 +86,19 @@ open_takes-returns-in-Err-clause-stopped g t c =
     let item = c.group-item.result in
     let stop = c.in-Err.stop in
     let all = codes_of_sets order test groups in
-    let halted = subst (λ z. IsHalted p round ground.share c.args.depth z here stop) c.in_ok-closed.ensures.value c.in-Err.ensures.stopped in
+    let halted = subst (λ z. IsHalted p round input.share c.args.depth z here stop) c.in_ok-closed.ensures.value c.in-Err.ensures.stopped in
     let more = subst (λ z. MoreOn p round c.args.depth s first all z here) (left_sets order test groups i item c.group-item.is c.taking-test.true) c.taking.invariant.more in
-    take_halted p round c.requires.plain ground.share c.args.depth s (codes_of_set order test item) (codes_of_sets order test (drop (i + 1) groups)) all first here stop halted more
+    take_halted p round c.requires.plain input.share c.args.depth s (codes_of_set order test item) (codes_of_sets order test (drop (i + 1) groups)) all first here stop halted more
 
 pub open_takes-taking-preserved : goal.open_takes-taking-preserved
 open_takes-taking-preserved g t c =
     let test = g.C.CountySet.test in
-    let ground = c.args.ground.now in
-    let order = ground.ordered.now.order in
-    let p = problem_in ground in
-    let round = round_in ground in
+    let input = c.args.input.now in
+    let order = input.ordered.now.order in
+    let p = board_problem input in
+    let round = board_round input in
     let depth = c.args.depth in
-    let s = state_in ground test c.args.state.now in
+    let s = board_state input test c.args.state.now in
     let first = length c.args.states.now.items in
     let states = c.taking.states.items in
     let later = c.open_tree.new.states.items in
@@ -124,19 +124,19 @@ open_takes-taking-preserved g t c =
 pub open_takes-returns-clause-opened : goal.open_takes-returns-clause-opened
 open_takes-returns-clause-opened g t c =
     let test = g.C.CountySet.test in
-    let ground = c.args.ground.now in
-    let order = ground.ordered.now.order in
+    let input = c.args.input.now in
+    let order = input.ordered.now.order in
     let groups = c.args.groups.now in
     let i = c.taking.group-index in
-    open_end test (problem_in ground) (round_in ground) c.args.depth (state_in ground test c.args.state.now) (length c.args.states.now.items) (codes_of_sets order test groups) c.taking.takes.items c.taking.states.items (codes_of_sets order test (drop i groups))
+    open_end test (board_problem input) (board_round input) c.args.depth (board_state input test c.args.state.now) (length c.args.states.now.items) (codes_of_sets order test groups) c.taking.takes.items c.taking.states.items (codes_of_sets order test (drop i groups))
     (no_sets_left order test groups i (omega (arith, c.taking-test.false))) c.taking.invariant.opened
 
 pub open_tree-returns-in-Err-clause-stopped : goal.open_tree-returns-in-Err-clause-stopped
 open_tree-returns-in-Err-clause-stopped g t c =
-    let ground = c.args.ground.now in
-    let p = problem_in ground in
-    let round = round_in ground in
-    let s = state_in ground g.C.CountySet.test c.args.state in
+    let input = c.args.input.now in
+    let p = board_problem input in
+    let round = board_round input in
+    let s = board_state input g.C.CountySet.test c.args.state in
     let first = length c.args.states.now.items in
-    subst (IsHalted p round ground.share c.args.depth s first) (sym c.from.ensures)
-    (line_halted p round ground.share c.args.depth s first c.in-Err.stop (omega (arith, c.if-depth-eq0.false)) (λ k. c.in-Err.ensures.stopped (ap Err k)))
+    subst (IsHalted p round input.share c.args.depth s first) (sym c.from.ensures)
+    (line_halted p round input.share c.args.depth s first c.in-Err.stop (omega (arith, c.if-depth-eq0.false)) (λ k. c.in-Err.ensures.stopped (ap Err k)))

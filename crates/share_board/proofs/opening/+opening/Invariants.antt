@@ -1,7 +1,7 @@
 use Rattle.std.proofs.Common.{◌+◌, ◌*◌, ◌≤◌, length, drop}
-use Rattle.line_verdicts.specs.Placed.{codes_of_sets}
+use Rattle.state_judge.specs.Placed.{codes_of_sets}
 use Rattle.share_board.specs.Replies.{most_opening}
-use Rattle.share_board.specs.Opened.{AreKept, problem_in, round_in, state_in}
+use Rattle.share_board.specs.Opened.{StatesAreKept, board_problem, board_round, board_state}
 use Rattle.share_board.proofs.Branching.{OpenOn, MoreOn}
 use Rattle.share_board.proofs.opening.+opening.Given as goal
 
@@ -16,10 +16,10 @@ decreases-open_takes g l = 3 * l.depth + 2
 
 abbrev pub invariant-open_takes-taking : goal.invariant-open_takes-taking
 invariant-open_takes-taking g l = record {
-  kept : AreKept l.ground.round.now.order g.C.CountySet.test l.fn.states.items l.states.items;
+  kept : StatesAreKept l.input.round.now.order g.C.CountySet.test l.fn.states.items l.states.items;
   few : length l.states.items ≤ most_opening;
-  opened : OpenOn g.C.CountySet.test (problem_in l.ground) (round_in l.ground) l.depth (state_in l.ground g.C.CountySet.test l.state) (length l.fn.states.items) (codes_of_sets l.ground.ordered.now.order g.C.CountySet.test l.groups)
-      (codes_of_sets l.ground.ordered.now.order g.C.CountySet.test (drop l.group-index l.groups)) l.takes.items l.states.items;
-  more : MoreOn (problem_in l.ground) (round_in l.ground) l.depth (state_in l.ground g.C.CountySet.test l.state) (length l.fn.states.items) (codes_of_sets l.ground.ordered.now.order g.C.CountySet.test l.groups)
-      (codes_of_sets l.ground.ordered.now.order g.C.CountySet.test (drop l.group-index l.groups)) (length l.states.items);
+  opened : OpenOn g.C.CountySet.test (board_problem l.input) (board_round l.input) l.depth (board_state l.input g.C.CountySet.test l.state) (length l.fn.states.items) (codes_of_sets l.input.ordered.now.order g.C.CountySet.test l.groups)
+      (codes_of_sets l.input.ordered.now.order g.C.CountySet.test (drop l.group-index l.groups)) l.takes.items l.states.items;
+  more : MoreOn (board_problem l.input) (board_round l.input) l.depth (board_state l.input g.C.CountySet.test l.state) (length l.fn.states.items) (codes_of_sets l.input.ordered.now.order g.C.CountySet.test l.groups)
+      (codes_of_sets l.input.ordered.now.order g.C.CountySet.test (drop l.group-index l.groups)) (length l.states.items);
 }

@@ -1,7 +1,7 @@
 use Rattle.std.proofs.Common.{length, ap, subst, arith}
-use Rattle.grouping_problem.specs.ProblemValue.{problem_of}
-use Rattle.proof_trees.specs.RoundValue.{round_of}
-use Rattle.proof_trees.specs.State.{empty_state}
+use Rattle.county_problem.specs.ProblemValue.{problem_of}
+use Rattle.certificate_data.specs.RoundValue.{round_of}
+use Rattle.certificate_laws.specs.State.{empty_state}
 use Rattle.share_board.specs.Opened.{IsHalted}
 use Rattle.share_board.proofs.Branching.{opening_halted}
 use Rattle.share_board.proofs.opening.opened.Goals as goal

@@ -1,8 +1,8 @@
 use Rattle.std.proofs.Common.{◌≡◌, ◌∷◌, ◌++◌, [], List, None, IfOk, ap, ◌∙◌, subst}
-use Rattle.certificate_text.specs.Trees.{tree_of, list_of_takes}
-use Rattle.certificate_text.specs.declared.tree.Branch.{Branch, roll-Branch}
-use Rattle.certificate_text.proofs.TreeViews.{list_onto, made_takes}
-use Rattle.proof_trees.specs.Tree.{branch}
+use Rattle.certificate_data.specs.TreeValue.{tree_of, list_of_takes}
+use Rattle.certificate_data.specs.declared.tree.Branch.{Branch, roll-Branch}
+use Rattle.certificate_data.proofs.TreeLists.{list_onto, made_takes}
+use Rattle.certificate_data.specs.Tree.{branch}
 use Rattle.share_board.proofs.steps.branched.Goals as goal
 
 pub returns : goal.returns

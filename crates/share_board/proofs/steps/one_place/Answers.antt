@@ -1,7 +1,7 @@
 use Rattle.std.proofs.Common.{ap, ◌∙◌}
-use Rattle.proof_trees.specs.Tree.{leaf, seats}
-use Rattle.certificate_text.specs.declared.tree.Leaf.TheVariants.{Seats}
-use Rattle.certificate_text.proofs.TreeViews.{list_onto, made_tree}
+use Rattle.certificate_data.specs.Tree.{leaf, seats}
+use Rattle.certificate_data.specs.declared.tree.Leaf.TheVariants.{Seats}
+use Rattle.certificate_data.proofs.TreeLists.{list_onto, made_tree}
 use Rattle.share_board.proofs.steps.one_place.Goals as goal
 
 pub returns : goal.returns

@@ -1,16 +1,16 @@
 use Rattle.std.proofs.Common.{length, arith}
-use Rattle.certificate_text.specs.Trees.{tree_of}
-use Rattle.share_board.specs.Opened.{problem_in, round_in, state_in}
+use Rattle.certificate_data.specs.TreeValue.{tree_of}
+use Rattle.share_board.specs.Opened.{board_problem, board_round, board_state}
 use Rattle.share_board.proofs.Branching.{placed}
 use Rattle.share_board.proofs.Openings.{piece_more}
 use Rattle.share_board.proofs.steps.place_piece.Goals as goal
 
 pub returns-then-len-ge4096-clause-stopped : goal.returns-then-len-ge4096-clause-stopped
 returns-then-len-ge4096-clause-stopped g c =
-    let ground = c.args.ground.now in
-    piece_more (problem_in ground) (round_in ground) c.args.depth (state_in ground g.C.CountySet.test c.args.state) (length c.args.states.now.items) (omega (arith, c.if-len-ge4096.true, c.len.ensures))
+    let input = c.args.input.now in
+    piece_more (board_problem input) (board_round input) c.args.depth (board_state input g.C.CountySet.test c.args.state) (length c.args.states.now.items) (omega (arith, c.if-len-ge4096.true, c.len.ensures))
 
 pub returns-clause-opened : goal.returns-clause-opened
 returns-clause-opened g c =
-    let ground = c.args.ground.now in
-    placed g.C.CountySet.test (problem_in ground) (round_in ground) ground.ordered.now.order c.args.depth c.args.states.now.items c.keep_state.new.states.items c.args.state (tree_of c.one_place.result) c.requires.ground.order c.requires.placed c.requires.ends c.in_ok-keep_state.ensures c.one_place.ensures
+    let input = c.args.input.now in
+    placed g.C.CountySet.test (board_problem input) (board_round input) input.ordered.now.order c.args.depth c.args.states.now.items c.keep_state.new.states.items c.args.state (tree_of c.one_place.result) c.requires.input.order c.requires.placed c.requires.ends c.in_ok-keep_state.ensures c.one_place.ensures

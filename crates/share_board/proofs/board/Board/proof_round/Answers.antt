@@ -1,10 +1,10 @@
 use Rattle.std.proofs.Common.{sym, subst}
-use Rattle.grouping_problem.specs.ProblemValue.{problem_of}
+use Rattle.county_problem.specs.ProblemValue.{problem_of}
 use Rattle.grouping_laws.specs.GroupsFrom.{IsOrder}
-use Rattle.proof_trees.specs.Round.{Round}
-use Rattle.proof_trees.specs.State.{IsState, empty_state}
-use Rattle.proof_trees.proofs.Agreement.{empty_is_state}
-use Rattle.shared_proofs.proofs.Pieces.{pieces_stand}
+use Rattle.certificate_data.specs.Round.{Round}
+use Rattle.certificate_laws.specs.State.{IsState, empty_state}
+use Rattle.certificate_laws.proofs.Agreement.{empty_is_state}
+use Rattle.board_laws.proofs.Pieces.{pieces_stand}
 use Rattle.share_board.proofs.board.Board.proof_round.Goals as goal
 
 pub returns-clause-order : goal.returns-clause-order

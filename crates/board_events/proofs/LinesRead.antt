@@ -1,0 +1,161 @@
+-- A first line that is read is that of the event, word by word, and its numbers are in their ranges.
+use Rattle.std.proofs.Common.{◌≡◌, ℕ, ◌≤◌, cond, Bool, true, false, List, [], ◌∷◌, ◌++◌, length, drop, codes, Ok, Err, refl, ap, sym, subst, ◌∙◌, arith, lit<}
+use Rattle.std.specs.Fmt.{decimal}
+use Rattle.std.specs.List.{join_with_byte}
+use Rattle.field_lines.specs.Raw.{RawLine, bytes_of}
+use Rattle.certificate_lines.specs.Words.{line_words}
+use Rattle.certificate_lines.specs.Lines.{most, begins, counted, number_at, code_word_at}
+use Rattle.certificate_lines.specs.Items.{by_words}
+use Rattle.county_codes.specs.Digits.{five_digits}
+use Rattle.certificate_lines.specs.declared.fault.TextKind.TheVariants.{BadWord}
+use Rattle.certificate_lines.proofs.WordLaws.{bind_ok}
+use Rattle.certificate_lines.proofs.FormLaws.{named_ok, counted_ok, number_at_ok, code_at_ok}
+use Rattle.certificate_lines.proofs.TextLaws.{line_words_ok}
+use Rattle.board_events.specs.Lines.{greatest, hand_on, result_on, split_on, better_on, wider_on, event_on}
+use Rattle.board_events.specs.Spelled.{event_words, event_line, FitsLine}
+use Rattle.board_events.specs.declared.line.EventLine.{EventLine}
+use Rattle.board_events.specs.declared.line.EventLine.TheVariants.{Hand, Result as Proof, Split, Better, Wider}
+
+empty : (words : List (List ℕ)) → length words ≤ 0 → words ≡ []
+empty [] few = refl
+empty (word ∷ words) few = absurd (omega (arith, few))
+
+begins_ok : (name : List ℕ) (words : List (List ℕ)) → begins name words ≡ true → words ≡ name ∷ drop 1 words
+begins_ok name words e = named_ok name words (drop 1 words) (rw e refl)
+
+-- words are those of a line, whose numbers are in their ranges
+record AreOf (words : List (List ℕ)) (line : EventLine) : Type 0 where
+  pub words_are : words ≡ event_words line
+  pub fits : FitsLine line
+
+hand_ok : (words : List (List ℕ)) (line : EventLine) → hand_on words ≡ Ok line → AreOf (codes "hand" ∷ words) line
+unfolding hand_on
+hand_ok words line h =
+    let a = bind_ok (counted 1 1 words) _ line h in
+    let b = bind_ok (number_at 0 greatest a.value) _ line a.then in
+    let few = counted_ok 1 1 words a.value a.first in
+    let n = number_at_ok 0 greatest (lit< tt) a.value b.value b.first in
+    let same : Hand b.value.0 ≡ line = cc (b.then) in
+    let none : b.value.1 ≡ [] = empty b.value.1 (omega (arith, few.to, ap length n.words_are)) in
+    subst (λ (l : EventLine). AreOf (codes "hand" ∷ words) l) same (record {
+      words_are = ap (λ (ws : List (List ℕ)). codes "hand" ∷ ws) (few.same ∙ n.words_are ∙ ap (λ (ws : List (List ℕ)). decimal b.value.0 ∷ ws) none);
+      fits = n.to;
+    })
+
+result_ok : (words : List (List ℕ)) (line : EventLine) → result_on words ≡ Ok line → AreOf (codes "result" ∷ words) line
+unfolding result_on
+result_ok words line h =
+    let a = bind_ok (counted 2 2 words) _ line h in
+    let b = bind_ok (number_at 0 greatest a.value) _ line a.then in
+    let d = bind_ok (number_at 0 greatest b.value.1) _ line b.then in
+    let few = counted_ok 2 2 words a.value a.first in
+    let n = number_at_ok 0 greatest (lit< tt) a.value b.value b.first in
+    let m = number_at_ok 0 greatest (lit< tt) b.value.1 d.value d.first in
+    let same : Proof b.value.0 d.value.0 ≡ line = cc (d.then) in
+    let none : d.value.1 ≡ [] = empty d.value.1 (omega (arith, few.to, ap length n.words_are, ap length m.words_are)) in
+    subst (λ (l : EventLine). AreOf (codes "result" ∷ words) l) same (record {
+      words_are = ap (λ (ws : List (List ℕ)). codes "result" ∷ ws) (few.same ∙ n.words_are ∙ ap (λ (ws : List (List ℕ)). decimal b.value.0 ∷ ws) (m.words_are ∙ ap (λ (ws : List (List ℕ)). decimal d.value.0 ∷ ws) none));
+      fits = (n.to, m.to);
+    })
+
+split_ok : (words : List (List ℕ)) (line : EventLine) → split_on words ≡ Ok line → AreOf (codes "split" ∷ words) line
+unfolding split_on
+split_ok words line h =
+    let a = bind_ok (counted 4 4 words) _ line h in
+    let b = bind_ok (number_at 0 greatest a.value) _ line a.then in
+    let d = bind_ok (number_at 0 greatest b.value.1) _ line b.then in
+    let e = bind_ok (code_word_at d.value.1) _ line d.then in
+    let f = bind_ok (number_at 1 most e.value.1) _ line e.then in
+    let few = counted_ok 4 4 words a.value a.first in
+    let n = number_at_ok 0 greatest (lit< tt) a.value b.value b.first in
+    let m = number_at_ok 0 greatest (lit< tt) b.value.1 d.value d.first in
+    let k = code_at_ok d.value.1 e.value e.first in
+    let j = number_at_ok 1 most (lit< tt) e.value.1 f.value f.first in
+    let same : Split b.value.0 d.value.0 e.value.0 f.value.0 ≡ line = cc (f.then) in
+    let none : f.value.1 ≡ [] = empty f.value.1 (omega (arith, few.to, ap length n.words_are, ap length m.words_are, ap length k.words_are, ap length j.words_are)) in
+    subst (λ (l : EventLine). AreOf (codes "split" ∷ words) l) same (record {
+      words_are = ap (λ (ws : List (List ℕ)). codes "split" ∷ ws)
+          (few.same ∙ n.words_are ∙ ap (λ (ws : List (List ℕ)). decimal b.value.0 ∷ ws)
+          (m.words_are ∙ ap (λ (ws : List (List ℕ)). decimal d.value.0 ∷ ws)
+          (k.words_are ∙ ap (λ (ws : List (List ℕ)). five_digits e.value.0 ∷ ws) (j.words_are ∙ ap (λ (ws : List (List ℕ)). decimal f.value.0 ∷ ws) none))));
+      fits = (n.to, m.to, k.to, j.from, j.to);
+    })
+
+better_ok : (words : List (List ℕ)) (line : EventLine) → better_on words ≡ Ok line → AreOf (codes "better" ∷ words) line
+unfolding better_on
+better_ok words line h =
+    let a = bind_ok (counted 2 2 words) _ line h in
+    let b = bind_ok (number_at 0 greatest a.value) _ line a.then in
+    let d = bind_ok (number_at 0 most b.value.1) _ line b.then in
+    let few = counted_ok 2 2 words a.value a.first in
+    let n = number_at_ok 0 greatest (lit< tt) a.value b.value b.first in
+    let m = number_at_ok 0 most (lit< tt) b.value.1 d.value d.first in
+    let same : Better b.value.0 d.value.0 ≡ line = cc (d.then) in
+    let none : d.value.1 ≡ [] = empty d.value.1 (omega (arith, few.to, ap length n.words_are, ap length m.words_are)) in
+    subst (λ (l : EventLine). AreOf (codes "better" ∷ words) l) same (record {
+      words_are = ap (λ (ws : List (List ℕ)). codes "better" ∷ ws) (few.same ∙ n.words_are ∙ ap (λ (ws : List (List ℕ)). decimal b.value.0 ∷ ws) (m.words_are ∙ ap (λ (ws : List (List ℕ)). decimal d.value.0 ∷ ws) none));
+      fits = (n.to, m.to);
+    })
+
+wider_ok : (words : List (List ℕ)) (line : EventLine) → wider_on words ≡ Ok line → AreOf (codes "wider" ∷ words) line
+unfolding wider_on
+wider_ok words line h =
+    let a = bind_ok (counted 1 1 words) _ line h in
+    let b = bind_ok (number_at 0 greatest a.value) _ line a.then in
+    let few = counted_ok 1 1 words a.value a.first in
+    let n = number_at_ok 0 greatest (lit< tt) a.value b.value b.first in
+    let same : Wider b.value.0 ≡ line = cc (b.then) in
+    let none : b.value.1 ≡ [] = empty b.value.1 (omega (arith, few.to, ap length n.words_are)) in
+    subst (λ (l : EventLine). AreOf (codes "wider" ∷ words) l) same (record {
+      words_are = ap (λ (ws : List (List ℕ)). codes "wider" ∷ ws) (few.same ∙ n.words_are ∙ ap (λ (ws : List (List ℕ)). decimal b.value.0 ∷ ws) none);
+      fits = n.to;
+    })
+
+module _ (words : List (List ℕ)) (line : EventLine) where
+  -- the first word is this one, and what is behind it was read
+  named_as : (name : List ℕ) → begins name words ≡ true → AreOf (name ∷ drop 1 words) line → AreOf words line
+  named_as name e is = record { words_are = begins_ok name words e ∙ is.words_are; fits = is.fits }
+
+  wider_go : (t : Bool) → begins (codes "wider") words ≡ t → cond t (wider_on (drop 1 words)) (Err BadWord) ≡ Ok line → AreOf words line
+  wider_go false e h = cc
+  wider_go true e h = named_as (codes "wider") e (wider_ok (drop 1 words) line h)
+
+  better_go : (t : Bool) → begins (codes "better") words ≡ t → cond t (better_on (drop 1 words)) (cond (begins (codes "wider") words) (wider_on (drop 1 words)) (Err BadWord)) ≡ Ok line → AreOf words line
+  better_go false e h = wider_go _ refl h
+  better_go true e h = named_as (codes "better") e (better_ok (drop 1 words) line h)
+
+  split_go : (t : Bool) → begins (codes "split") words ≡ t
+      → cond t (split_on (drop 1 words)) (cond (begins (codes "better") words) (better_on (drop 1 words)) (cond (begins (codes "wider") words) (wider_on (drop 1 words)) (Err BadWord))) ≡ Ok line → AreOf words line
+  split_go false e h = better_go _ refl h
+  split_go true e h = named_as (codes "split") e (split_ok (drop 1 words) line h)
+
+  result_go : (t : Bool) → begins (codes "result") words ≡ t
+      → cond t (result_on (drop 1 words)) (cond (begins (codes "split") words) (split_on (drop 1 words)) (cond (begins (codes "better") words) (better_on (drop 1 words)) (cond (begins (codes "wider") words) (wider_on (drop 1 words)) (Err BadWord)))) ≡ Ok line
+      → AreOf words line
+  result_go false e h = split_go _ refl h
+  result_go true e h = named_as (codes "result") e (result_ok (drop 1 words) line h)
+
+  hand_go : (t : Bool) → begins (codes "hand") words ≡ t
+      → cond t (hand_on (drop 1 words)) (cond (begins (codes "result") words) (result_on (drop 1 words)) (cond (begins (codes "split") words) (split_on (drop 1 words)) (cond (begins (codes "better") words) (better_on (drop 1 words)) (cond (begins (codes "wider") words) (wider_on (drop 1 words)) (Err BadWord))))) ≡ Ok line
+      → AreOf words line
+  hand_go false e h = result_go _ refl h
+  hand_go true e h = named_as (codes "hand") e (hand_ok (drop 1 words) line h)
+
+  event_ok : event_on words ≡ Ok line → AreOf words line
+  unfolding event_on
+  event_ok h = hand_go _ refl h
+
+-- a line that was read is the event's
+pub record WasRead (piece : RawLine) (line : EventLine) : Type 0 where
+  pub bytes : bytes_of piece ≡ event_line line
+  pub fits : FitsLine line
+
+pub event_read : (piece : RawLine) (line : EventLine) → by_words event_on piece ≡ Ok line → WasRead piece line
+event_read piece line h =
+    let w = bind_ok (line_words piece.bytes piece.ended) event_on line h in
+    let whole = line_words_ok piece.bytes piece.ended w.value w.first in
+    let is = event_ok w.value line w.then in
+    record {
+      bytes = rw whole.0 (ap (λ (bytes : List ℕ). bytes ++ 10 ∷ []) (sym whole.1 ∙ ap (λ (ws : List (List ℕ)). join_with_byte 32 ws) is.words_are));
+      fits = is.fits;
+    }

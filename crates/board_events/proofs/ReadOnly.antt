@@ -1,0 +1,21 @@
+-- What is spelled is read, unless memory is refused.
+use Rattle.std.proofs.Common.{◌≡◌, ℕ, List, Option, Some, None, Result, Ok, Err, sym, ◌∙◌}
+use Rattle.std.specs.Result.{IfOk, IfErr}
+use Rattle.certificate_data.specs.declared.language.Language.{Language}
+use Rattle.certificate_lines.specs.Rest.{IsTextMemory}
+use Rattle.certificate_lines.specs.Reads.{IsUnlessMemory}
+use Rattle.certificate_lines.specs.declared.fault.TextFault.{TextFault}
+use Rattle.certificate_text.proofs.GiveLaws.{memory_only}
+use Rattle.board_laws.specs.Content.{Event}
+use Rattle.board_events.specs.Spelled.{EventsAreSpelled}
+use Rattle.board_events.specs.Faults.{events_fault}
+use Rattle.board_events.proofs.FaultLaws.{none_met}
+use Rattle.board_events.proofs.OneList.{one_list}
+
+no_fault : (fault : TextFault) → ◌≡◌ {A = Option TextFault} None (Some fault) → ⊥
+no_fault fault h = cc
+
+pub only_read : {X : Type 0} (view : X → List Event) (language : Language) (counties : ℕ) (text : List ℕ) (r : Result X TextFault) → IfOk r (λ v. EventsAreSpelled language counties text (view v))
+    → IfErr r (λ f. (IsTextMemory f → ⊥) → events_fault language counties text ≡ Some f) → (es : List Event) → EventsAreSpelled language counties text es → IsUnlessMemory view r es
+only_read view language counties text (Ok v) found fault es h = one_list language counties text (view v) es found h
+only_read view language counties text (Err f) found fault es h = memory_only f.kind (λ other. no_fault f (sym (none_met language counties text es h.fit h.text_is) ∙ fault other))

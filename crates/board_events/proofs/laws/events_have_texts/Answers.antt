@@ -1,0 +1,18 @@
+use Rattle.std.proofs.Common.{subst}
+use Rattle.board_events.proofs.OneList.{one_list, one_text, append_spelled}
+use Rattle.board_events.proofs.FaultLaws.{none_met}
+use Rattle.board_events.proofs.SomeEvents.{some_list}
+use Rattle.board_events.proofs.FaultKinds.{OfLine, fault_of_line}
+use Rattle.board_events.proofs.laws.events_have_texts.Goals as goal
+
+pub returns : goal.returns
+returns c = record {
+  one_list = one_list;
+  one_text = one_text;
+  append = append_spelled;
+  no_fault = λ language counties text es h. none_met language counties text es h.fit h.text_is;
+  some_list = some_list;
+  faults = λ language counties text fault h.
+      let said = fault_of_line language counties text fault h in
+      (λ e. subst OfLine e said, λ e. subst OfLine e said, λ e. subst OfLine e said, λ e. subst OfLine e said);
+}

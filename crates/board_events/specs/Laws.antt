@@ -1,0 +1,32 @@
+-- Which texts of events there are, and what they are read as.
+use Rattle.std.specs.Prelude.{◌≡◌, ◌≢◌, ℕ, List, ◌++◌, Some, None}
+use Rattle.certificate_data.specs.declared.language.Language.{Language}
+use Rattle.certificate_lines.specs.declared.fault.TextKind.TheVariants.{BadHead, AfterEnd, ReadFault, Memory}
+use Rattle.certificate_lines.specs.declared.fault.TextFault.{TextFault}
+use Rattle.board_laws.specs.Content.{Event}
+use Rattle.board_events.specs.Spelled.{EventsAreSpelled}
+use Rattle.board_events.specs.Faults.{events_fault}
+
+pub record EventsHaveTexts : Type 0 where
+  -- a text spells one list of events at most, and a list has one text at most
+  pub one_list : (language : Language) (counties : ℕ) (text : List ℕ) (es fs : List Event)
+      → EventsAreSpelled language counties text es
+      → EventsAreSpelled language counties text fs → es ≡ fs
+  pub one_text : (language : Language) (counties : ℕ) (text other : List ℕ) (es : List Event)
+      → EventsAreSpelled language counties text es
+      → EventsAreSpelled language counties other es → text ≡ other
+  -- a text behind another spells the events of both, one list behind the other
+  pub append : (language : Language) (counties : ℕ) (text other : List ℕ) (es fs : List Event)
+      → EventsAreSpelled language counties text es
+      → EventsAreSpelled language counties other fs → EventsAreSpelled language counties (text ++ other) (es ++ fs)
+  -- a text that spells events has no fault
+  pub no_fault : (language : Language) (counties : ℕ) (text : List ℕ) (es : List Event)
+      → EventsAreSpelled language counties text es
+      → events_fault language counties text ≡ None
+  -- a text without a fault spells a list
+  pub some_list : (language : Language) (counties : ℕ) (text : List ℕ) → events_fault language counties text ≡ None
+      → (es : List Event) × EventsAreSpelled language counties text es
+  -- the fault of a text of events is one of its lines: no head and no end is wanted, and no memory or source decides it
+  pub faults : (language : Language) (counties : ℕ) (text : List ℕ) (fault : TextFault)
+      → events_fault language counties text ≡ Some fault
+      → (fault.kind ≢ BadHead) × (fault.kind ≢ AfterEnd) × (fault.kind ≢ ReadFault) × (fault.kind ≢ Memory)

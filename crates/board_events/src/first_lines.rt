@@ -1,0 +1,106 @@
+//! What the first line of an event says, by its words.
+
+ghost use Rattle.std.specs.Prelude.{◌≡◌, drop, if◌then◌else◌};
+ghost use Rattle.certificate_lines.specs.Left.{Leaves};
+ghost use Rattle.certificate_lines.specs.Lines.{begins, number_at};
+ghost use Rattle.board_events.specs.Lines.{greatest, hand_on, result_on, split_on, better_on, wider_on, event_on};
+
+use crate::line::EventLine;
+use certificate_lines::{MOST, TextKind, Words};
+
+/// Takes the next word, where it is this one, and says whether it was.
+fn skipped(words: &mut Words, name: &[u8]) -> bool
+    ensures was { result ≡ begins name.now words.old }
+    ensures rest { words.new ≡ (if result then drop 1 words.old else words.old) }
+{
+    let is = words.begins(name);
+    if is {
+        let _word = words.next_word();
+    }
+    is
+}
+
+/// The number that the next word spells: of a round or of a piece.
+fn next_number(words: &mut Words) -> Result<u32, TextKind>
+    ensures { Leaves (number_at 0 greatest words.old) result words.new }
+{
+    words.number(0, u32::MAX)
+}
+
+/// A piece is asked for, from the words after the first.
+#[tactic(auto, unfolding(crate::specs::Lines::hand_on))]
+fn hand_on(words: &mut Words) -> Result<EventLine, TextKind>
+    ensures { result ≡ hand_on words.old }
+{
+    words.counted(1, 1)?;
+    Ok(EventLine::Hand(next_number(words)?))
+}
+
+/// A tree for a piece, from the words after the first.
+#[tactic(auto, unfolding(crate::specs::Lines::result_on))]
+fn result_on(words: &mut Words) -> Result<EventLine, TextKind>
+    ensures { result ≡ result_on words.old }
+{
+    words.counted(2, 2)?;
+    let round = next_number(words)?;
+    let piece = next_number(words)?;
+    Ok(EventLine::Result(round, piece))
+}
+
+/// A split of a piece, from the words after the first.
+#[tactic(auto, unfolding(crate::specs::Lines::split_on))]
+fn split_on(words: &mut Words) -> Result<EventLine, TextKind>
+    ensures { result ≡ split_on words.old }
+{
+    words.counted(4, 4)?;
+    let round = next_number(words)?;
+    let piece = next_number(words)?;
+    let county = words.code()?;
+    let limit = words.number(1, MOST)? as u16;
+    Ok(EventLine::Split(round, piece, county, limit))
+}
+
+/// A better target, from the words after the first.
+#[tactic(auto, unfolding(crate::specs::Lines::better_on))]
+fn better_on(words: &mut Words) -> Result<EventLine, TextKind>
+    ensures { result ≡ better_on words.old }
+{
+    words.counted(2, 2)?;
+    let round = next_number(words)?;
+    let groups = words.number(0, MOST)? as u16;
+    Ok(EventLine::Better(round, groups))
+}
+
+/// A greater limit, from the words after the first.
+#[tactic(auto, unfolding(crate::specs::Lines::wider_on))]
+fn wider_on(words: &mut Words) -> Result<EventLine, TextKind>
+    ensures { result ≡ wider_on words.old }
+{
+    words.counted(1, 1)?;
+    Ok(EventLine::Wider(next_number(words)?))
+}
+
+/// What the first line of an event says.
+///
+/// # Errors
+///
+/// `BadWord` where the first word may not stand there, or the number of words is wrong; then the fault of the first
+/// word that is at fault.
+#[tactic(auto, unfolding(crate::specs::Lines::event_on))]
+pub(crate) fn event_on(words: &mut Words) -> Result<EventLine, TextKind>
+    ensures { result ≡ event_on words.old }
+{
+    if skipped(words, b"hand") {
+        hand_on(words)
+    } else if skipped(words, b"result") {
+        result_on(words)
+    } else if skipped(words, b"split") {
+        split_on(words)
+    } else if skipped(words, b"better") {
+        better_on(words)
+    } else if skipped(words, b"wider") {
+        wider_on(words)
+    } else {
+        Err(TextKind::BadWord)
+    }
+}

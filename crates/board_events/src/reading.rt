@@ -1,0 +1,190 @@
+//! Events, read from their lines.
+
+ghost use Rattle.std.specs.Prelude.{◌≡◌, ◌<◌, ◌≤◌, ◌+◌, ◌^◌, ℕ, List, [], ◌++◌, map, length, take, filter, Some, IfOk};
+ghost use Rattle.std.specs.Prelude.{IfErr};
+ghost use Rattle.field_lines.specs.Raw.{is_lf, raw_lines};
+ghost use Rattle.certificate_lines.specs.Items.{by_words, groups_wanted, items_from};
+ghost use Rattle.certificate_lines.specs.Lines.{most};
+ghost use Rattle.certificate_lines.specs.Reads.{ReadsAll, IsUnlessMemory};
+ghost use Rattle.certificate_lines.specs.Rest.{IsTextMemory, ReadsLine};
+ghost use Rattle.certificate_lines.specs.Fits.{AllFit};
+ghost use Rattle.certificate_lines.specs.Spelling.{text_of_items};
+ghost use Rattle.certificate_lines.specs.declared.item.Item.TheVariants as item;
+ghost use Rattle.certificate_lines.specs.declared.item.Wanted.{Wanted};
+ghost use Rattle.board_laws.specs.Content.{Event as EventValue};
+ghost use Rattle.share_board.specs.Events.{event_of};
+ghost use Rattle.board_events.specs.Lines.{event_on};
+ghost use Rattle.board_events.specs.Spelled.{wanted_by, text_of_event, HasSpelling, EventsAreSpelled};
+ghost use Rattle.board_events.specs.Behind.{StandsBehind};
+ghost use Rattle.board_events.specs.Faults.{fault_from, events_fault};
+
+use crate::first_lines::event_on;
+use crate::line::EventLine;
+use certificate_data::Language;
+use certificate_lines::{Cursor, TextFault, push_on};
+use certificate_text::front_tree;
+use county_codes::{Group, Grouping};
+use share_board::Event;
+use std::alloc::Global;
+
+/// What the first line of an event says.
+fn first_line(cursor: &mut Cursor) -> Result<EventLine, TextFault>
+    ensures { ReadsLine (λ r. r) (by_words event_on) cursor.old result cursor.new }
+{
+    let (mut words, line) = cursor.next_words()?;
+    match event_on(&mut words) {
+        Ok(first) => Ok(first),
+        Err(kind) => Err(TextFault { kind, line }),
+    }
+}
+
+/// So many groups of a target.
+fn groups_at(alloc: Global, cursor: &mut Cursor, count: u16) -> Result<Vec<Group>, TextFault>
+    ensures read { ReadsAll (groups_wanted count) (λ v. map item.Grouped v.items) [] cursor.old result cursor.new }
+    ensures number { IfOk result (λ v. length v.items ≡ count) }
+{
+    let mut groups = Vec::new(alloc);
+    for done in 0..count {
+        let group = cursor.group(alloc)?;
+        push_on(&mut groups, group, cursor.number())?;
+    }
+    Ok(groups)
+}
+
+/// The groups that a text begins with, so many, and how many bytes spell them.
+fn front_groups(alloc: Global, text: &[u8], count: u16) -> Result<(Vec<Group>, usize), TextFault>
+    ensures place { IfOk result (λ r. r.1 ≤ length text.now) }
+    ensures number { IfOk result (λ r. length r.0.items ≡ count) }
+    ensures fits { IfOk result (λ r. AllFit (groups_wanted count) (map item.Grouped r.0.items)) }
+    ensures found { IfOk result (λ r. take r.1 text.now ≡ text_of_items (map item.Grouped r.0.items)) }
+    ensures fault { IfErr result (λ f. (IsTextMemory f → ⊥) → (more : List Wanted)
+        → items_from (groups_wanted count ++ more) 1 (raw_lines text.now) ≡ Err f) }
+{
+    let mut cursor = Cursor::new(text);
+    let groups = groups_at(alloc, &mut cursor, count)?;
+    Ok((groups, text.len() - cursor.rest().len()))
+}
+
+/// The event whose first line says this, by the text behind that line, and how many bytes of it are its own.
+fn event_behind(
+    alloc: Global,
+    line: EventLine,
+    text: &[u8],
+    language: Language,
+    counties: u16,
+) -> Result<(Event, usize), TextFault>
+    requires { counties ≤ most }
+    ensures place { IfOk result (λ r. r.1 ≤ length text.now) }
+    ensures found { IfOk result (λ r. StandsBehind language counties line (take r.1 text.now) (event_of r.0)) }
+    ensures fault { IfErr result (λ f. (IsTextMemory f → ⊥) → (more : List Wanted)
+        → items_from (wanted_by language counties line ++ more) 1 (raw_lines text.now) ≡ Err f) }
+{
+    match line {
+        EventLine::Hand(from) => Ok((Event::Hand(from), 0)),
+        EventLine::Result(round, piece) => {
+            let (tree, length) = front_tree(alloc, text, language, counties)?;
+            Ok((Event::Result(round, piece, tree), length))
+        }
+        EventLine::Split(round, piece, county, limit) => {
+            Ok((Event::Split(round, piece, county, limit), 0))
+        }
+        EventLine::Better(round, count) => {
+            let (groups, length) = front_groups(alloc, text, count)?;
+            Ok((Event::Better(round, Grouping { groups }), length))
+        }
+        EventLine::Wider(round) => Ok((Event::Wider(round), 0)),
+    }
+}
+
+/// A fault so many lines further on. Where memory was refused, its line is left open.
+fn moved(fault: TextFault, lines: u64) -> TextFault
+    ensures kind { result.kind ≡ fault.kind }
+    ensures line { fault.line + lines < 2 ^ 64 → result.line ≡ fault.line + lines }
+{
+    TextFault {
+        kind: fault.kind,
+        line: fault.line.saturating_add(lines),
+    }
+}
+
+/// The event that a text begins with, and how many bytes spell it.
+fn front_event(
+    alloc: Global,
+    text: &[u8],
+    language: Language,
+    counties: u16,
+) -> Result<(Event, usize), TextFault>
+    requires few { counties ≤ most }
+    requires some { 0 < length text.now }
+    ensures place { IfOk result (λ r. (0 < r.1) × (r.1 ≤ length text.now)) }
+    ensures found { IfOk result (λ r. take r.1 text.now ≡ text_of_event (event_of r.0)) }
+    ensures spelled { IfOk result (λ r. HasSpelling language counties (event_of r.0)) }
+    ensures fault { IfErr result (λ f. (IsTextMemory f → ⊥) → events_fault language counties text.now ≡ Some f) }
+{
+    let mut cursor = Cursor::new(text);
+    let line = first_line(&mut cursor)?;
+    let rest = cursor.rest();
+    match event_behind(alloc, line, rest, language, counties) {
+        Ok((event, length)) => Ok((event, text.len() - rest.len() + length)),
+        Err(fault) => Err(moved(fault, 1)),
+    }
+}
+
+/// How many lines LFs end in a text.
+fn lines_in(text: &[u8]) -> u64
+    ensures value { result ≡ length (filter is_lf text.now) }
+    ensures few { result ≤ length text.now }
+{
+    text.iter().filter(|b| **b == b'\n').count() as u64
+}
+
+/// The events of a text, one after the other.
+fn events_of(
+    alloc: Global,
+    text: &[u8],
+    language: Language,
+    counties: u16,
+) -> Result<Vec<Event>, TextFault>
+    requires { counties ≤ most }
+    ensures found { IfOk result (λ v. EventsAreSpelled language counties text.now (map event_of v.items)) }
+    ensures fault { IfErr result (λ f. (IsTextMemory f → ⊥) → events_fault language counties text.now ≡ Some f) }
+{
+    let mut events = Vec::new(alloc);
+    let mut rest = text;
+    let mut lines = 0;
+    'events: while !rest.is_empty() {
+        match front_event(alloc, rest, language, counties) {
+            Ok((event, length)) => {
+                push_on(&mut events, event, lines)?;
+                lines += lines_in(&rest[..length]);
+                rest = &rest[length..];
+            }
+            Err(fault) => return Err(moved(fault, lines)),
+        }
+    }
+    Ok(events)
+}
+
+/// The events that a text spells, where trees are of this language and for an order of so many counties. An empty text
+/// is the list of no events.
+///
+/// # Errors
+///
+/// The first fault of the text, with its line. `Memory` in the place of any answer.
+pub fn read_events(
+    alloc: Global,
+    text: &[u8],
+    language: Language,
+    counties: u16,
+) -> Result<Vec<Event>, TextFault>
+    requires { counties ≤ most }
+    // What is read is spelled so, and has its numbers in their ranges.
+    ensures found { IfOk result (λ v. EventsAreSpelled language counties text.now (map event_of v.items)) }
+    // What is spelled so is read, unless memory is refused.
+    ensures only { (es : List EventValue) → EventsAreSpelled language counties text.now es
+        → IsUnlessMemory (λ v. map event_of v.items) result es }
+    // Which fault it is.
+    ensures fault { IfErr result (λ f. (IsTextMemory f → ⊥) → events_fault language counties text.now ≡ Some f) }
+{
+    events_of(alloc, text, language, counties)
+}

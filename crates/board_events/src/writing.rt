@@ -1,0 +1,148 @@
+//! Events, written as their lines.
+
+ghost use Rattle.std.specs.Prelude.{◌≡◌, ◌≤◌, ℕ, List, [], ◌∷◌, ◌++◌, map, length, IfOk, IfErr};
+ghost use Rattle.certificate_data.specs.declared.language.Language.{Language};
+ghost use Rattle.certificate_lines.specs.Items.{groups_wanted};
+ghost use Rattle.certificate_lines.specs.Lines.{most};
+ghost use Rattle.certificate_lines.specs.Writes.{Writes};
+ghost use Rattle.certificate_lines.specs.declared.fault.WriteFault.TheVariants as write_fault;
+ghost use Rattle.certificate_lines.specs.declared.item.Item.TheVariants as item;
+ghost use Rattle.certificate_data.specs.TreeValue.{tree_of};
+ghost use Rattle.board_laws.specs.Content.{hand, result as proof, split_piece, better, wider};
+ghost use Rattle.share_board.specs.Events.{event_of};
+ghost use Rattle.board_events.specs.Spelled.{EventsAreSpelled};
+ghost use Rattle.board_events.specs.Writes.{WritesEvent};
+
+use crate::numbers::push_words_number;
+use certificate_data::{Language, Tree};
+use certificate_lines::{
+    MOST, WriteFault, push_code_and_number_line, push_group, push_number_line,
+};
+use certificate_text::write_tree;
+use county_codes::{CountyCode, Group};
+use share_board::Event;
+use std::alloc::Global;
+
+/// Appends the line by which a piece is asked for.
+fn push_hand(out: &mut Vec<u8>, from: u32) -> Result<(), WriteFault>
+    ensures { (language : Language) (counties : ℕ)
+        → WritesEvent language counties (hand from) out.old.items result out.new.items }
+{
+    push_number_line(out, b"hand ", from)?;
+    Ok(())
+}
+
+/// Appends the lines of a tree for a piece.
+fn push_result(
+    out: &mut Vec<u8>,
+    round: u32,
+    piece: u32,
+    tree: &Tree,
+    language: Language,
+    counties: u16,
+) -> Result<(), WriteFault>
+    requires { counties ≤ most }
+    ensures { WritesEvent language counties (proof round piece (tree_of tree.now)) out.old.items result out.new.items }
+{
+    let lines = write_tree(*out.allocator(), tree, language, counties)?;
+    push_words_number(out, b"result ", u64::from(round))?;
+    push_number_line(out, b" ", piece)?;
+    out.extend_from_slice(&lines)?;
+    Ok(())
+}
+
+/// Appends the line of a split.
+fn push_split(
+    out: &mut Vec<u8>,
+    round: u32,
+    piece: u32,
+    county: CountyCode,
+    limit: u16,
+) -> Result<(), WriteFault>
+    ensures { (language : Language) (counties : ℕ)
+        → WritesEvent language counties (split_piece round piece county limit) out.old.items result out.new.items }
+{
+    if limit == 0 || u32::from(limit) > MOST {
+        return Err(WriteFault::NoSpelling);
+    }
+    push_words_number(out, b"split ", u64::from(round))?;
+    push_words_number(out, b" ", u64::from(piece))?;
+    push_code_and_number_line(out, b" ", county, u32::from(limit))?;
+    Ok(())
+}
+
+/// Appends the lines of groups.
+fn push_groups(out: &mut Vec<u8>, groups: &[Group]) -> Result<(), WriteFault>
+    ensures { Writes (groups_wanted (length groups.now)) (map item.Grouped groups.now) [] out.old.items result out.new.items }
+{
+    for group in groups {
+        push_group(out, group)?;
+    }
+    Ok(())
+}
+
+/// Appends the lines of a better target.
+fn push_better(out: &mut Vec<u8>, round: u32, groups: &[Group]) -> Result<(), WriteFault>
+    ensures { (language : Language) (counties : ℕ)
+        → WritesEvent language counties (better round groups.now) out.old.items result out.new.items }
+{
+    if groups.len() > MOST as usize {
+        return Err(WriteFault::NoSpelling);
+    }
+    push_words_number(out, b"better ", u64::from(round))?;
+    push_number_line(out, b" ", groups.len() as u32)?;
+    push_groups(out, groups)
+}
+
+/// Appends the line by which the limit is to be greater.
+fn push_wider(out: &mut Vec<u8>, round: u32) -> Result<(), WriteFault>
+    ensures { (language : Language) (counties : ℕ)
+        → WritesEvent language counties (wider round) out.old.items result out.new.items }
+{
+    push_number_line(out, b"wider ", round)?;
+    Ok(())
+}
+
+/// Appends the text of an event.
+fn push_event(
+    out: &mut Vec<u8>,
+    event: &Event,
+    language: Language,
+    counties: u16,
+) -> Result<(), WriteFault>
+    requires { counties ≤ most }
+    ensures { WritesEvent language counties (event_of event.now) out.old.items result out.new.items }
+{
+    match event {
+        Event::Hand(from) => push_hand(out, *from),
+        Event::Result(round, piece, tree) => {
+            push_result(out, *round, *piece, tree, language, counties)
+        }
+        Event::Split(round, piece, county, limit) => {
+            push_split(out, *round, *piece, *county, *limit)
+        }
+        Event::Better(round, grouping) => push_better(out, *round, &grouping.groups),
+        Event::Wider(round) => push_wider(out, *round),
+    }
+}
+
+/// The text that spells an event, where trees are of this language and for an order of so many counties.
+///
+/// # Errors
+///
+/// `NoSpelling` exactly where no text spells it, or `Memory`.
+pub fn write_event(
+    alloc: Global,
+    event: &Event,
+    language: Language,
+    counties: u16,
+) -> Result<Vec<u8>, WriteFault>
+    requires { counties ≤ most }
+    ensures spelled { IfOk result (λ text. EventsAreSpelled language counties text.items (event_of event.now ∷ [])) }
+    ensures none { IfErr result (λ fault. fault ≡ write_fault.NoSpelling → (text : List ℕ)
+        → EventsAreSpelled language counties text (event_of event.now ∷ []) → ⊥) }
+{
+    let mut out = Vec::new(alloc);
+    push_event(&mut out, event, language, counties)?;
+    Ok(out)
+}

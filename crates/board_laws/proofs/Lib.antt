@@ -1,0 +1,9 @@
+pub mod Joining
+pub mod Numbers
+pub mod Putting
+pub mod Standing
+pub mod Pieces
+pub mod Opening
+pub mod Boards
+pub mod Same
+pub mod OneText

@@ -1,0 +1,5 @@
+pub mod Skeleton
+pub mod Standing
+pub mod Content
+pub mod Laws
+pub mod JoinedTexts

@@ -1,8 +1,0 @@
-pub mod EmptyBounds
-pub mod LeafLines
-pub mod Endings
-pub mod ShortLines
-pub mod PlacedWeights
-pub mod Weighing
-pub mod WeightSteps
-pub mod StuckPlaces

@@ -1,4 +1,0 @@
-pub mod GivenLeaf
-pub mod EmptyLines
-pub mod Missing
-pub mod PlacedWeights

@@ -1,4 +1,0 @@
-pub mod CountyWeights
-pub mod Counting
-pub mod FairLines
-pub mod Allowances

@@ -1,0 +1,3 @@
+pub mod TreeLists
+pub mod ListLaws
+pub mod CopyLaws

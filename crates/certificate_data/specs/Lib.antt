@@ -1,0 +1,5 @@
+pub mod Levels
+pub mod Round
+pub mod RoundValue
+pub mod Tree
+pub mod TreeValue

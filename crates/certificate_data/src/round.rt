@@ -1,0 +1,51 @@
+//! Rounds: an order, a limit, a target, a language and an allowance.
+
+ghost use Rattle.std.specs.Prelude.{◌≡◌, IfOk};
+ghost use Rattle.certificate_data.specs.RoundValue.{round_of, target_of};
+
+use crate::language::Language;
+use county_codes::{Codes, Grouping, Window};
+use std::alloc::AllocError;
+
+/// What a search for groupings greater than a target goes by, and a certificate's tree is made for.
+///
+/// The type stands here, below the certificate text, the checker and the desk, since each of them is told of a
+/// round; their contracts speak of its value, `round_of`.
+#[derive(Debug, Drop)]
+pub struct Round {
+    /// The counties of the problem, each once; the first has place 0.
+    pub order: Codes,
+    /// The greatest size of a group that a branch may close, in counties.
+    pub limit: u16,
+    /// The grouping that is to be shown best; without one, no grouping is to be lawful.
+    pub target: Option<Grouping>,
+    /// The language of the certificate.
+    pub language: Language,
+    /// The allowance that the certificate names; one that names none is for a twentieth.
+    pub window: Option<Window>,
+}
+
+impl Round {
+    /// An equal round, or an error where memory was refused.
+    pub fn copy(&self) -> Result<Round, AllocError>
+        ensures { IfOk result (λ round. round_of round ≡ round_of self.now) }
+    {
+        Ok(Round {
+            order: self.order.copy()?,
+            limit: self.limit,
+            target: copy_target(&self.target)?,
+            language: self.language,
+            window: self.window,
+        })
+    }
+}
+
+/// An equal target.
+fn copy_target(target: &Option<Grouping>) -> Result<Option<Grouping>, AllocError>
+    ensures { IfOk result (λ copy. target_of copy ≡ target_of target.now) }
+{
+    match target {
+        Some(grouping) => Ok(Some(grouping.copy()?)),
+        None => Ok(None),
+    }
+}

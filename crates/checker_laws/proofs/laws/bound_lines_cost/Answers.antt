@@ -1,0 +1,5 @@
+use Rattle.checker_laws.proofs.BoundWork.{bound_lines_cost}
+use Rattle.checker_laws.proofs.laws.bound_lines_cost.Goals as goal
+
+pub returns : goal.returns
+returns c = bound_lines_cost

@@ -1,0 +1,16 @@
+pub mod Fault
+pub mod End
+pub mod Lines
+pub mod Leaves
+pub mod Branches
+pub mod Trees
+pub mod Verdict
+pub mod Cost
+pub mod Laws
+pub mod Work
+pub mod WorkCost
+pub mod BoundWork
+pub mod Examples
+pub mod TextVerdict
+pub mod TextCost
+pub mod TextLaws

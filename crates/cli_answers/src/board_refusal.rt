@@ -1,0 +1,78 @@
+//! The lines of the program that stand in place of an answer of a board: a fault of its events, and its own.
+
+ghost use Rattle.std.specs.Prelude.{◌≡◌, ◌≢◌, IfOk};
+ghost use Rattle.certificate_lines.specs.declared.fault.TextKind.TheVariants as text;
+ghost use Rattle.share_board.specs.declared.fault.BoardFault.TheVariants as board;
+ghost use Rattle.cli_answers.specs.Answers.{RefusalShows, IsShown};
+ghost use Rattle.cli_answers.specs.Refusals.{board_answer, board_word, events_answer, refused_board};
+
+use crate::answer::Refusal;
+use crate::check_lines::{budget_answer, word_of_text_kind};
+use crate::refusal::{InputFile, refuse_input};
+use certificate_lines::{TextFault, TextKind};
+use share_board::BoardFault;
+use std::alloc::{AllocError, Global};
+
+/// The refusal of a fault of a text of events: `refused events KIND line L` with exit status 4, or `Memory` where the
+/// fault is that or the line found no memory. The line counts from 1.
+pub fn refuse_events(alloc: Global, fault: TextFault) -> Refusal
+    ensures answer { RefusalShows (events_answer fault) result }
+    ensures shown { IsShown result → fault.kind ≢ text.Memory }
+{
+    if fault.kind == TextKind::Memory {
+        return Refusal::Memory;
+    }
+    let word = word_of_text_kind(fault.kind);
+    refuse_input(alloc, InputFile::Events, word, fault.line)
+}
+
+fn word_of_board_fault(fault: BoardFault) -> &'static [u8]
+    ensures { result.now ≡ board_word fault }
+{
+    match fault {
+        BoardFault::DepthOutOfRange => b"DepthOutOfRange",
+        BoardFault::WrongOrder => b"WrongOrder",
+        BoardFault::Target(_) => b"Target",
+        BoardFault::LimitTooSmall => b"LimitTooSmall",
+        BoardFault::LimitTooLarge => b"LimitTooLarge",
+        BoardFault::TooManyPieces => b"TooManyPieces",
+        BoardFault::Budget => b"Budget",
+        BoardFault::Memory => b"Memory",
+    }
+}
+
+/// `refused board KIND`.
+#[tactic(auto, unfolding(crate::specs::Refusals::refused_board))]
+fn board_text(alloc: Global, kind: &[u8]) -> Result<Vec<u8>, AllocError>
+    ensures { IfOk result (λ v. v.items ≡ refused_board kind.now) }
+{
+    let mut out = Vec::from_slice(alloc, b"refused board ")?;
+    out.extend_from_slice(kind)?;
+    out.extend_from_slice(b"\n")?;
+    Ok(out)
+}
+
+/// The refusal where the budget is too small to open a board: `budget` with exit status 3, or `Memory` where the line
+/// found no memory.
+fn refuse_budget(alloc: Global) -> Refusal
+    ensures { RefusalShows (board_answer board.Budget) result }
+{
+    match budget_answer(alloc) {
+        Ok(answer) => Refusal::Shown(answer),
+        Err(AllocError) => Refusal::Memory,
+    }
+}
+
+/// The refusal of a fault of a board: `refused board KIND` with exit status 4, `budget` with exit status 3 where the
+/// budget is too small to open it, or `Memory` where the fault is that or the line found no memory. A target that isn't
+/// lawful is `Target`, whatever its fault.
+pub fn refuse_board(alloc: Global, fault: BoardFault) -> Refusal
+    ensures answer { RefusalShows (board_answer fault) result }
+    ensures shown { IsShown result → fault ≢ board.Memory }
+{
+    match fault {
+        BoardFault::Memory => Refusal::Memory,
+        BoardFault::Budget => refuse_budget(alloc),
+        _ => Refusal::of_text(board_text(alloc, word_of_board_fault(fault)), 4),
+    }
+}

@@ -1,0 +1,362 @@
+//! The lines of the program that stand in place of an answer.
+
+ghost use Rattle.std.specs.Prelude.{◌≡◌, ◌≢◌, ℕ, ◌++◌, OnOk, IfOk, codes, decimal};
+ghost use Rattle.pl94_counties.specs.declared.fault.Pl94Kind.TheVariants as kinds;
+ghost use Rattle.pl94_counties.specs.Named.{IsNoMemory};
+ghost use Rattle.county_problem.specs.declared.fault.ProblemFault.TheVariants as problem;
+ghost use Rattle.cli_answers.specs.Answers.{RefusalShows, IsShown};
+ghost use Rattle.county_codes.specs.Digits.{five_digits};
+ghost use Rattle.grouping_reader.specs.declared.fault.CodeLineKind.TheVariants as lines_of_codes;
+ghost use Rattle.baf_auditor.specs.declared.fault.AssignmentKind.TheVariants as lines_of_assignments;
+ghost use Rattle.cli_answers.specs.Refusals.{line_fault_word, kind_word, code_line_word, assignment_word};
+ghost use Rattle.cli_answers.specs.Refusals.{assignment_answer, cut_line, file_word, input_of as input_file_of};
+ghost use Rattle.cli_answers.specs.Refusals.{refused_line, input_answer, pl94_answer, named_answer, code_file_answer};
+ghost use Rattle.cli_answers.specs.Refusals.{fault_line, verdict_answer, after_blank, problem_words, refused_problem};
+ghost use Rattle.cli_answers.specs.Refusals.{problem_answer, shelf_word, device_line, shelf_answer};
+
+use crate::answer::Refusal;
+use baf_auditor::{AssignmentFault, AssignmentKind};
+use cli_shelves::ShelfFault;
+use county_codes::{CountyCode, push_code};
+use county_problem::{GroupingFault, ProblemFault};
+use field_lines::{LineFault, push_number};
+use grouping_reader::{CodeLineFault, CodeLineKind};
+use grouping_report::push_grouping_fault;
+use pl94_counties::{File, NamedFault, Pl94Fault, Pl94Kind};
+use std::alloc::{AllocError, Global};
+
+/// The line that the program writes where memory was refused, with exit status 5. It is at hand without any memory.
+pub const MEMORY: &[u8] = b"memory\n";
+
+fn word_of_line_fault(fault: LineFault) -> &'static [u8]
+    ensures { result.now ≡ line_fault_word fault }
+{
+    match fault {
+        LineFault::LineTooLong(_) => b"LineTooLong",
+        LineFault::TooManyLines => b"TooManyLines",
+        LineFault::ReadFault(_) => b"ReadFault",
+        LineFault::Memory => b"Memory",
+    }
+}
+
+fn word_of_kind(kind: Pl94Kind) -> &'static [u8]
+    ensures { result.now ≡ kind_word kind }
+{
+    match kind {
+        Pl94Kind::TooFewFields => b"TooFewFields",
+        Pl94Kind::BadCode => b"BadCode",
+        Pl94Kind::BadNumber => b"BadNumber",
+        Pl94Kind::DoubleRecord => b"DoubleRecord",
+        Pl94Kind::NoRecord => b"NoRecord",
+        Pl94Kind::DoubleCounty => b"DoubleCounty",
+        Pl94Kind::DoubleBlock => b"DoubleBlock",
+        Pl94Kind::NoCounties => b"NoCounties",
+        Pl94Kind::NoBlocks => b"NoBlocks",
+        Pl94Kind::TooMany => b"TooMany",
+        Pl94Kind::Lower(fault) => word_of_line_fault(fault),
+        Pl94Kind::Memory => b"Memory",
+    }
+}
+
+fn word_of_code_line(kind: CodeLineKind) -> &'static [u8]
+    ensures { result.now ≡ code_line_word kind }
+{
+    match kind {
+        CodeLineKind::TooFewFields => b"TooFewFields",
+        CodeLineKind::BadSign => b"BadSign",
+        CodeLineKind::BadSeats => b"BadSeats",
+        CodeLineKind::BadCode => b"BadCode",
+        CodeLineKind::Lower(fault) => word_of_line_fault(fault),
+        CodeLineKind::Memory => b"Memory",
+    }
+}
+
+fn word_of_assignment(kind: AssignmentKind) -> &'static [u8]
+    ensures { result.now ≡ assignment_word kind }
+{
+    match kind {
+        AssignmentKind::TooFewFields => b"TooFewFields",
+        AssignmentKind::BadCode => b"BadCode",
+        AssignmentKind::BadLabel => b"BadLabel",
+        AssignmentKind::TooMany => b"TooMany",
+        AssignmentKind::Lower(fault) => word_of_line_fault(fault),
+        AssignmentKind::Memory => b"Memory",
+    }
+}
+
+/// An input file whose text is read line by line, as a refusal names it.
+#[derive(Clone, Copy)]
+pub enum InputFile {
+    /// The PL 94-171 geographic header.
+    Geo,
+    /// The PL 94-171 data segment 1.
+    Segment1,
+    /// The county adjacency file.
+    Adjacency,
+    /// Links over the adjacent pairs.
+    Links,
+    /// The withdrawn sets.
+    Withdrawn,
+    /// A grouping.
+    Grouping,
+    /// A block assignment file.
+    Assignments,
+    /// The events of a board.
+    Events,
+}
+
+fn input_of(file: File) -> InputFile
+    ensures { result ≡ input_file_of file }
+{
+    match file {
+        File::Geo => InputFile::Geo,
+        File::Segment1 => InputFile::Segment1,
+    }
+}
+
+fn word_of_file(file: InputFile) -> &'static [u8]
+    ensures { result.now ≡ file_word file }
+{
+    match file {
+        InputFile::Geo => b"geo",
+        InputFile::Segment1 => b"segment1",
+        InputFile::Adjacency => b"adjacency",
+        InputFile::Links => b"links",
+        InputFile::Withdrawn => b"withdrawn",
+        InputFile::Grouping => b"grouping",
+        InputFile::Assignments => b"assignments",
+        InputFile::Events => b"events",
+    }
+}
+
+/// The line that is shown of a line fault: 0 where the text has too many.
+fn line_of_cut(fault: LineFault, line: u32) -> u32
+    ensures { result ≡ cut_line fault line }
+{
+    match fault {
+        LineFault::TooManyLines => 0,
+        _ => line,
+    }
+}
+
+/// `refused FILE KIND line L`.
+#[tactic(auto, unfolding(crate::specs::Refusals::refused_line))]
+fn refused_text(alloc: Global, file: &[u8], kind: &[u8], line: u64) -> Result<Vec<u8>, AllocError>
+    ensures { IfOk result (λ v. v.items ≡ refused_line file.now kind.now line) }
+{
+    let mut out = Vec::from_slice(alloc, b"refused ")?;
+    out.extend_from_slice(file)?;
+    out.extend_from_slice(b" ")?;
+    out.extend_from_slice(kind)?;
+    out.extend_from_slice(b" line ")?;
+    push_number(&mut out, line)?;
+    out.extend_from_slice(b"\n")?;
+    Ok(out)
+}
+
+/// The refusal of an input file for a fault at a line.
+pub(crate) fn refuse_input(alloc: Global, file: InputFile, kind: &[u8], line: u64) -> Refusal
+    ensures { RefusalShows (input_answer file kind.now line) result }
+{
+    Refusal::of_text(refused_text(alloc, word_of_file(file), kind, line), 4)
+}
+
+/// The refusal of a fault of a PL 94-171 file: `refused FILE KIND line L` with exit status 4, or `Memory` where the
+/// fault is that or the line found no memory. The line counts from 1; it is 0 where the file has too many lines.
+pub fn refuse_file(alloc: Global, fault: Pl94Fault) -> Refusal
+    ensures answer { RefusalShows (pl94_answer fault) result }
+    ensures shown { IsShown result → fault.kind ≢ kinds.Memory }
+{
+    let line = match fault.kind {
+        Pl94Kind::Memory => return Refusal::Memory,
+        Pl94Kind::Lower(cut) => line_of_cut(cut, fault.line),
+        _ => fault.line,
+    };
+    refuse_input(
+        alloc,
+        input_of(fault.file),
+        word_of_kind(fault.kind),
+        u64::from(line),
+    )
+}
+
+/// The refusal of a fault of the files of a state, or of the NAME of a county. A fault of the files is refused as
+/// `refuse_file` says. If a NAME isn't UTF-8, the refusal is `refused geo BadName line L` with exit status 4, or
+/// `Memory` if the line found no memory.
+pub fn refuse_named_counties(alloc: Global, fault: NamedFault) -> Refusal
+    ensures answer { RefusalShows (named_answer fault) result }
+    ensures shown { IsShown result → IsNoMemory fault → ⊥ }
+{
+    match fault {
+        NamedFault::Files(fault) => refuse_file(alloc, fault),
+        NamedFault::BadName(line) => {
+            refuse_input(alloc, InputFile::Geo, b"BadName", u64::from(line))
+        }
+    }
+}
+
+/// The refusal of a fault of a file whose lines have county codes: `refused FILE KIND line L` with exit status 4, or
+/// `Memory` where the fault is that or the line found no memory. The line counts from 1; it is 0 where the file has too
+/// many lines.
+pub fn refuse_codes(alloc: Global, file: InputFile, fault: CodeLineFault) -> Refusal
+    ensures answer { RefusalShows (code_file_answer file fault) result }
+    ensures shown { IsShown result → fault.kind ≢ lines_of_codes.Memory }
+{
+    let line = match fault.kind {
+        CodeLineKind::Memory => return Refusal::Memory,
+        CodeLineKind::Lower(cut) => line_of_cut(cut, fault.line),
+        _ => fault.line,
+    };
+    refuse_input(alloc, file, word_of_code_line(fault.kind), u64::from(line))
+}
+
+/// The refusal of a fault of an assignment file: `refused assignments KIND line L` with exit status 4, or `Memory`
+/// where the fault is that or the line found no memory. The line counts from 1; it is 0 where the file has too many
+/// lines.
+pub fn refuse_assignments(alloc: Global, fault: AssignmentFault) -> Refusal
+    ensures answer { RefusalShows (assignment_answer fault) result }
+    ensures shown { IsShown result → fault.kind ≢ lines_of_assignments.Memory }
+{
+    let line = match fault.kind {
+        AssignmentKind::Memory => return Refusal::Memory,
+        AssignmentKind::Lower(cut) => line_of_cut(cut, fault.line),
+        _ => fault.line,
+    };
+    let word = word_of_assignment(fault.kind);
+    refuse_input(alloc, InputFile::Assignments, word, u64::from(line))
+}
+
+/// `fault KIND` with its group, its county or its seats.
+#[tactic(auto, unfolding(crate::specs::Refusals::fault_line))]
+fn fault_text(alloc: Global, fault: GroupingFault) -> Result<Vec<u8>, AllocError>
+    ensures { IfOk result (λ v. v.items ≡ fault_line fault) }
+{
+    let mut out = Vec::from_slice(alloc, b"fault ")?;
+    push_grouping_fault(&mut out, fault)?;
+    out.extend_from_slice(b"\n")?;
+    Ok(out)
+}
+
+/// The answer to a fault of a grouping: `fault KIND` with its group, its county or its seats, and exit status 1, or
+/// `Memory` where the fault is that or the line found no memory.
+pub fn refuse_verdict(alloc: Global, fault: GroupingFault) -> Refusal
+    ensures { RefusalShows (verdict_answer fault) result }
+{
+    if fault == GroupingFault::Memory {
+        return Refusal::Memory;
+    }
+    Refusal::of_text(fault_text(alloc, fault), 1)
+}
+
+/// Appends a blank and a code.
+fn push_blank_code(out: &mut Vec<u8>, code: CountyCode) -> Result<(), AllocError>
+    ensures { OnOk result (out.new.items ≡ out.old.items ++ after_blank (five_digits code)) }
+{
+    out.extend_from_slice(b" ")?;
+    push_code(out, code)
+}
+
+/// Appends a word, a blank and a code.
+fn push_word_code(out: &mut Vec<u8>, word: &[u8], code: CountyCode) -> Result<(), AllocError>
+    ensures { OnOk result (out.new.items ≡ out.old.items ++ (word.now ++ after_blank (five_digits code))) }
+{
+    out.extend_from_slice(word)?;
+    push_blank_code(out, code)
+}
+
+/// Appends a word, a blank and a number.
+fn push_word_number(out: &mut Vec<u8>, word: &[u8], number: u64) -> Result<(), AllocError>
+    ensures { OnOk result (out.new.items ≡ out.old.items ++ (word.now ++ after_blank (decimal number))) }
+{
+    out.extend_from_slice(word)?;
+    out.extend_from_slice(b" ")?;
+    push_number(out, number)
+}
+
+/// Appends a word.
+pub(crate) fn push_word(out: &mut Vec<u8>, word: &[u8]) -> Result<(), AllocError>
+    ensures { OnOk result (out.new.items ≡ out.old.items ++ word.now) }
+{
+    out.extend_from_slice(word)
+}
+
+/// Appends what is refused of a problem.
+fn push_problem(out: &mut Vec<u8>, fault: ProblemFault) -> Result<(), AllocError>
+    ensures { OnOk result (out.new.items ≡ out.old.items ++ problem_words fault) }
+{
+    match fault {
+        ProblemFault::BadWindow => push_word(out, b"BadWindow"),
+        ProblemFault::SeatsOutOfRange => push_word(out, b"SeatsOutOfRange"),
+        ProblemFault::TooManyCounties => push_word(out, b"TooManyCounties"),
+        ProblemFault::DoubleCounty(code) => push_word_code(out, b"DoubleCounty", code),
+        ProblemFault::NoPeople => push_word(out, b"NoPeople"),
+        ProblemFault::EmptyWithdrawn(set) => push_word_number(out, b"EmptyWithdrawn", set as u64),
+        ProblemFault::UnknownWithdrawn(code) => push_word_code(out, b"UnknownWithdrawn", code),
+        ProblemFault::WithdrawnTwice(code) => push_word_code(out, b"WithdrawnTwice", code),
+        ProblemFault::WithdrawnSeats => push_word(out, b"WithdrawnSeats"),
+        ProblemFault::UnknownPair(a, b) => {
+            push_word_code(out, b"UnknownPair", a)?;
+            push_blank_code(out, b)
+        }
+        ProblemFault::Memory => push_word(out, b"Memory"),
+    }
+}
+
+/// `refused problem KIND` with its codes or its set.
+#[tactic(auto, unfolding(crate::specs::Refusals::refused_problem))]
+fn problem_text(alloc: Global, fault: ProblemFault) -> Result<Vec<u8>, AllocError>
+    ensures { IfOk result (λ v. v.items ≡ refused_problem fault) }
+{
+    let mut out = Vec::from_slice(alloc, b"refused problem ")?;
+    push_problem(&mut out, fault)?;
+    out.extend_from_slice(b"\n")?;
+    Ok(out)
+}
+
+/// The refusal of a fault of a problem: `refused problem KIND` with its codes or its set, and exit status 4, or
+/// `Memory` where the fault is that or the line found no memory.
+pub fn refuse_problem(alloc: Global, fault: ProblemFault) -> Refusal
+    ensures answer { RefusalShows (problem_answer fault) result }
+    ensures shown { IsShown result → fault ≢ problem.Memory }
+{
+    if fault == ProblemFault::Memory {
+        return Refusal::Memory;
+    }
+    Refusal::of_text(problem_text(alloc, fault), 4)
+}
+
+fn word_of_shelf_fault(fault: ShelfFault) -> &'static [u8]
+    ensures { result.now ≡ shelf_word fault }
+{
+    match fault {
+        ShelfFault::Missing => b"Missing",
+        ShelfFault::TooLarge => b"TooLarge",
+        ShelfFault::Device => b"Device",
+        ShelfFault::Memory => b"Memory",
+    }
+}
+
+/// `device NAME KIND`.
+#[tactic(auto, unfolding(crate::specs::Refusals::device_line))]
+fn device_text(alloc: Global, name: &[u8], kind: &[u8]) -> Result<Vec<u8>, AllocError>
+    ensures { IfOk result (λ v. v.items ≡ device_line name.now kind.now) }
+{
+    let mut out = Vec::from_slice(alloc, b"device ")?;
+    out.extend_from_slice(name)?;
+    out.extend_from_slice(b" ")?;
+    out.extend_from_slice(kind)?;
+    out.extend_from_slice(b"\n")?;
+    Ok(out)
+}
+
+/// The refusal of a fault of the shelf under a name: `device NAME KIND` with exit status 5, or `Memory` where the fault
+/// is that or the line found no memory.
+pub fn refuse_load(alloc: Global, name: &str, fault: ShelfFault) -> Refusal
+    ensures { RefusalShows (shelf_answer name.now fault) result }
+{
+    if fault == ShelfFault::Memory {
+        return Refusal::Memory;
+    }
+    let text = device_text(alloc, name.as_bytes(), word_of_shelf_fault(fault));
+    Refusal::of_text(text, 5)
+}

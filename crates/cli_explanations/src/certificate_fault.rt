@@ -1,0 +1,142 @@
+//! Why a text is no certificate.
+
+use crate::grouping_fault::explain_chamber;
+use crate::line_of::whole_line;
+use crate::options::{NamedFile, Options};
+use crate::shown::start_of;
+use certificate_lines::TextKind;
+use cli::FileOption;
+use county_codes::Window;
+use county_problem::Problem;
+use field_lines::{Fields, field_at, number_in};
+use state_judge::CheckFault;
+use std::alloc::AllocError;
+use std::fmt::Write;
+
+const BYTE_ORDER_MARK: &[u8] = b"\xef\xbb\xbf";
+
+/// Shows the line of the number, or says where a text that is cut short ends.
+fn show_line(
+    out: &mut String,
+    is_cut: bool,
+    (text, number): (&[u8], u64),
+) -> Result<(), AllocError> {
+    match whole_line(text, number) {
+        Some(line) if !is_cut => {
+            let line = start_of(line);
+            writeln!(out, "countygroups: line {number} is: {line}")
+        }
+        Some(line) if !line.is_empty() => writeln!(
+            out,
+            "countygroups: the file ends inside line {number}: it is not whole"
+        ),
+        _ => writeln!(
+            out,
+            "countygroups: the file ends before line {number}: it is not whole"
+        ),
+    }
+}
+
+/// The seats of a line `group SEATS CODE ..`.
+fn seats_in(line: &[u8]) -> Option<u32> {
+    match field_at(line, b' ', 0) {
+        Some(b"group") => number_in(field_at(line, b' ', 1)?, 0, 65_535),
+        _ => None,
+    }
+}
+
+/// The seats of the groups of a certificate's target.
+fn target_seats(text: &[u8]) -> u64 {
+    let mut seats: u64 = 0;
+    for line in Fields::new(text, b'\n') {
+        seats = seats.saturating_add(u64::from(seats_in(line).unwrap_or(0)));
+    }
+    seats
+}
+
+/// The allowance of a line `window PART WHOLE`.
+fn window_on(line: &[u8]) -> Option<Window> {
+    let part = number_in(field_at(line, b' ', 1)?, 0, 500)?;
+    let whole = number_in(field_at(line, b' ', 2)?, 1, 1_000)?;
+    Some(Window {
+        part: part as u16,
+        whole: whole as u16,
+    })
+}
+
+/// The allowance that a certificate is for: that of its second line, or one twentieth if it names none.
+fn window_in(text: &[u8]) -> Window {
+    let line = whole_line(text, 2).unwrap_or(&[]);
+    match field_at(line, b' ', 0) {
+        Some(b"window") => window_on(line).unwrap_or(Window::twentieth()),
+        _ => Window::twentieth(),
+    }
+}
+
+/// Names the allowance of a certificate, and that of the problem.
+fn explain_windows(out: &mut String, text: &[u8], problem: &Problem) -> Result<(), AllocError> {
+    let (named, asked) = (window_in(text), problem.window());
+    writeln!(
+        out,
+        "countygroups: the certificate is for the allowance {}/{}, and --part and --of ask for {}/{}",
+        named.part, named.whole, asked.part, asked.whole
+    )
+}
+
+/// Says what was done to the text on its way, or what else helps.
+fn explain_help(
+    out: &mut String,
+    file: NamedFile<'_>,
+    fault: &CheckFault,
+    (text, problem): (&[u8], &Problem),
+) -> Result<(), AllocError> {
+    let first = whole_line(text, 1).unwrap_or(&[]);
+    if text.starts_with(BYTE_ORDER_MARK) {
+        return writeln!(
+            out,
+            "countygroups: a byte order mark stands first in {file}: the file was changed on its way, so get it again byte for byte"
+        );
+    }
+    if first.ends_with(b"\r") {
+        return writeln!(
+            out,
+            "countygroups: the lines of {file} end in CR LF: the file was changed on its way, so get it again byte for byte"
+        );
+    }
+    match fault {
+        CheckFault::TargetFault(_) => {
+            explain_chamber(out, FileOption::Certificate, target_seats(text), problem)?
+        }
+        CheckFault::WrongWindow => explain_windows(out, text, problem)?,
+        _ => {}
+    }
+    out.push_str(
+        "countygroups: see that the other options are those that it was made with, or make it again with `countygroups solve --certificate FILE`\n",
+    )
+}
+
+/// Explains why a text is no certificate of the problem: what is wrong with its line, the line, and what to do.
+///
+/// # Errors
+///
+/// `AllocError` where memory was refused.
+pub(crate) fn explain_certificate(
+    out: &mut String,
+    options: Options<'_>,
+    (fault, number): (&CheckFault, u64),
+    (text, problem): (&[u8], &Problem),
+) -> Result<(), AllocError> {
+    let file = options.file(FileOption::Certificate);
+    let is_cut = match fault {
+        CheckFault::Text(cut) => {
+            writeln!(out, "countygroups: {file}, {cut}")?;
+            cut.kind == TextKind::CutShort
+        }
+        _ => {
+            writeln!(out, "countygroups: {file}, line {number}: {fault}")?;
+            false
+        }
+    };
+    show_line(out, is_cut, (text, number))?;
+    explain_help(out, file, fault, (text, problem))
+}

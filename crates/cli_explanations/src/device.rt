@@ -1,0 +1,95 @@
+//! Why a file could not be had or stored.
+
+use crate::again::words_of_reason;
+use crate::shown::name_of;
+use cli::FileOption;
+use cli_shelves::ShelfFault;
+use std::alloc::AllocError;
+use std::fmt::Write;
+use std::io::ErrorKind;
+
+/// A file that could not be had or stored.
+#[derive(Clone, Copy)]
+pub(crate) struct Unmoved<'a> {
+    /// The option that names it.
+    pub(crate) option: FileOption,
+    /// What the shelf says.
+    pub(crate) fault: ShelfFault,
+    /// Its path.
+    pub(crate) path: &'a str,
+    /// What sort of error the system gave.
+    pub(crate) reason: Option<ErrorKind>,
+}
+
+impl Unmoved<'_> {
+    /// Why the file could not be had or stored.
+    fn words(&self) -> &'static str {
+        match (self.fault, self.reason) {
+            (ShelfFault::TooLarge, _) => "it has more than 1073741824 bytes",
+            (ShelfFault::Missing, _) => words_of_reason(ErrorKind::NotFound),
+            (_, Some(reason)) => words_of_reason(reason),
+            (_, None) => "the device failed",
+        }
+    }
+}
+
+/// Explains a file that could not be had, of a command or of a case.
+///
+/// # Errors
+///
+/// `AllocError` where memory was refused.
+pub(crate) fn explain_unloaded(
+    out: &mut String,
+    file: Unmoved<'_>,
+    is_case: bool,
+) -> Result<(), AllocError> {
+    let (option, name, words) = (file.option, name_of(file.path), file.words());
+    if is_case {
+        return writeln!(
+            out,
+            "countygroups: the case has no file {name} for {option}: each file stands behind a line `file NAME`"
+        );
+    }
+    writeln!(
+        out,
+        "countygroups: {option} {name} could not be read: {words}\ncountygroups: give {option} a file that can be read, by its path from the folder where the program runs"
+    )
+}
+
+/// Explains a file that could not be stored.
+///
+/// # Errors
+///
+/// `AllocError` where memory was refused.
+pub(crate) fn explain_unstored(out: &mut String, file: Unmoved<'_>) -> Result<(), AllocError> {
+    let (option, name, words) = (file.option, name_of(file.path), file.words());
+    writeln!(
+        out,
+        "countygroups: {option} {name} could not be stored: {words}"
+    )?;
+    match file.reason {
+        Some(ErrorKind::AlreadyExists) => writeln!(
+            out,
+            "countygroups: if no other run is storing {name}, remove {name}.part, {name}.part2, {name}.part3 and {name}.part4"
+        ),
+        _ => writeln!(
+            out,
+            "countygroups: give {option} a path where a file can be stored; what was stored before it stays"
+        ),
+    }
+}
+
+/// Appends the text of an answer, if a file of the run could not be stored.
+///
+/// # Errors
+///
+/// `AllocError` where memory was refused.
+pub(crate) fn push_report(out: &mut String, report: &[u8]) -> Result<(), AllocError> {
+    match str::from_utf8(report) {
+        Ok(report) => {
+            out.push_str("countygroups: the answer is:\n")?;
+            out.push_str(report)
+        }
+        Err(_) => Ok(()),
+    }
+}

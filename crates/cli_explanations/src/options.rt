@@ -1,0 +1,101 @@
+//! The files that the words of a command give.
+
+use crate::shown::name_of;
+use cli::FileOption;
+use cli_words::{CommandWords, CommonWords, ProblemWords};
+use std::fmt;
+
+/// An option with the file that the words give it.
+#[derive(Clone, Copy)]
+pub(crate) struct NamedFile<'a> {
+    /// The option.
+    pub(crate) option: FileOption,
+    /// The file's path; none where the words are those of a case, which no path leads to.
+    pub(crate) path: Option<&'a str>,
+}
+
+/// `--option PATH`, or `--option of the case`.
+impl fmt::Display for NamedFile<'_> {
+    fn fmt<W: fmt::Write>(&self, f: &mut fmt::Formatter<W>) -> fmt::Result {
+        match self.path {
+            Some(path) => write!(f, "{} {}", self.option, name_of(path)),
+            None => write!(f, "{} of the case", self.option),
+        }
+    }
+}
+
+/// The options that give a problem, where the command has them.
+fn problem_of<'a>(command: CommandWords<'a>) -> Option<ProblemWords<'a>> {
+    match command {
+        CommandWords::Size(_) => None,
+        CommandWords::Judge(words) => Some(words.problem),
+        CommandWords::Solve(words) => Some(words.problem),
+        CommandWords::Check(words) => Some(words.check.problem),
+        CommandWords::Audit(words) => Some(words.problem),
+        CommandWords::List(words) => Some(words.check.problem),
+        CommandWords::Share(words) => Some(words.board.problem),
+        CommandWords::Piece(words) => Some(words.board.problem),
+    }
+}
+
+/// The options that each command has.
+pub(crate) fn common_of<'a>(command: CommandWords<'a>) -> CommonWords<'a> {
+    match command {
+        CommandWords::Size(words) => words,
+        CommandWords::Judge(words) => words.problem.common,
+        CommandWords::Solve(words) => words.problem.common,
+        CommandWords::Check(words) => words.check.problem.common,
+        CommandWords::Audit(words) => words.problem.common,
+        CommandWords::List(words) => words.check.problem.common,
+        CommandWords::Share(words) => words.board.problem.common,
+        CommandWords::Piece(words) => words.board.problem.common,
+    }
+}
+
+/// The path that a command has for an option.
+pub(crate) fn path_in<'a>(command: CommandWords<'a>, option: FileOption) -> Option<&'a str> {
+    match (command, option) {
+        (_, FileOption::Geo) => Some(common_of(command).geo),
+        (_, FileOption::Segment) => Some(common_of(command).segment),
+        (_, FileOption::Record) => common_of(command).record_file,
+        (_, FileOption::Adjacency) => Some(problem_of(command)?.adjacency),
+        (_, FileOption::Links) => problem_of(command)?.links,
+        (_, FileOption::Withdrawn) => problem_of(command)?.withdrawn,
+        (CommandWords::Judge(words), FileOption::Grouping) => Some(words.grouping),
+        (CommandWords::Judge(words), FileOption::Certificate) => words.certificate,
+        (CommandWords::Judge(words), FileOption::Table) => words.table,
+        (CommandWords::Solve(words), FileOption::CertificateOut) => words.certificate,
+        (CommandWords::Solve(words), FileOption::Out) => words.out,
+        (CommandWords::Solve(words), FileOption::Table) => words.table,
+        (CommandWords::Check(words), FileOption::Certificate) => Some(words.check.certificate),
+        (CommandWords::Check(words), FileOption::Table) => words.table,
+        (CommandWords::Audit(words), FileOption::Grouping) => Some(words.grouping),
+        (CommandWords::Audit(words), FileOption::Assignments) => Some(words.assignments),
+        (CommandWords::List(words), FileOption::Certificate) => Some(words.check.certificate),
+        (CommandWords::List(words), FileOption::Out) => Some(words.stored?.out),
+        (CommandWords::Share(words), FileOption::Grouping) => Some(words.board.grouping),
+        (CommandWords::Share(words), FileOption::Events) => Some(words.events),
+        (CommandWords::Share(words), FileOption::CertificateOut) => words.certificate,
+        (CommandWords::Piece(words), FileOption::Grouping) => Some(words.board.grouping),
+        (CommandWords::Piece(words), FileOption::Events) => words.events,
+        _ => None,
+    }
+}
+
+/// The words of a run: those of a command, or none that are known, as those of a case.
+#[derive(Clone, Copy)]
+pub(crate) struct Options<'a> {
+    /// The command.
+    pub(crate) command: Option<CommandWords<'a>>,
+}
+
+impl<'a> Options<'a> {
+    /// An option with its file.
+    pub(crate) fn file(self, option: FileOption) -> NamedFile<'a> {
+        let path = match self.command {
+            Some(command) => path_in(command, option),
+            None => None,
+        };
+        NamedFile { option, path }
+    }
+}

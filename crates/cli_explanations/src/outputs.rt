@@ -1,0 +1,168 @@
+//! The files that commands store: what is amiss with their names before the run, and what stays under them after it.
+
+use crate::again::{closed_reason, is_plain};
+use crate::options::path_in;
+use crate::shown::name_of;
+use cli::{End, FileOption};
+use cli_words::CommandWords;
+use std::alloc::AllocError;
+use std::fmt::Write;
+use std::rt::Files;
+
+/// The options of the files that commands read.
+const INPUTS: [FileOption; 9] = [
+    FileOption::Geo,
+    FileOption::Segment,
+    FileOption::Adjacency,
+    FileOption::Links,
+    FileOption::Withdrawn,
+    FileOption::Certificate,
+    FileOption::Grouping,
+    FileOption::Assignments,
+    FileOption::Events,
+];
+
+/// The options of the files that commands store, in their order, and what each file is.
+const OUTPUTS: [(FileOption, &str); 4] = [
+    (FileOption::CertificateOut, "certificate"),
+    (FileOption::Out, "grouping"),
+    (FileOption::Table, "table"),
+    (FileOption::Record, "record"),
+];
+
+/// Whether the run stored the file of an option.
+fn has_stored_option(end: &End, option: FileOption) -> bool {
+    match option {
+        FileOption::CertificateOut => end.has_stored_certificate,
+        FileOption::Out => end.has_stored_out,
+        FileOption::Table => end.has_stored_table,
+        FileOption::Record => end.has_stored_record,
+        _ => false,
+    }
+}
+
+/// Whether the run stored a file under a path.
+fn has_stored(command: CommandWords<'_>, end: &End, path: &str) -> bool {
+    for (option, _) in OUTPUTS {
+        if has_stored_option(end, option) && path_in(command, option) == Some(path) {
+            return true;
+        }
+    }
+    false
+}
+
+/// Warns where an output has the name of an input.
+fn warn_of_inputs(
+    out: &mut String,
+    command: CommandWords<'_>,
+    option: FileOption,
+    path: &str,
+) -> Result<(), AllocError> {
+    for input in INPUTS {
+        if path_in(command, input) == Some(path) {
+            let name = name_of(path);
+            writeln!(
+                out,
+                "countygroups: warning: {option} {name} is the file of {input} too, and what is stored takes its place"
+            )?;
+        }
+    }
+    Ok(())
+}
+
+/// Warns where no file can be stored under the name of an output.
+fn warn_of_name(
+    rt: &impl Files,
+    out: &mut String,
+    option: FileOption,
+    path: &str,
+) -> Result<(), AllocError> {
+    match closed_reason(rt, path) {
+        Some(reason) => {
+            let name = name_of(path);
+            writeln!(
+                out,
+                "countygroups: warning: {option} {name} can't be stored: {reason}"
+            )
+        }
+        None => Ok(()),
+    }
+}
+
+/// Warns where an output that is stored before another one has that one's name.
+fn warn_of_one_name(
+    out: &mut String,
+    command: CommandWords<'_>,
+    (second, later): (FileOption, &str),
+    path: &str,
+) -> Result<(), AllocError> {
+    for (first, earlier) in OUTPUTS {
+        if first == second {
+            break;
+        }
+        if path_in(command, first) == Some(path) {
+            let name = name_of(path);
+            writeln!(
+                out,
+                "countygroups: warning: {first} and {second} are both {name}: a {later} takes the place of the {earlier}"
+            )?;
+        }
+    }
+    Ok(())
+}
+
+/// Warns where two outputs have one name.
+fn warn_of_shared_names(out: &mut String, command: CommandWords<'_>) -> Result<(), AllocError> {
+    for (option, noun) in OUTPUTS {
+        if let Some(path) = path_in(command, option) {
+            warn_of_one_name(out, command, (option, noun), path)?;
+        }
+    }
+    Ok(())
+}
+
+/// Warns of the names of the outputs before the run.
+///
+/// # Errors
+///
+/// `AllocError` where memory was refused.
+pub(crate) fn warn_of_outputs(
+    rt: &impl Files,
+    out: &mut String,
+    command: CommandWords<'_>,
+) -> Result<(), AllocError> {
+    warn_of_shared_names(out, command)?;
+    for (option, _) in OUTPUTS {
+        if let Some(path) = path_in(command, option) {
+            warn_of_inputs(out, command, option, path)?;
+            warn_of_name(rt, out, option, path)?;
+        }
+    }
+    Ok(())
+}
+
+/// Warns of older files that stay under the names of outputs, because the run stored nothing there.
+///
+/// # Errors
+///
+/// `AllocError` where memory was refused.
+pub(crate) fn warn_of_older_files(
+    rt: &impl Files,
+    out: &mut String,
+    command: CommandWords<'_>,
+    end: &End,
+) -> Result<(), AllocError> {
+    for (option, _) in OUTPUTS {
+        match path_in(command, option) {
+            Some(path) if !has_stored(command, end, path) && is_plain(rt, path) => {
+                let name = name_of(path);
+                writeln!(
+                    out,
+                    "countygroups: warning: nothing was stored as {option} {name}: the file of that name is an older one"
+                )?;
+            }
+            _ => {}
+        }
+    }
+    Ok(())
+}

@@ -1,0 +1,72 @@
+//! Why a certificate doesn't show that a lawful grouping is best.
+
+use crate::certificate_fault::explain_certificate;
+use crate::options::Options;
+use cli::FileOption;
+use cli_runs::Unshown;
+use county_problem::{Counts, Problem};
+use std::alloc::AllocError;
+use std::fmt::Write;
+
+const NO_PROOF: &str =
+    "countygroups: the grouping is lawful; whether it is best is left open, since the certificate is none of these files\n";
+
+const SMALL_BUDGET: &str =
+    "countygroups: the grouping is lawful; the steps of --budget ran out before the certificate was checked: give a greater number\n";
+
+/// The first size, in counties, of which two groupings have different numbers of groups. The second has the longest
+/// group of a size that the first lacks.
+fn first_difference(own: &Counts, best: &Counts) -> Option<u16> {
+    for size in 1..=best.longest() {
+        if own.of(size) != best.of(size) {
+            return Some(size);
+        }
+    }
+    None
+}
+
+/// Explains that the certificate's grouping has greater counts.
+fn explain_lesser(
+    out: &mut String,
+    options: Options<'_>,
+    own: &Counts,
+    best: &Counts,
+) -> Result<(), AllocError> {
+    let file = options.file(FileOption::Certificate);
+    writeln!(
+        out,
+        "countygroups: the grouping is lawful, but it isn't best: the grouping of {file} has greater counts"
+    )?;
+    match first_difference(own, best) {
+        Some(size) => {
+            let (own, best) = (own.of(size), best.of(size));
+            writeln!(
+                out,
+                "countygroups: groups of size {size}: {own} in the grouping, {best} in that of the certificate"
+            )
+        }
+        None => Ok(()),
+    }
+}
+
+/// Explains why a certificate doesn't show that a lawful grouping is best.
+///
+/// # Errors
+///
+/// `AllocError` where memory was refused.
+pub(crate) fn explain_unshown(
+    out: &mut String,
+    options: Options<'_>,
+    unshown: &Unshown,
+    (text, problem): (&[u8], &Problem),
+) -> Result<(), AllocError> {
+    match unshown {
+        Unshown::NoCertificate(fault, line) => {
+            out.push_str(NO_PROOF)?;
+            explain_certificate(out, options, (fault, *line), (text, problem))
+        }
+        Unshown::Impossible => out.push_str(NO_PROOF),
+        Unshown::Budget => out.push_str(SMALL_BUDGET),
+        Unshown::Lesser(own, best) => explain_lesser(out, options, own, best),
+    }
+}

@@ -1,0 +1,13 @@
+use Rattle.std.proofs.Common.{map}
+use Rattle.cli_shelves.specs.Sums.{sum_value}
+use Rattle.cli_record_text.specs.declared.run.ReadFile.TheVariants as files
+use Rattle.cli_record.specs.Recorded.{read_line_of}
+use Rattle.cli_record.specs.RecordFiles.{board_files, if_named}
+use Rattle.cli_record.proofs.LineLemmas.{on_ok, read_on}
+use Rattle.cli_record.proofs.reads.push_piece.Goals as goal
+
+pub returns : goal.returns
+returns c =
+    on_ok c.push_if_named.result
+    (read_on (map read_line_of c.args.reads.now.items) (map read_line_of c.push_board.new.reads.items) (map read_line_of c.push_if_named.new.reads.items) (board_files c.args.words.now.board) (if_named files.Events c.args.words.now.events) (map sum_value c.args.sums.now) c.in_ok-push_board.ensures)
+    c.push_if_named.ensures

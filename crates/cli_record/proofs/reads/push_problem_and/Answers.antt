@@ -1,0 +1,12 @@
+use Rattle.std.proofs.Common.{◌∷◌, [], map}
+use Rattle.cli_shelves.specs.Sums.{sum_value}
+use Rattle.cli_record.specs.Recorded.{read_line_of}
+use Rattle.cli_record.specs.RecordFiles.{file_named, problem_files}
+use Rattle.cli_record.proofs.LineLemmas.{on_ok, read_on}
+use Rattle.cli_record.proofs.reads.push_problem_and.Goals as goal
+
+pub returns : goal.returns
+returns c =
+    on_ok c.push_read.result
+    (read_on (map read_line_of c.args.reads.now.items) (map read_line_of c.push_problem.new.reads.items) (map read_line_of c.push_read.new.reads.items) (problem_files c.args.words.now) (file_named c.args.file c.args.name.now ∷ []) (map sum_value c.args.sums.now) c.in_ok-push_problem.ensures)
+    c.push_read.ensures

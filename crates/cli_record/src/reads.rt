@@ -1,0 +1,269 @@
+//! The lines of the files that a command reads.
+
+ghost use Rattle.std.specs.Prelude.{◌≡◌, ◌++◌, ◌∷◌, [], List, IfOk, OnOk, map, find};
+ghost use Rattle.std.specs.Option.{option_map};
+ghost use Rattle.cli_words.specs.declared.words.CommandWords.TheVariants.{Judge, Audit, Share, Piece};
+ghost use Rattle.cli_record_text.specs.declared.run.ReadFile.TheVariants.{Certificate};
+ghost use Rattle.cli_shelves.specs.Sums.{sum_value};
+ghost use Rattle.cli_record.specs.Recorded.{read_line_of};
+ghost use Rattle.cli_record.specs.RecordFiles.{went as has_gone, is_of as is_event_of, reading_of as reading_of_name};
+ghost use Rattle.cli_record.specs.RecordFiles.{files_read, file_named, if_named, census_files, problem_files};
+ghost use Rattle.cli_record.specs.RecordFiles.{problem_and, board_files, files_to_read};
+
+use cli_record_text::{FileRead, ReadFile};
+use cli_shelves::{EventKind, EventSum};
+use cli_words::{
+    AuditWords, BoardWords, CertificateWords, CommandWords, CommonWords, JudgeWords, PieceWords,
+    ProblemWords, ShareWords,
+};
+use std::alloc::{AllocError, Global};
+
+/// Whether an event went as it is wanted.
+pub(crate) fn went(want: EventKind, kind: EventKind) -> bool
+    ensures { result ≡ has_gone want kind }
+{
+    matches!(
+        (want, kind),
+        (EventKind::Whole, EventKind::Whole)
+            | (EventKind::Part, EventKind::Part)
+            | (EventKind::Taken, EventKind::Taken)
+            | (EventKind::Failed, EventKind::Failed)
+    )
+}
+
+/// Whether an event of this name went so.
+fn is_of(sum: &EventSum, kind: EventKind, name: &str) -> bool
+    ensures { result ≡ is_event_of kind name.now (sum_value sum.now) }
+{
+    went(kind, sum.kind) && sum.name.as_str() == name
+}
+
+/// The first event of this name that went so.
+fn first_of<'a>(sums: &'a [EventSum], kind: EventKind, name: &str) -> Option<&'a EventSum>
+    ensures { option_map (λ s. sum_value s.now) result ≡ find (is_event_of kind name.now) (map sum_value sums.now) }
+{
+    for sum in sums {
+        if is_of(sum, kind, name) {
+            return Some(sum);
+        }
+    }
+    None
+}
+
+/// The reading of a file: the first that came to the end of the file, or else the first that was left before it.
+fn reading_of<'a>(sums: &'a [EventSum], name: &str) -> Option<&'a EventSum>
+    ensures { option_map (λ s. sum_value s.now) result ≡ reading_of_name (map sum_value sums.now) name.now }
+{
+    match first_of(sums, EventKind::Whole, name) {
+        Some(sum) => Some(sum),
+        None => first_of(sums, EventKind::Part, name),
+    }
+}
+
+/// Appends the line of a file, if it was read.
+fn push_read(
+    reads: &mut Vec<FileRead>,
+    sums: &[EventSum],
+    file: ReadFile,
+    name: &str,
+) -> Result<(), AllocError>
+    ensures { OnOk result (map read_line_of reads.new.items
+        ≡ map read_line_of reads.old.items ++ files_read (file_named file name.now ∷ []) (map sum_value sums.now)) }
+{
+    let Some(reading) = reading_of(sums, name) else {
+        return Ok(());
+    };
+    let alloc = *reads.allocator();
+    let name = String::from_str(alloc, name)?;
+    let read = FileRead {
+        file,
+        sum: reading.sum.copy(),
+        name,
+        left: went(EventKind::Part, reading.kind),
+    };
+    match reads.push(read) {
+        Ok(()) => Ok(()),
+        Err(_) => Err(AllocError),
+    }
+}
+
+/// Appends the line of a file that the words may name, if it was read.
+fn push_if_named(
+    reads: &mut Vec<FileRead>,
+    sums: &[EventSum],
+    file: ReadFile,
+    name: Option<&str>,
+) -> Result<(), AllocError>
+    ensures { OnOk result (map read_line_of reads.new.items
+        ≡ map read_line_of reads.old.items ++ files_read (if_named file name.entry) (map sum_value sums.now)) }
+{
+    match name {
+        Some(name) => push_read(reads, sums, file, name),
+        None => Ok(()),
+    }
+}
+
+/// Appends the lines of the two census files.
+fn push_census(
+    reads: &mut Vec<FileRead>,
+    sums: &[EventSum],
+    words: &CommonWords<'_>,
+) -> Result<(), AllocError>
+    ensures { OnOk result (map read_line_of reads.new.items
+        ≡ map read_line_of reads.old.items ++ files_read (census_files words.now) (map sum_value sums.now)) }
+{
+    push_read(reads, sums, ReadFile::Geo, words.geo)?;
+    push_read(reads, sums, ReadFile::Segment1, words.segment)
+}
+
+/// Appends the lines of the files of a problem.
+fn push_problem(
+    reads: &mut Vec<FileRead>,
+    sums: &[EventSum],
+    words: &ProblemWords<'_>,
+) -> Result<(), AllocError>
+    ensures { OnOk result (map read_line_of reads.new.items
+        ≡ map read_line_of reads.old.items ++ files_read (problem_files words.now) (map sum_value sums.now)) }
+{
+    push_census(reads, sums, &words.common)?;
+    push_read(reads, sums, ReadFile::Adjacency, words.adjacency)?;
+    push_if_named(reads, sums, ReadFile::Links, words.links)?;
+    push_if_named(reads, sums, ReadFile::Withdrawn, words.withdrawn)
+}
+
+/// Appends the lines of the files of a problem and of another file.
+fn push_problem_and(
+    reads: &mut Vec<FileRead>,
+    sums: &[EventSum],
+    words: &ProblemWords<'_>,
+    file: ReadFile,
+    name: &str,
+) -> Result<(), AllocError>
+    ensures { OnOk result (map read_line_of reads.new.items
+        ≡ map read_line_of reads.old.items
+        ++ files_read (problem_and words.now file name.now) (map sum_value sums.now)) }
+{
+    push_problem(reads, sums, words)?;
+    push_read(reads, sums, file, name)
+}
+
+/// Appends the lines of the files of a board.
+fn push_board(
+    reads: &mut Vec<FileRead>,
+    sums: &[EventSum],
+    words: &BoardWords<'_>,
+) -> Result<(), AllocError>
+    ensures { OnOk result (map read_line_of reads.new.items
+        ≡ map read_line_of reads.old.items ++ files_read (board_files words.now) (map sum_value sums.now)) }
+{
+    push_problem_and(
+        reads,
+        sums,
+        &words.problem,
+        ReadFile::Grouping,
+        words.grouping,
+    )
+}
+
+/// Appends the lines of the files that `judge` reads.
+fn push_judge(
+    reads: &mut Vec<FileRead>,
+    sums: &[EventSum],
+    words: &JudgeWords<'_>,
+) -> Result<(), AllocError>
+    ensures { OnOk result (map read_line_of reads.new.items
+        ≡ map read_line_of reads.old.items ++ files_read (files_to_read (Judge words.now)) (map sum_value sums.now)) }
+{
+    let (file, name) = (ReadFile::Grouping, words.grouping);
+    push_problem_and(reads, sums, &words.problem, file, name)?;
+    push_if_named(reads, sums, ReadFile::Certificate, words.certificate)
+}
+
+/// Appends the lines of the files that `audit` reads.
+fn push_audit(
+    reads: &mut Vec<FileRead>,
+    sums: &[EventSum],
+    words: &AuditWords<'_>,
+) -> Result<(), AllocError>
+    ensures { OnOk result (map read_line_of reads.new.items
+        ≡ map read_line_of reads.old.items ++ files_read (files_to_read (Audit words.now)) (map sum_value sums.now)) }
+{
+    let (file, name) = (ReadFile::Grouping, words.grouping);
+    push_problem_and(reads, sums, &words.problem, file, name)?;
+    push_read(reads, sums, ReadFile::Assignments, words.assignments)
+}
+
+/// Appends the lines of the files that `share` reads.
+fn push_share(
+    reads: &mut Vec<FileRead>,
+    sums: &[EventSum],
+    words: &ShareWords<'_>,
+) -> Result<(), AllocError>
+    ensures { OnOk result (map read_line_of reads.new.items
+        ≡ map read_line_of reads.old.items ++ files_read (files_to_read (Share words.now)) (map sum_value sums.now)) }
+{
+    push_board(reads, sums, &words.board)?;
+    push_read(reads, sums, ReadFile::Events, words.events)
+}
+
+/// Appends the lines of the files that `piece` reads.
+fn push_piece(
+    reads: &mut Vec<FileRead>,
+    sums: &[EventSum],
+    words: &PieceWords<'_>,
+) -> Result<(), AllocError>
+    ensures { OnOk result (map read_line_of reads.new.items
+        ≡ map read_line_of reads.old.items ++ files_read (files_to_read (Piece words.now)) (map sum_value sums.now)) }
+{
+    push_board(reads, sums, &words.board)?;
+    push_if_named(reads, sums, ReadFile::Events, words.events)
+}
+
+/// Appends the lines of the files of a problem and of a certificate.
+fn push_certificate(
+    reads: &mut Vec<FileRead>,
+    sums: &[EventSum],
+    words: &CertificateWords<'_>,
+) -> Result<(), AllocError>
+    ensures { OnOk result (map read_line_of reads.new.items
+        ≡ map read_line_of reads.old.items
+        ++ files_read (problem_and words.now.problem Certificate words.now.certificate.now) (map sum_value sums.now)) }
+{
+    let (file, name) = (ReadFile::Certificate, words.certificate);
+    push_problem_and(reads, sums, &words.problem, file, name)
+}
+
+/// Appends the lines of the files that a command reads.
+fn push_files(
+    reads: &mut Vec<FileRead>,
+    sums: &[EventSum],
+    command: &CommandWords<'_>,
+) -> Result<(), AllocError>
+    ensures { OnOk result (map read_line_of reads.new.items
+        ≡ map read_line_of reads.old.items ++ files_read (files_to_read command.now) (map sum_value sums.now)) }
+{
+    match command {
+        CommandWords::Size(words) => push_census(reads, sums, words),
+        CommandWords::Judge(words) => push_judge(reads, sums, words),
+        CommandWords::Solve(words) => push_problem(reads, sums, &words.problem),
+        CommandWords::Check(words) => push_certificate(reads, sums, &words.check),
+        CommandWords::Audit(words) => push_audit(reads, sums, words),
+        CommandWords::List(words) => push_certificate(reads, sums, &words.check),
+        CommandWords::Share(words) => push_share(reads, sums, words),
+        CommandWords::Piece(words) => push_piece(reads, sums, words),
+    }
+}
+
+/// The lines of the files that a command read.
+pub(crate) fn reads_of(
+    alloc: Global,
+    sums: &[EventSum],
+    command: &CommandWords<'_>,
+) -> Result<Vec<FileRead>, AllocError>
+    ensures { IfOk result (λ v. map read_line_of v.items
+        ≡ files_read (files_to_read command.now) (map sum_value sums.now)) }
+{
+    let mut reads = Vec::new(alloc);
+    push_files(&mut reads, sums, command)?;
+    Ok(reads)
+}

@@ -1,0 +1,83 @@
+//! The record of a run.
+
+ghost use Rattle.std.specs.Prelude.{◌≡◌, List, IfOk, map};
+ghost use Rattle.std.specs.Option.{option_map};
+ghost use Rattle.std.specs.String.{string_bytes};
+ghost use Rattle.cli_shelves.specs.Sums.{sum_value};
+ghost use Rattle.cli_record.specs.Recorded.{IsRecord, SaysOfRun};
+ghost use Rattle.cli_record.specs.RecordFiles.{record_name_of};
+
+use crate::reads::reads_of;
+use crate::stores::stores_of;
+use cli_record_text::{Run, answer_of, record_text};
+use cli_shelves::EventSum;
+use cli_words::{CommandWords, version_text};
+use std::alloc::{AllocError, Global};
+
+/// The name of the file that the words give for the record of the run.
+pub fn record_file<'a>(command: &CommandWords<'a>) -> Option<&'a str>
+    ensures { option_map (λ n. n.now) result ≡ record_name_of command.now }
+{
+    match command {
+        CommandWords::Size(words) => words.record_file,
+        CommandWords::Judge(words) => words.problem.common.record_file,
+        CommandWords::Solve(words) => words.problem.common.record_file,
+        CommandWords::Check(words) => words.check.problem.common.record_file,
+        CommandWords::Audit(words) => words.problem.common.record_file,
+        CommandWords::List(words) => words.check.problem.common.record_file,
+        CommandWords::Share(words) => words.board.problem.common.record_file,
+        CommandWords::Piece(words) => words.board.problem.common.record_file,
+    }
+}
+
+/// The words as texts of their own.
+fn texts_of(alloc: Global, words: &[&str]) -> Result<Vec<String>, AllocError>
+    ensures { IfOk result (λ v. map string_bytes v.items ≡ map (λ w. w.now) words.now) }
+{
+    let mut texts = Vec::new(alloc);
+    for word in words {
+        texts.push(String::from_str(alloc, word)?)?;
+    }
+    Ok(texts)
+}
+
+/// What the record says of a run.
+fn run_of(
+    alloc: Global,
+    words: &[&str],
+    command: &CommandWords<'_>,
+    sums: &[EventSum],
+    status: u8,
+    text: &[u8],
+) -> Result<Run, AllocError>
+    ensures { IfOk result (SaysOfRun (map (λ w. w.now) words.now) command.now (map sum_value sums.now) status text.now) }
+{
+    Ok(Run {
+        version: String::from_str(alloc, version_text())?,
+        words: texts_of(alloc, words)?,
+        reads: reads_of(alloc, sums, command)?,
+        stores: stores_of(alloc, sums, command, status)?,
+        status,
+        answer: Vec::from_slice(alloc, answer_of(text))?,
+    })
+}
+
+/// The record of a run: the version of the program, the words, the files that the command read and stored with the sums
+/// of their bytes, the status, and the answer. The sums are those of the events of the run's shelf, in order.
+///
+/// # Errors
+///
+/// `AllocError` where a growth was refused.
+pub fn record_of_run(
+    alloc: Global,
+    words: &[&str],
+    command: &CommandWords<'_>,
+    sums: &[EventSum],
+    status: u8,
+    text: &[u8],
+) -> Result<Vec<u8>, AllocError>
+    ensures { IfOk result (λ v. IsRecord (map (λ w. w.now) words.now) command.now (map sum_value sums.now) status text.now v.items) }
+{
+    let said = run_of(alloc, words, command, sums, status, text)?;
+    record_text(alloc, &said)
+}

@@ -1,0 +1,58 @@
+//! The record of a run, from what its shelf has done since the run began.
+
+ghost use Rattle.std.specs.Prelude.{◌≡◌, ◌+◌, ◌-◌, ◌^◌, ◌<◌, IfSome, length, map, min};
+ghost use Rattle.cli_shelves.specs.History.{History};
+ghost use Rattle.cli_shelves.specs.Sums.{sum_value};
+ghost use Rattle.cli_record.specs.Recorded.{IsRecord, sums_between};
+
+use crate::report::record_of_run;
+use cli_shelves::{EventSum, Shelf};
+use cli_words::CommandWords;
+use std::alloc::{AllocError, Global};
+
+/// The sums, if they are those of all events behind the first so many of a shelf that has so many now.
+fn if_complete(sums: &[EventSum], first: u64, last: u64) -> Option<&[EventSum]>
+    ensures all { IfSome result (λ s. first + length sums.now ≡ last) }
+    ensures low { IfSome result (λ s. last < 2 ^ 64 - 1) }
+    ensures same { IfSome result (λ s. s.now ≡ sums.now) }
+{
+    match first.checked_add(sums.len() as u64) {
+        Some(all) if all == last && last < u64::MAX => Some(sums),
+        _ => None,
+    }
+}
+
+/// The sums of the events that the shelf has had since there were so many.
+fn sums_since<H: Shelf>(shelf: &H, first: u64) -> Option<&[EventSum]>
+    ensures { IfSome result (λ sums. (before : History) → first ≡ min (length before.events) (2 ^ 64 - 1)
+        → map sum_value sums.now ≡ sums_between before (H.history shelf.now)) }
+{
+    match shelf.sums() {
+        Some(sums) => if_complete(sums, first, shelf.events()),
+        None => None,
+    }
+}
+
+/// The record of a run that ends with this status and this text, before whose first event the shelf had so many. The
+/// shelf has kept the sums of its events since then. None if a growth was refused, or if the shelf doesn't have a sum
+/// of each event.
+pub fn record_since<H: Shelf>(
+    alloc: Global,
+    words: &[&str],
+    command: &CommandWords<'_>,
+    shelf: &H,
+    first: u64,
+    status: u8,
+    text: &[u8],
+) -> Option<Vec<u8>>
+    ensures { IfSome result (λ v. (before : History) → first ≡ min (length before.events) (2 ^ 64 - 1)
+        → IsRecord (map (λ w. w.now) words.now) command.now (sums_between before (H.history shelf.now)) status text.now v.items) }
+{
+    match sums_since(shelf, first) {
+        Some(sums) => match record_of_run(alloc, words, command, sums, status, text) {
+            Ok(bytes) => Some(bytes),
+            Err(AllocError) => None,
+        },
+        None => None,
+    }
+}

@@ -1,0 +1,190 @@
+//! The text of a record.
+
+ghost use Rattle.std.specs.Prelude.{◌≡◌, ◌++◌, IfOk, OnOk, flat_map};
+ghost use Rattle.std.specs.String.{string_bytes};
+ghost use Rattle.cli_record_text.specs.Record.{record_file_word as word_of_file, option_word as word_of_option};
+ghost use Rattle.cli_record_text.specs.Record.{named_sum, left_word, line_after, word_line, read_line, stored_line};
+ghost use Rattle.cli_record_text.specs.Record.{status_line, head_lines, asked_lines, file_lines, end_lines};
+ghost use Rattle.cli_record_text.specs.Record.{record_text as text_of};
+
+use crate::escapes::push_escaped;
+use crate::run::{FileRead, FileStored, ReadFile, Run, StoreOption};
+use crate::sums::ByteSum;
+use field_lines::push_number;
+use std::alloc::{AllocError, Global};
+
+/// Appends the word of a file that is read.
+fn push_file_word(out: &mut Vec<u8>, file: ReadFile) -> Result<(), AllocError>
+    ensures { OnOk result (out.new.items ≡ out.old.items ++ word_of_file file) }
+{
+    match file {
+        ReadFile::Geo => out.extend_from_slice(b"geo"),
+        ReadFile::Segment1 => out.extend_from_slice(b"segment1"),
+        ReadFile::Adjacency => out.extend_from_slice(b"adjacency"),
+        ReadFile::Links => out.extend_from_slice(b"links"),
+        ReadFile::Withdrawn => out.extend_from_slice(b"withdrawn"),
+        ReadFile::Grouping => out.extend_from_slice(b"grouping"),
+        ReadFile::Assignments => out.extend_from_slice(b"assignments"),
+        ReadFile::Events => out.extend_from_slice(b"events"),
+        ReadFile::Certificate => out.extend_from_slice(b"certificate"),
+    }
+}
+
+/// Appends the word of an option.
+fn push_option_word(out: &mut Vec<u8>, option: StoreOption) -> Result<(), AllocError>
+    ensures { OnOk result (out.new.items ≡ out.old.items ++ word_of_option option) }
+{
+    match option {
+        StoreOption::Certificate => out.extend_from_slice(b"certificate"),
+        StoreOption::Out => out.extend_from_slice(b"out"),
+        StoreOption::Table => out.extend_from_slice(b"table"),
+    }
+}
+
+/// Appends a count of bytes, their digest and a name, with a blank before each.
+#[tactic(auto, unfolding(crate::specs::Record::named_sum))]
+fn push_named_sum(out: &mut Vec<u8>, sum: &ByteSum, name: &[u8]) -> Result<(), AllocError>
+    ensures { OnOk result (out.new.items ≡ out.old.items ++ named_sum sum.now name.now) }
+{
+    out.extend_from_slice(b" ")?;
+    push_number(out, sum.bytes())?;
+    out.extend_from_slice(b" ")?;
+    out.extend_from_slice(sum.digest())?;
+    out.extend_from_slice(b" ")?;
+    push_escaped(out, name)
+}
+
+/// Appends ` left` if a file was left before its end.
+fn push_left(out: &mut Vec<u8>, left: bool) -> Result<(), AllocError>
+    ensures { OnOk result (out.new.items ≡ out.old.items ++ left_word left) }
+{
+    if left {
+        out.extend_from_slice(b" left")?;
+    }
+    Ok(())
+}
+
+/// Appends a word and some bytes on a line.
+#[tactic(auto, unfolding(crate::specs::Record::line_after))]
+fn push_line(out: &mut Vec<u8>, word: &[u8], bytes: &[u8]) -> Result<(), AllocError>
+    ensures { OnOk result (out.new.items ≡ out.old.items ++ line_after word.now bytes.now) }
+{
+    out.extend_from_slice(word)?;
+    push_escaped(out, bytes)?;
+    out.extend_from_slice(b"\n")
+}
+
+/// Appends the line of a file that was read.
+#[tactic(auto, unfolding(crate::specs::Record::read_line))]
+fn push_read(out: &mut Vec<u8>, read: &FileRead) -> Result<(), AllocError>
+    ensures { OnOk result (out.new.items ≡ out.old.items ++ read_line read.now) }
+{
+    out.extend_from_slice(b"read ")?;
+    push_file_word(out, read.file)?;
+    push_named_sum(out, &read.sum, read.name.as_bytes())?;
+    push_left(out, read.left)?;
+    out.extend_from_slice(b"\n")
+}
+
+/// Appends the line of a file that was stored.
+#[tactic(auto, unfolding(crate::specs::Record::stored_line))]
+fn push_stored(out: &mut Vec<u8>, stored: &FileStored) -> Result<(), AllocError>
+    ensures { OnOk result (out.new.items ≡ out.old.items ++ stored_line stored.now) }
+{
+    out.extend_from_slice(b"stored ")?;
+    push_option_word(out, stored.option)?;
+    push_named_sum(out, &stored.sum, stored.name.as_bytes())?;
+    out.extend_from_slice(b"\n")
+}
+
+/// Appends the lines of words.
+fn push_words(out: &mut Vec<u8>, words: &[String]) -> Result<(), AllocError>
+    ensures { OnOk result (out.new.items ≡ out.old.items ++ flat_map (λ w. word_line (string_bytes w)) words.now) }
+{
+    for word in words {
+        push_line(out, b"word ", word.as_bytes())?;
+    }
+    Ok(())
+}
+
+/// Appends the lines of files that were read.
+fn push_reads(out: &mut Vec<u8>, reads: &[FileRead]) -> Result<(), AllocError>
+    ensures { OnOk result (out.new.items ≡ out.old.items ++ flat_map read_line reads.now) }
+{
+    for read in reads {
+        push_read(out, read)?;
+    }
+    Ok(())
+}
+
+/// Appends the lines of files that were stored.
+fn push_stores(out: &mut Vec<u8>, stores: &[FileStored]) -> Result<(), AllocError>
+    ensures { OnOk result (out.new.items ≡ out.old.items ++ flat_map stored_line stores.now) }
+{
+    for stored in stores {
+        push_stored(out, stored)?;
+    }
+    Ok(())
+}
+
+/// Appends the line of a status.
+#[tactic(auto, unfolding(crate::specs::Record::status_line))]
+fn push_status(out: &mut Vec<u8>, status: u8) -> Result<(), AllocError>
+    ensures { OnOk result (out.new.items ≡ out.old.items ++ status_line status) }
+{
+    out.extend_from_slice(b"status ")?;
+    push_number(out, u64::from(status))?;
+    out.extend_from_slice(b"\n")
+}
+
+/// Appends what the text is, and the version.
+#[tactic(auto, unfolding(crate::specs::Record::head_lines))]
+fn push_head(out: &mut Vec<u8>, version: &[u8]) -> Result<(), AllocError>
+    ensures { OnOk result (out.new.items ≡ out.old.items ++ head_lines version.now) }
+{
+    out.extend_from_slice(b"countygroups record 1\n")?;
+    push_line(out, b"version ", version)
+}
+
+/// Appends what the text is, the version and the words.
+fn push_asked(out: &mut Vec<u8>, run: &Run) -> Result<(), AllocError>
+    ensures { OnOk result (out.new.items ≡ out.old.items ++ asked_lines run.now) }
+{
+    push_head(out, run.version.as_bytes())?;
+    push_words(out, &run.words)
+}
+
+/// Appends the lines of files.
+fn push_files(out: &mut Vec<u8>, run: &Run) -> Result<(), AllocError>
+    ensures { OnOk result (out.new.items ≡ out.old.items ++ file_lines run.now) }
+{
+    push_reads(out, &run.reads)?;
+    push_stores(out, &run.stores)
+}
+
+/// Appends the status and the answer.
+fn push_end(out: &mut Vec<u8>, run: &Run) -> Result<(), AllocError>
+    ensures { OnOk result (out.new.items ≡ out.old.items ++ end_lines run.now) }
+{
+    push_status(out, run.status)?;
+    push_line(out, b"answer ", &run.answer)
+}
+
+/// The record of a run: what the text is, the version, a line for each word, a line for each file that was read and for
+/// each that was stored, the status and the answer.
+///
+/// In the version, a word, a name and the answer, a backslash and each byte below 0x20 or above 0x7E stand as `\xHH`,
+/// with letters in upper case. The letters of a digest are in lower case.
+///
+/// # Errors
+///
+/// `AllocError` where a growth was refused.
+pub fn record_text(alloc: Global, run: &Run) -> Result<Vec<u8>, AllocError>
+    ensures { IfOk result (λ v. v.items ≡ text_of run.now) }
+{
+    let mut out = Vec::new(alloc);
+    push_asked(&mut out, run)?;
+    push_files(&mut out, run)?;
+    push_end(&mut out, run)?;
+    Ok(out)
+}

@@ -1,0 +1,43 @@
+-- The problem that steps over told files come to is the problem of the files.
+use Rattle.std.proofs.Common.{ℕ, List, Some}
+use Rattle.std.specs.Prelude.{Ok}
+use Rattle.grouping_laws.specs.Grouping as groups
+use Rattle.county_problem.specs.ProblemValue.{ProblemValue}
+use Rattle.pl94_counties.specs.declared.blocks.Block.{Block}
+use Rattle.pl94_counties.proofs.ListedLemmas.{are_blocks}
+use Rattle.baf_auditor.specs.declared.assignments.Assignment.{Assignment}
+use Rattle.cli_words.specs.declared.words.CommonWords.{CommonWords}
+use Rattle.cli_words.specs.declared.words.ProblemWords.{ProblemWords}
+use Rattle.cli_shelves.specs.Files.{Files}
+use Rattle.cli_shelves.specs.History.{History}
+use Rattle.cli_runs.specs.ProblemCourse.{problem_course, grouping_of}
+use Rattle.cli_runs.specs.PlanCourse.{blocks_of, plan_assignments}
+use Rattle.cli_runs.specs.FilesProblem.{AreBlocksOfFiles, IsProblemOfFiles, IsGroupingOfFile, AreAssignmentsOfFile}
+use Rattle.cli_runs.proofs.Texts.{texts_told}
+use Rattle.cli_runs.proofs.FilesRead.{went, problem_reads, problem_of_files}
+
+module _ (files : Files) where
+  pub blocks_told : (words : CommonWords) (before after : History) (blocks : List Block) → blocks_of (Some files) words before after (Ok blocks) → AreBlocksOfFiles files words blocks
+  blocks_told words before after blocks h =
+      let t = went _ _ before after blocks h in
+      let held = texts_told files words.geo.now words.segment.now before t.between t.value t.given in
+      record {
+        geo = t.value.0;
+        segment = t.value.1;
+        geo_is = held.0;
+        segment_is = held.1;
+        are = are_blocks t.value.0 t.value.1 words.state blocks t.goes_on.1;
+      }
+
+  pub problem_told : (words : ProblemWords) (before after : History) (v : ProblemValue) → problem_course (Some files) words before after (Ok v) → IsProblemOfFiles files words v
+  problem_told words before after v h = problem_of_files files words v (problem_reads files words before after v h)
+
+  pub grouping_told : (name : List ℕ) (before after : History) (grouping : groups.Grouping) → grouping_of (Some files) name before after (Ok grouping) → IsGroupingOfFile files name grouping
+  grouping_told name before after grouping h =
+      let t = went _ _ before after grouping h in
+      (t.value, t.given.0, t.goes_on.1)
+
+  pub assignments_told : (name : List ℕ) (before after : History) (lines : List Assignment) → plan_assignments (Some files) name before after (Ok lines) → AreAssignmentsOfFile files name lines
+  assignments_told name before after lines h =
+      let t = went _ _ before after lines h in
+      (t.value, t.given.0, t.goes_on.1)

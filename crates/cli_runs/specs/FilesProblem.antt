@@ -1,0 +1,95 @@
+-- The problem that the bytes of files tell, without a word of what is refused.
+use Rattle.std.specs.Prelude.{◌≡◌, ℕ, List, [], Option, Some, None, Result, Ok}
+use Rattle.std.specs.Borrow.{Bor}
+use Rattle.county_codes.specs.declared.county.County.{County}
+use Rattle.county_codes.specs.declared.withdrawn.Withdrawn as county
+use Rattle.grouping_laws.specs.Grouping as groups
+use Rattle.county_problem.specs.ProblemValue.{ProblemValue, codes_of}
+use Rattle.county_problem.specs.Building.{IsProblemOf}
+use Rattle.pl94_counties.specs.Named.{CountyName, named_list}
+use Rattle.grouping_table.specs.Table.{table_text}
+use Rattle.pl94_counties.specs.declared.blocks.Block.{Block}
+use Rattle.pl94_counties.specs.Listed.{AreCounties, AreBlocks}
+use Rattle.adjacency_reader.specs.declared.links.Link.{Link}
+use Rattle.adjacency_reader.specs.Rows.{row_list}
+use Rattle.adjacency_reader.specs.Pairs.{ArePairs}
+use Rattle.adjacency_reader.specs.Links.{link_list}
+use Rattle.adjacency_reader.specs.Withdrawn.{withdrawn_list}
+use Rattle.adjacency_reader.specs.Adjacent.{AreLinked}
+use Rattle.baf_auditor.specs.declared.assignments.Assignment.{Assignment}
+use Rattle.baf_auditor.specs.Assignments.{assignment_list}
+use Rattle.grouping_reader.specs.GroupingLines.{grouping_list}
+use Rattle.cli_words.specs.declared.words.CommonWords.{CommonWords}
+use Rattle.cli_words.specs.declared.words.ProblemWords.{ProblemWords}
+use Rattle.cli_shelves.specs.Files.{Files}
+
+-- the bytes under a name are read as this value
+abbrev pub IsReadAs : {X F : Type 0} → (List ℕ → Result X F) → Files → List ℕ → X → Type 0
+IsReadAs read files name value = (text : List ℕ) × (files name ≡ Some text) × (read text ≡ Ok value)
+
+-- the same of a file that need not be named: without one the list is empty
+abbrev pub IsReadAsIfNamed : {X F : Type 0} → (List ℕ → Result (List X) F) → Files → Option (Bor (List ℕ)) → List X
+    → Type 0
+IsReadAsIfNamed read files None list = list ≡ []
+IsReadAsIfNamed read files (Some name) list = IsReadAs read files name.now list
+
+-- the counties of the state by the bytes of the geographic header and of segment 1
+pub record AreCountiesOfFiles (files : Files) (words : CommonWords) (counties : List County) : Type 0 where
+  pub geo : List ℕ
+  pub segment : List ℕ
+  pub geo_is : files words.geo.now ≡ Some geo
+  pub segment_is : files words.segment.now ≡ Some segment
+  pub are : AreCounties geo segment words.state counties
+
+-- the counties of the state with their names by the bytes of the geographic header and of segment 1
+pub record AreNamedByFiles (files : Files) (words : CommonWords) (named : List CountyName) : Type 0 where
+  pub geo : List ℕ
+  pub segment : List ℕ
+  pub geo_is : files words.geo.now ≡ Some geo
+  pub segment_is : files words.segment.now ≡ Some segment
+  pub are : named_list geo segment words.state ≡ Ok named
+
+-- the census blocks of the state by the bytes of the geographic header and of segment 1
+pub record AreBlocksOfFiles (files : Files) (words : CommonWords) (blocks : List Block) : Type 0 where
+  pub geo : List ℕ
+  pub segment : List ℕ
+  pub geo_is : files words.geo.now ≡ Some geo
+  pub segment_is : files words.segment.now ≡ Some segment
+  pub are : AreBlocks geo segment words.state blocks
+
+-- The adjacent pairs: those of the rows of the adjacency file between listed counties, and then the links over them.
+pub record AreAdjacentByFiles (files : Files) (words : ProblemWords) (listed : List ℕ)
+    (pairs : List (ℕ × ℕ)) : Type 0 where
+  pub rows : List (ℕ × ℕ)
+  pub rows_are : IsReadAs row_list files words.adjacency.now rows
+  pub named : List (ℕ × ℕ)
+  pub named_are : ArePairs listed rows named
+  pub links : List Link
+  pub links_are : IsReadAsIfNamed link_list files words.links links
+  pub linked : AreLinked named links pairs
+
+-- The problem of the files: its counties, its adjacent pairs and its withdrawn sets are those of the files' bytes, and
+-- its chamber and its allowance are those of the words.
+pub record IsProblemOfFiles (files : Files) (words : ProblemWords) (v : ProblemValue) : Type 0 where
+  pub counties : List County
+  pub counties_are : AreCountiesOfFiles files words.common counties
+  pub pairs : List (ℕ × ℕ)
+  pub pairs_are : AreAdjacentByFiles files words (codes_of counties) pairs
+  pub withdrawn : List county.Withdrawn
+  pub withdrawn_are : IsReadAsIfNamed withdrawn_list files words.withdrawn withdrawn
+  pub problem : IsProblemOf counties pairs withdrawn words.common.chamber words.common.window v
+
+-- the grouping of a file
+abbrev pub IsGroupingOfFile : Files → List ℕ → groups.Grouping → Type 0
+IsGroupingOfFile files name grouping = IsReadAs grouping_list files name grouping
+
+-- the assignments of a file
+abbrev pub AreAssignmentsOfFile : Files → List ℕ → List Assignment → Type 0
+AreAssignmentsOfFile files name lines = IsReadAs assignment_list files name lines
+
+-- The text is the table of these groups: its counties and their names are those of the files' bytes.
+pub record IsTableOfFiles (files : Files) (words : ProblemWords) (v : ProblemValue) (grouping : groups.Grouping)
+    (text : List ℕ) : Type 0 where
+  pub named : List CountyName
+  pub named_are : AreNamedByFiles files words.common named
+  pub table : text ≡ table_text named v.withdrawn grouping

@@ -1,0 +1,84 @@
+-- The steps of the size table, of the judge of a grouping and of the audit of a plan.
+use Rattle.std.specs.Prelude.{◌≡◌, ℕ, List, [], ◌∷◌, Option, Result, Ok, Err}
+use Rattle.county_problem.specs.declared.grouping_fault.GroupingFault.{GroupingFault}
+use Rattle.county_problem.specs.ProblemValue.{ProblemValue, problem_of}
+use Rattle.grouping_laws.specs.Grouping.{Grouping, Lawful}
+use Rattle.county_problem.specs.Judging.{IsFault}
+use Rattle.grouping_report.specs.SizeTable.{size_text}
+use Rattle.grouping_report.specs.FindingsText.{findings_text}
+use Rattle.pl94_counties.specs.declared.blocks.Block.{Block}
+use Rattle.baf_auditor.specs.declared.assignments.Assignment.{Assignment}
+use Rattle.baf_auditor.specs.Findings.{AreFindings}
+use Rattle.baf_auditor.specs.declared.finding.Finding.{Finding}
+use Rattle.cli_words.specs.declared.words.CommonWords.{CommonWords}
+use Rattle.cli_words.specs.declared.words.JudgeWords.{JudgeWords}
+use Rattle.cli_words.specs.declared.words.AuditWords.{AuditWords}
+use Rattle.cli_shelves.specs.Files.{NamedFile, Files}
+use Rattle.cli_shelves.specs.History.{History}
+use Rattle.cli_answers.specs.Answer.{Answered, success}
+use Rattle.cli_answers.specs.Refusals.{verdict_answer}
+use Rattle.cli_runs.specs.Course.{Course, ◌>>=◌, call_step, value_step}
+use Rattle.cli_runs.specs.ProblemCourse.{counties_course, build_step, problem_course, grouping_of}
+use Rattle.cli_runs.specs.JudgeWithCertificate.{IsSaidOf, certificate_text_of}
+use Rattle.cli_runs.specs.PlanCourse.{blocks_of, plan_assignments}
+use Rattle.cli_runs.specs.Storing.{EndsStoring, named_file}
+use Rattle.cli_runs.specs.TableCourse.{Tabled, Reported, tabled_problem_in, table_of}
+
+-- `size`: the size table of the counties, without pairs and withdrawn sets
+abbrev pub size_course : Option Files → CommonWords → Course Answered
+size_course files words =
+    counties_course files words >>= λ counties. build_step words.chamber words.window counties [] []
+    >>= λ v. value_step (λ a. a ≡ success (size_text v))
+
+-- the table is that of the grouping
+abbrev pub HasTable : Tabled → Grouping → Reported → Type 0
+HasTable t g r = r.table ≡ table_of t g
+
+-- what is said of a lawful grouping, with the text of a certificate or without one, and the grouping's table
+abbrev pub IsReported : Tabled → Grouping → ℕ → Option (List ℕ) → Reported → Type 0
+IsReported t g budget text r = IsSaidOf t.problem g budget text r.answer × HasTable t g r
+
+-- what is reported of a lawful grouping, or the fault of a grouping that isn't lawful
+abbrev pub IsJudgeReport : Tabled → Grouping → ℕ → Option (List ℕ) → Result Reported GroupingFault → Type 0
+IsJudgeReport t g budget text (Ok r) = Lawful (problem_of t.problem) g × IsReported t g budget text r
+IsJudgeReport t g budget text (Err fault) = IsFault (problem_of t.problem) g fault
+
+-- the step that judges a grouping
+abbrev pub judge_step : Tabled → Grouping → ℕ → Option (List ℕ) → Course Reported
+judge_step t g budget text = call_step verdict_answer (IsJudgeReport t g budget text)
+
+-- `judge`: the problem is built before the grouping is loaded and read, and then the certificate is loaded, where one
+-- is named
+abbrev pub judge_course : Option Files → JudgeWords → Course Reported
+judge_course files words =
+    tabled_problem_in files words.problem words.table >>= λ t. grouping_of files words.grouping.now
+    >>= λ g. certificate_text_of files words.certificate >>= judge_step t g words.budget
+
+-- `judge` ends: at a fault that it met before anything was stored, or with its table stored and its answer, unless the
+-- table was refused
+abbrev pub JudgeEnds : Option Files → JudgeWords → History → History → List NamedFile → Answered → Type 0
+JudgeEnds files words = EndsStoring (judge_course files words) (λ r. named_file words.table r.table) (λ r. r.answer)
+
+-- the exit status of an audit: 0 where nothing is found, else 1
+abbrev pub findings_status : List Finding → ℕ
+findings_status [] = 0
+findings_status (f ∷ fs) = 1
+
+-- the text of findings, with their status
+abbrev pub findings_answer : List Finding → Answered
+findings_answer list = record { text = findings_text list; status = findings_status list }
+
+-- the answer shows all findings of blocks and assignments against a grouping
+abbrev pub IsAudited : ProblemValue → Grouping → List Block → List Assignment → Answered → Type 0
+IsAudited v g blocks lines a = (list : List Finding) × AreFindings v g blocks lines list × (a ≡ findings_answer list)
+
+-- the step that audits the assignments
+abbrev pub audit_step : ProblemValue → Grouping → List Block → List Assignment → Course Answered
+audit_step v g blocks lines = value_step (IsAudited v g blocks lines)
+
+-- `audit`: the problem is built, then the census blocks are read, then the grouping, then the assignments
+abbrev pub audit_course : Option Files → AuditWords → Course Answered
+audit_course files words =
+    problem_course files words.problem >>= λ v. blocks_of files words.problem.common
+    >>= λ blocks. grouping_of files words.grouping.now >>= λ g. plan_assignments files words.assignments.now
+    >>= audit_step v g blocks

@@ -1,0 +1,28 @@
+-- Values of the code as the definitions have them.
+use Rattle.std.specs.Prelude.{map, option_map}
+use Rattle.cli_answers.specs.Answers.{answer_of}
+use Rattle.cli_runs.specs.SolveCourse as course
+use Rattle.cli_runs.specs.ListCourse as lists
+use Rattle.cli_runs.specs.TableCourse as tables
+use Rattle.pl94_counties.specs.Named.{county_name}
+use Rattle.cli_runs.specs.declared.desk_report.Solved.{Solved}
+use Rattle.cli_runs.specs.declared.listing_report.Listed.{Listed}
+use Rattle.cli_runs.specs.declared.tabled.Tabled.{Tabled}
+use Rattle.cli_runs.specs.declared.tabled.Reported.{Reported}
+
+-- a problem with the names of its counties, if they have names
+abbrev pub tabled_of : Tabled → tables.Tabled
+tabled_of t = record { problem = t.problem; named = option_map (λ v. map county_name v.items) t.named }
+
+-- an answer and its table
+abbrev pub reported_of : Reported → tables.Reported
+reported_of r = record { answer = answer_of r.answer; table = option_map (λ t. t.items) r.table }
+
+-- the answer and the texts of `solve`
+abbrev pub solved_of : Solved → course.Solved
+solved_of s =
+    record { answer = answer_of s.answer; certificate = option_map (λ t. t.items) s.certificate; grouping = option_map (λ t. t.items) s.grouping; table = option_map (λ t. t.items) s.table }
+
+-- the answer and the text of `list`
+abbrev pub listed_of : Listed → lists.Listed
+listed_of s = record { answer = answer_of s.answer; grouping = option_map (λ t. t.items) s.grouping }

@@ -1,0 +1,216 @@
+//! What `share` and `piece` say.
+
+ghost use Rattle.std.specs.Prelude.{◌≡◌, ◌≤◌, min, Some, None, Option, Ok, Err, IfOk, IfErr, IfSome, map};
+ghost use Rattle.certificate_lines.specs.Lines.{most};
+ghost use Rattle.county_problem.specs.ProblemValue.{problem_of};
+ghost use Rattle.share_board.specs.Events.{event_of};
+ghost use Rattle.branch_bound.specs.declared.piece.Piece.{Piece as PieceValue};
+ghost use Rattle.board_report.specs.PieceText.{HasText};
+ghost use Rattle.board_report.specs.Proved.{IsAnswered, piece_budget};
+ghost use Rattle.board_report.specs.Shared.{IsShared};
+ghost use Rattle.cli_answers.specs.Answers.{answer_of};
+ghost use Rattle.cli_runs.specs.BoardCourse.{language_of, depth_of, longest as longest_of, limit_of_words};
+ghost use Rattle.cli_runs.specs.BoardCourse.{AnswersOnBoard};
+ghost use Rattle.cli_runs.specs.PieceCourse.{no_such_piece, piece_said, piece_status};
+
+use board_report::{BoardShape, Shared, piece_text, prove_waiting, share};
+use branch_bound::Piece;
+use certificate_data::Language;
+use cli_answers::RunAnswer;
+use cli_words::{PieceWords, RoundWords};
+use county_codes::{Group, Grouping};
+use county_problem::Problem;
+use share_board::{BoardFault, Event};
+use std::alloc::{AllocError, Global};
+
+/// How a piece ended, for whoever explains it to a person; no clause speaks of it.
+#[derive(Clone, Copy, Debug, PartialEq, Eq)]
+pub enum PieceEnd {
+    /// The answer is an event that `share` takes.
+    Answered,
+    /// The steps ran out; whether the answer proposes a split.
+    Open(bool),
+    /// No piece of the number waits.
+    NoSuchPiece,
+}
+
+/// What `piece` says.
+#[derive(Drop)]
+pub struct PieceSaid {
+    /// The text of the piece, with status 0, or 3 where the steps ran out; or that no such piece waits, with status 4.
+    pub answer: RunAnswer,
+    /// How the piece ended.
+    pub end: PieceEnd,
+}
+
+/// The language of the rounds.
+pub fn language_for(words: RoundWords) -> Language
+    ensures { result ≡ language_of words }
+{
+    match words {
+        RoundWords::Plain { .. } => Language::Plain,
+        RoundWords::Wide { .. } => Language::Wide,
+    }
+}
+
+/// How many counties the longest group has, from 1 to 65,535.
+fn longest(groups: &[Group]) -> u16
+    ensures { result ≡ min (longest_of groups.now) 65535 }
+{
+    let mut most: usize = 1;
+    for group in groups {
+        most = most.max(group.codes.as_slice().len());
+    }
+    most.min(65_535) as u16
+}
+
+/// How the first round of the board is.
+fn shape_for(words: RoundWords, grouping: &Grouping) -> BoardShape
+    ensures language { result.language ≡ language_of words }
+    ensures limit { result.limit ≡ limit_of_words grouping.now.groups.items words }
+    ensures depth { result.depth ≡ depth_of words }
+{
+    let (limit, depth) = match words {
+        RoundWords::Plain { limit, depth } => (limit, depth),
+        RoundWords::Wide { limit: Some(limit) } => (limit, 0),
+        RoundWords::Wide { limit: None } => (longest(&grouping.groups), 0),
+    };
+    BoardShape {
+        language: language_for(words),
+        limit,
+        depth,
+    }
+}
+
+/// What a board comes to that takes the events in turn: its target is the grouping, and its first round is that of the
+/// words.
+///
+/// # Errors
+///
+/// Why there is no such board, by the first fault that stands; `Memory` where memory was refused.
+pub fn share_events(
+    alloc: Global,
+    problem: &Problem,
+    grouping: &Grouping,
+    words: RoundWords,
+    events: Vec<Event>,
+    budget: u64,
+) -> Result<Shared, BoardFault>
+    ensures shared { IfOk
+        result
+        (λ s. AnswersOnBoard problem.now grouping.now.groups.items words budget (λ round. IsShared (problem_of problem.now) (depth_of words) budget round (map event_of events.items)) (Ok s)) }
+    ensures fault { IfErr
+        result
+        (λ fault. AnswersOnBoard problem.now grouping.now.groups.items words budget (λ round. IsShared (problem_of problem.now) (depth_of words) budget round (map event_of events.items)) (Err fault)) }
+{
+    let shape = shape_for(words, grouping);
+    share(alloc, problem, grouping, shape, events, budget)
+}
+
+/// The end of a piece.
+fn end_of(piece: &Piece) -> PieceEnd {
+    match piece {
+        Piece::Proved(_) | Piece::Better(_) | Piece::Wider(_) => PieceEnd::Answered,
+        Piece::Open(split) => PieceEnd::Open(split.is_some()),
+    }
+}
+
+/// The exit status of a piece: 3 where the steps ran out, else 0.
+fn status_of(piece: &Piece) -> u8
+    ensures { result ≡ piece_status piece.now }
+{
+    match piece {
+        Piece::Proved(_) | Piece::Better(_) | Piece::Wider(_) => 0,
+        Piece::Open(_) => 3,
+    }
+}
+
+/// What is said of a piece.
+fn say_piece(
+    alloc: Global,
+    words: PieceWords<'_>,
+    counties: u16,
+    piece: &Piece,
+) -> Result<PieceSaid, AllocError>
+    requires few { counties ≤ most }
+    requires text { HasText (language_of words.board.round) counties words.number piece.now }
+    ensures { IfOk result (λ s. answer_of s.answer ≡ piece_said words.entry.round words.entry.number (Some piece.now)) }
+{
+    let language = language_for(words.board.round);
+    let text = piece_text(alloc, piece, words.round, words.number, language, counties)?;
+    Ok(PieceSaid {
+        answer: RunAnswer {
+            text,
+            status: status_of(piece),
+        },
+        end: end_of(piece),
+    })
+}
+
+/// What is said where no piece of the number waits.
+fn say_none(alloc: Global) -> Result<PieceSaid, AllocError>
+    ensures { IfOk result (λ s. answer_of s.answer ≡ no_such_piece) }
+{
+    Ok(PieceSaid {
+        answer: RunAnswer::new(alloc, b"no such piece\n", 4)?,
+        end: PieceEnd::NoSuchPiece,
+    })
+}
+
+/// What is said of the piece of the number, if it waits.
+fn say_answer(
+    alloc: Global,
+    words: PieceWords<'_>,
+    counties: u16,
+    answer: &Option<Piece>,
+) -> Result<PieceSaid, AllocError>
+    requires few { counties ≤ most }
+    requires text { IfSome answer.now (HasText (language_of words.board.round) counties words.number) }
+    ensures { IfOk result (λ s. answer_of s.answer ≡ piece_said words.entry.round words.entry.number answer.now) }
+{
+    match answer {
+        Some(piece) => say_piece(alloc, words, counties, piece),
+        None => say_none(alloc),
+    }
+}
+
+/// What a desk answers of a piece with at most so many steps, on a board that takes the events in turn: its target is
+/// the grouping, and its first round is that of the words.
+///
+/// # Errors
+///
+/// Why there is no such board, by the first fault that stands; `Memory` where memory was refused.
+pub fn piece_and_say(
+    alloc: Global,
+    problem: &Problem,
+    grouping: &Grouping,
+    words: PieceWords<'_>,
+    events: Vec<Event>,
+) -> Result<PieceSaid, BoardFault>
+    ensures said { IfOk
+        result
+        (λ s. (piece : Option PieceValue)
+        × AnswersOnBoard problem.now grouping.now.groups.items words.entry.board.round piece_budget (λ round. IsAnswered (problem_of problem.now) (depth_of words.entry.board.round) round (map event_of events.items) words.entry.number) (Ok piece)
+        × (answer_of s.answer ≡ piece_said words.entry.round words.entry.number piece)) }
+    ensures fault { IfErr
+        result
+        (λ fault. AnswersOnBoard problem.now grouping.now.groups.items words.entry.board.round piece_budget (λ round. IsAnswered (problem_of problem.now) (depth_of words.entry.board.round) round (map event_of events.items) words.entry.number) (Err fault)) }
+{
+    let shape = shape_for(words.board.round, grouping);
+    let counties = problem.counties().len() as u16;
+    match prove_waiting(
+        alloc,
+        problem,
+        grouping,
+        shape,
+        events,
+        words.number,
+        words.steps,
+    ) {
+        Ok(answer) => match say_answer(alloc, words, counties, &answer) {
+            Ok(said) => Ok(said),
+            Err(AllocError) => Err(BoardFault::Memory),
+        },
+        Err(fault) => Err(fault),
+    }
+}

@@ -1,0 +1,121 @@
+//! What `check` says of a text.
+
+ghost use Rattle.std.specs.Prelude.{◌≡◌, false, None, IfOk};
+ghost use Rattle.county_problem.specs.ProblemValue.{problem_of};
+ghost use Rattle.certificate_checker.specs.Answered.{CheckIsRight};
+ghost use Rattle.certificate_checker.specs.declared.verdict.Verdict.TheVariants as verdict;
+ghost use Rattle.cli_answers.specs.Answers.{answer_of};
+ghost use Rattle.cli_runs.specs.CheckCourse.{IsChecked, ChecksGiven, verdict_said, verdict_table};
+ghost use Rattle.cli_runs.specs.Texts.{reported_of, tabled_of};
+
+use crate::tabled::{Reported, Tabled, table_of};
+use certificate_checker::{CheckStop, Verdict, check, check_from};
+use cli_answers::{RunAnswer, budget_answer, no_answer};
+use county_codes::Grouping;
+use field_lines::Source;
+use grouping_report::{Outcome, report};
+use state_judge::CheckFault;
+use std::alloc::{AllocError, Global};
+
+/// What `check` says, and the fault of a text that is no certificate.
+#[derive(Drop)]
+pub struct Checked {
+    /// The report with status 0 or 1, or the line that stands in its place, with status 1 or 3, and the table of a
+    /// grouping that is best.
+    pub reported: Reported,
+    /// The first fault of a text that is no certificate, and its line, which counts from 1; none at every other
+    /// verdict.
+    pub fault: Option<(CheckFault, u64)>,
+}
+
+/// What is said without a table, and the fault of a text that is refuted.
+fn without_table(answer: RunAnswer, fault: Option<(CheckFault, u64)>) -> Checked
+    ensures { reported_of result.reported ≡ record { answer = answer_of answer; table = None } }
+{
+    Checked {
+        reported: Reported {
+            answer,
+            table: None,
+        },
+        fault,
+    }
+}
+
+/// What is said of a grouping that is best, with its table.
+fn say_best(alloc: Global, tabled: &Tabled, grouping: Grouping) -> Result<Checked, AllocError>
+    requires { CheckIsRight (problem_of tabled.now.problem) (verdict.Best grouping) }
+    ensures { IfOk result (λ c. reported_of c.reported
+        ≡ record { answer = verdict_said tabled.now.problem (verdict.Best grouping); table = verdict_table (tabled_of tabled.now) (verdict.Best grouping) }) }
+{
+    let table = table_of(alloc, tabled, &grouping)?;
+    let text = report(alloc, &tabled.problem, &Outcome::Best(grouping))?;
+    Ok(Checked {
+        reported: Reported {
+            answer: RunAnswer { text, status: 0 },
+            table,
+        },
+        fault: None,
+    })
+}
+
+/// What is said of a verdict.
+fn say(alloc: Global, tabled: &Tabled, verdict: Verdict) -> Result<Checked, AllocError>
+    requires { CheckIsRight (problem_of tabled.now.problem) verdict }
+    ensures { IfOk result (λ c. reported_of c.reported
+        ≡ record { answer = verdict_said tabled.now.problem verdict; table = verdict_table (tabled_of tabled.now) verdict }) }
+{
+    match verdict {
+        Verdict::Best(grouping) => say_best(alloc, tabled, grouping),
+        Verdict::Impossible => {
+            let text = report(alloc, &tabled.problem, &Outcome::Impossible)?;
+            Ok(without_table(RunAnswer { text, status: 1 }, None))
+        }
+        Verdict::No(fault, line) => {
+            let answer = no_answer(alloc, fault, line)?;
+            Ok(without_table(answer, Some((fault, line))))
+        }
+        Verdict::Budget => Ok(without_table(budget_answer(alloc)?, None)),
+    }
+}
+
+/// What `check` says of a text: the verdict of a checker with such a budget, told as a report or as the line that
+/// stands in its place.
+///
+/// # Errors
+///
+/// `AllocError` where memory was refused.
+pub fn check_and_say(
+    alloc: Global,
+    tabled: &Tabled,
+    text: &[u8],
+    budget: u64,
+) -> Result<Checked, AllocError>
+    ensures { IfOk result (λ c. IsChecked (tabled_of tabled.now) budget text.now (reported_of c.reported)) }
+{
+    let verdict = check(alloc, &tabled.problem, text, budget)?;
+    say(alloc, tabled, verdict)
+}
+
+/// What `check` says of the bytes that a source gives up to its end, or to where the checker left it.
+///
+/// # Errors
+///
+/// `ReadFault` where the source could not be read, and `Memory` where memory was refused.
+pub fn check_from_and_say<S: Source>(
+    alloc: Global,
+    tabled: &Tabled,
+    source: &mut S,
+    budget: u64,
+) -> Result<Checked, CheckStop>
+    requires { S.is_failed source.old ≡ false }
+    ensures { IfOk result (λ c. ChecksGiven (tabled_of tabled.now) budget (S.given source.old) (S.given source.new) (reported_of c.reported)) }
+{
+    let verdict = match check_from(alloc, &tabled.problem, source, budget) {
+        Ok(verdict) => verdict,
+        Err(stop) => return Err(stop),
+    };
+    match say(alloc, tabled, verdict) {
+        Ok(checked) => Ok(checked),
+        Err(AllocError) => Err(CheckStop::Memory),
+    }
+}

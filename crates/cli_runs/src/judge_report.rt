@@ -1,0 +1,190 @@
+//! What `judge` says of a lawful grouping.
+
+ghost use Rattle.std.specs.Prelude.{◌≡◌, ℕ, IfOk, option_map};
+ghost use Rattle.county_problem.specs.ProblemValue.{problem_of};
+ghost use Rattle.grouping_laws.specs.Grouping.{Lawful, counts, sets_of};
+ghost use Rattle.county_problem.specs.CountList.{count_at};
+ghost use Rattle.certificate_checker.specs.Answered.{CheckIsRight};
+ghost use Rattle.cli_answers.specs.Answers.{answer_of};
+ghost use Rattle.cli_runs.specs.JudgeWithCertificate.{IsSaidBy, IsSaidOf, NamesSameCounts, SaysBeside, best_answer};
+ghost use Rattle.cli_runs.specs.JudgeWithCertificate.{lawful_answer};
+ghost use Rattle.cli_runs.specs.JudgeCourse.{HasTable};
+ghost use Rattle.cli_runs.specs.Texts.{reported_of, tabled_of};
+
+use crate::tabled::{Reported, Tabled, table_of};
+use certificate_checker::{Verdict, check};
+use cli_answers::RunAnswer;
+use county_codes::Grouping;
+use county_problem::{Counts, Problem, compare, judge};
+use grouping_report::{Outcome, report};
+use state_judge::CheckFault;
+use std::alloc::{AllocError, Global};
+use std::cmp::Ordering;
+
+/// Why a certificate doesn't show that a lawful grouping is best, for whoever explains it to a person; no clause speaks
+/// of it.
+#[derive(Drop)]
+pub enum Unshown {
+    /// The text is no certificate: its first fault, and the line, which counts from 1.
+    NoCertificate(CheckFault, u64),
+    /// The text shows that no grouping is lawful. A lawful one then can't be.
+    Impossible,
+    /// The budget was too small.
+    Budget,
+    /// The certificate's grouping is best, and has greater counts: those of the grouping that is judged, and then
+    /// those.
+    Lesser(Counts, Counts),
+}
+
+/// What `judge` says of a lawful grouping, and why a certificate doesn't show that it is best.
+#[derive(Drop)]
+pub struct Judged {
+    /// The report, with status 0, and the grouping's table.
+    pub reported: Reported,
+    /// Why it doesn't say `best`; none where it does, and where no certificate was given.
+    pub unshown: Option<Unshown>,
+}
+
+/// The report of a lawful grouping, with status 0, and its table.
+fn lawful_report(alloc: Global, tabled: &Tabled, grouping: Grouping) -> Result<Reported, AllocError>
+    requires { Lawful (problem_of tabled.now.problem) grouping.groups.items }
+    ensures said { IfOk result (λ r. answer_of r.answer ≡ lawful_answer tabled.now.problem grouping.groups.items) }
+    ensures table { IfOk result (λ r. HasTable (tabled_of tabled.now) grouping.groups.items (reported_of r)) }
+{
+    let table = table_of(alloc, tabled, &grouping)?;
+    let text = report(alloc, &tabled.problem, &Outcome::Lawful(grouping))?;
+    let answer = RunAnswer { text, status: 0 };
+    Ok(Reported { answer, table })
+}
+
+/// The report of a grouping that is best, with status 0, and its table.
+fn best_report(alloc: Global, tabled: &Tabled, grouping: Grouping) -> Result<Reported, AllocError>
+    requires { Lawful (problem_of tabled.now.problem) grouping.groups.items }
+    ensures said { IfOk result (λ r. answer_of r.answer ≡ best_answer tabled.now.problem grouping.groups.items) }
+    ensures table { IfOk result (λ r. HasTable (tabled_of tabled.now) grouping.groups.items (reported_of r)) }
+{
+    let table = table_of(alloc, tabled, &grouping)?;
+    let text = report(alloc, &tabled.problem, &Outcome::Best(grouping))?;
+    let answer = RunAnswer { text, status: 0 };
+    Ok(Reported { answer, table })
+}
+
+/// What is said of a lawful grouping that isn't shown to be best.
+fn left_lawful(
+    alloc: Global,
+    tabled: &Tabled,
+    grouping: Grouping,
+    unshown: Option<Unshown>,
+) -> Result<Judged, AllocError>
+    requires { Lawful (problem_of tabled.now.problem) grouping.groups.items }
+    ensures said { IfOk result (λ j. answer_of j.reported.answer
+        ≡ lawful_answer tabled.now.problem grouping.groups.items) }
+    ensures table { IfOk result (λ j. HasTable (tabled_of tabled.now) grouping.groups.items (reported_of j.reported)) }
+{
+    let reported = lawful_report(alloc, tabled, grouping)?;
+    Ok(Judged { reported, unshown })
+}
+
+/// The counts of a lawful grouping: its judge can meet nothing but want of memory.
+fn counts_of(alloc: Global, problem: &Problem, grouping: &Grouping) -> Result<Counts, AllocError>
+    requires { Lawful (problem_of problem.now) grouping.now.groups.items }
+    ensures { IfOk result (λ list. (size : ℕ) → count_at list size ≡ counts (sets_of grouping.now.groups.items) size) }
+{
+    match judge(alloc, problem, grouping) {
+        Ok(counts) => Ok(counts),
+        Err(_) => Err(AllocError),
+    }
+}
+
+/// What is said of a lawful grouping, where the target of a certificate is best: if both have the same counts, that it
+/// is best.
+fn say_beside_best(
+    alloc: Global,
+    tabled: &Tabled,
+    grouping: Grouping,
+    own: Counts,
+    target: Grouping,
+) -> Result<Judged, AllocError>
+    requires lawful { Lawful (problem_of tabled.now.problem) grouping.groups.items }
+    requires own { (size : ℕ) → count_at own size ≡ counts (sets_of grouping.groups.items) size }
+    requires best { CheckIsRight (problem_of tabled.now.problem) (Verdict.Best target) }
+    ensures said { IfOk result (λ j. SaysBeside tabled.now.problem grouping.groups.items (Verdict.Best target) (answer_of j.reported.answer)) }
+    ensures table { IfOk result (λ j. HasTable (tabled_of tabled.now) grouping.groups.items (reported_of j.reported)) }
+{
+    let best = counts_of(alloc, &tabled.problem, &target)?;
+    match compare(&own, &best) {
+        Ordering::Equal => Ok(Judged {
+            reported: best_report(alloc, tabled, grouping)?,
+            unshown: None,
+        }),
+        _ => left_lawful(alloc, tabled, grouping, Some(Unshown::Lesser(own, best))),
+    }
+}
+
+/// What is said of a lawful grouping beside a verdict.
+fn say_beside(
+    alloc: Global,
+    tabled: &Tabled,
+    grouping: Grouping,
+    own: Counts,
+    verdict: Verdict,
+) -> Result<Judged, AllocError>
+    requires lawful { Lawful (problem_of tabled.now.problem) grouping.groups.items }
+    requires own { (size : ℕ) → count_at own size ≡ counts (sets_of grouping.groups.items) size }
+    requires best { CheckIsRight (problem_of tabled.now.problem) verdict }
+    ensures said { IfOk result (λ j. SaysBeside tabled.now.problem grouping.groups.items verdict (answer_of j.reported.answer)) }
+    ensures table { IfOk result (λ j. HasTable (tabled_of tabled.now) grouping.groups.items (reported_of j.reported)) }
+{
+    match verdict {
+        Verdict::Best(target) => say_beside_best(alloc, tabled, grouping, own, target),
+        Verdict::Impossible => left_lawful(alloc, tabled, grouping, Some(Unshown::Impossible)),
+        Verdict::No(fault, line) => {
+            let unshown = Unshown::NoCertificate(fault, line);
+            left_lawful(alloc, tabled, grouping, Some(unshown))
+        }
+        Verdict::Budget => left_lawful(alloc, tabled, grouping, Some(Unshown::Budget)),
+    }
+}
+
+/// What is said of a lawful grouping by the text of a certificate.
+fn say_by(
+    alloc: Global,
+    tabled: &Tabled,
+    grouping: Grouping,
+    own: Counts,
+    text: &[u8],
+    budget: u64,
+) -> Result<Judged, AllocError>
+    requires lawful { Lawful (problem_of tabled.now.problem) grouping.groups.items }
+    requires own { (size : ℕ) → count_at own size ≡ counts (sets_of grouping.groups.items) size }
+    ensures said { IfOk result (λ j. IsSaidBy tabled.now.problem grouping.groups.items budget text.now (answer_of j.reported.answer)) }
+    ensures table { IfOk result (λ j. HasTable (tabled_of tabled.now) grouping.groups.items (reported_of j.reported)) }
+{
+    let verdict = check(alloc, &tabled.problem, text, budget)?;
+    say_beside(alloc, tabled, grouping, own, verdict)
+}
+
+/// What `judge` says of a lawful grouping with these counts: that it is lawful; or that it is best, where a certificate
+/// shows it. The certificate's checker has a budget.
+///
+/// # Errors
+///
+/// `AllocError` where memory was refused.
+pub fn judge_and_say(
+    alloc: Global,
+    tabled: &Tabled,
+    grouping: Grouping,
+    own: Counts,
+    certificate: Option<&Vec<u8>>,
+    budget: u64,
+) -> Result<Judged, AllocError>
+    requires lawful { Lawful (problem_of tabled.now.problem) grouping.groups.items }
+    requires own { (size : ℕ) → count_at own size ≡ counts (sets_of grouping.groups.items) size }
+    ensures said { IfOk result (λ j. IsSaidOf tabled.now.problem grouping.groups.items budget (option_map (λ t. t.now.items) certificate.entry) (answer_of j.reported.answer)) }
+    ensures table { IfOk result (λ j. HasTable (tabled_of tabled.now) grouping.groups.items (reported_of j.reported)) }
+{
+    match certificate {
+        Some(text) => say_by(alloc, tabled, grouping, own, text, budget),
+        None => left_lawful(alloc, tabled, grouping, None),
+    }
+}

@@ -1,0 +1,10 @@
+use Rattle.std.proofs.Common.{◌≡◌}
+use Rattle.std.specs.Io.KnownBytes.{Keeps}
+use Rattle.cli_shelves.proofs.file_reader.FileReaderSource.pull.Given as goal
+
+-- reads that were interrupted took nothing, and gave nothing
+abbrev pub invariant-loop : goal.invariant-loop
+invariant-loop g l = record {
+  kept : Keeps (g.F.Read.remaining l.fn.self.file) (g.F.Read.remaining l.self.file);
+  same : l.self.log ≡ l.fn.self.log;
+}

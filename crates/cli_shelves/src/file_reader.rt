@@ -1,0 +1,109 @@
+//! A file of the machine, read as it comes.
+
+ghost use Rattle.std.specs.Prelude.{◌≡◌, ◌==◌, [], IfSome, false, if◌then◌else◌};
+ghost use Rattle.std.specs.Option.{is_some};
+ghost use Rattle.cli_record_text.specs.Sums.{sum_of as sum_of_bytes};
+ghost use Rattle.cli_shelves.specs.declared.shelf.ReadEnd.TheVariants.{Whole, Part};
+
+use crate::given::GivenBytes;
+use crate::given_sum::GivenSum;
+use crate::shelf::ReadEnd;
+use cli_record_text::ByteSum;
+use field_lines::{Source, SourceFault};
+use std::io::{ErrorKind, Read};
+
+/// How often a read is made before one that was interrupted each time counts as failed.
+const MAX_TRIES: u32 = 1_000;
+
+/// A file of the machine that is read from its beginning on. A read that was interrupted is made again, up to 1,000
+/// times in all; past that it is a failed read, as one with any other error is at once.
+#[derive(Drop)]
+pub struct FileReader<F> {
+    file: F,
+    end: ReadEnd,
+    reason: Option<ErrorKind>,
+    log: GivenSum,
+}
+
+/// Where a reader stands after a pull that gave so many bytes.
+fn end_after(count: usize) -> ReadEnd
+    ensures { result ≡ (if count == 0 then Whole else Part) }
+{
+    if count == 0 {
+        ReadEnd::Whole
+    } else {
+        ReadEnd::Part
+    }
+}
+
+impl<F: Read> FileReader<F> {
+    /// A reader of what is left in a file. It has given nothing, and hasn't failed. If a sum is asked for, it sums what
+    /// it gives.
+    pub(crate) fn new(file: F, is_summed: bool) -> Self
+        ensures given { ⟦<FileReader<F> as Source>⟧.given result ≡ [] }
+        ensures failed { ⟦<FileReader<F> as Source>⟧.is_failed result ≡ false }
+    {
+        FileReader {
+            file,
+            end: ReadEnd::Part,
+            reason: None,
+            log: GivenSum::new(is_summed),
+        }
+    }
+
+    /// Where it stands.
+    pub(crate) fn end(&self) -> ReadEnd {
+        self.end
+    }
+
+    /// What sort of error the last pull met; none where it didn't fail.
+    pub(crate) fn reason(&self) -> Option<ErrorKind>
+        ensures { is_some result ≡ ⟦<FileReader<F> as Source>⟧.is_failed self.now }
+    {
+        self.reason
+    }
+}
+
+impl<F: Read + Drop> FileReader<F> {
+    /// The bytes that were given, as the log has them, and their sum if it was asked for.
+    pub(crate) fn into_given(self) -> (GivenBytes, Option<ByteSum>)
+        ensures given { result.0.bytes ≡ ⟦<FileReader<F> as Source>⟧.given self }
+        ensures sum { IfSome result.1 (λ sum. sum ≡ sum_of_bytes (⟦<FileReader<F> as Source>⟧.given self)) }
+    {
+        self.log.finish()
+    }
+}
+
+impl<F: Read> Source for FileReader<F> {
+    ghost content = { λ r. F.remaining r.file };
+
+    ghost given = { λ r. r.log };
+
+    ghost is_failed = { λ r. is_some r.reason };
+
+    fn pull(&mut self, buffer: &mut [u8]) -> Result<usize, SourceFault> {
+        let mut reason = ErrorKind::Interrupted;
+        for _ in 0..MAX_TRIES {
+            match self.file.read(buffer) {
+                Ok(count) => {
+                    self.log.note(&buffer[..count]);
+                    self.reason = None;
+                    self.end = end_after(count);
+                    return Ok(count);
+                }
+                Err(error) => {
+                    reason = error.kind();
+                    if reason != ErrorKind::Interrupted {
+                        break;
+                    }
+                }
+            }
+        }
+        self.reason = Some(reason);
+        Err(SourceFault)
+    }
+
+    fn failed(&self) -> bool {
+        self.reason.is_some()
+    }
+}

@@ -1,0 +1,239 @@
+//! Files in memory as a shelf.
+
+ghost use Rattle.std.specs.Prelude.{◌≡◌, ℕ, List, [], Option, Some, None, IfOk, IfErr, IfSome, ◌++◌, OnOk, OnErr};
+ghost use Rattle.std.specs.Prelude.{option_map, string_bytes, map, ◌≤◌, vec_len};
+ghost use Rattle.std.specs.Option.{option_or};
+ghost use Rattle.cli_shelves.specs.Files.{held, with_file};
+ghost use Rattle.cli_shelves.specs.Shelf.{Loads, Opens, CountsFailures};
+ghost use Rattle.cli_shelves.specs.Memory.{bytes_in, files_of, HasPlace, ReaderEndsIn};
+ghost use Rattle.cli_shelves.specs.declared.shelf.ShelfFault.TheVariants.{Memory};
+
+use crate::memory_reader::MemoryReader;
+use crate::shelf::{MAX_FILE, ReadEnd, Shelf, ShelfFault};
+use crate::sums::{EventSum, EventSums};
+use std::alloc::{AllocError, Global};
+use std::marker::Model;
+
+/// A file in memory.
+#[derive(Drop)]
+pub struct MemoryFile {
+    /// The name.
+    pub name: String,
+    /// The bytes.
+    pub bytes: Vec<u8>,
+}
+
+/// A shelf in memory: the files that it began with, and those that were stored since.
+#[derive(Drop)]
+pub struct MemoryShelf {
+    files: Vec<MemoryFile>,
+    stored: Vec<MemoryFile>,
+    log: EventSums,
+}
+
+impl Model for MemoryShelf {
+    ghost use Rattle.cli_shelves.specs.Memory.{MemoryValue, files_of};
+
+    /// The files that it began with, those that were stored, and what was loaded, read and stored.
+    ghost Value = { MemoryValue };
+
+    ghost view = { λ s. record { files = files_of s.files.items; stored = files_of s.stored.items; events = s.log } };
+}
+
+/// The first file of the name.
+fn file_named<'a>(files: &'a [MemoryFile], name: &str) -> Option<&'a MemoryFile>
+    ensures { bytes_in result ≡ held (files_of files.now) name.now }
+{
+    for file in files {
+        if file.name.as_str() == name {
+            return Some(file);
+        }
+    }
+    None
+}
+
+/// The place of the first file of the name.
+fn place_of(files: &[MemoryFile], name: &str) -> Option<usize>
+    ensures { HasPlace (files_of files.now) name.now result }
+{
+    for (i, file) in files.iter().enumerate() {
+        if file.name.as_str() == name {
+            return Some(i);
+        }
+    }
+    None
+}
+
+/// Puts the bytes in the place of the file of that name, or last.
+fn put_file(
+    alloc: Global,
+    files: &mut Vec<MemoryFile>,
+    name: &str,
+    bytes: Vec<u8>,
+) -> Result<(), AllocError>
+    ensures put { OnOk result (files_of files.new.items ≡ with_file (files_of files.old.items) name.now bytes.items) }
+    ensures same { OnErr result (files.new.items ≡ files.old.items) }
+{
+    let name_copy = String::from_str(alloc, name)?;
+    let file = MemoryFile {
+        name: name_copy,
+        bytes,
+    };
+    match place_of(files, name) {
+        Some(place) => files[place] = file,
+        None => files.push(file)?,
+    }
+    Ok(())
+}
+
+impl MemoryShelf {
+    /// A shelf of these files; of several of one name the first counts.
+    pub fn new(alloc: Global, files: Vec<MemoryFile>) -> Self
+        ensures files { result.files ≡ files_of files.items }
+        ensures stored { result.stored ≡ [] }
+        ensures events { result.events ≡ [] }
+    {
+        MemoryShelf {
+            files,
+            stored: Vec::new(alloc),
+            log: EventSums::new(),
+        }
+    }
+
+    /// The file that was stored under the name, else the first of those that it began with.
+    fn file(&self, name: &str) -> Option<&MemoryFile>
+        ensures { bytes_in result ≡ option_or (held self.now.stored name.now) (held self.now.files name.now) }
+    {
+        let stored = file_named(self.stored.as_slice(), name);
+        if stored.is_some() {
+            return stored;
+        }
+        file_named(self.files.as_slice(), name)
+    }
+
+    /// A copy of the bytes of the file of the name, however many they are.
+    fn copy_of(&self, alloc: Global, name: &str) -> Result<Vec<u8>, ShelfFault>
+        ensures opened { Opens (Some (λ n. option_or (held self.now.stored n) (held self.now.files n))) 0 name.now result }
+        ensures counted { CountsFailures 0 0 result }
+    {
+        match self.file(name) {
+            None => Err(ShelfFault::Missing),
+            Some(file) => Ok(Vec::from_slice(alloc, file.bytes.as_slice())?),
+        }
+    }
+
+    /// Puts a copy of the bytes under the name.
+    fn put(&mut self, alloc: Global, name: &str, bytes: &[u8]) -> Result<(), ShelfFault>
+        ensures put { OnOk result (self.new.stored ≡ with_file self.old.stored name.now bytes.now) }
+        ensures same { OnErr result (self.new.stored ≡ self.old.stored) }
+        ensures files { self.new.files ≡ self.old.files }
+        ensures events { self.new.events ≡ self.old.events }
+        ensures memory { IfErr result (λ fault. fault ≡ Memory) }
+    {
+        let bytes = Vec::from_slice(alloc, bytes)?;
+        put_file(alloc, &mut self.stored, name, bytes)?;
+        Ok(())
+    }
+
+    /// A copy of the bytes of the file of the name.
+    fn bytes(&self, alloc: Global, name: &str) -> Result<Vec<u8>, ShelfFault>
+        ensures small { IfOk result (λ v. vec_len v ≤ 1073741824) }
+        ensures loaded { Loads (λ v. v.items) (λ n. option_or (held self.now.stored n) (held self.now.files n)) 0 name.now result }
+        ensures counted { CountsFailures 0 0 result }
+    {
+        match self.file(name) {
+            None => Err(ShelfFault::Missing),
+            Some(file) if file.bytes.len() > MAX_FILE => Err(ShelfFault::TooLarge),
+            Some(file) => Ok(Vec::from_slice(alloc, file.bytes.as_slice())?),
+        }
+    }
+
+    /// The files that were stored, in order of storing, each name once.
+    pub fn stored_files(&self) -> &[MemoryFile]
+        ensures { files_of result.now ≡ self.now.stored }
+    {
+        self.stored.as_slice()
+    }
+}
+
+/// What stands behind the given bytes, if they are the first.
+fn rest_behind<'a>(bytes: &'a [u8], given: &[u8]) -> Option<&'a [u8]>
+    ensures { IfSome result (λ rest. bytes.now ≡ given.now ++ rest.now) }
+{
+    if bytes.len() < given.len() {
+        return None;
+    }
+    let (front, rest) = bytes.split_at(given.len());
+    if front == given { Some(rest) } else { None }
+}
+
+/// Where a reader stood that gave these bytes of the file of a name. `Missing` where there is no such file, or where it
+/// doesn't begin with them.
+fn end_in(file: Option<&MemoryFile>, given: &[u8]) -> Result<ReadEnd, ShelfFault>
+    ensures told { ReaderEndsIn (bytes_in file.entry) given.now result }
+    ensures counted { CountsFailures 0 0 result }
+{
+    let Some(file) = file else {
+        return Err(ShelfFault::Missing);
+    };
+    match rest_behind(file.bytes.as_slice(), given) {
+        Some([]) => Ok(ReadEnd::Whole),
+        Some(_) => Ok(ReadEnd::Part),
+        None => Err(ShelfFault::Missing),
+    }
+}
+
+impl Shelf for MemoryShelf {
+    type Reader = MemoryReader;
+
+    ghost contents = { λ s. Some (λ name. option_or (held s.stored name) (held s.files name)) };
+
+    ghost stored = { λ s. Some s.stored };
+
+    ghost history = { λ s. record { failures = 0; events = s.events } };
+
+    fn load(&mut self, alloc: Global, name: &str) -> Result<Vec<u8>, ShelfFault> {
+        let answer = self.bytes(alloc, name);
+        self.log.note_load(name, &answer);
+        answer
+    }
+
+    fn reader(&mut self, alloc: Global, name: &str) -> Result<MemoryReader, ShelfFault> {
+        match self.copy_of(alloc, name) {
+            Ok(bytes) => Ok(MemoryReader::new(bytes)),
+            Err(fault) => {
+                self.log.note_load(name, &Err(fault));
+                Err(fault)
+            }
+        }
+    }
+
+    fn give_back(&mut self, name: &str, reader: MemoryReader) -> Result<ReadEnd, ShelfFault> {
+        let answer = end_in(self.file(name), reader.given());
+        let sum = reader.sum_if(self.log.are_kept());
+        self.log.note_read(name, reader.log(), sum, &answer);
+        answer
+    }
+
+    fn store(&mut self, alloc: Global, name: &str, bytes: &[u8]) -> Result<(), ShelfFault> {
+        let answer = self.put(alloc, name, bytes);
+        self.log.note_store(name, bytes, &answer);
+        answer
+    }
+
+    fn failures(&self) -> u64 {
+        0
+    }
+
+    fn keep_sums(&mut self, alloc: Global) {
+        self.log.keep(alloc);
+    }
+
+    fn events(&self) -> u64 {
+        self.log.count()
+    }
+
+    fn sums(&self) -> Option<&[EventSum]> {
+        self.log.sums()
+    }
+}

@@ -1,0 +1,218 @@
+//! The sums of what a shelf gave and took, where they are asked for.
+
+ghost use Rattle.std.specs.Prelude.{◌≡◌, ℕ, ◌-◌, ◌^◌, ◌++◌, ◌∷◌, [], List, IfSome, length, map, min};
+ghost use Rattle.std.specs.Option.{IsSomeAnd};
+ghost use Rattle.cli_record_text.specs.Sums.{sum_of as sum_of_bytes};
+ghost use Rattle.cli_shelves.specs.History.{ShelfEvent, with_load, with_read, with_store};
+ghost use Rattle.cli_shelves.specs.History.ShelfEvent.{Loaded, Read, Stored};
+ghost use Rattle.cli_shelves.specs.History.{bytes_of_answer, is_taken};
+ghost use Rattle.cli_shelves.specs.Sums.{AreOfLast, SumOfEvent, sum_of_event, sum_value};
+
+use crate::given::GivenBytes;
+use crate::log::EventLog;
+use crate::shelf::{ReadEnd, ShelfFault};
+use cli_record_text::{ByteSum, sum_of};
+use std::alloc::Global;
+use std::marker::Model;
+
+/// How a call of a shelf went.
+#[derive(Clone, Copy, Debug, PartialEq, Eq)]
+pub enum EventKind {
+    /// All bytes of a file were given.
+    Whole,
+    /// A reader was given back before the end of its file.
+    Part,
+    /// A file was stored.
+    Taken,
+    /// A file was not given, not read to where it was asked, or not stored.
+    Failed,
+}
+
+/// What is kept of a call of a shelf.
+#[derive(Debug, Drop)]
+pub struct EventSum {
+    /// How the call went.
+    pub kind: EventKind,
+    /// The name of the file.
+    pub name: String,
+    /// The sum of the bytes that the shelf gave or was given.
+    pub sum: ByteSum,
+}
+
+/// The events of a shelf, how many they are, and the sums of the last of them if sums are kept.
+#[derive(Drop)]
+pub struct EventSums {
+    log: EventLog,
+    count: u64,
+    sums: Option<Vec<EventSum>>,
+}
+
+impl Model for EventSums {
+    ghost use Rattle.std.specs.Prelude.{◌≡◌, ◌-◌, ◌^◌, List, IfSome, length, min};
+    ghost use Rattle.cli_shelves.specs.History.{ShelfEvent};
+    ghost use Rattle.cli_shelves.specs.Sums.{AreOfLast};
+
+    /// The events so far.
+    ghost Value = { List ShelfEvent };
+
+    ghost view = { λ s. s.log.events };
+
+    ghost invariant = { λ s. (s.count ≡ min (length s.log.events) (2 ^ 64 - 1)) × IfSome s.sums (λ v. AreOfLast s.log.events v.items) };
+}
+
+/// How a load went, and the sum of what it gave.
+fn sum_of_load(answer: &Result<Vec<u8>, ShelfFault>) -> (EventKind, ByteSum)
+    ensures { (name : List ℕ)
+        → ◌≡◌ {A = SumOfEvent} (record { kind = result.0; name = name; sum = result.1 }) (sum_of_event (Loaded name (bytes_of_answer (λ v. v.items) answer.now))) }
+{
+    match answer {
+        Ok(bytes) => (EventKind::Whole, sum_of(bytes)),
+        Err(_) => (EventKind::Failed, sum_of(&[])),
+    }
+}
+
+/// How a reading went.
+fn kind_of_read(answer: &Result<ReadEnd, ShelfFault>) -> EventKind
+    ensures { (name bytes : List ℕ)
+        → ◌≡◌ {A = SumOfEvent} (record { kind = result; name = name; sum = sum_of_bytes bytes }) (sum_of_event (Read name bytes answer.now)) }
+{
+    match answer {
+        Ok(ReadEnd::Whole) => EventKind::Whole,
+        Ok(ReadEnd::Part) => EventKind::Part,
+        Err(_) => EventKind::Failed,
+    }
+}
+
+/// How a store went.
+fn kind_of_store(answer: &Result<(), ShelfFault>) -> EventKind
+    ensures { (name bytes : List ℕ)
+        → ◌≡◌ {A = SumOfEvent} (record { kind = result; name = name; sum = sum_of_bytes bytes }) (sum_of_event (Stored name bytes (is_taken answer.now))) }
+{
+    match answer {
+        Ok(()) => EventKind::Taken,
+        Err(_) => EventKind::Failed,
+    }
+}
+
+/// Sums with one more. None if a growth was refused.
+fn with_sum(
+    mut sums: Vec<EventSum>,
+    kind: EventKind,
+    name: &str,
+    sum: ByteSum,
+) -> Option<Vec<EventSum>>
+    ensures { IfSome result (λ v. map sum_value v.items
+        ≡ map sum_value sums.items ++ record { kind = kind; name = name.now; sum = sum } ∷ []) }
+{
+    let alloc = *sums.allocator();
+    let Ok(name) = String::from_str(alloc, name) else {
+        return None;
+    };
+    match sums.push(EventSum { kind, name, sum }) {
+        Ok(()) => Some(sums),
+        Err(_) => None,
+    }
+}
+
+/// Sums with one more, if sums are kept. None if a growth was refused.
+fn with_sum_if_kept(
+    sums: Option<Vec<EventSum>>,
+    kind: EventKind,
+    name: &str,
+    sum: ByteSum,
+) -> Option<Vec<EventSum>>
+    ensures { IfSome result (λ v. IsSomeAnd sums (λ before. map sum_value v.items
+        ≡ map sum_value before.items ++ record { kind = kind; name = name.now; sum = sum } ∷ [])) }
+{
+    match sums {
+        Some(sums) => with_sum(sums, kind, name, sum),
+        None => None,
+    }
+}
+
+impl EventSums {
+    /// No event so far, and no sums are kept.
+    pub(crate) fn new() -> Self
+        ensures { result ≡ [] }
+    {
+        EventSums {
+            log: EventLog::new(),
+            count: 0,
+            sums: None,
+        }
+    }
+
+    /// Keeps the sums of the events from now on. Sums kept before are dropped.
+    pub(crate) fn keep(&mut self, alloc: Global)
+        ensures { self.new ≡ self.old }
+    {
+        self.sums = Some(Vec::new(alloc));
+    }
+
+    /// Whether sums are kept.
+    pub(crate) fn are_kept(&self) -> bool {
+        self.sums.is_some()
+    }
+
+    /// How many events there are, or 2^64 - 1 if there are more.
+    pub(crate) fn count(&self) -> u64
+        ensures { result ≡ min (length self.now) (2 ^ 64 - 1) }
+    {
+        self.count
+    }
+
+    /// The sums of the last events, which are those since sums are kept. None if no sums are kept, or if a growth was
+    /// refused for one of them.
+    pub(crate) fn sums(&self) -> Option<&[EventSum]>
+        ensures { IfSome result (λ sums. AreOfLast self.now sums.now) }
+    {
+        match &self.sums {
+            Some(sums) => Some(sums.as_slice()),
+            None => None,
+        }
+    }
+
+    /// Puts a load at the end: the file's name, and what the load answers.
+    pub(crate) fn note_load(&mut self, name: &str, answer: &Result<Vec<u8>, ShelfFault>)
+        ensures { self.new ≡ with_load (λ v. v.items) self.old name.now answer.now }
+    {
+        self.log.note_load(name.as_bytes(), answer);
+        self.count = self.count.saturating_add(1);
+        if self.sums.is_some() {
+            let (kind, sum) = sum_of_load(answer);
+            self.sums = with_sum_if_kept(self.sums.take(), kind, name, sum);
+        }
+    }
+
+    /// Puts a reader at the end that is given back: the file's name, what it gave with its sum, and what the call
+    /// answers. If sums are kept and this sum is missing, they are kept no more.
+    pub(crate) fn note_read(
+        &mut self,
+        name: &str,
+        given: &GivenBytes,
+        sum: Option<ByteSum>,
+        answer: &Result<ReadEnd, ShelfFault>,
+    )
+        requires { IfSome sum (λ s. s ≡ sum_of_bytes given.now.bytes) }
+        ensures { self.new ≡ with_read self.old name.now given.now.bytes answer.now }
+    {
+        self.log.note_read(name.as_bytes(), given, answer);
+        self.count = self.count.saturating_add(1);
+        let sums = self.sums.take();
+        if let Some(sum) = sum {
+            self.sums = with_sum_if_kept(sums, kind_of_read(answer), name, sum);
+        }
+    }
+
+    /// Puts a file at the end that is handed over: its name, its bytes, and what the call answers.
+    pub(crate) fn note_store(&mut self, name: &str, bytes: &[u8], answer: &Result<(), ShelfFault>)
+        ensures { self.new ≡ with_store self.old name.now bytes.now answer.now }
+    {
+        self.log.note_store(name.as_bytes(), bytes, answer);
+        self.count = self.count.saturating_add(1);
+        if self.sums.is_some() {
+            let sum = sum_of(bytes);
+            self.sums = with_sum_if_kept(self.sums.take(), kind_of_store(answer), name, sum);
+        }
+    }
+}

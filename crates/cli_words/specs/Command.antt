@@ -1,0 +1,154 @@
+-- The command `countygroups`, as clap reads it.
+use Rattle.std.specs.Prelude.{◌≡◌, ◌++◌, ℕ, true, false, fold, List, [], ◌∷◌, Some, Result, IfOk, codes, pos}
+use Rattle.clap.specs.Words.{App, Rule, Shape, Text, app_of, new_rule, rule_of, shape_of, with_rule, with_subcommand}
+use Rattle.clap.specs.Simple.{new_shape}
+use Rattle.clap.specs.declared.builder.action.ArgAction.TheVariants.{Set}
+use Rattle.clap.specs.declared.builder.arg.Arg.{Arg}
+use Rattle.clap.specs.declared.builder.command.Command.{Command}
+use Rattle.clap.specs.declared.builder.command.Command.TheViews.{out-Command}
+use Rattle.clap.specs.declared.builder.value_parser.ValueParser.TheVariants.{Signed, Unsigned}
+
+-- `--name VALUE`
+abbrev pub text_option : Text → Rule
+text_option name = record (new_rule name) { long = Some name; action = Some Set; value_names = 1 }
+
+-- the option, which must be given
+abbrev pub required : Rule → Rule
+required option = record option { required = true }
+
+-- the option, of a number from low to high
+abbrev pub of_number : ℕ → ℕ → Rule → Rule
+of_number low high option = record option { parser = Some (Signed (pos low) (pos high)) }
+
+-- the option, with the value that it has where it is not given
+abbrev pub with_default : Text → Rule → Rule
+with_default text option = record option { defaults = text ∷ [] }
+
+-- the option, of a number of steps from 0 to 18,446,744,073,709,551,615, by default 10,000,000
+abbrev pub of_steps : Rule → Rule
+of_steps option = with_default (codes "10000000") (record option { parser = Some (Unsigned 0 18446744073709551615) })
+
+-- the options of each subcommand: the two files, the number of seats, the state, the two numbers of the allowance, and
+-- the file of the record, which need not be given
+abbrev pub common_options : List Rule
+common_options = required (text_option (codes "geo")) ∷ required (text_option (codes "segment"))
+    ∷ of_number 1 1000 (required (text_option (codes "chamber")))
+    ∷ with_default (codes "37") (of_number 0 99 (text_option (codes "state")))
+    ∷ with_default (codes "1") (of_number 0 500 (text_option (codes "part")))
+    ∷ with_default (codes "20") (of_number 1 1000 (text_option (codes "of"))) ∷ text_option (codes "record") ∷ []
+
+-- the options that give a problem: those of each subcommand, the file of adjacency, and those of links and
+-- of withdrawn sets, which need not be given
+abbrev pub problem_options : List Rule
+problem_options = common_options ++ required (text_option (codes "adjacency")) ∷ text_option (codes "links")
+    ∷ text_option (codes "withdrawn") ∷ []
+
+-- the options that give a problem and the file of a grouping
+abbrev pub grouping_options : List Rule
+grouping_options = problem_options ++ required (text_option (codes "grouping")) ∷ []
+
+-- the options of `judge`: those that give a problem and a grouping, the file of a certificate, the most steps of its
+-- checker, and the file of the table; the two files need not be given
+abbrev pub judge_options : List Rule
+judge_options =
+    grouping_options
+    ++ text_option (codes "certificate") ∷ of_steps (text_option (codes "budget")) ∷ text_option (codes "table") ∷ []
+
+-- the options of `solve`: those that give a problem, the most steps of the search, and the files of the certificate, of
+-- the grouping and of the table, which need not be given
+abbrev pub solve_options : List Rule
+solve_options =
+    problem_options
+    ++ of_steps (text_option (codes "steps")) ∷ text_option (codes "certificate") ∷ text_option (codes "out")
+    ∷ text_option (codes "table") ∷ []
+
+-- the options that give a certificate: those that give a problem, the file of the certificate, and the most steps of
+-- the checker
+abbrev pub certificate_options : List Rule
+certificate_options =
+    problem_options ++ required (text_option (codes "certificate")) ∷ of_steps (text_option (codes "budget")) ∷ []
+
+-- the options of `check`: those that give a certificate, and the file of the table, which need not be given
+abbrev pub check_options : List Rule
+check_options = certificate_options ++ text_option (codes "table") ∷ []
+
+-- the options of `audit`: those that give a problem and a grouping, and the file of the assignments
+abbrev pub audit_options : List Rule
+audit_options = grouping_options ++ required (text_option (codes "assignments")) ∷ []
+
+-- the options of `list`: those that give a certificate, the number of a listed grouping, and the file that it is
+-- written to; these two need not be given
+abbrev pub list_options : List Rule
+list_options =
+    certificate_options ++ of_number 0 4294967295 (text_option (codes "number")) ∷ text_option (codes "out") ∷ []
+
+-- the options that give a board: those that give a problem and a grouping, the limit of its first round in counties,
+-- and how many branchings stand above its pieces at most; these two need not be given
+abbrev pub board_options : List Rule
+board_options =
+    grouping_options
+    ++ of_number 0 65535 (text_option (codes "limit")) ∷ of_number 0 255 (text_option (codes "depth")) ∷ []
+
+-- the options of `share`: those that give a board, the file of the events, the most steps of a test, and the file of
+-- the certificate, which need not be given
+abbrev pub share_options : List Rule
+share_options =
+    board_options
+    ++ required (text_option (codes "events")) ∷ of_steps (text_option (codes "budget"))
+    ∷ text_option (codes "certificate") ∷ []
+
+-- the options of `piece`: those that give a board, the file of the events, which need not be given, the round and the
+-- number of a piece, and the most steps of the search
+abbrev pub piece_options : List Rule
+piece_options =
+    board_options ++ text_option (codes "events") ∷ of_number 0 4294967295 (required (text_option (codes "round")))
+    ∷ of_number 0 4294967295 (required (text_option (codes "number"))) ∷ of_steps (text_option (codes "steps")) ∷ []
+
+-- a subcommand with these options
+abbrev pub subcommand : Text → List Rule → Shape
+subcommand name options = record (new_shape name) { rules = options }
+
+-- the subcommands of the program
+abbrev pub subcommands : List Shape
+subcommands = subcommand (codes "size") common_options ∷ subcommand (codes "judge") judge_options
+    ∷ subcommand (codes "solve") solve_options ∷ subcommand (codes "check") check_options
+    ∷ subcommand (codes "audit") audit_options ∷ subcommand (codes "list") list_options
+    ∷ subcommand (codes "share") share_options ∷ subcommand (codes "piece") piece_options ∷ []
+
+-- the program without its subcommands: it has no option of its own but help and the version, and requires a subcommand
+abbrev pub countygroups_alone : App
+countygroups_alone = record {
+  top = record (new_shape (codes "countygroups")) {
+    no_binary_name = true;
+    disable_help_subcommand = true;
+    has_version = true;
+    subcommand_required = true;
+  };
+  subs = [];
+}
+
+-- the program, with its subcommands in turn
+unfoldable pub countygroups : App
+countygroups = fold with_subcommand countygroups_alone subcommands
+
+-- `new` is `old` with these options added in turn
+pub record HasMore (old : Command) (options : List Rule) (new : Command) : Type 0 where
+  pub app : app_of new ≡ fold with_rule (app_of old) options
+  pub local : (out-Command new).has_globals ≡ (out-Command old).has_globals
+
+-- the command is a subcommand of this shape, and none of its options is global
+pub record HasShape (command : Command) (like : Shape) : Type 0 where
+  pub shape : shape_of command ≡ like
+  pub local : (out-Command command).has_globals ≡ false
+
+-- what a command that was made has more than an old one, the new one has too, and this option, which is not global
+abbrev pub AddsOption : {E : Type 0} → Result Command E → Arg → Result Command E → Type 0
+AddsOption made option new =
+    (old : Command) (options : List Rule) (r : Rule) → IfOk made (HasMore old options) → rule_of option ≡ r
+    → option.global ≡ false → IfOk new (HasMore old (options ++ r ∷ []))
+
+-- a program that was made, with one more subcommand that was made
+abbrev pub AddsCommand : {E : Type 0} → Result Command E → Result Command E → Result Command E → Type 0
+AddsCommand program command new =
+    (a : App) (s : Shape) → IfOk program (λ p. app_of p ≡ a) → IfOk command (λ c. HasShape c s)
+    → IfOk new (λ p. app_of p ≡ with_subcommand a s)

@@ -1,0 +1,254 @@
+-- What the words of the command line say.
+use Rattle.std.specs.Prelude.{◌≡◌, ◌≢◌, ◌≤◌, ◌⊎◌, ⊤, ℕ, Bool, true, false, [], ◌∷◌, List, Option, Some, None, codes}
+use Rattle.std.specs.Borrow.{Bor}
+use Rattle.std.specs.Option.{IsSomeAnd}
+use Rattle.clap.specs.Words.{Kinds, Row, Text, fault_of, first_of, subcommand_of, takes}
+use Rattle.clap.specs.Takes.{is_given}
+use Rattle.county_codes.specs.declared.window.Window.{Window}
+use Rattle.clap.specs.declared.error.kind.ErrorKind.{ErrorKind}
+use Rattle.clap.specs.declared.error.kind.ErrorKind.TheVariants.{DisplayHelp, DisplayVersion, OutOfMemory}
+use Rattle.cli_words.specs.Command.{countygroups}
+use Rattle.cli_words.specs.Options.{Spells}
+use Rattle.cli_words.specs.declared.words.CommandWords.{CommandWords}
+use Rattle.cli_words.specs.declared.words.CommandWords.TheVariants.{Audit, Check, Judge, List as ListCommand, Piece}
+use Rattle.cli_words.specs.declared.words.CommandWords.TheVariants.{Share, Size, Solve}
+use Rattle.cli_words.specs.declared.words.AuditWords.{AuditWords}
+use Rattle.cli_words.specs.declared.words.BoardWords.{BoardWords}
+use Rattle.cli_words.specs.declared.words.CertificateWords.{CertificateWords}
+use Rattle.cli_words.specs.declared.words.CheckWords.{CheckWords}
+use Rattle.cli_words.specs.declared.words.CommonWords.{CommonWords}
+use Rattle.cli_words.specs.declared.words.JudgeWords.{JudgeWords}
+use Rattle.cli_words.specs.declared.words.ListWords.{ListWords}
+use Rattle.cli_words.specs.declared.words.PieceWords.{PieceWords}
+use Rattle.cli_words.specs.declared.words.ProblemWords.{ProblemWords}
+use Rattle.cli_words.specs.declared.words.RoundWords.{RoundWords}
+use Rattle.cli_words.specs.declared.words.RoundWords.TheVariants.{Plain, Wide}
+use Rattle.cli_words.specs.declared.words.ShareWords.{ShareWords}
+use Rattle.cli_words.specs.declared.words.SolveWords.{SolveWords}
+use Rattle.cli_words.specs.declared.words.StoredWords.{StoredWords}
+use Rattle.cli_words.specs.declared.end.LoneOption.{LoneOption}
+use Rattle.cli_words.specs.declared.end.LoneOption.TheVariants.{Depth, NumberOrOut}
+use Rattle.cli_words.specs.declared.end.WordsEnd.{WordsEnd}
+use Rattle.cli_words.specs.declared.end.WordsEnd.TheVariants.{Help, Version, Usage, Memory}
+
+-- the subcommand that the words name, and the values of its options
+unfoldable pub subcommand_in : List Text → Option (Text × List Row)
+subcommand_in words = subcommand_of countygroups words
+
+-- clap takes the words: they have no fault and ask neither for help nor for the version
+unfoldable pub takes_words : List Text → Bool
+takes_words words = takes countygroups words
+
+-- what stops clap first in the words: nothing, a call for help or for the version, or a mistake
+unfoldable pub faults_of : List Text → Kinds
+faults_of words = fault_of countygroups words
+
+-- the value of the option writes the number
+abbrev pub GivesNumber : Text → List Row → ℕ → Type 0
+GivesNumber name rows n = IsSomeAnd (first_of name rows) (λ text. Spells text n)
+
+-- The values of a subcommand's options say which allowance is meant: a part, 0 to 500, of a whole, 1 to 1,000.
+-- If the words don't give the part, it is 1. If they don't give the whole, it is 20.
+-- The part may be more than half of the whole: that is no fault of the words.
+pub record SaysWindow (rows : List Row) (window : Window) : Type 0 where
+  pub part : GivesNumber (codes "part") rows window.part
+  pub most : window.part ≤ 500
+  pub default_part : is_given (codes "part") rows ≡ false → window.part ≡ 1
+  pub whole : GivesNumber (codes "of") rows window.whole
+  pub range : (1 ≤ window.whole) × (window.whole ≤ 1000)
+  pub default_whole : is_given (codes "of") rows ≡ false → window.whole ≡ 20
+
+-- what the words give of an option that need not be given: its text, or none exactly where they don't give it
+abbrev pub GivesText : Text → List Row → Option (Bor Text) → Type 0
+GivesText name rows None = is_given name rows ≡ false
+GivesText name rows (Some text) = (is_given name rows ≡ true) × (first_of name rows ≡ Some text.now)
+
+-- the values of a subcommand's options say what those give that each subcommand has
+pub record SaysCommon (rows : List Row) (words : CommonWords) : Type 0 where
+  pub geo : first_of (codes "geo") rows ≡ Some words.geo.now
+  pub segment : first_of (codes "segment") rows ≡ Some words.segment.now
+  pub chamber : GivesNumber (codes "chamber") rows words.chamber
+  pub seats : (1 ≤ words.chamber) × (words.chamber ≤ 1000)
+  pub state : GivesNumber (codes "state") rows words.state
+  pub code : words.state ≤ 99
+  pub default : is_given (codes "state") rows ≡ false → words.state ≡ 37
+  pub window : SaysWindow rows words.window
+  pub record_file : GivesText (codes "record") rows words.record_file
+
+-- the values of a subcommand's options say which problem is meant
+pub record SaysProblem (rows : List Row) (words : ProblemWords) : Type 0 where
+  pub common : SaysCommon rows words.common
+  pub adjacency : first_of (codes "adjacency") rows ≡ Some words.adjacency.now
+  pub links : GivesText (codes "links") rows words.links
+  pub withdrawn : GivesText (codes "withdrawn") rows words.withdrawn
+
+-- the values of the options of `judge` say which problem and which grouping are meant, which certificate if one is
+-- given, how many steps its checker may take, and the file that the table is written to
+pub record SaysJudge (rows : List Row) (words : JudgeWords) : Type 0 where
+  pub problem : SaysProblem rows words.problem
+  pub grouping : first_of (codes "grouping") rows ≡ Some words.grouping.now
+  pub certificate : GivesText (codes "certificate") rows words.certificate
+  pub budget : GivesNumber (codes "budget") rows words.budget
+  pub default : is_given (codes "budget") rows ≡ false → words.budget ≡ 10000000
+  pub table : GivesText (codes "table") rows words.table
+
+-- the values of the options of `solve` say which problem is meant, how many steps the search may take, and
+-- the files that its certificate, its grouping and its table are written to
+pub record SaysSolve (rows : List Row) (words : SolveWords) : Type 0 where
+  pub problem : SaysProblem rows words.problem
+  pub steps : GivesNumber (codes "steps") rows words.steps
+  pub default : is_given (codes "steps") rows ≡ false → words.steps ≡ 10000000
+  pub certificate : GivesText (codes "certificate") rows words.certificate
+  pub out : GivesText (codes "out") rows words.out
+  pub table : GivesText (codes "table") rows words.table
+
+-- the values of the options that give a certificate say which problem and which certificate are meant, and how many
+-- steps the checker may take
+pub record SaysCertificate (rows : List Row) (words : CertificateWords) : Type 0 where
+  pub problem : SaysProblem rows words.problem
+  pub certificate : first_of (codes "certificate") rows ≡ Some words.certificate.now
+  pub budget : GivesNumber (codes "budget") rows words.budget
+  pub default : is_given (codes "budget") rows ≡ false → words.budget ≡ 10000000
+
+-- the values of the options of `check` say what is checked, and the file that the table is written to
+pub record SaysCheck (rows : List Row) (words : CheckWords) : Type 0 where
+  pub check : SaysCertificate rows words.check
+  pub table : GivesText (codes "table") rows words.table
+
+-- the values of the options of `audit` say which problem, which grouping and which assignments are meant
+pub record SaysAudit (rows : List Row) (words : AuditWords) : Type 0 where
+  pub problem : SaysProblem rows words.problem
+  pub grouping : first_of (codes "grouping") rows ≡ Some words.grouping.now
+  pub assignments : first_of (codes "assignments") rows ≡ Some words.assignments.now
+
+-- what the words give of a listed grouping that is to be stored: its number and the file, or neither
+abbrev pub GivesStored : List Row → Option StoredWords → Type 0
+GivesStored rows None = (is_given (codes "number") rows ≡ false) × (is_given (codes "out") rows ≡ false)
+GivesStored rows (Some words) =
+    (is_given (codes "number") rows ≡ true) × GivesNumber (codes "number") rows words.number
+    × (is_given (codes "out") rows ≡ true) × (first_of (codes "out") rows ≡ Some words.out.now)
+
+-- the values of the options of `list` say by which certificate all best groupings are listed, and which listed grouping
+-- is stored
+pub record SaysList (rows : List Row) (words : ListWords) : Type 0 where
+  pub check : SaysCertificate rows words.check
+  pub stored : GivesStored rows words.stored
+
+-- what the words give of a number that need not be given: the number, or nothing exactly where they don't give it
+abbrev pub GivesItsNumber : Text → List Row → Option ℕ → Type 0
+GivesItsNumber name rows None = is_given name rows ≡ false
+GivesItsNumber name rows (Some n) = (is_given name rows ≡ true) × GivesNumber name rows n
+
+-- what the words give of the rounds of a board: plain ones exactly where they give a depth, with a limit beside it, and
+-- else wide ones, with a limit or none
+abbrev pub GivesRoundWords : List Row → RoundWords → Type 0
+GivesRoundWords rows (Plain limit depth) =
+    (is_given (codes "limit") rows ≡ true) × GivesNumber (codes "limit") rows limit
+    × (is_given (codes "depth") rows ≡ true) × GivesNumber (codes "depth") rows depth
+GivesRoundWords rows (Wide limit) = GivesItsNumber (codes "limit") rows limit × (is_given (codes "depth") rows ≡ false)
+
+-- the values of the options that give a board say which problem, which target and which rounds are meant
+pub record SaysBoard (rows : List Row) (words : BoardWords) : Type 0 where
+  pub problem : SaysProblem rows words.problem
+  pub grouping : first_of (codes "grouping") rows ≡ Some words.grouping.now
+  pub round : GivesRoundWords rows words.round
+
+-- the values of the options of `share` say which board and which events are meant, how many steps a test may take, and
+-- the file that the certificate is written to
+pub record SaysShare (rows : List Row) (words : ShareWords) : Type 0 where
+  pub board : SaysBoard rows words.board
+  pub events : first_of (codes "events") rows ≡ Some words.events.now
+  pub budget : GivesNumber (codes "budget") rows words.budget
+  pub default : is_given (codes "budget") rows ≡ false → words.budget ≡ 10000000
+  pub certificate : GivesText (codes "certificate") rows words.certificate
+
+-- the values of the options of `piece` say which board, which events and which piece are meant, and how many steps the
+-- search may take
+pub record SaysPiece (rows : List Row) (words : PieceWords) : Type 0 where
+  pub board : SaysBoard rows words.board
+  pub events : GivesText (codes "events") rows words.events
+  pub round : GivesNumber (codes "round") rows words.round
+  pub number : GivesNumber (codes "number") rows words.number
+  pub steps : GivesNumber (codes "steps") rows words.steps
+  pub default : is_given (codes "steps") rows ≡ false → words.steps ≡ 10000000
+
+-- a subcommand with the values of its options means the command
+abbrev pub SaysCommand : Text × List Row → CommandWords → Type 0
+SaysCommand p (Size words) = (p.0 ≡ codes "size") × SaysCommon p.1 words
+SaysCommand p (Judge words) = (p.0 ≡ codes "judge") × SaysJudge p.1 words
+SaysCommand p (Solve words) = (p.0 ≡ codes "solve") × SaysSolve p.1 words
+SaysCommand p (Check words) = (p.0 ≡ codes "check") × SaysCheck p.1 words
+SaysCommand p (Audit words) = (p.0 ≡ codes "audit") × SaysAudit p.1 words
+SaysCommand p (ListCommand words) = (p.0 ≡ codes "list") × SaysList p.1 words
+SaysCommand p (Share words) = (p.0 ≡ codes "share") × SaysShare p.1 words
+SaysCommand p (Piece words) = (p.0 ≡ codes "piece") × SaysPiece p.1 words
+
+-- the words give the number of a grouping without a file, or a file without a number
+abbrev pub AreUnpaired : List Row → Type 0
+AreUnpaired rows = is_given (codes "number") rows ≢ is_given (codes "out") rows
+
+-- the words give a depth without a limit
+abbrev pub LacksLimit : List Row → Type 0
+LacksLimit rows = (is_given (codes "depth") rows ≡ true) × (is_given (codes "limit") rows ≡ false)
+
+-- which option is given without the one that it needs: one of `--number` and `--out` alone at `list`, or `--depth`
+-- without `--limit` at `share` or `piece`
+abbrev pub IsLone : Text × List Row → LoneOption → Type 0
+IsLone p NumberOrOut = (p.0 ≡ codes "list") × AreUnpaired p.1
+IsLone p Depth = ((p.0 ≡ codes "share") ⊎ (p.0 ≡ codes "piece")) × LacksLimit p.1
+
+-- an option is given so
+abbrev pub LacksPartner : Text × List Row → Type 0
+LacksPartner p = (lone : LoneOption) × IsLone p lone
+
+-- the words give an option so
+abbrev pub LackPartner : List Text → Type 0
+LackPartner words = IsSomeAnd (subcommand_in words) LacksPartner
+
+-- the words mean the command
+abbrev pub Means : List Text → CommandWords → Type 0
+Means words command = IsSomeAnd (subcommand_in words) (λ p. SaysCommand p command)
+
+-- an error of help ends in help, one of the version in the version, one of memory in memory and any other in usage;
+-- since its text takes memory, any may end in memory
+abbrev pub EndsAs : ErrorKind → WordsEnd → Type 0
+EndsAs kind (Help text) = kind ≡ DisplayHelp
+EndsAs kind (Version text) = kind ≡ DisplayVersion
+EndsAs kind (Usage text) = (kind ≢ DisplayHelp) × (kind ≢ DisplayVersion) × (kind ≢ OutOfMemory)
+EndsAs kind Memory = ⊤
+
+-- words with these faults end in help where help is asked for before anything is wrong, in the version where that is,
+-- and else in usage; any words may end in memory
+abbrev pub EndsBy : Kinds → WordsEnd → Type 0
+EndsBy faults (Help text) = faults ≡ DisplayHelp ∷ []
+EndsBy faults (Version text) = faults ≡ DisplayVersion ∷ []
+EndsBy faults (Usage text) = (faults ≢ []) × (faults ≢ DisplayHelp ∷ []) × (faults ≢ DisplayVersion ∷ [])
+EndsBy faults Memory = ⊤
+
+-- the end is usage
+abbrev pub IsUsage : WordsEnd → Type 0
+IsUsage (Usage text) = ⊤
+IsUsage _ = ⊥
+
+-- words without a command end as their faults say; words that have none of clap's faults, but give an option without
+-- the one that it needs, end in usage
+abbrev pub EndsFor : List Text → WordsEnd → Type 0
+EndsFor words end = EndsBy (faults_of words) end ⊎ ((faults_of words ≡ []) × LackPartner words × IsUsage end)
+
+-- words that clap takes end in memory alone, but for words that give an option without the one that it needs
+abbrev pub EndsTaken : List Text → WordsEnd → Type 0
+EndsTaken words end = (end ≡ Memory) ⊎ (LackPartner words × IsUsage end)
+
+-- help or the version was asked for
+abbrev pub IsHelpOrVersion : WordsEnd → Type 0
+IsHelpOrVersion (Help text) = ⊤
+IsHelpOrVersion (Version text) = ⊤
+IsHelpOrVersion (Usage text) = ⊥
+IsHelpOrVersion Memory = ⊥
+
+-- the exit status of the program
+abbrev pub status_of : WordsEnd → ℕ
+status_of (Help text) = 0
+status_of (Version text) = 0
+status_of (Usage text) = 2
+status_of Memory = 5

@@ -1,0 +1,93 @@
+//! How a parse of the words ends where it gives no command.
+ghost use Rattle.std.specs.Prelude.{◌≡◌, ◌↔◌, ◌⊎◌};
+ghost use Rattle.clap.specs.Words.{kind_of};
+ghost use Rattle.cli_words.specs.Words.{EndsAs, IsHelpOrVersion, IsUsage, status_of};
+ghost use Rattle.cli_words.specs.declared.end.WordsEnd.TheVariants.{Memory};
+
+use clap::error::ErrorKind;
+use std::alloc::Global;
+use thiserror::Error;
+
+/// Why the words gave no command. The texts are `clap`'s.
+#[derive(Debug, Drop, Error)]
+pub enum WordsEnd {
+    /// Help was asked for, and this is its text; the program exits with 0.
+    #[error("{0}")]
+    Help(String),
+    /// The version was asked for, and this is its text; the program exits with 0.
+    #[error("{0}")]
+    Version(String),
+    /// The words are no command of the program, and this text says why; it exits with 2.
+    #[error("{0}")]
+    Usage(String),
+    /// Memory ran out; the program exits with 5.
+    #[error("out of memory")]
+    Memory,
+}
+
+/// The option that is given without the one that it needs.
+#[derive(Clone, Copy, Debug)]
+pub(crate) enum LoneOption {
+    /// One of `--number` and `--out` of `list` is given without the other.
+    NumberOrOut,
+    /// `--depth` of `share` or `piece` is given without `--limit`.
+    Depth,
+}
+
+/// The text of usage where one of `--number` and `--out` is given without the other.
+const NUMBER_OR_OUT: &str = "\
+error: the options '--number <NUMBER>' and '--out <FILE>' of `list` stand together, and one was given without the other
+
+For more information, try '--help'.
+";
+
+/// The text of usage where `--depth` is given without `--limit`.
+const DEPTH: &str = "\
+error: the option '--depth <BRANCHINGS>' of `share` and `piece` needs '--limit <COUNTIES>'
+
+For more information, try '--help'.
+";
+
+impl WordsEnd {
+    /// The end where an option is given without the one that it needs.
+    pub(crate) fn of_lone(alloc: Global, lone: LoneOption) -> WordsEnd
+        ensures { (result ≡ Memory) ⊎ IsUsage result }
+    {
+        let text = match lone {
+            LoneOption::NumberOrOut => NUMBER_OR_OUT,
+            LoneOption::Depth => DEPTH,
+        };
+        match String::from_str(alloc, text) {
+            Ok(text) => WordsEnd::Usage(text),
+            Err(_) => WordsEnd::Memory,
+        }
+    }
+
+    /// The exit status of the program: 0 for help and the version, 2 for usage and 5 for memory.
+    pub fn status(&self) -> u8
+        ensures value { result ≡ status_of self.now }
+        ensures success { (result ≡ 0) ↔ IsHelpOrVersion self.now }
+    {
+        match self {
+            WordsEnd::Help(_) => 0,
+            WordsEnd::Version(_) => 0,
+            WordsEnd::Usage(_) => 2,
+            WordsEnd::Memory => 5,
+        }
+    }
+
+    /// The end of a parse that gave this error.
+    pub(crate) fn of_error(alloc: Global, error: &clap::Error) -> WordsEnd
+        ensures { EndsAs (kind_of error.now) result }
+    {
+        let Ok(text) = error.to_string(alloc) else {
+            return WordsEnd::Memory;
+        };
+        match error.kind() {
+            ErrorKind::OutOfMemory => WordsEnd::Memory,
+            ErrorKind::DisplayHelp => WordsEnd::Help(text),
+            ErrorKind::DisplayVersion => WordsEnd::Version(text),
+            _ => WordsEnd::Usage(text),
+        }
+    }
+}

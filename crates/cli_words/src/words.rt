@@ -1,0 +1,503 @@
+//! The command that the words name.
+ghost use Rattle.std.specs.Prelude.{◌≡◌, ◌≢◌, [], IfErr, IfOk, MatchResult, Some, true, codes};
+ghost use Rattle.std.specs.Option.{IsSomeAnd};
+ghost use Rattle.clap.specs.Takes.{is_given};
+ghost use Rattle.clap.specs.Walk.{texts};
+ghost use Rattle.clap.specs.Words.{FailsBy, first_of, found_of, kind_of, rows_of, subcommand_rows_of};
+ghost use Rattle.cli_words.specs.Command.{audit_options, board_options, certificate_options, check_options};
+ghost use Rattle.cli_words.specs.Command.{common_options, grouping_options, judge_options, list_options, piece_options};
+ghost use Rattle.cli_words.specs.Command.{problem_options, share_options, solve_options};
+ghost use Rattle.cli_words.specs.Options.{HasCommand, HasValues};
+ghost use Rattle.cli_words.specs.Words.{AreUnpaired, EndsFor, EndsTaken, GivesRoundWords, GivesStored, IsLone};
+ghost use Rattle.cli_words.specs.Words.{LacksLimit, Means, SaysAudit, SaysBoard, SaysCertificate, SaysCheck};
+ghost use Rattle.cli_words.specs.Words.{SaysCommand, SaysCommon, SaysJudge, SaysList, SaysPiece, SaysProblem};
+ghost use Rattle.cli_words.specs.Words.{SaysShare, SaysSolve, SaysWindow, faults_of, subcommand_in, takes_words};
+ghost use Rattle.cli_words.specs.declared.end.LoneOption.TheVariants.{Depth, NumberOrOut};
+
+use crate::command::program;
+use crate::end::{LoneOption, WordsEnd};
+use clap::error::ErrorKind;
+use clap::{ArgMatches, Error};
+use county_codes::Window;
+use std::alloc::Global;
+
+/// The words of the command line: a subcommand, with the values of its options.
+#[derive(Clone, Copy, Debug)]
+pub enum CommandWords<'a> {
+    /// The size table.
+    Size(CommonWords<'a>),
+    /// The judge of a grouping.
+    Judge(JudgeWords<'a>),
+    /// The search for the best grouping.
+    Solve(SolveWords<'a>),
+    /// The check of a certificate.
+    Check(CheckWords<'a>),
+    /// The audit of a plan's assignments.
+    Audit(AuditWords<'a>),
+    /// The list of all best groupings.
+    List(ListWords<'a>),
+    /// The test of what several desks proved, joined to one certificate.
+    Share(ShareWords<'a>),
+    /// The proof of one piece of a board.
+    Piece(PieceWords<'a>),
+}
+
+/// The options that each subcommand has.
+#[derive(Clone, Copy, Debug)]
+pub struct CommonWords<'a> {
+    /// The name of the PL 94-171 geographic header.
+    pub geo: &'a str,
+    /// The name of the PL 94-171 data segment 1.
+    pub segment: &'a str,
+    /// The number of seats, from 1 to 1000.
+    pub chamber: u16,
+    /// The state's FIPS code, from 0 to 99; 37 where the words give none.
+    pub state: u8,
+    /// The allowance: a part, from 0 to 500, of a whole, from 1 to 1000.
+    ///
+    /// If the words give no part, it is 1. If they give no whole, it is 20.
+    /// The part may be more than half of the whole: a problem refuses such an allowance.
+    pub window: Window,
+    /// The name of the file that the record of the run is written to, where the words give one.
+    pub record_file: Option<&'a str>,
+}
+
+/// The options that give a problem: those of each subcommand, and the files of adjacency, links and withdrawn sets.
+#[derive(Clone, Copy, Debug)]
+pub struct ProblemWords<'a> {
+    /// The options that each subcommand has.
+    pub common: CommonWords<'a>,
+    /// The name of the county adjacency file.
+    pub adjacency: &'a str,
+    /// The name of the file of links, where the words give one.
+    pub links: Option<&'a str>,
+    /// The name of the file of withdrawn sets, where the words give one.
+    pub withdrawn: Option<&'a str>,
+}
+
+/// The options of `judge`.
+#[derive(Clone, Copy, Debug)]
+pub struct JudgeWords<'a> {
+    /// The options that give the problem.
+    pub problem: ProblemWords<'a>,
+    /// The name of the file of the grouping.
+    pub grouping: &'a str,
+    /// The name of the file of a certificate, where the words give one.
+    pub certificate: Option<&'a str>,
+    /// The most steps of its checker; 10,000,000 where the words give none.
+    pub budget: u64,
+    /// The name of the file that the table is written to, where the words give one.
+    pub table: Option<&'a str>,
+}
+
+/// The options of `solve`.
+#[derive(Clone, Copy, Debug)]
+pub struct SolveWords<'a> {
+    /// The options that give the problem.
+    pub problem: ProblemWords<'a>,
+    /// The most steps of the search; 10,000,000 where the words give none.
+    pub steps: u64,
+    /// The name of the file that the certificate is written to, where the words give one.
+    pub certificate: Option<&'a str>,
+    /// The name of the file that the grouping is written to, where the words give one.
+    pub out: Option<&'a str>,
+    /// The name of the file that the table is written to, where the words give one.
+    pub table: Option<&'a str>,
+}
+
+/// The options that give a certificate.
+#[derive(Clone, Copy, Debug)]
+pub struct CertificateWords<'a> {
+    /// The options that give the problem.
+    pub problem: ProblemWords<'a>,
+    /// The name of the file of the certificate.
+    pub certificate: &'a str,
+    /// The most steps of the checker; 10,000,000 where the words give none.
+    pub budget: u64,
+}
+
+/// The options of `check`.
+#[derive(Clone, Copy, Debug)]
+pub struct CheckWords<'a> {
+    /// The problem, the certificate and the budget.
+    pub check: CertificateWords<'a>,
+    /// The name of the file that the table is written to, where the words give one.
+    pub table: Option<&'a str>,
+}
+
+/// The options of `audit`.
+#[derive(Clone, Copy, Debug)]
+pub struct AuditWords<'a> {
+    /// The options that give the problem.
+    pub problem: ProblemWords<'a>,
+    /// The name of the file of the grouping.
+    pub grouping: &'a str,
+    /// The name of the block assignment file.
+    pub assignments: &'a str,
+}
+
+/// Which listed grouping is stored, and where.
+#[derive(Clone, Copy, Debug)]
+pub struct StoredWords<'a> {
+    /// The number of the grouping in the list, whose first has number 1.
+    pub number: u32,
+    /// The name of the file that the grouping is written to.
+    pub out: &'a str,
+}
+
+/// The options of `list`.
+#[derive(Clone, Copy, Debug)]
+pub struct ListWords<'a> {
+    /// The problem, the certificate and the budget.
+    pub check: CertificateWords<'a>,
+    /// The grouping that is stored, where the words give its number and a file.
+    pub stored: Option<StoredWords<'a>>,
+}
+
+/// How the rounds of a board are.
+#[derive(Clone, Copy, Debug)]
+pub enum RoundWords {
+    /// Plain rounds.
+    Plain {
+        /// The limit of the first round, in counties.
+        limit: u16,
+        /// How many branchings stand above the pieces, at most.
+        depth: u8,
+    },
+    /// Wide rounds.
+    Wide {
+        /// The limit of the first round, in counties, where the words give one.
+        limit: Option<u16>,
+    },
+}
+
+/// The options that give a board.
+#[derive(Clone, Copy, Debug)]
+pub struct BoardWords<'a> {
+    /// The options that give the problem.
+    pub problem: ProblemWords<'a>,
+    /// The name of the file of the grouping that is the board's target.
+    pub grouping: &'a str,
+    /// How its rounds are.
+    pub round: RoundWords,
+}
+
+/// The options of `share`.
+#[derive(Clone, Copy, Debug)]
+pub struct ShareWords<'a> {
+    /// The options that give the board.
+    pub board: BoardWords<'a>,
+    /// The name of the file of the events.
+    pub events: &'a str,
+    /// The most steps of the test of one event; 10,000,000 where the words give none.
+    pub budget: u64,
+    /// The name of the file that the certificate is written to, where the words give one.
+    pub certificate: Option<&'a str>,
+}
+
+/// The options of `piece`.
+#[derive(Clone, Copy, Debug)]
+pub struct PieceWords<'a> {
+    /// The options that give the board.
+    pub board: BoardWords<'a>,
+    /// The name of the file of the events, where the words give one.
+    pub events: Option<&'a str>,
+    /// The number of the round.
+    pub round: u32,
+    /// The number of the piece.
+    pub number: u32,
+    /// The most steps of the search; 10,000,000 where the words give none.
+    pub steps: u64,
+}
+
+/// The allowance that the values of the options say.
+fn window_words<'a>(found: &ArgMatches<'a>) -> Window
+    requires { HasValues common_options (rows_of (found_of found.now)) }
+    ensures { SaysWindow (rows_of (found_of found.now)) result }
+{
+    Window {
+        part: found.get_one::<u16>("part").unwrap(),
+        whole: found.get_one::<u16>("of").unwrap(),
+    }
+}
+
+/// What the values of the options say that each subcommand has.
+fn common_words<'a>(found: &ArgMatches<'a>) -> CommonWords<'a>
+    requires { HasValues common_options (rows_of (found_of found.now)) }
+    ensures { SaysCommon (rows_of (found_of found.now)) result }
+{
+    CommonWords {
+        geo: found.get_str("geo").unwrap(),
+        segment: found.get_str("segment").unwrap(),
+        chamber: found.get_one::<u16>("chamber").unwrap(),
+        state: found.get_one::<u8>("state").unwrap(),
+        window: window_words(found),
+        record_file: found.get_str("record"),
+    }
+}
+
+/// What the values of the options say that give a problem.
+fn problem_words<'a>(found: &ArgMatches<'a>) -> ProblemWords<'a>
+    requires { HasValues problem_options (rows_of (found_of found.now)) }
+    ensures { SaysProblem (rows_of (found_of found.now)) result }
+{
+    ProblemWords {
+        common: common_words(found),
+        adjacency: found.get_str("adjacency").unwrap(),
+        links: found.get_str("links"),
+        withdrawn: found.get_str("withdrawn"),
+    }
+}
+
+/// The problem that the values of the options say, and the name of the file of the grouping.
+fn grouping_words<'a>(found: &ArgMatches<'a>) -> (ProblemWords<'a>, &'a str)
+    requires { HasValues grouping_options (rows_of (found_of found.now)) }
+    ensures problem { SaysProblem (rows_of (found_of found.now)) result.0 }
+    ensures grouping { first_of (codes "grouping") (rows_of (found_of found.now)) ≡ Some result.1.now }
+{
+    let problem = problem_words(found);
+    (problem, found.get_str("grouping").unwrap())
+}
+
+/// What the values of the options of `judge` say.
+fn judge_words<'a>(found: &ArgMatches<'a>) -> JudgeWords<'a>
+    requires { HasValues judge_options (rows_of (found_of found.now)) }
+    ensures { SaysJudge (rows_of (found_of found.now)) result }
+{
+    let (problem, grouping) = grouping_words(found);
+    let file = found.get_str("certificate");
+    JudgeWords {
+        problem,
+        grouping,
+        certificate: file,
+        budget: found.get_one::<u64>("budget").unwrap(),
+        table: found.get_str("table"),
+    }
+}
+
+/// What the values of the options of `solve` say.
+fn solve_words<'a>(found: &ArgMatches<'a>) -> SolveWords<'a>
+    requires { HasValues solve_options (rows_of (found_of found.now)) }
+    ensures { SaysSolve (rows_of (found_of found.now)) result }
+{
+    SolveWords {
+        problem: problem_words(found),
+        steps: found.get_one::<u64>("steps").unwrap(),
+        certificate: found.get_str("certificate"),
+        out: found.get_str("out"),
+        table: found.get_str("table"),
+    }
+}
+
+/// What the values of the options say that give a certificate.
+fn certificate_words<'a>(found: &ArgMatches<'a>) -> CertificateWords<'a>
+    requires { HasValues certificate_options (rows_of (found_of found.now)) }
+    ensures { SaysCertificate (rows_of (found_of found.now)) result }
+{
+    CertificateWords {
+        problem: problem_words(found),
+        certificate: found.get_str("certificate").unwrap(),
+        budget: found.get_one::<u64>("budget").unwrap(),
+    }
+}
+
+/// What the values of the options of `check` say.
+fn check_words<'a>(found: &ArgMatches<'a>) -> CheckWords<'a>
+    requires { HasValues check_options (rows_of (found_of found.now)) }
+    ensures { SaysCheck (rows_of (found_of found.now)) result }
+{
+    CheckWords {
+        check: certificate_words(found),
+        table: found.get_str("table"),
+    }
+}
+
+/// What the values of the options of `audit` say.
+fn audit_words<'a>(found: &ArgMatches<'a>) -> AuditWords<'a>
+    requires { HasValues audit_options (rows_of (found_of found.now)) }
+    ensures { SaysAudit (rows_of (found_of found.now)) result }
+{
+    AuditWords {
+        problem: problem_words(found),
+        grouping: found.get_str("grouping").unwrap(),
+        assignments: found.get_str("assignments").unwrap(),
+    }
+}
+
+/// Which listed grouping is stored and where, by the values of the options of `list`.
+fn stored_words<'a>(found: &ArgMatches<'a>) -> Result<Option<StoredWords<'a>>, LoneOption>
+    requires { HasValues list_options (rows_of (found_of found.now)) }
+    ensures { MatchResult
+        result
+        (GivesStored (rows_of (found_of found.now)))
+        (λ lone. (lone ≡ NumberOrOut) × AreUnpaired (rows_of (found_of found.now))) }
+{
+    let number = found.get_one::<u32>("number");
+    let out = found.get_str("out");
+    match number {
+        Some(number) => match out {
+            Some(out) => Ok(Some(StoredWords { number, out })),
+            None => Err(LoneOption::NumberOrOut),
+        },
+        None => match out {
+            Some(_) => Err(LoneOption::NumberOrOut),
+            None => Ok(None),
+        },
+    }
+}
+
+/// What the values of the options of `list` say.
+fn list_words<'a>(found: &ArgMatches<'a>) -> Result<ListWords<'a>, LoneOption>
+    requires { HasValues list_options (rows_of (found_of found.now)) }
+    ensures { MatchResult
+        result
+        (SaysList (rows_of (found_of found.now)))
+        (λ lone. (lone ≡ NumberOrOut) × AreUnpaired (rows_of (found_of found.now))) }
+{
+    let stored = stored_words(found)?;
+    Ok(ListWords {
+        check: certificate_words(found),
+        stored,
+    })
+}
+
+/// How the rounds of a board are, by the values of its options.
+fn round_words<'a>(found: &ArgMatches<'a>) -> Result<RoundWords, LoneOption>
+    requires { HasValues board_options (rows_of (found_of found.now)) }
+    ensures { MatchResult
+        result
+        (GivesRoundWords (rows_of (found_of found.now)))
+        (λ lone. (lone ≡ Depth) × LacksLimit (rows_of (found_of found.now))) }
+{
+    let limit = found.get_one::<u16>("limit");
+    let depth = found.get_one::<u8>("depth");
+    match depth {
+        Some(depth) => match limit {
+            Some(limit) => Ok(RoundWords::Plain { limit, depth }),
+            None => Err(LoneOption::Depth),
+        },
+        None => Ok(RoundWords::Wide { limit }),
+    }
+}
+
+/// What the values of the options say that give a board.
+fn board_words<'a>(found: &ArgMatches<'a>) -> Result<BoardWords<'a>, LoneOption>
+    requires { HasValues board_options (rows_of (found_of found.now)) }
+    ensures { MatchResult
+        result
+        (SaysBoard (rows_of (found_of found.now)))
+        (λ lone. (lone ≡ Depth) × LacksLimit (rows_of (found_of found.now))) }
+{
+    let round = round_words(found)?;
+    let (problem, grouping) = grouping_words(found);
+    Ok(BoardWords {
+        problem,
+        grouping,
+        round,
+    })
+}
+
+/// What the values of the options of `share` say.
+fn share_words<'a>(found: &ArgMatches<'a>) -> Result<ShareWords<'a>, LoneOption>
+    requires { HasValues share_options (rows_of (found_of found.now)) }
+    ensures { MatchResult
+        result
+        (SaysShare (rows_of (found_of found.now)))
+        (λ lone. (lone ≡ Depth) × LacksLimit (rows_of (found_of found.now))) }
+{
+    let board = board_words(found)?;
+    let certificate = found.get_str("certificate");
+    Ok(ShareWords {
+        board,
+        events: found.get_str("events").unwrap(),
+        budget: found.get_one::<u64>("budget").unwrap(),
+        certificate,
+    })
+}
+
+/// What the values of the options of `piece` say.
+fn piece_words<'a>(found: &ArgMatches<'a>) -> Result<PieceWords<'a>, LoneOption>
+    requires { HasValues piece_options (rows_of (found_of found.now)) }
+    ensures { MatchResult
+        result
+        (SaysPiece (rows_of (found_of found.now)))
+        (λ lone. (lone ≡ Depth) × LacksLimit (rows_of (found_of found.now))) }
+{
+    let board = board_words(found)?;
+    Ok(PieceWords {
+        board,
+        events: found.get_str("events"),
+        round: found.get_one::<u32>("round").unwrap(),
+        number: found.get_one::<u32>("number").unwrap(),
+        steps: found.get_one::<u64>("steps").unwrap(),
+    })
+}
+
+/// What the subcommand of this name says, by the values of its options.
+fn command_words<'a>(name: &str, found: &ArgMatches<'a>) -> Result<CommandWords<'a>, LoneOption>
+    requires { HasCommand (name.now, rows_of (found_of found.now)) }
+    ensures { MatchResult result (SaysCommand (name.now, rows_of (found_of found.now))) (IsLone (name.now, rows_of (found_of found.now))) }
+{
+    match name {
+        "size" => Ok(CommandWords::Size(common_words(found))),
+        "judge" => Ok(CommandWords::Judge(judge_words(found))),
+        "solve" => Ok(CommandWords::Solve(solve_words(found))),
+        "check" => Ok(CommandWords::Check(check_words(found))),
+        "audit" => Ok(CommandWords::Audit(audit_words(found))),
+        "list" => Ok(CommandWords::List(list_words(found)?)),
+        "share" => Ok(CommandWords::Share(share_words(found)?)),
+        "piece" => Ok(CommandWords::Piece(piece_words(found)?)),
+        _ => unreachable!(),
+    }
+}
+
+/// What the subcommand that was found says.
+fn command_in<'a>(matches: &ArgMatches<'a>) -> Result<CommandWords<'a>, LoneOption>
+    requires { IsSomeAnd (subcommand_rows_of matches.now) HasCommand }
+    ensures { MatchResult
+        result
+        (λ command. IsSomeAnd (subcommand_rows_of matches.now) (λ p. SaysCommand p command))
+        (λ lone. IsSomeAnd (subcommand_rows_of matches.now) (λ p. IsLone p lone)) }
+{
+    match matches.subcommand() {
+        Some((name, found)) => command_words(name, found),
+        None => unreachable!(),
+    }
+}
+
+/// What `clap` finds in the words.
+fn matches_in<'a>(alloc: Global, words: &'a [&'a str]) -> Result<ArgMatches<'a>, Error>
+    ensures found { IfOk result (λ m. subcommand_rows_of m ≡ subcommand_in (texts words.now)) }
+    ensures taken { IfErr result (λ e. takes_words (texts words.now) ≡ true → kind_of e ≡ ErrorKind.OutOfMemory) }
+    ensures faults { FailsBy (faults_of (texts words.now)) result }
+{
+    let program = program(alloc)?;
+    program.try_get_matches_from(words)
+}
+
+/// The command that the words after the program's name say.
+///
+/// Words that `clap` does not take end in `Help` where they ask for help before anything is wrong,
+/// and else in `Usage`. Words of `list` that give one of `--number` and `--out` without the other end in `Usage` too,
+/// and words of `share` and `piece` that give `--depth` without `--limit`.
+/// `Memory` may come for any words.
+pub fn parse<'a>(alloc: Global, words: &'a [&'a str]) -> Result<CommandWords<'a>, WordsEnd>
+    // The command is what the words mean.
+    ensures said { IfOk result (Means (texts words.now)) }
+
+    // Words that `clap` takes end in no usage and no help, but for those that give an option without the one that it
+    // needs.
+    ensures taken { IfErr result (λ end. takes_words (texts words.now) ≡ true → EndsTaken (texts words.now) end) }
+
+    // A command comes only of words without a fault, and each end only of its faults, or of an option without the one
+    // that it needs.
+    ensures ends { MatchResult result (λ _. faults_of (texts words.now) ≡ []) (EndsFor (texts words.now)) }
+{
+    match matches_in(alloc, words) {
+        Ok(matches) => match command_in(&matches) {
+            Ok(command) => Ok(command),
+            Err(lone) => Err(WordsEnd::of_lone(alloc, lone)),
+        },
+        Err(error) => Err(WordsEnd::of_error(alloc, &error)),
+    }
+}

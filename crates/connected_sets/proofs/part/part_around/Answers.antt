@@ -1,0 +1,139 @@
+use Rattle.std.proofs.Common.{Bool, true, false, refl, ◌≡◌, ◌∙◌, ◌<◌, ◌+◌, ◌||◌, ◌&&◌, not, ◌==◌, ℕ, ap, length, arith}
+use Rattle.std.proofs.lemmas.Bool.{false≢true, eq-eqb}
+use Rattle.std.proofs.lemmas.Result.{IfOk-from_err}
+use Rattle.connected_laws.specs.Growing.{IsMove}
+use Rattle.connected_laws.proofs.Growing.{fewer_free}
+use Rattle.connected_sets.specs.Rows.{problem_at}
+use Rattle.connected_sets.proofs.RowLemmas.{row_named}
+use Rattle.connected_sets.proofs.Filling.{filled_start, filled_step, filled_part}
+use Rattle.connected_sets.proofs.part.part_around.Goals as goal
+
+or_same : (a : Bool) (x : ℕ) → (a || (x == x)) ≡ true
+or_same true x = refl
+or_same false x = eq-eqb x x refl
+
+or_kept : (a b : Bool) → a ≡ true → (a || b) ≡ true
+or_kept true b e = refl
+or_kept false b e = absurd (false≢true e)
+
+pub loop-next-init : goal.loop-next-init
+loop-next-init g c =
+    let test = g.C.CountySet.test in
+    let p = problem_at c.args.ordered.now in
+    let n = length c.args.ordered.now.order in
+    let place = c.args.place in
+    let filled = filled_start p n place (test c.args.region.now) (test c.in_ok-part.part) (test c.without-rest.result) (test c.index-near-from.result) (test c.intersection-front.result) c.requires.below c.requires.there
+    (λ x. c.in_ok-part.ensures.places x ∙ ap (λ z. z || (x == place)) (c.in_ok-empty.ensures.places x))
+    (λ x. c.without-rest.ensures.places x ∙ ap (λ z. z && not (x == place)) (c.in_ok-copy.ensures.places x))
+    (row_named g.row.C.Denot test p n c.args.near.now c.requires.rows place c.from.result c.index-near-from.result c.from.ensures c.index-near-from.is (c.requires.below place c.requires.there))
+    (λ x. c.intersection-front.ensures.places x ∙ ap (λ z. z && test c.without-rest.result x) (c.in_ok-copy-2.ensures.places x)) in
+    record { filled = filled; around = c.in_ok-part.ensures.places place ∙ or_same (test c.in_ok-empty.field-0 place) place }
+
+pub loop-next-smaller : goal.loop-next-smaller
+loop-next-smaller g c =
+    let test = g.C.CountySet.test in
+    let n = length c.args.ordered.now.order in
+    let inv = c.loop-next.invariant.filled in
+    let m : IsMove (test c.loop-next.part) (test c.loop-next.rest) (test c.in_ok-part-2.part) (test c.without-rest-in-Some.result) c.in-Some.next = record { with = c.in_ok-part-2.ensures.places; without = c.without-rest-in-Some.ensures.places } in
+    fewer_free (problem_at c.args.ordered.now) n (n + 1) (test c.loop-next.part) (test c.loop-next.rest) (test c.in_ok-part-2.part) (test c.without-rest-in-Some.result) c.in-Some.next inv.growth (inv.fringe.each c.in-Some.next c.in-Some.ensures.least.1).is_free m
+
+pub loop-next-preserved : goal.loop-next-preserved
+loop-next-preserved g c =
+    let test = g.C.CountySet.test in
+    let p = problem_at c.args.ordered.now in
+    let n = length c.args.ordered.now.order in
+    let inv = c.loop-next.invariant.filled in
+    let near = c.args.near.now in
+    let found = c.index-near-from-in-Some.result in
+    let next = c.in-Some.next in
+    let is = c.in-Some.ensures.least.1 in
+    let there : next < n = inv.growth.free_below next (inv.fringe.each next is).is_free in
+    let m : IsMove (test c.loop-next.part) (test c.loop-next.rest) (test c.in_ok-part-2.part) (test c.without-rest-in-Some.result) next = record { with = c.in_ok-part-2.ensures.places; without = c.without-rest-in-Some.ensures.places } in
+    let filled = filled_step p n (test c.args.region.now) (test c.loop-next.part) (test c.loop-next.rest) (test c.loop-next.front) (test c.in_ok-part-2.part) (test c.without-rest-in-Some.result) (test found) (test c.intersection-front-in-Some.result) next
+    c.requires.rows.problem.symmetric inv is m
+    (row_named g.row.C.Denot test p n near c.requires.rows next c.from-in-Some.result found c.from-in-Some.ensures c.index-near-from-in-Some.is there)
+    (λ x. c.intersection-front-in-Some.ensures.places x ∙ ap (λ z. z && test c.without-rest-in-Some.result x) (c.in_ok-union.ensures.places x)) in
+    record { filled = filled; around = c.in_ok-part-2.ensures.places c.args.place ∙ or_kept (test c.loop-next.part c.args.place) (c.args.place == next) c.loop-next.invariant.around }
+
+pub returns-clause-part : goal.returns-clause-part
+returns-clause-part g c =
+    let test = g.C.CountySet.test in
+    filled_part (problem_at c.args.ordered.now) (length c.args.ordered.now.order) (test c.args.region.now) (test c.loop-next.part) (test c.loop-next.rest) (test c.loop-next.front) c.loop-next.invariant.filled (λ x. c.in_default.ensures.least x (omega arith))
+
+pub returns-clause-inside : goal.returns-clause-inside
+returns-clause-inside g c = c.loop-next.invariant.filled.inside
+
+pub returns-in_err-empty-clause-part : goal.returns-in_err-empty-clause-part
+returns-in_err-empty-clause-part g c = IfOk-from_err c.from_residual.result _ c.from_residual.ensures.0
+
+pub returns-in_err-empty-clause-inside : goal.returns-in_err-empty-clause-inside
+returns-in_err-empty-clause-inside g c = IfOk-from_err c.from_residual.result _ c.from_residual.ensures.0
+
+pub returns-in_err-empty-clause-around : goal.returns-in_err-empty-clause-around
+returns-in_err-empty-clause-around g c = IfOk-from_err c.from_residual.result _ c.from_residual.ensures.0
+
+pub returns-in_err-empty-clause-rest : goal.returns-in_err-empty-clause-rest
+returns-in_err-empty-clause-rest g c = IfOk-from_err c.from_residual.result _ c.from_residual.ensures.0
+
+pub returns-in_err-part-clause-part : goal.returns-in_err-part-clause-part
+returns-in_err-part-clause-part g c = IfOk-from_err c.from_residual-in_err-part.result _ c.from_residual-in_err-part.ensures.0
+
+pub returns-in_err-part-clause-inside : goal.returns-in_err-part-clause-inside
+returns-in_err-part-clause-inside g c = IfOk-from_err c.from_residual-in_err-part.result _ c.from_residual-in_err-part.ensures.0
+
+pub returns-in_err-part-clause-around : goal.returns-in_err-part-clause-around
+returns-in_err-part-clause-around g c = IfOk-from_err c.from_residual-in_err-part.result _ c.from_residual-in_err-part.ensures.0
+
+pub returns-in_err-part-clause-rest : goal.returns-in_err-part-clause-rest
+returns-in_err-part-clause-rest g c = IfOk-from_err c.from_residual-in_err-part.result _ c.from_residual-in_err-part.ensures.0
+
+pub returns-in_err-copy-clause-part : goal.returns-in_err-copy-clause-part
+returns-in_err-copy-clause-part g c = IfOk-from_err c.from_residual-in_err-copy.result _ c.from_residual-in_err-copy.ensures.0
+
+pub returns-in_err-copy-clause-inside : goal.returns-in_err-copy-clause-inside
+returns-in_err-copy-clause-inside g c = IfOk-from_err c.from_residual-in_err-copy.result _ c.from_residual-in_err-copy.ensures.0
+
+pub returns-in_err-copy-clause-around : goal.returns-in_err-copy-clause-around
+returns-in_err-copy-clause-around g c = IfOk-from_err c.from_residual-in_err-copy.result _ c.from_residual-in_err-copy.ensures.0
+
+pub returns-in_err-copy-clause-rest : goal.returns-in_err-copy-clause-rest
+returns-in_err-copy-clause-rest g c = IfOk-from_err c.from_residual-in_err-copy.result _ c.from_residual-in_err-copy.ensures.0
+
+pub returns-in_err-copy-2-clause-part : goal.returns-in_err-copy-2-clause-part
+returns-in_err-copy-2-clause-part g c = IfOk-from_err c.from_residual-in_err-copy-2.result _ c.from_residual-in_err-copy-2.ensures.0
+
+pub returns-in_err-copy-2-clause-inside : goal.returns-in_err-copy-2-clause-inside
+returns-in_err-copy-2-clause-inside g c = IfOk-from_err c.from_residual-in_err-copy-2.result _ c.from_residual-in_err-copy-2.ensures.0
+
+pub returns-in_err-copy-2-clause-around : goal.returns-in_err-copy-2-clause-around
+returns-in_err-copy-2-clause-around g c = IfOk-from_err c.from_residual-in_err-copy-2.result _ c.from_residual-in_err-copy-2.ensures.0
+
+pub returns-in_err-copy-2-clause-rest : goal.returns-in_err-copy-2-clause-rest
+returns-in_err-copy-2-clause-rest g c = IfOk-from_err c.from_residual-in_err-copy-2.result _ c.from_residual-in_err-copy-2.ensures.0
+
+pub returns-in_err-part-2-clause-part : goal.returns-in_err-part-2-clause-part
+returns-in_err-part-2-clause-part g c = IfOk-from_err c.from_residual-in_err-part-2.result _ c.from_residual-in_err-part-2.ensures.0
+
+pub returns-in_err-part-2-clause-inside : goal.returns-in_err-part-2-clause-inside
+returns-in_err-part-2-clause-inside g c = IfOk-from_err c.from_residual-in_err-part-2.result _ c.from_residual-in_err-part-2.ensures.0
+
+pub returns-in_err-part-2-clause-around : goal.returns-in_err-part-2-clause-around
+returns-in_err-part-2-clause-around g c = IfOk-from_err c.from_residual-in_err-part-2.result _ c.from_residual-in_err-part-2.ensures.0
+
+pub returns-in_err-part-2-clause-rest : goal.returns-in_err-part-2-clause-rest
+returns-in_err-part-2-clause-rest g c = IfOk-from_err c.from_residual-in_err-part-2.result _ c.from_residual-in_err-part-2.ensures.0
+
+pub returns-in_err-union-clause-part : goal.returns-in_err-union-clause-part
+returns-in_err-union-clause-part g c = IfOk-from_err c.from_residual-in_err-union.result _ c.from_residual-in_err-union.ensures.0
+
+pub returns-in_err-union-clause-inside : goal.returns-in_err-union-clause-inside
+returns-in_err-union-clause-inside g c = IfOk-from_err c.from_residual-in_err-union.result _ c.from_residual-in_err-union.ensures.0
+
+pub returns-in_err-union-clause-around : goal.returns-in_err-union-clause-around
+returns-in_err-union-clause-around g c = IfOk-from_err c.from_residual-in_err-union.result _ c.from_residual-in_err-union.ensures.0
+
+pub returns-in_err-union-clause-rest : goal.returns-in_err-union-clause-rest
+returns-in_err-union-clause-rest g c = IfOk-from_err c.from_residual-in_err-union.result _ c.from_residual-in_err-union.ensures.0
+
+pub returns-clause-around : goal.returns-clause-around
+returns-clause-around g c = c.loop-next.invariant.around

@@ -1,0 +1,236 @@
+//! The growth of connected sets, place by place. A test says what is kept, what is passed over and which place comes
+//! next.
+
+ghost use Rattle.std.specs.Prelude.{◌≡◌, ℕ, ◌+◌, Bool, List, ◌<◌, ◌≤◌, ◌&&◌, not, ◌==◌, MatchOption, MatchResult, OnOk};
+ghost use Rattle.std.specs.Prelude.{IfOk, IsErrOf, length};
+ghost use Rattle.connected_laws.specs.Growing.{IsCandidate, IsMove, IsWhole};
+ghost use Rattle.connected_laws.specs.Listing.{IsListed, HasStepped};
+ghost use Rattle.connected_sets.specs.Growths.{problem_in, places_in, size_in, IsSoundGround, IsSoundGrowth};
+ghost use Rattle.connected_sets.specs.declared.stop.Stop.{Stop};
+
+use crate::growth_test::GrowthTest;
+use crate::input::{Growth, GrowthInput};
+use crate::stop::Stop;
+use county_problem::Steps;
+use place_sets::CountySet;
+use std::alloc::{AllocError, Global};
+
+/// The place of the front that the test names, if the set may have one more place.
+fn next_place<C: CountySet, T: GrowthTest<C>>(
+    input: &GrowthInput<C>,
+    test: &T,
+    growth: &Growth<C>,
+) -> Option<u16>
+    requires growth { IsSoundGrowth C C.test input.now growth.now }
+    ensures { MatchOption
+        result
+        (IsWhole (problem_in input.now) (places_in input.now) input.now.limit (C.test growth.now.set) (C.test growth.now.free))
+        (λ c. IsCandidate (problem_in input.now) (C.test growth.now.set) (C.test growth.now.free) c
+        × (size_in input.now (C.test growth.now.set) < input.now.limit)) }
+{
+    if growth.set.size() >= u32::from(input.limit) {
+        return None;
+    }
+    test.next_place(input.ordered, &growth.front)
+}
+
+/// Takes a step.
+fn take_step(steps: &mut Steps) -> Result<(), Stop>
+    ensures limit { steps.new.limit ≡ steps.old.limit }
+    ensures used { MatchResult
+        result
+        (λ _. steps.new.used ≡ steps.old.used + 1)
+        (λ fault. (fault ≡ Stop.StepLimit) × (steps.new.used ≡ steps.old.used) × (steps.new.used ≡ steps.new.limit)) }
+{
+    if steps.tick() {
+        Ok(())
+    } else {
+        Err(Stop::StepLimit)
+    }
+}
+
+/// Puts the set of a growth that grows no further behind the groups if it is kept.
+fn put_if_kept<C: CountySet, T: GrowthTest<C>>(
+    alloc: Global,
+    input: &GrowthInput<C>,
+    test: &T,
+    growth: Growth<C>,
+    groups: &mut Vec<C>,
+) -> Result<(), AllocError>
+    requires sound { IsSoundGround C C.test C.PLACES input.now }
+    requires growth { IsSoundGrowth C C.test input.now growth }
+    requires knows { T.knows test.now (problem_in input.now) (places_in input.now) input.now.limit (C.test growth.free) }
+    requires whole { IsWhole (problem_in input.now) (places_in input.now) input.now.limit (C.test growth.set) (C.test growth.free) }
+    ensures listed { OnOk
+        result
+        ((keep : List ℕ → Bool)
+        → T.decides test.now (problem_in input.now) (places_in input.now) input.now.limit keep
+        → IsListed
+        C
+        C.test
+        (problem_in input.now)
+        (places_in input.now)
+        input.now.limit
+        keep
+        (C.test growth.set)
+        (C.test growth.free)
+        groups.old.items
+        groups.new.items) }
+    ensures counted { OnOk result (length groups.new.items ≤ length groups.old.items + 1) }
+{
+    if test.is_kept(alloc, input, &growth)? {
+        groups.push(growth.set)?;
+    }
+    Ok(())
+}
+
+/// Ends a growth whose set grows no further: takes a step, and puts the set behind the groups if it is kept.
+fn end_growth<C: CountySet, T: GrowthTest<C>>(
+    alloc: Global,
+    input: &GrowthInput<C>,
+    test: &T,
+    growth: Growth<C>,
+    steps: &mut Steps,
+    groups: &mut Vec<C>,
+) -> Result<(), Stop>
+    requires sound { IsSoundGround C C.test C.PLACES input.now }
+    requires growth { IsSoundGrowth C C.test input.now growth }
+    requires knows { T.knows test.now (problem_in input.now) (places_in input.now) input.now.limit (C.test growth.free) }
+    requires whole { IsWhole (problem_in input.now) (places_in input.now) input.now.limit (C.test growth.set) (C.test growth.free) }
+    ensures listed { OnOk
+        result
+        ((keep : List ℕ → Bool)
+        → T.decides test.now (problem_in input.now) (places_in input.now) input.now.limit keep
+        → IsListed
+        C
+        C.test
+        (problem_in input.now)
+        (places_in input.now)
+        input.now.limit
+        keep
+        (C.test growth.set)
+        (C.test growth.free)
+        groups.old.items
+        groups.new.items) }
+    ensures steps { HasStepped (problem_in input.now) (places_in input.now) input.now.limit (C.test growth.set) (C.test growth.free) steps.old.used steps.new.used }
+    ensures counted { OnOk result (steps.old.used + length groups.new.items ≤ steps.new.used
+        + length groups.old.items) }
+    ensures limit { steps.new.limit ≡ steps.old.limit }
+    ensures stopped { IsErrOf result Stop.StepLimit → steps.new.used ≡ steps.new.limit }
+{
+    take_step(steps)?;
+    put_if_kept(alloc, input, test, growth, groups)?;
+    Ok(())
+}
+
+/// Passes over a growth: takes a step if the test counts it.
+fn pass_over<C: CountySet, T: GrowthTest<C>>(
+    input: &GrowthInput<C>,
+    growth: &Growth<C>,
+    steps: &mut Steps,
+) -> Result<(), Stop>
+    requires { IsSoundGrowth C C.test input.now growth.now }
+    ensures steps { HasStepped (problem_in input.now) (places_in input.now) input.now.limit (C.test growth.now.set) (C.test growth.now.free) steps.old.used steps.new.used }
+    ensures counted { OnOk result (steps.old.used ≤ steps.new.used) }
+    ensures limit { steps.new.limit ≡ steps.old.limit }
+    ensures stopped { IsErrOf result Stop.StepLimit → steps.new.used ≡ steps.new.limit }
+{
+    let _ground = input;
+    let _growth = growth;
+    if T::COUNTS_PASSED {
+        take_step(steps)?;
+    }
+    Ok(())
+}
+
+/// The growth in which a place of the front joins the set.
+fn with_place<C: CountySet>(
+    alloc: Global,
+    input: &GrowthInput<C>,
+    growth: &Growth<C>,
+    place: u16,
+) -> Result<Growth<C>, AllocError>
+    requires sound { IsSoundGround C C.test C.PLACES input.now }
+    requires growth { IsSoundGrowth C C.test input.now growth.now }
+    requires there { IsCandidate (problem_in input.now) (C.test growth.now.set) (C.test growth.now.free) place }
+    requires room { size_in input.now (C.test growth.now.set) < input.now.limit }
+    ensures moved { IfOk result (λ more. IsMove (C.test growth.now.set) (C.test growth.now.free) (C.test more.set) (C.test more.free) place) }
+    ensures growth { IfOk result (λ more. IsSoundGrowth C C.test input.now more) }
+{
+    let people = growth.people + u64::from(input.ordered.people(place));
+    let set = growth.set.with(alloc, place)?;
+    let free = growth.free.copy(alloc)?.without(place);
+    let both = growth.front.union(alloc, &input.near[usize::from(place)])?;
+    let front = both.intersection(&free);
+    Ok(Growth {
+        set,
+        people,
+        front,
+        free,
+    })
+}
+
+/// The growth in which a place is no longer free.
+fn without_place<C: CountySet>(growth: Growth<C>, place: u16) -> Growth<C>
+    requires { place < C.PLACES }
+    ensures set { result.set ≡ growth.set }
+    ensures people { result.people ≡ growth.people }
+    ensures front { (x : ℕ) → C.test result.front x ≡ (C.test growth.front x && not (x == place)) }
+    ensures free { (x : ℕ) → C.test result.free x ≡ (C.test growth.free x && not (x == place)) }
+{
+    Growth {
+        set: growth.set,
+        people: growth.people,
+        front: growth.front.without(place),
+        free: growth.free.without(place),
+    }
+}
+
+/// Puts the connected sets that have all of a set, else only free places, and that are kept, behind the groups. The
+/// front has the free places that are adjacent to the set. A step is taken for each set that grows no further, and if
+/// the test counts them, for each set that is passed over.
+pub fn grow<C: CountySet, T: GrowthTest<C>>(
+    alloc: Global,
+    input: &GrowthInput<C>,
+    test: &T,
+    growth: Growth<C>,
+    steps: &mut Steps,
+    groups: &mut Vec<C>,
+) -> Result<(), Stop>
+    requires sound { IsSoundGround C C.test C.PLACES input.now }
+    requires growth { IsSoundGrowth C C.test input.now growth }
+    requires knows { T.knows test.now (problem_in input.now) (places_in input.now) input.now.limit (C.test growth.free) }
+    ensures listed { OnOk
+        result
+        ((keep : List ℕ → Bool)
+        → T.decides test.now (problem_in input.now) (places_in input.now) input.now.limit keep
+        → IsListed
+        C
+        C.test
+        (problem_in input.now)
+        (places_in input.now)
+        input.now.limit
+        keep
+        (C.test growth.set)
+        (C.test growth.free)
+        groups.old.items
+        groups.new.items) }
+    ensures steps { HasStepped (problem_in input.now) (places_in input.now) input.now.limit (C.test growth.set) (C.test growth.free) steps.old.used steps.new.used }
+    ensures counted { OnOk result (steps.old.used + length groups.new.items ≤ steps.new.used
+        + length groups.old.items) }
+    ensures limit { steps.new.limit ≡ steps.old.limit }
+    ensures stopped { IsErrOf result Stop.StepLimit → steps.new.used ≡ steps.new.limit }
+{
+    if test.is_passed_over(alloc, input, &growth)? {
+        return pass_over::<C, T>(input, &growth, steps);
+    }
+    match next_place(input, test, &growth) {
+        None => end_growth(alloc, input, test, growth, steps, groups),
+        Some(place) => {
+            let joined = with_place(alloc, input, &growth, place)?;
+            grow(alloc, input, test, joined, steps, groups)?;
+            let others = without_place(growth, place);
+            grow(alloc, input, test, others, steps, groups)
+        }
+    }
+}

@@ -1,0 +1,43 @@
+//! The codes of a set of places of an order, and the place of a code.
+
+ghost use Rattle.std.specs.Prelude.{◌≡◌, false, ◌<◌, ◌≤◌, length, All, IfOk, MatchOption};
+ghost use Rattle.grouping_laws.specs.Sets.{member};
+ghost use Rattle.county_problem.specs.OrderedValue.{code_at};
+ghost use Rattle.county_problem.specs.OrderCodes.{codes_of_set};
+
+use crate::ordered::Ordered;
+use county_codes::{Codes, CountyCode};
+use place_sets::CountySet;
+use std::alloc::{AllocError, Global};
+
+impl Ordered<'_> {
+    /// The codes of the counties of a set, in the order of their places. An error comes where memory was refused.
+    pub fn codes_of<C: CountySet>(&self, alloc: Global, set: &C) -> Result<Codes, AllocError>
+        requires fits { length self.now.order ≤ C.PLACES }
+        ensures value { IfOk result (λ codes. codes ≡ codes_of_set self.now.order C.test set.now) }
+        ensures small { IfOk result (λ codes. All (λ c. c ≤ 99999) codes) }
+    {
+        let mut codes = Vec::new(alloc);
+        for place in 0..self.places() {
+            if set.has(place) {
+                let code = self.code(place);
+                let _small = code.get();
+                codes.push(code)?;
+            }
+        }
+        Ok(Codes::new(codes))
+    }
+
+    /// The place of the county with the code, `None` if the order has no such county.
+    pub fn place_of(&self, code: CountyCode) -> Option<u16>
+        ensures { MatchOption result (member self.now.order code ≡ false) (λ place. (place < length self.now.order)
+            × (code_at self.now.order place ≡ code)) }
+    {
+        for place in 0..self.places() {
+            if self.code(place) == code {
+                return Some(place);
+            }
+        }
+        None
+    }
+}

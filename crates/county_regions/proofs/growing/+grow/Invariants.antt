@@ -1,6 +1,0 @@
-use Rattle.std.proofs.Common.{length}
-use Rattle.place_lists.specs.PlaceSets.{places_of}
-use Rattle.county_regions.proofs.growing.+grow.Given as goal
-
-abbrev pub decreases-grow : goal.decreases-grow
-decreases-grow g l = length (places_of (length l.ground.now.ordered.now.order) (g.C.CountySet.test l.growth.free))

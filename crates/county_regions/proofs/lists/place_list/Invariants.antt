@@ -1,6 +1,0 @@
-use Rattle.std.proofs.Common.{◌≡◌}
-use Rattle.place_lists.specs.PlaceSets.{places_of}
-use Rattle.county_regions.proofs.lists.place_list.Given as goal
-
-abbrev pub invariant-loop-place : goal.invariant-loop-place
-invariant-loop-place g l = l.list.items ≡ places_of l.place (g.C.CountySet.test l.set)

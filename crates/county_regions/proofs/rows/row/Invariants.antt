@@ -1,6 +1,0 @@
-use Rattle.std.proofs.Common.{◌≡◌, ℕ, ◌&&◌, nat_lt}
-use Rattle.county_regions.specs.Rows.{problem_at}
-use Rattle.county_regions.proofs.rows.row.Given as goal
-
-abbrev pub invariant-loop-other : goal.invariant-loop-other
-invariant-loop-other g l = (x : ℕ) → g.C.CountySet.test l.near x ≡ (nat_lt x l.other && (problem_at l.ordered).adjacent l.place x)

@@ -1,8 +1,0 @@
-use Rattle.std.proofs.Common.{◌≡◌, ◌+◌, ◌++◌, drop, map}
-use Rattle.county_table.specs.LabelledSets.{numbered_groups}
-use Rattle.county_table.specs.Table.{counties_of}
-use Rattle.pl94_counties.specs.Named.{county_name}
-use Rattle.county_table.proofs.sets.push_groups.Given as goal
-
-abbrev pub invariant-loop-i : goal.invariant-loop-i
-invariant-loop-i l = l.sets.items ++ numbered_groups (counties_of (map county_name l.listed)) (l.i + 1) (drop l.i l.groups) ≡ l.fn.sets.items ++ numbered_groups (counties_of (map county_name l.listed)) 1 l.groups

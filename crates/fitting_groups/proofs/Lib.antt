@@ -1,9 +1,0 @@
-pub mod Keeping
-pub mod Deciding
-pub mod Starting
-pub mod Sizes
-pub mod PeopleBounds
-pub mod SeatWindows
-pub mod Moves
-pub mod RestPeople
-pub mod PeopleRows

@@ -1,5 +1,0 @@
-use Rattle.std.proofs.Common.{◌≤◌, All}
-use Rattle.group_weights.proofs.weights.halve.Given as goal
-
-abbrev pub invariant-loop-weight : goal.invariant-loop-weight
-invariant-loop-weight l = All (λ w. w ≤ 1000000) l.weights

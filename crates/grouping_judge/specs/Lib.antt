@@ -1,3 +1,0 @@
-pub mod CountList
-pub mod Judging
-pub mod Filling

@@ -1,2 +1,0 @@
-pub mod ProblemValue
-pub mod Building

@@ -1,0 +1,8 @@
+use Rattle.field_lines.specs.Cut.{cut}
+use Rattle.field_lines.proofs.ValueLemmas.{collected}
+use Rattle.grouping_reader.specs.Faults.{code_line_fault, code_line_cut_fault}
+use Rattle.grouping_reader.specs.GroupingLines.{group_on}
+use Rattle.grouping_reader.proofs.grouping.read_grouping.Goals as goal
+
+pub loop-number-init : goal.loop-number-init
+loop-number-init c = rw (c.new-groups.ensures.items, c.new-lines.ensures.lines) (collected group_on code_line_fault code_line_cut_fault (cut c.args.bytes.now).lines (cut c.args.bytes.now).fault)

@@ -1,0 +1,8 @@
+use Rattle.std.proofs.Common.{◌≡◌, ◌+◌, ◌++◌, drop, map}
+use Rattle.grouping_table.specs.LabelledSets.{numbered_withdrawn}
+use Rattle.grouping_table.specs.Table.{unnamed_counties}
+use Rattle.pl94_counties.specs.Named.{county_name}
+use Rattle.grouping_table.proofs.sets.push_withdrawn.Given as goal
+
+abbrev pub invariant-loop-i : goal.invariant-loop-i
+invariant-loop-i l = l.sets.items ++ numbered_withdrawn (unnamed_counties (map county_name l.listed)) (l.i + 1) (drop l.i l.withdrawn) ≡ l.fn.sets.items ++ numbered_withdrawn (unnamed_counties (map county_name l.listed)) 1 l.withdrawn

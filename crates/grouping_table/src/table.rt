@@ -1,0 +1,109 @@
+//! The lines of the table: a header, and a line for each county.
+
+ghost use Rattle.std.specs.Prelude.{◌≡◌, ℕ, ◌≤◌, ◌++◌, IfOk, OnOk, length, map};
+ghost use Rattle.std.specs.Option.{option_copied};
+ghost use Rattle.csv.specs.Writing.{default_writer, row_text};
+ghost use Rattle.grouping_table.specs.Quoting.{line_text};
+ghost use Rattle.grouping_table.specs.LabelledSets.{set_of_code as set_of_code};
+ghost use Rattle.pl94_counties.specs.Named.{county_name};
+ghost use Rattle.grouping_table.specs.Table.{county_fields, county_lines, table_text};
+
+use crate::sets::{LabelledSet, labelled_sets, set_of};
+use county_codes::{Group, Withdrawn, push_code};
+use csv::WriterBuilder;
+use itoa::Buffer;
+use pl94_counties::NamedCounty;
+use std::alloc::{AllocError, Global};
+
+/// The text of a record, as the crate `csv` writes it.
+fn record_of(alloc: Global, fields: &[&[u8]]) -> Result<Vec<u8>, csv::Error>
+    ensures { IfOk result (λ v. v.items ≡ row_text default_writer (map (λ f. f.now) fields.now)) }
+{
+    let mut writer = WriterBuilder::new().from_writer(Vec::new(alloc));
+    writer.write_fields(fields)?;
+    match writer.into_inner() {
+        Ok(text) => Ok(text),
+        Err(fault) => Err(fault.into_error()),
+    }
+}
+
+/// The line of fields, of which there are two or more.
+fn line_of(alloc: Global, fields: &[&[u8]]) -> Result<Vec<u8>, AllocError>
+    requires { 2 ≤ length fields.now }
+    ensures { IfOk result (λ v. v.items ≡ line_text (map (λ f. f.now) fields.now)) }
+{
+    match record_of(alloc, fields) {
+        Ok(line) => Ok(line),
+        Err(_) => Err(AllocError),
+    }
+}
+
+/// The line of a county.
+fn county_line(
+    alloc: Global,
+    sets: &[LabelledSet],
+    listed: &NamedCounty,
+) -> Result<Vec<u8>, AllocError>
+    ensures { IfOk result (λ v. v.items ≡ line_text (county_fields sets.now (county_name listed.now))) }
+{
+    let mut geoid = Vec::new(alloc);
+    push_code(&mut geoid, listed.county.code)?;
+    let mut people = Buffer::new();
+    let people = people.format(listed.county.people).as_bytes();
+    let name = listed.name.as_bytes();
+    match set_of(sets, listed.county.code) {
+        None => line_of(alloc, &[geoid.as_slice(), name, people, b"", b"", b""]),
+        Some(set) => {
+            let mut seats = Buffer::new();
+            let mut inside = Buffer::new();
+            let seats = seats.format(set.seats()).as_bytes();
+            let inside = inside.format(set.people()).as_bytes();
+            line_of(
+                alloc,
+                &[geoid.as_slice(), name, people, set.label(), seats, inside],
+            )
+        }
+    }
+}
+
+/// Appends the lines of counties.
+fn push_counties(
+    out: &mut Vec<u8>,
+    sets: &[LabelledSet],
+    listed: &[NamedCounty],
+) -> Result<(), AllocError>
+    ensures { OnOk result (out.new.items ≡ out.old.items ++ county_lines sets.now (map county_name listed.now)) }
+{
+    let alloc = *out.allocator();
+    for county in listed {
+        let line = county_line(alloc, sets, county)?;
+        out.extend_from_slice(&line)?;
+    }
+    Ok(())
+}
+
+/// The table of the listed counties, a comma-separated text (RFC 4180): a header, and for each county its code, its
+/// name, its people, and the label, the seats and the people of its set. The label of a group is its number from 1. The
+/// label of a withdrawn set is `W` and its number from 1. If no set has the county, its last three fields are empty.
+///
+/// The counties stand in the order in which they are given. `read_counties` gives counties by code.
+///
+/// # Errors
+///
+/// `AllocError` where a growth was refused.
+pub fn county_table(
+    alloc: Global,
+    listed: &[NamedCounty],
+    withdrawn: &[Withdrawn],
+    groups: &[Group],
+) -> Result<Vec<u8>, AllocError>
+    ensures { IfOk result (λ v. v.items ≡ table_text (map county_name listed.now) withdrawn.now groups.now) }
+{
+    let sets = labelled_sets(alloc, listed, withdrawn, groups)?;
+    let mut out = Vec::from_slice(
+        alloc,
+        b"GEOID,NAME,POPULATION,GROUP,SEATS,GROUP_POPULATION\n",
+    )?;
+    push_counties(&mut out, &sets, listed)?;
+    Ok(out)
+}

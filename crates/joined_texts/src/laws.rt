@@ -1,9 +1,0 @@
-//! The law of joined texts: the function does nothing, and its contract is the law.
-
-ghost use Rattle.joined_texts.specs.Laws.{JoinedTextsAreOne};
-
-/// If two lists of events lead to boards of the same round that hold the same splits and trees, each at the same
-/// states, both boards join or neither does. The texts of what they join are the same.
-pub fn joined_texts_are_one()
-    ensures { JoinedTextsAreOne }
-{}

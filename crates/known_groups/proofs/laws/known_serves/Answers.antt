@@ -1,5 +1,0 @@
-use Rattle.known_groups.proofs.KnownGroups.{known_serves}
-use Rattle.known_groups.proofs.laws.known_serves.Goals as goal
-
-pub returns : goal.returns
-returns c = known_serves

@@ -1,0 +1,12 @@
+pub mod PositionLemmas
+pub mod ShortfallLemmas
+pub mod SortingLemmas
+pub mod SeatingLemmas
+pub mod WalkLemmas
+pub mod TreeParts
+pub mod Journeys
+pub mod Canonical
+pub mod Ordered
+pub mod Gapped
+pub mod Whole
+pub mod OneText

@@ -1,0 +1,94 @@
+use Rattle.std.proofs.Common.{◌≡◌, ◌≤◌, ◌+◌, ℕ, List, map, length, true, false, refl, sym, ap, ◌∙◌, subst, arith}
+use Rattle.std.proofs.lemmas.Bool.Decides.{nat_tests}
+use Rattle.std.proofs.lemmas.List.{length-map}
+use Rattle.county_codes.specs.Limits.{most_counties}
+use Rattle.county_codes.specs.declared.county.County.{County}
+use Rattle.county_codes.specs.Counties.{codes_of}
+use Rattle.grouping_laws.specs.Sets.{total, stands}
+use Rattle.county_problem.specs.CountList.{count_at}
+use Rattle.county_problem.specs.ProblemValue.{problem_of}
+use Rattle.certificate_data.specs.TreeValue.{allowance_of}
+use Rattle.certificate_data.specs.RoundValue.{round_of}
+use Rattle.list_laws.specs.Ends.{wanted, falls_short}
+use Rattle.grouping_laws.specs.Grouping.{Lawful, sets_of}
+use Rattle.grouping_laws.specs.Ranges.{SuitAll}
+use Rattle.search_ends.specs.Finished.{CanSeat}
+use Rattle.list_laws.specs.AllBest.{SameSets}
+use Rattle.list_groupings.specs.InOrder.{IsInOrder}
+use Rattle.list_groupings.proofs.WalkLemmas.{none_given, few_waiting, none_left, some_left, covered, bounds_of, short_of, walked_short, walked_end}
+use Rattle.list_groupings.proofs.walk.add_end.Goals as goal
+
+pub falls_short-requires-clause-few : goal.falls_short-requires-clause-few
+falls_short-requires-clause-few c =
+    let r = c.requires.at in
+    let few = few_waiting (problem_of c.args.input.now.problem.now) r.0 c.args.position.now r.1.0 in
+    let all : length (codes_of c.args.input.now.problem.now.counties) ≤ most_counties = omega (arith, length-map c.args.input.now.problem.now.counties (λ (x : County). x.code), ap (λ (l : List County). length l) c.counties-counties.ensures.value, c.counties-counties.ensures.few) in
+    omega (arith, few, all)
+
+pub returns-then-falls_short : goal.returns-then-falls_short
+returns-then-falls_short c = record {
+  walked = λ s h.
+      let p = problem_of c.args.input.now.problem.now in
+      let r = round_of c.args.input.now.round.now in
+      let f = count_at c.args.input.now.wanted.now in
+      let lines = map allowance_of c.args.lines.now in
+      let short : falls_short p s (wanted r.target) 1 0 lines ≡ true =
+      sym (short_of p r s f lines c.requires.input.wanted_is) ∙ (sym (c.falls_short.ensures.value r.language p s h.0 (bounds_of p r s f lines c.requires.input.wanted_is h.1.proves)) ∙ c.if-falls_short.true) in
+      walked_short p r s lines c.args.found.now (record { line = c.args.found.now.line + (1 + length c.args.lines.now); list = c.args.found.now.list }) (omega (arith, length-map c.args.lines.now allowance_of)) short refl;
+}
+
+pub returns-then-not-is_empty : goal.returns-then-not-is_empty
+returns-then-not-is_empty c = record {
+  walked = λ s h.
+      let p = problem_of c.args.input.now.problem.now in
+      let r = round_of c.args.input.now.round.now in
+      let f = count_at c.args.input.now.wanted.now in
+      let lines = map allowance_of c.args.lines.now in
+      let short : falls_short p s (wanted r.target) 1 0 lines ≡ false =
+      sym (short_of p r s f lines c.requires.input.wanted_is) ∙ (sym (c.falls_short.ensures.value r.language p s h.0 (bounds_of p r s f lines c.requires.input.wanted_is h.1.proves)) ∙ c.if-falls_short.false) in
+      let some : 1 ≤ length c.args.position.now.rest.items = grind (arith, nat_tests) in
+      ((short, some_left p s c.args.position.now h.0 some), refl);
+}
+
+pub seated_grouping-requires-clause-once : goal.seated_grouping-requires-clause-once
+seated_grouping-requires-clause-once c = λ x.
+    let p = problem_of c.args.input.now.problem.now in
+    let r = round_of c.args.input.now.round.now in
+    let h = c.requires.at in
+    let none : length c.args.position.now.rest.items ≡ 0 = grind (arith, nat_tests) in
+    ap (λ (z : List (List ℕ)). stands x z) (c.deref.ensures.value ∙ h.1.0.closed) ∙ covered p r h.0 h.1.1.state (none_left p r h.0 c.args.position.now h.1.1.state h.1.0 none) x
+
+pub returns-in_default-seated : goal.returns-in_default-seated
+returns-in_default-seated c = record {
+  walked = λ s h.
+      let p = problem_of c.args.input.now.problem.now in
+      let r = round_of c.args.input.now.round.now in
+      let f = count_at c.args.input.now.wanted.now in
+      let lines = map allowance_of c.args.lines.now in
+      let short : falls_short p s (wanted r.target) 1 0 lines ≡ false =
+      sym (short_of p r s f lines c.requires.input.wanted_is) ∙ (sym (c.falls_short.ensures.value r.language p s h.0 (bounds_of p r s f lines c.requires.input.wanted_is h.1.proves)) ∙ c.if-falls_short.false) in
+      let none : length c.args.position.now.rest.items ≡ 0 = grind (arith, nat_tests) in
+      let off : (ks : List ℕ) → SuitAll p c.deref.result.now ks → total (λ k. k) ks ≡ p.seats_left → ⊥ = none_given _ c.in-Ok.seated c.in_default-seated.not-Some c.in-Ok.ensures.lawful in
+      ((short, (none_left p r s c.args.position.now h.1.state h.0 none, subst (λ (z : List (List ℕ)). (ks : List ℕ) → SuitAll p z ks → total (λ k. k) ks ≡ p.seats_left → ⊥) (c.deref.ensures.value ∙ h.0.closed) off)), refl);
+}
+
+pub returns : goal.returns
+returns c = record {
+  walked = λ s h.
+      let p = problem_of c.args.input.now.problem.now in
+      let r = round_of c.args.input.now.round.now in
+      let f = count_at c.args.input.now.wanted.now in
+      let lines = map allowance_of c.args.lines.now in
+      let short : falls_short p s (wanted r.target) 1 0 lines ≡ false =
+      sym (short_of p r s f lines c.requires.input.wanted_is) ∙ (sym (c.falls_short.ensures.value r.language p s h.0 (bounds_of p r s f lines c.requires.input.wanted_is h.1.proves)) ∙ c.if-falls_short.false) in
+      let none : length c.args.position.now.rest.items ≡ 0 = grind (arith, nat_tests) in
+      let g = c.in-Some.grouping in
+      let lawful : Lawful p g.groups.items = rw c.in-Some.is at c.in-Ok.ensures.lawful in
+      let filled : CanSeat p c.deref.result.now = rw c.in-Some.is at c.in-Ok.ensures.filled in
+      let same : SameSets (sets_of g.groups.items) c.deref.result.now = rw c.in-Some.is at c.in-Ok.ensures.sets in
+      let order : IsInOrder g.groups.items = rw c.in-Some.is at c.in-Ok.ensures.in_order in
+      let own : c.deref.result.now ≡ s.closed = c.deref.ensures.value ∙ h.0.closed in
+      let seats : CanSeat p s.closed = subst (CanSeat p) own filled in
+      walked_end p r s lines c.args.found.now (record { line = c.args.found.now.line + (1 + length c.args.lines.now); list = c.push.new.self }) (omega (arith, length-map c.args.lines.now allowance_of)) short
+      (record { none_left = none_left p r s c.args.position.now h.1.state h.0 none; seats_of_closed = seats.0; suit = seats.1; add_up = seats.2 }) g c.in-Ok-push.ensures.items lawful (subst (SameSets (sets_of g.groups.items)) own same) order;
+}

@@ -1,0 +1,114 @@
+//! The list of all best groupings, by the text of a certificate.
+
+ghost use Rattle.std.specs.Prelude.{◌≡◌, ◌+◌, ◌≤◌, ℕ, IfOk};
+ghost use Rattle.county_problem.specs.ProblemValue.{problem_of};
+ghost use Rattle.checker_laws.specs.Lines.{window_line};
+ghost use Rattle.checker_laws.specs.Verdict as said;
+ghost use Rattle.checker_laws.specs.TextVerdict.{IsTextVerdict};
+ghost use Rattle.list_groupings.specs.Answered.{IsReady, IsListing, ListsAllBest};
+
+use crate::listing::Listing;
+use crate::position::Position;
+use crate::sorting::sorted_groupings;
+use crate::walk::{Found, WalkInput, WalkStop, put_tree};
+use certificate_checker::{Verdict, check};
+use certificate_data::{Certificate, Round};
+use certificate_text::read;
+use county_codes::Grouping;
+use county_problem::{Counts, Problem, judge};
+use std::alloc::{AllocError, Global};
+
+/// The line behind that of the target, if the target has no group: an allowance that is named has a line of its own.
+fn line_behind(round: &Round) -> u64
+    ensures value { result ≡ window_line round.now.window + 4 }
+    ensures small { result ≤ 6 }
+{
+    match round.window {
+        Some(_) => 6,
+        None => 5,
+    }
+}
+
+/// The listing of the certificate that a text spells, with its target and the counts of the target.
+fn listing_of(
+    alloc: Global,
+    problem: &Problem,
+    text: &[u8],
+    certificate: &Certificate,
+    target: &Grouping,
+    wanted: &Counts,
+) -> Result<Listing, AllocError>
+    requires ready { IsReady (problem_of problem.now) text.now certificate.now target.now wanted.now }
+    ensures listing { IfOk result (λ listing. (budget : ℕ)
+        → IsListing (problem_of problem.now) text.now budget listing) }
+    ensures all { IfOk result (ListsAllBest (problem_of problem.now)) }
+{
+    let _length = text.len();
+    let input = WalkInput {
+        alloc,
+        problem,
+        round: &certificate.round,
+        wanted,
+    };
+    let position = Position::first(alloc, problem)?;
+    let mut found = Found {
+        line: line_behind(&certificate.round) + target.groups.len() as u64,
+        list: Vec::new(alloc),
+    };
+    match put_tree(&input, position, &certificate.tree, &mut found) {
+        Ok(()) => Ok(Listing::All(sorted_groupings(found.list)?)),
+        Err(WalkStop::Open(gap, line)) => Ok(Listing::Open(gap, line)),
+        Err(WalkStop::Memory) => Err(AllocError),
+    }
+}
+
+/// The listing of a text that names this target as best.
+fn read_listing(
+    alloc: Global,
+    problem: &Problem,
+    text: &[u8],
+    target: &Grouping,
+) -> Result<Listing, AllocError>
+    requires best { IsTextVerdict (problem_of problem.now) text.now (said.Best target.now.groups.items) }
+    ensures listing { IfOk result (λ listing. (budget : ℕ)
+        → IsListing (problem_of problem.now) text.now budget listing) }
+    ensures all { IfOk result (ListsAllBest (problem_of problem.now)) }
+{
+    let Ok(certificate) = read(alloc, text) else {
+        return Err(AllocError);
+    };
+    let Ok(wanted) = judge(alloc, problem, target) else {
+        return Err(AllocError);
+    };
+    listing_of(alloc, problem, text, &certificate, target, &wanted)
+}
+
+/// What the text of a certificate, plain or wide, says of all best groupings of the problem.
+///
+/// `All` lists them: each grouping is best, no two have the same sets of counties, and each best grouping has the sets
+/// of one that is listed. The codes of a group ascend, the groups of a grouping stand by size and then by codes, and
+/// the groupings by their lists of groups, the lesser first. The seats of a grouping are those of `allot` over its
+/// groups in their order. `Open` says that the target is best, but that the certificate doesn't show which other
+/// groupings are: a bound leaf that doesn't fall short of the target's counts stands where a county is left or where no
+/// seats add up. It gives the first such leaf with its line, from 1. `Impossible`, `No` and `Budget` are what `check`
+/// answers with the same budget.
+///
+/// # Errors
+///
+/// Where memory was refused.
+pub fn all_best(
+    alloc: Global,
+    problem: &Problem,
+    text: &[u8],
+    budget: u64,
+) -> Result<Listing, AllocError>
+    ensures listing { IfOk result (IsListing (problem_of problem.now) text.now budget) }
+    ensures all { IfOk result (ListsAllBest (problem_of problem.now)) }
+{
+    match check(alloc, problem, text, budget)? {
+        Verdict::Best(target) => read_listing(alloc, problem, text, &target),
+        Verdict::Impossible => Ok(Listing::Impossible),
+        Verdict::No(fault, line) => Ok(Listing::No(fault, line)),
+        Verdict::Budget => Ok(Listing::Budget),
+    }
+}

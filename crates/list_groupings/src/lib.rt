@@ -1,0 +1,36 @@
+//! All best groupings of a problem, by a certificate.
+//!
+//! ```
+//! match all_best(alloc, &problem, text, 10_000_000)? {
+//!     Listing::All(groupings) => ..,      // all best groupings, in order
+//!     Listing::Open(gap, line) => ..,     // the target is best, but the tree isn't complete at this line
+//!     Listing::Impossible => ..,          // no grouping is lawful
+//!     Listing::No(fault, line) => ..,     // the text is no certificate of the problem
+//!     Listing::Budget => ..,              // the budget is below the text's cost
+//! }
+//! ```
+//!
+//! `all_best` asks `check` first, and reads the certificate. `walk` goes through its tree once, from `position` to
+//! `position`: at each bound leaf that doesn't fall short (`shortfall`) it seats the closed groups (`seating`) and
+//! finds a grouping, or stops at the first gap. `sorting` puts groups and groupings in order.
+//!
+//! Two lists of all best groupings have the same sets in the same order, and the text of a list speaks of sets alone.
+//! So the text is a fact of the problem, and not of the certificate (`specs/ListLaws.antt`).
+#![tactic(auto)]
+
+mod answering;
+mod gap;
+mod laws;
+mod list_laws;
+mod listing;
+mod position;
+mod seating;
+mod shortfall;
+mod sorting;
+mod walk;
+
+pub use answering::all_best;
+pub use gap::Gap;
+pub use laws::{gaps_tell, lists_agree};
+pub use list_laws::listings_are_one;
+pub use listing::Listing;

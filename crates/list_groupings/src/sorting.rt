@@ -1,0 +1,60 @@
+//! The order of groups and groupings.
+
+ghost use Rattle.std.specs.Prelude.{◌≡◌, ℕ, List, IfOk};
+ghost use Rattle.std.specs.Cmp.Lexicographic.{slice_cmp};
+ghost use Rattle.std.specs.Ordering.{nat_cmp, is_lt};
+ghost use Rattle.std.specs.List.Sorted.{IsPermutation, IsSortedBy};
+ghost use Rattle.grouping_laws.specs.Grouping.{sets_of};
+ghost use Rattle.list_groupings.specs.Keys.{set_order};
+
+use county_codes::{Codes, CountyCode, Group, Grouping};
+use std::alloc::AllocError;
+use std::cmp::Ordering;
+
+/// The order of sets of counties by size, and of sets of one size by their codes.
+fn by_size_and_codes(a: &[CountyCode], b: &[CountyCode]) -> Ordering
+    ensures { result ≡ set_order a.now b.now }
+{
+    match a.len().cmp(&b.len()) {
+        Ordering::Equal => a.cmp(b),
+        unequal => unequal,
+    }
+}
+
+/// The order of lists of groups: that of the first sets in which they differ.
+fn by_groups(a: &[Group], b: &[Group]) -> Ordering
+    ensures { result ≡ slice_cmp set_order (sets_of a.now) (sets_of b.now) }
+{
+    for (i, group) in a.iter().enumerate() {
+        let Some(other) = b.get(i) else {
+            return Ordering::Greater;
+        };
+        match by_size_and_codes(group.codes.as_slice(), other.codes.as_slice()) {
+            Ordering::Equal => {}
+            unequal => return unequal,
+        }
+    }
+    a.len().cmp(&b.len())
+}
+
+/// The sets by size, and sets of one size by their codes.
+pub(crate) fn sorted_sets(sets: Vec<Codes>) -> Result<Vec<Codes>, AllocError>
+    ensures same { IfOk result (λ v. IsPermutation sets.items v.items) }
+    ensures sorted { IfOk result (λ v. IsSortedBy (λ g h. is_lt (set_order g h)) v.items) }
+{
+    let mut sets = sets;
+    sets.sort_by(|a, b| by_size_and_codes(a.as_slice(), b.as_slice()))?;
+    Ok(sets)
+}
+
+/// The groupings by their lists of groups.
+pub(crate) fn sorted_groupings(list: Vec<Grouping>) -> Result<Vec<Grouping>, AllocError>
+    ensures same { IfOk result (λ v. IsPermutation list.items v.items) }
+    ensures sorted { IfOk
+        result
+        (λ v. IsSortedBy (λ g h. is_lt (slice_cmp set_order (sets_of g.groups.items) (sets_of h.groups.items))) v.items) }
+{
+    let mut list = list;
+    list.sort_by(|a, b| by_groups(&a.groups, &b.groups))?;
+    Ok(list)
+}

@@ -1,6 +1,0 @@
-use Rattle.std.proofs.Common.{◌≡◌, ◌++◌, map, drop}
-use Rattle.grouping_problem.specs.ProblemValue.{people_at}
-use Rattle.ordered_counties.proofs.ordered.people_by_place.Given as goal
-
-abbrev pub invariant-loop-code : goal.invariant-loop-code
-invariant-loop-code l = l.people.items ++ map (people_at l.counties) (drop l.code-index l.order) ≡ map (people_at l.counties) l.order

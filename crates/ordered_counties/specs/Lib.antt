@@ -1,3 +1,0 @@
-pub mod OrderedValue
-pub mod Allot
-pub mod StepsValue

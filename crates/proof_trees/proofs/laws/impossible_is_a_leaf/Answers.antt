@@ -1,5 +1,0 @@
-use Rattle.proof_trees.proofs.Impossible.{impossible_is_leaf}
-use Rattle.proof_trees.proofs.laws.impossible_is_a_leaf.Goals as goal
-
-pub returns : goal.returns
-returns c = impossible_is_leaf

@@ -1,0 +1,16 @@
+pub mod EmptyBounds
+pub mod LeafLines
+pub mod Endings
+pub mod ShortLines
+pub mod PlacedWeights
+pub mod Weighing
+pub mod WeightSteps
+pub mod StuckPlaces
+pub mod Moving
+pub mod Ahead
+pub mod Covering
+pub mod Finishing
+pub mod SetLemmas
+pub mod SeatLemmas
+pub mod GroupLemmas
+pub mod WholeParts

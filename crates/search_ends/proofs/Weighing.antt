@@ -1,0 +1,72 @@
+-- Lines of weights by a table of places: they are fair, and allow what the open places share.
+use Rattle.std.proofs.Common.{◌≡◌, ℕ, ◌/◌, min, ◌≤◌, ◌<◌, Bool, true, List, map, filter, length, get_or, sym, ap, subst, arith, All}
+use Rattle.std.proofs.lemmas.List.Elements.{filter_agree}
+use Rattle.grouping_laws.specs.Sets.{total, member}
+use Rattle.grouping_laws.specs.Problem.{Problem, IsProblem}
+use Rattle.grouping_laws.specs.GroupsFrom.{IsOrder}
+use Rattle.grouping_laws.proofs.Alike.{Alike, length_alike, in_order_alike, member_same}
+use Rattle.grouping_laws.proofs.Elements.{Has, has_all, all_from_has, has_from_contains}
+use Rattle.grouping_laws.proofs.PlaceCodes.{has_mapped}
+use Rattle.place_laws.specs.PlaceSets.{places_of}
+use Rattle.place_laws.proofs.Sums.{total_alike}
+use Rattle.certificate_data.specs.Round.{Round}
+use Rattle.certificate_laws.specs.Regions.{listed}
+use Rattle.certificate_laws.specs.State.{State, open_to}
+use Rattle.certificate_laws.specs.Fitting.{Fits}
+use Rattle.certificate_laws.specs.Places.{IsStateAt}
+use Rattle.certificate_data.specs.Tree.{Weight}
+use Rattle.certificate_laws.specs.BoundLines.{room_at}
+use Rattle.certificate_laws.proofs.Decided.{fits_alike}
+use Rattle.certificate_data.specs.declared.weights.Weight.{Weight as WeightHeld}
+use Rattle.certificate_data.specs.declared.allowance.Allowance.TheVariants.{Weigh}
+use Rattle.certificate_data.specs.TreeValue as held
+use Rattle.state_judge.specs.Placed.{codes_of_sets}
+use Rattle.state_judge.specs.Weights.{weights_of, county_weight}
+use Rattle.state_judge.proofs.FairLines.{all_heavy, open_sum}
+use Rattle.search_groups.specs.Known.{IsKnown}
+use Rattle.search_ends.specs.Missing.{AllowsFewer}
+use Rattle.search_ends.specs.PlacedWeights.{placed_weight, weights_above, AreTableWeights}
+use Rattle.search_ends.proofs.PlacedWeights.{above_known, table_weights}
+use Rattle.certificate_text.proofs.ShortLines.{weights_fit}
+
+-- where each group that is known weighs so much, each one that fits does
+known_heavy : (p : Problem) (round : Round) (s : State) (i quota : ℕ) (w : ℕ → ℕ) (groups : List (List ℕ)) → IsOrder p round.order → IsKnown p round s i groups → All (λ g. quota ≤ total w g) groups
+    → (g : List ℕ) → Fits round.language p s g → length g ≡ i → quota ≤ total w g
+known_heavy p round s i quota w groups whole known heavy g fits e =
+    let k = filter (member g) round.order in
+    let same : Alike g k = in_order_alike round.order p.counties g whole fits.lawful.once fits.lawful.listed in
+    let there : Has groups k = has_from_contains groups k (known.all k (record {
+      fits = fits_alike round.language p s g k same fits;
+      in_order = filter_agree (member k) (member g) (λ x. sym (member_same g k same x)) round.order;
+      size = omega (arith, e, length_alike g k same);
+    })) in
+    omega (arith, total_alike w g k same, has_all (λ h. quota ≤ total w h) groups heavy k there)
+
+-- the weights of counties of the problem
+known_counties : (p : Problem) (value : ℕ → ℕ) (ws : List WeightHeld) → ws ≡ weights_above value p.counties → All (λ (w : Weight). member p.counties w.county ≡ true) (weights_of ws)
+known_counties p value ws e = all_from_has (λ (w : Weight). member p.counties w.county ≡ true) (weights_of ws) (λ w h.
+    let r = has_mapped held.weight_of ws w h in
+    subst (λ (z : Weight). member p.counties z.county ≡ true) r.2 (above_known value p.counties r.0 (subst (λ (z : List WeightHeld). Has z r.0) e r.1)))
+
+less_shared : (a b c n k : ℕ) → b ≡ c → b / n < k → min a (c / n) < k
+less_shared a b c n k e l = least (ap (λ z. z / n) e)
+  where
+    least : b / n ≡ c / n → min a (c / n) < k
+    least f = omega (arith, f, l)
+
+module _ (C : Type 0) (test : C → ℕ → Bool) (p : Problem) (law : IsProblem p) (order : List ℕ) (whole : IsOrder p order) where
+  -- a line of the table's weights, with a quota that no group weighs less than, where the open places share them between fewer groups than so many
+  pub weighed_fewer : (round : Round) (s t : State) (i k quota : ℕ) (table : List ℕ) (ws : List WeightHeld) (sets : List C) (region : ℕ → Bool) → order ≡ round.order → IsStateAt order s t → length table ≡ length order → AreTableWeights order p.counties table ws
+      → IsKnown p round s i (codes_of_sets order test sets) → All (λ g. quota ≤ total (λ x. get_or table x 0) (places_of (length table) (test g))) sets → 1 ≤ quota → quota ≤ 256000000
+      → ((x : ℕ) → region x ≡ open_to t i x) → total (λ x. get_or table x 0) (places_of (length table) region) / quota < k → AllowsFewer round.language p s i k (Weigh quota ws)
+  weighed_fewer round s t i k quota table ws sets region same at number are known heavy from to covers less = record {
+    fair = (from, known_counties p (placed_weight order table) ws are.are, known_heavy p round s i quota w (codes_of_sets order test sets) (subst (IsOrder p) same whole) known (all_heavy C test order table w table_is quota sets heavy));
+    fewer = less_shared (room_at p s i 0 / i) (total (λ x. get_or table x 0) (places_of (length table) region)) (total w (listed p (open_to s i))) quota k (open_sum w p order table s t i region law whole at table_is covers) less;
+    spelled = weights_fit quota ws from to are.few are.each are.ascending;
+  }
+    where
+      w : ℕ → ℕ
+      w = county_weight ws
+
+      table_is : table ≡ map w order
+      table_is = subst (λ (z : List WeightHeld). table ≡ map (county_weight z) order) (sym are.are) (table_weights p law order whole table number)

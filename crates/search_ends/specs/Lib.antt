@@ -1,0 +1,5 @@
+pub mod GivenLeaf
+pub mod EmptyLines
+pub mod Missing
+pub mod PlacedWeights
+pub mod Finished

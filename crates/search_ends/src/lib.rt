@@ -1,0 +1,30 @@
+//! How a search by branch and bound ends a state: with a stuck leaf, a seats leaf or a bound leaf, or with a lawful
+//! grouping that is greater than the target.
+//!
+//! Each function tests its leaf's rule before it gives the leaf, and the leaf's numbers are in the ranges of its
+//! lines. A leaf that is given is complete; a leaf of `empty_leaf` may also stand where the closed groups have the
+//! target's counts through the limit. The lines of a bound leaf for the sizes below the last one allow no group.
+//!
+//! If no group fits and no leaf is valid, the closed groups and the connected parts of the rest make a grouping that is
+//! greater than the target. A state is told by the places of an order, and what is said of it by codes. Any
+//! form of sets of places serves. `specs/` has the definitions: `GivenLeaf`, `EmptyLines`, `Missing` and `Finished`.
+#![tactic(auto)]
+
+mod empty;
+mod finished;
+mod groups;
+mod room;
+mod seats;
+mod sets;
+mod standing;
+mod stuck;
+mod weighed;
+mod whole;
+
+pub use empty::empty_leaf;
+pub use finished::finished_grouping;
+pub use room::room_leaf;
+pub use standing::{groups_of_size, wanted_more};
+pub use stuck::stuck_county;
+pub use weighed::weighed_leaf;
+pub use whole::whole_leaf;

@@ -1,0 +1,81 @@
+-- What a search knows of the groups at a state: one list of groups of one size, which is filtered as the search goes
+-- on.
+use Rattle.std.specs.Prelude.{ℕ, ◌+◌, ◌≡◌, ◌≤◌, ◌<◌, Bool, true, false, List, [], length, filter, Contains, AllPairs, ◌↔◌}
+use Rattle.grouping_laws.specs.Sets.{member, Inside}
+use Rattle.grouping_laws.specs.Problem.{Problem, IsProblem, LawfulGroup}
+use Rattle.grouping_laws.specs.GroupsFrom.{IsOrder, IsBefore}
+use Rattle.certificate_data.specs.declared.language.Language.TheVariants.{Wide}
+use Rattle.certificate_data.specs.Round.{Round}
+use Rattle.certificate_laws.specs.State.{State, IsState, open_to, close, raise}
+use Rattle.certificate_laws.specs.Fitting.{Fits, IsLive}
+use Rattle.certificate_laws.specs.Groups.{IsGroupOf, AreGroupsOf, AreGroupsAt}
+use Rattle.certificate_laws.specs.Proving.{CanBranch}
+use Rattle.state_judge.specs.Placed.{codes_of_set}
+
+-- A lawful group of i counties, each of them open to a group of i, its codes in the order of places. It fits the state
+-- where it is kept: in a wide round it may be dead.
+pub record IsCandidateGroup (p : Problem) (round : Round) (s : State) (i : ℕ) (g : List ℕ) : Type 0 where
+  pub lawful : LawfulGroup p g
+  pub inside : Inside (open_to s i) g
+  pub in_order : filter (member g) round.order ≡ g
+  pub size : length g ≡ i
+
+-- these are candidates of i counties, among them all that fit, sorted by lists of places
+pub record AreCandidates (p : Problem) (round : Round) (s : State) (i : ℕ) (groups : List (List ℕ)) : Type 0 where
+  pub each : (g : List ℕ) → Contains groups g → IsCandidateGroup p round s i g
+  pub all : (g : List ℕ) → IsGroupOf p round s i g → Contains groups g
+  pub sorted : AllPairs (IsBefore round.order) groups
+
+-- no group of fewer than i counties fits, and these are candidates of i counties, among them all that fit, sorted by
+-- lists of places
+pub record IsKnown (p : Problem) (round : Round) (s : State) (i : ℕ) (groups : List (List ℕ)) : Type 0 where
+  pub none_below : (g : List ℕ) → Fits round.language p s g → length g < i → ⊥
+  pub each : (g : List ℕ) → Contains groups g → IsCandidateGroup p round s i g
+  pub all : (g : List ℕ) → IsGroupOf p round s i g → Contains groups g
+  pub sorted : AllPairs (IsBefore round.order) groups
+
+-- the groups of the first list that have a property, in turn
+pub record AreThose (order : List ℕ) (Is : List ℕ → Type 0) (groups those : List (List ℕ)) : Type 0 where
+  pub each : (g : List ℕ) → Contains those g ↔ (Contains groups g × Is g)
+  pub in_turn : AllPairs (IsBefore order) groups → AllPairs (IsBefore order) those
+
+-- the group has no county of the other
+abbrev pub IsApart : List ℕ → List ℕ → Type 0
+IsApart k g = (c : ℕ) → member g c ≡ true → member k c ≡ false
+
+-- the group lacks the county, or has it
+abbrev pub Lacks : ℕ → List ℕ → Type 0
+Lacks c g = member g c ≡ false
+
+abbrev pub Has : ℕ → List ℕ → Type 0
+Has c g = member g c ≡ true
+
+-- for each set with places of the order alone a test with these answers says what this says of its codes
+abbrev pub Tells : {C : Type 0} → List ℕ → (C → ℕ → Bool) → (C → Bool → Type 0) → (List ℕ → Bool) → Type 0
+Tells {C} order test Returns keeps = (set : C) (answer : Bool) → ((x : ℕ) → test set x ≡ true → x < length order) → Returns set answer → answer ≡ keeps (codes_of_set order test set)
+
+-- what is known goes from size to size and from state to state, and gives the groups that fit
+pub record KnownServes : Type 0 where
+  -- at first, of size 0, there is nothing to know
+  pub first : (p : Problem) (round : Round) (s : State) → IsKnown p round s 0 []
+  -- where no candidate is left, the groups that fit of the next size are known
+  pub next : (p : Problem) (round : Round) (s : State) (i : ℕ) (groups : List (List ℕ)) → IsOrder p round.order
+      → IsKnown p round s i [] → AreGroupsOf p round s (i + 1) groups → IsKnown p round s (i + 1) groups
+  -- where a group is closed, the candidates apart from it stay
+  pub closed : (p : Problem) (round : Round) (s : State) (i : ℕ) (k : List ℕ) (groups those : List (List ℕ))
+      → IsProblem p → IsState p round s → Fits round.language p s k → IsKnown p round s i groups
+      → AreThose round.order (IsApart k) groups those → IsKnown p round (close k s) i those
+  -- where a county is raised past the size, those that lack it stay
+  pub raised : (p : Problem) (round : Round) (s : State) (i c : ℕ) (groups those : List (List ℕ)) → s.least c ≤ i + 1
+      → IsKnown p round s i groups → AreThose round.order (Lacks c) groups those → IsKnown p round (raise c i s) i those
+  -- in a wide round the live ones are the groups of the size that fit, and they are known too
+  pub live : (p : Problem) (round : Round) (s : State) (i : ℕ) (groups those : List (List ℕ)) → round.language ≡ Wide
+      → IsKnown p round s i groups → AreThose round.order (IsLive p s) groups those
+      → AreGroupsOf p round s i those × IsKnown p round s i those
+  -- the live ones of those that have a county are the takes of a branch at it
+  pub takes : (p : Problem) (round : Round) (s : State) (i c : ℕ) (groups those found : List (List ℕ))
+      → round.language ≡ Wide → IsKnown p round s i groups → AreThose round.order (Has c) groups those
+      → AreThose round.order (IsLive p s) those found → AreGroupsAt p round s c i found
+  -- in a wide round one may branch at each county of a candidate
+  pub can : (p : Problem) (round : Round) (s : State) (i c : ℕ) (g : List ℕ) → round.language ≡ Wide → i ≤ round.limit
+      → IsCandidateGroup p round s i g → member g c ≡ true → CanBranch round s c i

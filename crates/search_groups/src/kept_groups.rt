@@ -1,0 +1,171 @@
+//! What is kept of a list of groups: those apart from a group, those that have or lack a county, and the live ones.
+
+ghost use Rattle.std.specs.Prelude.{◌≡◌, ℕ, ◌+◌, ◌≤◌, ◌<◌, Bool, true, not, List, length, IfOk, IsErrOf};
+ghost use Rattle.std.specs.Fn.{FnReturnsAt};
+ghost use Rattle.place_laws.specs.PlaceSets.{Meets};
+ghost use Rattle.county_problem.specs.ProblemValue.{problem_of};
+ghost use Rattle.county_problem.specs.OrderedValue.{problem_at, code_at};
+ghost use Rattle.connected_sets.specs.Rows.{AreRows};
+ghost use Rattle.connected_laws.specs.Listing.{AreBelow};
+ghost use Rattle.certificate_laws.specs.Fitting.{IsLive};
+ghost use Rattle.connected_sets.specs.declared.stop.Stop.{Stop};
+ghost use Rattle.state_judge.specs.Placed.{state_at, codes_of_set, codes_of_sets, IsPlaced};
+ghost use Rattle.search_groups.specs.Known.{AreThose, IsApart, Lacks, Has, Tells};
+
+use connected_sets::Stop;
+use county_problem::{Ordered, Steps};
+use place_sets::CountySet;
+use state_groups::{State, is_live};
+use std::alloc::{AllocError, Global};
+
+/// The groups that pass the test, in turn. An error comes where memory was refused.
+fn groups_passing<C: CountySet, F: Fn(&C) -> bool>(
+    alloc: Global,
+    ordered: &Ordered,
+    groups: &[C],
+    passes: F,
+) -> Result<Vec<C>, AllocError>
+    requires call { F.IsAlwaysCallable passes }
+    requires below { AreBelow (length ordered.now.order) C.test groups.now }
+    ensures those { (keeps : List ℕ → Bool)
+        → Tells ordered.now.order C.test (FnReturnsAt F.Fn passes) keeps
+        → IfOk
+        result
+        (λ v. AreThose
+        ordered.now.order
+        (λ g. keeps g ≡ true)
+        (codes_of_sets ordered.now.order C.test groups.now)
+        (codes_of_sets ordered.now.order C.test v.items)) }
+    ensures below { IfOk result (λ v. AreBelow (length ordered.now.order) C.test v.items) }
+{
+    let mut kept = Vec::new(alloc);
+    for group in groups {
+        if passes(group) {
+            kept.push(group.copy(alloc)?)?;
+        }
+    }
+    Ok(kept)
+}
+
+/// The groups that have no county of the other one, in turn. An error comes where memory was refused.
+pub fn groups_apart<C: CountySet>(
+    alloc: Global,
+    ordered: &Ordered,
+    groups: &[C],
+    other: &C,
+) -> Result<Vec<C>, AllocError>
+    requires below { AreBelow (length ordered.now.order) C.test groups.now }
+    ensures those { IfOk
+        result
+        (λ v. AreThose ordered.now.order (IsApart (codes_of_set ordered.now.order C.test other.now)) (codes_of_sets ordered.now.order C.test groups.now) (codes_of_sets ordered.now.order C.test v.items)) }
+    ensures below { IfOk result (λ v. AreBelow (length ordered.now.order) C.test v.items) }
+{
+    let _places = ordered.places();
+    groups_passing(
+        alloc,
+        ordered,
+        groups,
+        |group: &C|
+            ensures { Meets (C.test group.now) (C.test other.entry.now) (not result) }
+        { !group.meets(other) },
+    )
+}
+
+/// The groups that have the county at the place, in turn. An error comes where memory was refused.
+pub fn groups_having<C: CountySet>(
+    alloc: Global,
+    ordered: &Ordered,
+    groups: &[C],
+    place: u16,
+) -> Result<Vec<C>, AllocError>
+    requires fits { length ordered.now.order ≤ C.PLACES }
+    requires below { AreBelow (length ordered.now.order) C.test groups.now }
+    requires place { place < length ordered.now.order }
+    ensures those { IfOk
+        result
+        (λ v. AreThose ordered.now.order (Has (code_at ordered.now.order place)) (codes_of_sets ordered.now.order C.test groups.now) (codes_of_sets ordered.now.order C.test v.items)) }
+    ensures below { IfOk result (λ v. AreBelow (length ordered.now.order) C.test v.items) }
+{
+    let _places = ordered.places();
+    groups_passing(
+        alloc,
+        ordered,
+        groups,
+        |group: &C|
+            requires { place < C.PLACES }
+            ensures { result ≡ C.test group.now place }
+        { group.has(place) },
+    )
+}
+
+/// The groups that lack the county at the place, in turn. An error comes where memory was refused.
+pub fn groups_lacking<C: CountySet>(
+    alloc: Global,
+    ordered: &Ordered,
+    groups: &[C],
+    place: u16,
+) -> Result<Vec<C>, AllocError>
+    requires fits { length ordered.now.order ≤ C.PLACES }
+    requires below { AreBelow (length ordered.now.order) C.test groups.now }
+    requires place { place < length ordered.now.order }
+    ensures those { IfOk
+        result
+        (λ v. AreThose ordered.now.order (Lacks (code_at ordered.now.order place)) (codes_of_sets ordered.now.order C.test groups.now) (codes_of_sets ordered.now.order C.test v.items)) }
+    ensures below { IfOk result (λ v. AreBelow (length ordered.now.order) C.test v.items) }
+{
+    let _places = ordered.places();
+    groups_passing(
+        alloc,
+        ordered,
+        groups,
+        |group: &C|
+            requires { place < C.PLACES }
+            ensures { not result ≡ C.test group.now place }
+        { !group.has(place) },
+    )
+}
+
+/// The live ones of the groups, in turn: those that leave no part of the rest behind that is stuck.
+///
+/// `near` are the rows of the order (`neighbour_rows`). A step is taken for each group that is tested. `StepLimit`
+/// comes only where all steps are used, `Memory` only where a growth was refused.
+pub fn live_groups<C: CountySet>(
+    alloc: Global,
+    ordered: &Ordered,
+    near: &[C],
+    state: &State<C>,
+    groups: &[C],
+    steps: &mut Steps,
+) -> Result<Vec<C>, Stop>
+    requires fits { length ordered.now.order ≤ C.PLACES }
+    requires rows { AreRows C C.test (problem_at ordered.now) (length ordered.now.order) near.now }
+    requires placed { IsPlaced (length ordered.now.order) C.test state.now }
+    requires below { AreBelow (length ordered.now.order) C.test groups.now }
+    ensures those { IfOk
+        result
+        (λ v. AreThose
+        ordered.now.order
+        (IsLive (problem_of ordered.now.problem) (state_at ordered.now.order C.test state.now))
+        (codes_of_sets ordered.now.order C.test groups.now)
+        (codes_of_sets ordered.now.order C.test v.items)) }
+    ensures below { IfOk result (λ v. AreBelow (length ordered.now.order) C.test v.items) }
+    ensures steps { steps.new.used ≤ steps.old.used + length groups.now }
+    ensures more { steps.old.used ≤ steps.new.used }
+    ensures limit { steps.new.limit ≡ steps.old.limit }
+    ensures stopped { IsErrOf result Stop.StepLimit → steps.new.used ≡ steps.new.limit }
+{
+    let _places = ordered.places();
+    let mut live = Vec::new(alloc);
+    for group in groups {
+        if !steps.tick() {
+            return Err(Stop::StepLimit);
+        }
+        if is_live(alloc, ordered, near, state, group)? {
+            let copy = group.copy(alloc)?;
+            if let Err(error) = live.push(copy) {
+                return Err(AllocError::from(error).into());
+            }
+        }
+    }
+    Ok(live)
+}

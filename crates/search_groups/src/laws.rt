@@ -1,0 +1,15 @@
+//! Laws of a search: the functions do nothing, and their contracts are the laws.
+
+ghost use Rattle.search_groups.specs.Alone.{PartsServe};
+ghost use Rattle.search_groups.specs.Known.{KnownServes};
+
+/// What a search knows of the groups of one size goes with it from size to size and from state to state, and gives
+/// the takes of a branch.
+pub fn known_serves()
+    ensures { KnownServes }
+{}
+
+/// The groups of the next size that fit a state are those that fit the parts of its rest, each part by itself.
+pub fn parts_serve()
+    ensures { PartsServe }
+{}

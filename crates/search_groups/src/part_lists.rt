@@ -1,0 +1,278 @@
+//! The lists of groups that are kept by part of the rest and by size, so that none is made twice.
+
+ghost use Rattle.std.specs.Prelude.{◌≡◌, ℕ, ◌+◌, ◌≤◌, ◌<◌, ◌++◌, true, cond, get_or, length, All, IfOk, OnOk, IfSome};
+ghost use Rattle.std.specs.Prelude.{IsErrOf, IsTrue};
+ghost use Rattle.grouping_laws.specs.Problem.{Problem};
+ghost use Rattle.county_problem.specs.OrderedValue.{problem_at};
+ghost use Rattle.connected_sets.specs.Rows.{AreRows};
+ghost use Rattle.connected_laws.specs.Listing.{AreBelow, lists_of};
+ghost use Rattle.state_groups.specs.StateValue.{state_of};
+ghost use Rattle.connected_sets.specs.declared.stop.Stop.{Stop};
+ghost use Rattle.search_groups.specs.Alone.{alone};
+ghost use Rattle.search_groups.specs.PartLists.{IsPartList, IsListFor, ArePut, AreListsOf};
+
+use certificate_data::Language;
+use connected_sets::Stop;
+use county_problem::{Ordered, Steps};
+use place_sets::CountySet;
+use state_groups::{State, groups_of};
+use std::alloc::{AllocError, Global};
+
+/// How many buckets there are, a prime number.
+const BUCKETS: u32 = 1021;
+
+/// Where so many lists are kept, all of them go before one more is kept.
+const MOST_LISTS: usize = 20_000;
+
+/// Where the lists have so many groups, all of them go before one more is kept.
+const MOST_GROUPS: usize = 200_000;
+
+/// All groups of one size that fit a connected part by itself, by their lists of places.
+#[derive(Drop)]
+pub(crate) struct PartList<C> {
+    pub(crate) part: C,
+    pub(crate) size: u16,
+    pub(crate) groups: Vec<C>,
+}
+
+/// Lists of groups by part and size. A part has one list for all states whose rest has the part.
+#[derive(Drop)]
+pub struct PartLists<C> {
+    pub(crate) buckets: Vec<Vec<PartList<C>>>,
+    pub(crate) lists: usize,
+    pub(crate) groups: usize,
+}
+
+impl<C: CountySet> PartList<C> {
+    /// Whether the list is that of the part and the size.
+    fn is_for(&self, part: &C, size: u16) -> bool
+        ensures { IsTrue result → IsListFor C.test part.now size self.now }
+    {
+        self.size == size && self.part.within(part) && part.within(&self.part)
+    }
+}
+
+/// The list of the part and the size, if the bucket has it.
+fn find<'a, C: CountySet>(bucket: &'a [PartList<C>], part: &C, size: u16) -> Option<&'a PartList<C>>
+    ensures is_for { IfSome result (λ list. IsListFor C.test part.now size list.now) }
+    ensures there { IfSome result (λ list. (p : Problem) (n : ℕ) → All (IsPartList C.test p n) bucket.now
+        → IsPartList C.test p n list.now) }
+{
+    for list in bucket {
+        if list.is_for(part, size) {
+            return Some(list);
+        }
+    }
+    None
+}
+
+/// The bucket of a part and a size. Each place of the part counts for it.
+fn bucket_of<C: CountySet>(part: &C, size: u16) -> usize {
+    let mut hash = u32::from(size) % BUCKETS;
+    let mut from = 0;
+    while let Some(place) = part.next(from) {
+        hash = (hash * 31 + u32::from(place)) % BUCKETS;
+        from = u32::from(place) + 1;
+    }
+    hash as usize
+}
+
+/// Puts copies of the sets behind the groups.
+fn put_copies<C: CountySet>(
+    alloc: Global,
+    sets: &[C],
+    groups: &mut Vec<C>,
+) -> Result<(), AllocError>
+    ensures lists { OnOk result ((n : ℕ)
+        → lists_of n C.test groups.new.items ≡ lists_of n C.test groups.old.items ++ lists_of n C.test sets.now) }
+    ensures below { OnOk result ((n : ℕ) → AreBelow n C.test sets.now → AreBelow n C.test groups.old.items
+        → AreBelow n C.test groups.new.items) }
+{
+    for set in sets {
+        groups.push(set.copy(alloc)?)?;
+    }
+    Ok(())
+}
+
+/// For each place the least size that the part's counties ask for by themselves: the size at the places of the part,
+/// and 0 elsewhere.
+fn sizes_alone<C: CountySet>(
+    alloc: Global,
+    places: u16,
+    part: &C,
+    size: u16,
+) -> Result<Vec<u16>, AllocError>
+    requires fits { places ≤ C.PLACES }
+    requires below { (x : ℕ) → C.test part.now x ≡ true → x < places }
+    ensures count { IfOk result (λ v. length v.items ≡ places) }
+    ensures sizes { IfOk result (λ v. (x : ℕ) → get_or v.items x 0 ≡ cond (C.test part.now x) size 0) }
+{
+    let mut least = Vec::new(alloc);
+    for place in 0..places {
+        least.push(if part.has(place) { size } else { 0 })?;
+    }
+    Ok(least)
+}
+
+/// The state in which no group is closed, and the part is the rest, each county of it in a group of at least the
+/// size.
+fn state_alone<C: CountySet>(
+    alloc: Global,
+    places: u16,
+    part: &C,
+    size: u16,
+) -> Result<State<C>, AllocError>
+    requires fits { places ≤ C.PLACES }
+    requires below { (x : ℕ) → C.test part.now x ≡ true → x < places }
+    ensures value { IfOk result (λ s. state_of C.test s ≡ alone (C.test part.now) size) }
+    ensures places { IfOk result (λ s. length s.least.items ≡ places) }
+    ensures rest { IfOk result (λ s. (x : ℕ) → C.test s.rest x ≡ C.test part.now x) }
+{
+    Ok(State {
+        closed: Vec::new(alloc),
+        rest: part.copy(alloc)?,
+        least: sizes_alone(alloc, places, part, size)?,
+    })
+}
+
+/// Makes the list of the part and the size. Steps are taken as by `groups_of`.
+fn list_part<C: CountySet>(
+    alloc: Global,
+    ordered: &Ordered,
+    near: &[C],
+    part: &C,
+    size: u16,
+    steps: &mut Steps,
+) -> Result<PartList<C>, Stop>
+    requires fits { length ordered.now.order ≤ C.PLACES }
+    requires rows { AreRows C C.test (problem_at ordered.now) (length ordered.now.order) near.now }
+    requires below { (x : ℕ) → C.test part.now x ≡ true → x < length ordered.now.order }
+    requires size { 1 ≤ size }
+    ensures list { IfOk result (IsPartList C.test (problem_at ordered.now) (length ordered.now.order)) }
+    ensures is_for { IfOk result (IsListFor C.test part.now size) }
+    ensures more { steps.old.used ≤ steps.new.used }
+    ensures limit { steps.new.limit ≡ steps.old.limit }
+    ensures stopped { IsErrOf result Stop.StepLimit → steps.new.used ≡ steps.new.limit }
+{
+    let state = state_alone(alloc, ordered.places(), part, size)?;
+    let groups = groups_of(alloc, ordered, near, Language::Wide, &state, size, steps)?;
+    Ok(PartList {
+        part: part.copy(alloc)?,
+        size,
+        groups,
+    })
+}
+
+impl<C: CountySet> PartLists<C> {
+    /// No lists yet.
+    pub fn new(alloc: Global) -> PartLists<C>
+        ensures lists { (p : Problem) (n : ℕ) → AreListsOf C.test p n result }
+    {
+        PartLists {
+            buckets: Vec::new(alloc),
+            lists: 0,
+            groups: 0,
+        }
+    }
+
+    /// Where the lists are full, none is kept any more.
+    fn make_room(&mut self, alloc: Global)
+        ensures lists { (p : Problem) (n : ℕ) → AreListsOf C.test p n self.old → AreListsOf C.test p n self.new }
+        ensures room { self.new.lists < 20000 }
+    {
+        if self.lists >= MOST_LISTS || self.groups >= MOST_GROUPS {
+            self.buckets = Vec::new(alloc);
+            self.lists = 0;
+            self.groups = 0;
+        }
+    }
+
+    /// Makes empty buckets until there is that one.
+    fn make_bucket(&mut self, alloc: Global, at: usize) -> Result<(), AllocError>
+        ensures lists { (p : Problem) (n : ℕ) → AreListsOf C.test p n self.old → AreListsOf C.test p n self.new }
+        ensures bucket { OnOk result (at < length self.new.buckets.items) }
+        ensures same { self.new.lists ≡ self.old.lists }
+    {
+        while self.buckets.len() <= at {
+            self.buckets.push(Vec::new(alloc))?;
+        }
+        Ok(())
+    }
+
+    /// Keeps the list in the bucket.
+    fn keep(&mut self, alloc: Global, at: usize, list: PartList<C>) -> Result<(), AllocError>
+        ensures { (p : Problem) (n : ℕ) → IsPartList C.test p n list → AreListsOf C.test p n self.old
+            → AreListsOf C.test p n self.new }
+    {
+        self.make_room(alloc);
+        self.make_bucket(alloc, at)?;
+        self.lists += 1;
+        self.groups = self.groups.saturating_add(list.groups.len());
+        let bucket = &mut self.buckets[at];
+        bucket.push(list)?;
+        Ok(())
+    }
+
+    /// Where the list of the part and the size is kept, puts copies of its groups behind the groups.
+    fn put_kept(
+        &self,
+        alloc: Global,
+        at: usize,
+        part: &C,
+        size: u16,
+        groups: &mut Vec<C>,
+    ) -> Result<bool, AllocError>
+        ensures put { IfOk result (λ kept. IsTrue kept → (p : Problem) (n : ℕ) → AreListsOf C.test p n self.now
+            → ArePut C.test p n part.now size groups.old.items groups.new.items) }
+        ensures same { IfOk result (λ kept. ¬ IsTrue kept → groups.new.items ≡ groups.old.items) }
+    {
+        let Some(bucket) = self.buckets.get(at) else {
+            return Ok(false);
+        };
+        match find(bucket, part, size) {
+            Some(list) => {
+                put_copies(alloc, &list.groups, groups)?;
+                Ok(true)
+            }
+            None => Ok(false),
+        }
+    }
+
+    /// Puts the groups of the size that fit the part by itself behind the groups.
+    ///
+    /// Where no list of them is kept, one is made and kept. A list that wasn't made to its end is not kept. A step is
+    /// taken for the look. Where the list is made, steps are taken as by `groups_of`.
+    pub(crate) fn put(
+        &mut self,
+        alloc: Global,
+        ordered: &Ordered,
+        near: &[C],
+        part: &C,
+        size: u16,
+        groups: &mut Vec<C>,
+        steps: &mut Steps,
+    ) -> Result<(), Stop>
+        requires fits { length ordered.now.order ≤ C.PLACES }
+        requires rows { AreRows C C.test (problem_at ordered.now) (length ordered.now.order) near.now }
+        requires below { (x : ℕ) → C.test part.now x ≡ true → x < length ordered.now.order }
+        requires size { 1 ≤ size }
+        requires lists { AreListsOf C.test (problem_at ordered.now) (length ordered.now.order) self.old }
+        ensures put { OnOk result (ArePut C.test (problem_at ordered.now) (length ordered.now.order) part.now size groups.old.items groups.new.items) }
+        ensures lists { AreListsOf C.test (problem_at ordered.now) (length ordered.now.order) self.new }
+        ensures more { steps.old.used ≤ steps.new.used }
+        ensures limit { steps.new.limit ≡ steps.old.limit }
+        ensures stopped { IsErrOf result Stop.StepLimit → steps.new.used ≡ steps.new.limit }
+    {
+        if !steps.tick() {
+            return Err(Stop::StepLimit);
+        }
+        let at = bucket_of(part, size);
+        if self.put_kept(alloc, at, part, size, groups)? {
+            return Ok(());
+        }
+        let list = list_part(alloc, ordered, near, part, size, steps)?;
+        put_copies(alloc, &list.groups, groups)?;
+        self.keep(alloc, at, list)?;
+        Ok(())
+    }
+}

@@ -1,0 +1,14 @@
+pub mod SumLemmas
+pub mod StuckLemmas
+pub mod StrandLemmas
+pub mod FitLemmas
+pub mod SeatLemmas
+pub mod Keeping
+pub mod Deciding
+pub mod Starting
+pub mod Sizes
+pub mod PeopleBounds
+pub mod SeatWindows
+pub mod Moves
+pub mod RestPeople
+pub mod PeopleRows

@@ -1,0 +1,36 @@
+use Rattle.std.proofs.Common.{◌≡◌, ◌+◌, ◌-◌, ◌*◌, ◌≤◌, nat_le, ◌&&◌, sym, ap, ◌∙◌, subst, arith}
+use Rattle.std.proofs.lemmas.Bool.{and_parts, leb-true}
+use Rattle.grouping_laws.specs.SeatWindow.{people_bounds}
+use Rattle.county_problem.specs.OrderedValue.{problem_at}
+use Rattle.state_groups.proofs.SeatWindows.{AreSeatWindows, windows_more, windows_end, windows_all}
+use Rattle.state_groups.proofs.windows.seat_windows.Goals as goal
+
+pub returns-then-window-people : goal.returns-then-window-people
+returns-then-window-people c =
+    let p = problem_at c.args.ordered.now in
+    let seats = c.loop-seats.seats in
+    let w = c.district_bounds-window.result in
+    let e : w ≡ people_bounds p seats = c.district_bounds-window.ensures.value ∙ ap (λ v. people_bounds (problem_at (record c.args.ordered.now { problem = v })) seats) c.problem-problem.ensures.value in
+    windows_end p c.places-places.ensures.problem c.args.people c.loop-seats.windows.items seats w e c.if-window-people.true c.loop-seats.invariant
+
+pub loop-seats-preserved : goal.loop-seats-preserved
+loop-seats-preserved c =
+    let p = problem_at c.args.ordered.now in
+    let seats = c.loop-seats.seats in
+    let w = c.district_bounds-window.result in
+    let e : w ≡ people_bounds p seats = c.district_bounds-window.ensures.value ∙ ap (λ v. people_bounds (problem_at (record c.args.ordered.now { problem = v })) seats) c.problem-problem.ensures.value in
+    subst (AreSeatWindows p (seats + 1)) (sym c.in_ok-push.ensures.items) (windows_more p c.places-places.ensures.problem c.loop-seats.windows.items seats w c.loop-seats.auto.seats e c.loop-seats.invariant)
+
+pub returns : goal.returns
+returns c =
+    let p = problem_at c.args.ordered.now in
+    let w = c.window-window.result in
+    let range = and_parts (nat_le 1 w.whole) (nat_le w.whole 1000 && nat_le (2 * w.part) w.whole) c.window-window.ensures.range in
+    let half = leb-true (2 * w.part) w.whole (and_parts (nat_le w.whole 1000) (nat_le (2 * w.part) w.whole) range.1).1 in
+    let value = c.problem-problem.ensures.value in
+    let part = ap (λ v. (problem_at (record c.args.ordered.now { problem = v })).tolerance) value in
+    let whole = ap (λ v. (problem_at (record c.args.ordered.now { problem = v })).scale) value in
+    let chamber = ap (λ v. (problem_at (record c.args.ordered.now { problem = v })).chamber) value in
+    let twice : p.scale ≤ 2 * (p.scale - p.tolerance) = omega (arith, half, c.window-window.ensures.value, part, whole) in
+    let few : p.chamber ≤ 1000 = omega (arith, c.chamber-chamber.ensures.value, c.chamber-chamber.ensures.range, chamber) in
+    windows_all p c.places-places.ensures.problem c.args.people c.loop-seats.windows.items c.requires twice few (λ people k l s. c.loop-seats.invariant people k (omega (arith, l, c.loop-seats-test.false)) s)

@@ -1,0 +1,6 @@
+pub mod StateValue
+pub mod Cut
+pub mod Stranding
+pub mod Sums
+pub mod Keeping
+pub mod People

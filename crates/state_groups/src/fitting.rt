@@ -1,0 +1,88 @@
+//! The groups that fit a state: their people suit seats, and their counties are open to their size.
+
+ghost use Rattle.std.specs.Prelude.{◌≡◌, ℕ, true, ◌<◌, ◌≤◌, length, get_or, IfOk, IsTrue, ◌↔◌};
+ghost use Rattle.grouping_laws.specs.Sets.{Inside};
+ghost use Rattle.grouping_laws.specs.Problem.{Connected, people_of};
+ghost use Rattle.place_laws.specs.PlaceSets.{places_of};
+ghost use Rattle.county_problem.specs.OrderedValue.{problem_at};
+ghost use Rattle.connected_sets.specs.Rows.{AreRows};
+ghost use Rattle.certificate_laws.specs.State.{open_to};
+ghost use Rattle.state_groups.specs.StateValue.{state_of};
+ghost use Rattle.certificate_laws.specs.Fitting.{Fits};
+
+use crate::state::State;
+use crate::stuck::{asks_more, is_live};
+use certificate_data::Language;
+use county_problem::Ordered;
+use place_sets::CountySet;
+use std::alloc::{AllocError, Global};
+
+/// The places that are open to a group of so many counties: those of the rest that may lie in one.
+pub fn open_places<C: CountySet>(
+    alloc: Global,
+    state: &State<C>,
+    size: u16,
+) -> Result<C, AllocError>
+    requires fits { length state.now.least.items ≤ C.PLACES }
+    requires few { length state.now.least.items < 65536 }
+    ensures { IfOk result (λ s. (x : ℕ) → C.test s x ≡ open_to (state_of C.test state.now) size x) }
+{
+    let mut open = state.rest.copy(alloc)?;
+    for place in 0..state.least.len() {
+        if state.least[place] > size {
+            open = open.without(place as u16);
+        }
+    }
+    Ok(open)
+}
+
+/// Whether each county of the group is open to a group of its size.
+pub fn is_open<C: CountySet>(state: &State<C>, group: &C) -> bool
+    requires below { (x : ℕ) → C.test group.now x ≡ true → x < length state.now.least.items }
+    ensures { IsTrue result
+        ↔ Inside
+        (open_to (state_of C.test state.now) (length (places_of (length state.now.least.items) (C.test group.now))))
+        (places_of (length state.now.least.items) (C.test group.now)) }
+{
+    if !group.within(&state.rest) {
+        return false;
+    }
+    !asks_more(state, group, group.size())
+}
+
+/// Whether a connected group, which has so many people, fits the state: its people suit some number of seats, each
+/// of its counties is open to a group of its size, and in a wide language it is live.
+pub fn fits<C: CountySet>(
+    alloc: Global,
+    ordered: &Ordered,
+    near: &[C],
+    language: Language,
+    state: &State<C>,
+    group: &C,
+    people: u64,
+) -> Result<bool, AllocError>
+    requires fits { length ordered.now.order ≤ C.PLACES }
+    requires rows { AreRows C C.test (problem_at ordered.now) (length ordered.now.order) near.now }
+    requires places { length state.now.least.items ≡ length ordered.now.order }
+    requires below { (x : ℕ) → C.test state.now.rest x ≡ true → x < length ordered.now.order }
+    requires group_below { (x : ℕ) → C.test group.now x ≡ true → x < length ordered.now.order }
+    requires connected { Connected (problem_at ordered.now) (places_of (length ordered.now.order) (C.test group.now)) }
+    requires people { people
+        ≡ people_of (problem_at ordered.now) (places_of (length ordered.now.order) (C.test group.now)) }
+    ensures { IfOk
+        result
+        (λ fit. IsTrue fit
+        ↔ Fits language (problem_at ordered.now) (state_of C.test state.now) (places_of (length ordered.now.order) (C.test group.now))) }
+{
+    let _places = ordered.places();
+    if ordered.problem().seats_range(people).is_none() {
+        return Ok(false);
+    }
+    if !is_open(state, group) {
+        return Ok(false);
+    }
+    match language {
+        Language::Plain => Ok(true),
+        Language::Wide => is_live(alloc, ordered, near, state, group),
+    }
+}

@@ -1,0 +1,174 @@
+//! The groups that fit a state: those at a place, and those of a size.
+
+ghost use Rattle.std.specs.Prelude.{◌≡◌, ℕ, ◌+◌, true, false, ◌<◌, ◌≤◌, Bool, List, OnOk, IfOk, IsErrOf, length};
+ghost use Rattle.grouping_laws.specs.Places.{places_below};
+ghost use Rattle.county_problem.specs.OrderedValue.{problem_at};
+ghost use Rattle.connected_sets.specs.Rows.{AreRows};
+ghost use Rattle.connected_laws.specs.Growing.{only};
+ghost use Rattle.connected_laws.specs.Listing.{lists_of, AreBelow, IsListed, HasStepped, OneStepEach};
+ghost use Rattle.certificate_data.specs.Round.{Round};
+ghost use Rattle.certificate_laws.specs.State.{open_to};
+ghost use Rattle.state_groups.specs.StateValue.{state_of};
+ghost use Rattle.certificate_laws.specs.Groups.{IsSetAt, AreGroupsAt, IsSetWithin, AreGroupsOf};
+ghost use Rattle.state_groups.specs.Keeping.{Decides, others};
+ghost use Rattle.state_groups.specs.People.{AreTables};
+ghost use Rattle.connected_sets.specs.declared.stop.Stop.{Stop};
+
+use crate::fitting::open_places;
+use crate::kept_sets::most_populous;
+use crate::state::State;
+use crate::state_test::StateTest;
+use crate::tables::{Tables, make_tables};
+use certificate_data::Language;
+use connected_sets::{GrowthInput, Stop, grow, start_growth};
+use county_problem::{Ordered, Steps};
+use place_sets::{CountySet, sorted};
+use std::alloc::Global;
+
+/// Puts the connected sets of the region that have the place and at most `limit` places, and are kept, behind the
+/// groups.
+fn search<C: CountySet>(
+    alloc: Global,
+    ordered: &Ordered,
+    near: &[C],
+    language: Language,
+    state: &State<C>,
+    region: C,
+    place: u16,
+    limit: u16,
+    exact: bool,
+    tables: &Tables,
+    steps: &mut Steps,
+    groups: &mut Vec<C>,
+) -> Result<(), Stop>
+    requires fits { length ordered.now.order ≤ C.PLACES }
+    requires rows { AreRows C C.test (problem_at ordered.now) (length ordered.now.order) near.now }
+    requires places { length state.now.least.items ≡ length ordered.now.order }
+    requires rest { (x : ℕ) → C.test state.now.rest x ≡ true → x < length ordered.now.order }
+    requires some { 1 ≤ limit }
+    requires below { (x : ℕ) → C.test region x ≡ true → x < length ordered.now.order }
+    requires there { C.test region place ≡ true }
+    requires tables { AreTables language (problem_at ordered.now) (length ordered.now.order) limit (C.test state.now.rest) (C.test region) tables.now }
+    ensures listed { OnOk
+        result
+        ((keep : List ℕ → Bool)
+        → Decides language (problem_at ordered.now) (length ordered.now.order) limit exact (state_of C.test state.now) keep
+        → IsListed C C.test (problem_at ordered.now) (length ordered.now.order) limit keep (only place) (others (C.test region) place) groups.old.items groups.new.items) }
+    ensures steps { HasStepped (problem_at ordered.now) (length ordered.now.order) limit (only place) (others (C.test region) place) steps.old.used steps.new.used }
+    ensures counted { OnOk result (steps.old.used + length groups.new.items ≤ steps.new.used
+        + length groups.old.items) }
+    ensures limit { steps.new.limit ≡ steps.old.limit }
+    ensures stopped { IsErrOf result Stop.StepLimit → steps.new.used ≡ steps.new.limit }
+{
+    let _places = ordered.places();
+    let _at_most = ordered.problem().total_people();
+    let free = region.without(place);
+    let growth = start_growth(alloc, ordered, near, place, free)?;
+    let input = GrowthInput {
+        ordered,
+        near,
+        limit,
+    };
+    let test = StateTest {
+        language,
+        state,
+        exact,
+        tables,
+    };
+    grow(alloc, &input, &test, growth, steps, groups)
+}
+
+/// The groups that fit the state, have the county at the place and have at most `limit` counties, each once, by
+/// size, and groups of one size by their lists of places: what the takes of a branch have to be.
+///
+/// `near` are the rows of the order (`neighbour_rows`). A step is taken for each connected set of open counties that
+/// is met, each with the place and at most `limit` counties. Of the open counties at most so many moves away from a
+/// set as may join it, some have to give it people that suit some number of seats; if none do, the search passes over
+/// the set. In a wide language it also passes over a set that leaves people of the rest that suit no number of seats.
+/// The same goes for a set that leaves a part behind that can't be filled. So there are at least as many steps as
+/// groups, and at most as many as such sets. `StepLimit` comes only where all steps are used, `Memory` only where a
+/// growth was refused; the steps that were taken stay taken.
+pub fn groups_at<C: CountySet>(
+    alloc: Global,
+    ordered: &Ordered,
+    near: &[C],
+    language: Language,
+    state: &State<C>,
+    place: u16,
+    limit: u16,
+    steps: &mut Steps,
+) -> Result<Vec<C>, Stop>
+    requires fits { length ordered.now.order ≤ C.PLACES }
+    requires rows { AreRows C C.test (problem_at ordered.now) (length ordered.now.order) near.now }
+    requires places { length state.now.least.items ≡ length ordered.now.order }
+    requires rest { (x : ℕ) → C.test state.now.rest x ≡ true → x < length ordered.now.order }
+    requires there { open_to (state_of C.test state.now) limit place ≡ true }
+    requires some { 1 ≤ limit }
+    ensures groups { IfOk
+        result
+        (λ v. (round : Round)
+        → round.order ≡ places_below (length ordered.now.order)
+        → round.language ≡ language
+        → AreGroupsAt (problem_at ordered.now) round (state_of C.test state.now) place limit (lists_of (length ordered.now.order) C.test v.items)) }
+    ensures below { IfOk result (λ v. AreBelow (length ordered.now.order) C.test v.items) }
+    ensures steps { OneStepEach (IsSetAt (problem_at ordered.now) (places_below (length ordered.now.order)) (state_of C.test state.now) place limit) steps.old.used steps.new.used }
+    ensures counted { IfOk result (λ v. steps.old.used + length v.items ≤ steps.new.used) }
+    ensures limit { steps.new.limit ≡ steps.old.limit }
+    ensures stopped { IsErrOf result Stop.StepLimit → steps.new.used ≡ steps.new.limit }
+{
+    let _places = ordered.places();
+    let region = open_places(alloc, state, limit)?;
+    let tables = make_tables(alloc, ordered, language, state, &region, limit)?;
+    let mut sets = Vec::new(alloc);
+    search(
+        alloc, ordered, near, language, state, region, place, limit, false, &tables, steps,
+        &mut sets,
+    )?;
+    Ok(sorted(sets)?)
+}
+
+/// The groups of so many counties that fit the state, each once, by their lists of places: what a `weigh` line of a
+/// bound leaf asks of.
+///
+/// A step is taken for each connected set of at most so many open counties that is met, as in `groups_at`. The sets
+/// that have the most populous open county come first, then those of the others that have the next one, and so on.
+pub fn groups_of<C: CountySet>(
+    alloc: Global,
+    ordered: &Ordered,
+    near: &[C],
+    language: Language,
+    state: &State<C>,
+    size: u16,
+    steps: &mut Steps,
+) -> Result<Vec<C>, Stop>
+    requires fits { length ordered.now.order ≤ C.PLACES }
+    requires rows { AreRows C C.test (problem_at ordered.now) (length ordered.now.order) near.now }
+    requires places { length state.now.least.items ≡ length ordered.now.order }
+    requires rest { (x : ℕ) → C.test state.now.rest x ≡ true → x < length ordered.now.order }
+    requires some { 1 ≤ size }
+    ensures groups { IfOk
+        result
+        (λ v. (round : Round)
+        → round.order ≡ places_below (length ordered.now.order)
+        → round.language ≡ language
+        → AreGroupsOf (problem_at ordered.now) round (state_of C.test state.now) size (lists_of (length ordered.now.order) C.test v.items)) }
+    ensures below { IfOk result (λ v. AreBelow (length ordered.now.order) C.test v.items) }
+    ensures steps { OneStepEach (IsSetWithin (problem_at ordered.now) (places_below (length ordered.now.order)) (state_of C.test state.now) size) steps.old.used steps.new.used }
+    ensures counted { IfOk result (λ v. steps.old.used + length v.items ≤ steps.new.used) }
+    ensures limit { steps.new.limit ≡ steps.old.limit }
+    ensures stopped { IsErrOf result Stop.StepLimit → steps.new.used ≡ steps.new.limit }
+{
+    let _places = ordered.places();
+    let mut region = open_places(alloc, state, size)?;
+    let tables = make_tables(alloc, ordered, language, state, &region, size)?;
+    let mut sets = Vec::new(alloc);
+    while let Some(place) = most_populous(ordered, &region) {
+        let left = region.copy(alloc)?;
+        search(
+            alloc, ordered, near, language, state, left, place, size, true, &tables, steps,
+            &mut sets,
+        )?;
+        region = region.without(place);
+    }
+    Ok(sorted(sets)?)
+}

@@ -1,0 +1,169 @@
+//! Which sets the growing passes over, since no group that fits can come of them.
+
+ghost use Rattle.std.specs.Prelude.{◌≡◌, ℕ, ◌+◌, ◌^◌, Bool, List, [], true, filter, ◌<◌, ◌≤◌, MatchOption, IfOk};
+ghost use Rattle.std.specs.Prelude.{IsTrue, length};
+ghost use Rattle.grouping_laws.specs.Sets.{member};
+ghost use Rattle.grouping_laws.specs.Problem.{people_of};
+ghost use Rattle.place_laws.specs.PlaceSets.{places_of};
+ghost use Rattle.grouping_laws.specs.Places.{places_below};
+ghost use Rattle.county_problem.specs.OrderedValue.{problem_at};
+ghost use Rattle.connected_sets.specs.Rows.{AreRows};
+ghost use Rattle.connected_laws.specs.Growing.{IsGrowth, IsFront, IsExtension, AreKept};
+ghost use Rattle.state_groups.specs.StateValue.{state_of};
+ghost use Rattle.certificate_laws.specs.Fitting.{Fits};
+ghost use Rattle.state_groups.specs.Keeping.{Decides, IsAsked};
+ghost use Rattle.state_groups.specs.People.{AreByPeople, AreWindows, IsDivided, AreTables};
+
+use crate::people::first_people;
+use crate::reach::reached;
+use crate::state_test::StateTest;
+use crate::stuck::strands;
+use crate::sums::people_in;
+use crate::windows::{may_divide, may_suit};
+use connected_sets::{Growth, GrowthInput};
+use place_sets::CountySet;
+use std::alloc::{AllocError, Global};
+
+/// The least number of people of so many places in reach, if sets of one size are asked for; else 0.
+fn fewest_more<C: CountySet>(
+    input: &GrowthInput<C>,
+    test: &StateTest<C>,
+    reach: &C,
+    more: u32,
+) -> u64
+    requires fits { length input.now.ordered.now.order ≤ C.PLACES }
+    requires below { (x : ℕ) → C.test reach.now x ≡ true → x < length input.now.ordered.now.order }
+    requires places { AreByPeople (problem_at input.now.ordered.now) (length input.now.ordered.now.order) (C.test reach.now) test.now.tables.now.by_people.items }
+    ensures least { (joins : ℕ → Bool)
+        → ((x : ℕ) → joins x ≡ true → C.test reach.now x ≡ true)
+        → (test.now.exact ≡ true → length (places_of (length input.now.ordered.now.order) joins) ≡ more)
+        → result ≤ people_of (problem_at input.now.ordered.now) (places_of (length input.now.ordered.now.order) joins) }
+    ensures bound { result ≤ 2 ^ 48 }
+{
+    if !test.exact {
+        return 0;
+    }
+    first_people(&test.tables.by_people, reach, more)
+}
+
+/// The greatest number of people of at most so many places in reach: all people in reach but those of the others,
+/// which have the fewest.
+fn most_more<C: CountySet>(input: &GrowthInput<C>, test: &StateTest<C>, reach: &C, more: u32) -> u64
+    requires fits { length input.now.ordered.now.order ≤ C.PLACES }
+    requires below { (x : ℕ) → C.test reach.now x ≡ true → x < length input.now.ordered.now.order }
+    requires places { AreByPeople (problem_at input.now.ordered.now) (length input.now.ordered.now.order) (C.test reach.now) test.now.tables.now.by_people.items }
+    ensures greatest { (joins : ℕ → Bool)
+        → ((x : ℕ) → joins x ≡ true → C.test reach.now x ≡ true)
+        → length (places_of (length input.now.ordered.now.order) joins) ≤ more
+        → people_of (problem_at input.now.ordered.now) (places_of (length input.now.ordered.now.order) joins) ≤ result }
+    ensures bound { result ≤ input.now.ordered.now.problem.total_people }
+{
+    let others = reach.size().saturating_sub(more);
+    people_in(input.ordered, reach) - first_people(&test.tables.by_people, reach, others)
+}
+
+/// Whether people from the least to the greatest may suit, and what they leave of the rest too, if that has to.
+fn may_fit<C: CountySet>(
+    input: &GrowthInput<C>,
+    test: &StateTest<C>,
+    least: u64,
+    greatest: u64,
+) -> bool
+    requires places { length test.now.state.now.least.items ≡ length input.now.ordered.now.order }
+    requires rest { (x : ℕ) → C.test test.now.state.now.rest x ≡ true → x < length input.now.ordered.now.order }
+    requires windows { AreWindows (problem_at input.now.ordered.now) (people_of (problem_at input.now.ordered.now) (places_of (length input.now.ordered.now.order) (C.test test.now.state.now.rest))) test.now.tables.now.windows.items }
+    requires divided { IsDivided test.now.language (problem_at input.now.ordered.now) (length input.now.ordered.now.order) input.now.limit (C.test test.now.state.now.rest) test.now.tables.now.rest_people }
+    ensures { (g : List ℕ)
+        → filter (member g) (places_below (length input.now.ordered.now.order)) ≡ g
+        → length g ≤ input.now.limit
+        → Fits test.now.language (problem_at input.now.ordered.now) (state_of C.test test.now.state.now) g
+        → least ≤ people_of (problem_at input.now.ordered.now) g
+        → people_of (problem_at input.now.ordered.now) g ≤ greatest
+        → IsTrue result }
+{
+    let _places = input.ordered.places();
+    match test.tables.rest_people {
+        None => may_suit(&test.tables.windows, least, greatest),
+        Some(all) => may_divide(&test.tables.windows, all, least, greatest),
+    }
+}
+
+/// Whether the people of a set and of places in reach that join it may fit.
+fn may_grow<C: CountySet>(
+    input: &GrowthInput<C>,
+    test: &StateTest<C>,
+    growth: &Growth<C>,
+    reach: &C,
+) -> bool
+    requires fits { length input.now.ordered.now.order ≤ C.PLACES }
+    requires places { length test.now.state.now.least.items ≡ length input.now.ordered.now.order }
+    requires rest { (x : ℕ) → C.test test.now.state.now.rest x ≡ true → x < length input.now.ordered.now.order }
+    requires growth { IsGrowth (problem_at input.now.ordered.now) (length input.now.ordered.now.order) input.now.limit (C.test growth.now.set) (C.test growth.now.free) }
+    requires people { growth.now.people
+        ≡ people_of (problem_at input.now.ordered.now) (places_of (length input.now.ordered.now.order) (C.test growth.now.set)) }
+    requires total { people_of (problem_at input.now.ordered.now) (places_below (length input.now.ordered.now.order))
+        ≤ input.now.ordered.now.problem.total_people }
+    requires bound { input.now.ordered.now.problem.total_people ≤ 2 ^ 40 }
+    requires tables { AreTables test.now.language (problem_at input.now.ordered.now) (length input.now.ordered.now.order) input.now.limit (C.test test.now.state.now.rest) (C.test growth.now.free) test.now.tables.now }
+    requires free { (x : ℕ) → C.test reach.now x ≡ true → C.test growth.now.free x ≡ true }
+    ensures { (g : List ℕ)
+        → IsExtension (problem_at input.now.ordered.now) (length input.now.ordered.now.order) input.now.limit (C.test growth.now.set) (C.test reach.now) g
+        → IsAsked test.now.exact input.now.limit g
+        → Fits test.now.language (problem_at input.now.ordered.now) (state_of C.test test.now.state.now) g
+        → IsTrue result }
+{
+    let more = u32::from(input.limit) - growth.set.size();
+    if test.exact && reach.size() < more {
+        return false;
+    }
+    let least = growth.people + fewest_more(input, test, reach, more);
+    let greatest = growth.people + most_more(input, test, reach, more);
+    may_fit(input, test, least, greatest)
+}
+
+/// Whether nothing can come of a growth: no places that the set reaches by as many moves as places may join it give it
+/// people that may fit, or it leaves a part behind that can't be filled. If the set has as many places as may be, it
+/// is not passed over.
+pub(crate) fn is_passed_over<C: CountySet>(
+    alloc: Global,
+    input: &GrowthInput<C>,
+    test: &StateTest<C>,
+    growth: &Growth<C>,
+) -> Result<bool, AllocError>
+    requires fits { length input.now.ordered.now.order ≤ C.PLACES }
+    requires rows { AreRows C C.test (problem_at input.now.ordered.now) (length input.now.ordered.now.order) input.now.near.now }
+    requires places { length test.now.state.now.least.items ≡ length input.now.ordered.now.order }
+    requires rest { (x : ℕ) → C.test test.now.state.now.rest x ≡ true → x < length input.now.ordered.now.order }
+    requires growth { IsGrowth (problem_at input.now.ordered.now) (length input.now.ordered.now.order) input.now.limit (C.test growth.now.set) (C.test growth.now.free) }
+    requires front { IsFront (problem_at input.now.ordered.now) (C.test growth.now.set) (C.test growth.now.free) (C.test growth.now.front) }
+    requires people { growth.now.people
+        ≡ people_of (problem_at input.now.ordered.now) (places_of (length input.now.ordered.now.order) (C.test growth.now.set)) }
+    requires total { people_of (problem_at input.now.ordered.now) (places_below (length input.now.ordered.now.order))
+        ≤ input.now.ordered.now.problem.total_people }
+    requires bound { input.now.ordered.now.problem.total_people ≤ 2 ^ 40 }
+    requires tables { AreTables test.now.language (problem_at input.now.ordered.now) (length input.now.ordered.now.order) input.now.limit (C.test test.now.state.now.rest) (C.test growth.now.free) test.now.tables.now }
+    ensures { IfOk
+        result
+        (λ passed. IsTrue passed
+        → (keep : List ℕ → Bool)
+        → Decides test.now.language (problem_at input.now.ordered.now) (length input.now.ordered.now.order) input.now.limit test.now.exact (state_of C.test test.now.state.now) keep
+        → AreKept (problem_at input.now.ordered.now) (length input.now.ordered.now.order) input.now.limit keep (C.test growth.now.set) (C.test growth.now.free) []) }
+{
+    let more = u32::from(input.limit) - growth.set.size();
+    if more == 0 {
+        return Ok(false);
+    }
+    let reach = reached(alloc, input, growth, more)?;
+    if !may_grow(input, test, growth, &reach) {
+        return Ok(true);
+    }
+    strands(
+        alloc,
+        input.ordered,
+        input.near,
+        test.language,
+        test.state,
+        &growth.set,
+        &growth.free,
+    )
+}

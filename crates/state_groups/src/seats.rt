@@ -1,0 +1,84 @@
+//! The numbers of seats that the people of sets suit, and whether the seats left lie outside of them.
+
+ghost use Rattle.std.specs.Prelude.{◌≡◌, ℕ, true, ◌<◌, ◌≤◌, ◌||◌, nat_lt, length, map, All, IfOk, IfSome, IsTrue, ◌↔◌};
+ghost use Rattle.grouping_laws.specs.Problem.{Suits, people_of};
+ghost use Rattle.grouping_laws.specs.SeatWindow.{IsRun};
+ghost use Rattle.place_laws.specs.PlaceSets.{places_of};
+ghost use Rattle.county_problem.specs.OrderedValue.{problem_at};
+ghost use Rattle.connected_sets.specs.Rows.{AreRows};
+ghost use Rattle.state_groups.specs.StateValue.{state_of};
+ghost use Rattle.certificate_laws.specs.Leaves.{IsOffSeats};
+ghost use Rattle.state_groups.specs.Sums.{IsSums};
+
+use crate::state::State;
+use crate::sums::people_in;
+use connected_sets::parts_of;
+use county_problem::Ordered;
+use place_sets::CountySet;
+use std::alloc::{AllocError, Global};
+
+/// The least and the greatest number of seats that the people of a set suit.
+fn seats_in<C: CountySet>(ordered: &Ordered, set: &C) -> Option<(u64, u64)>
+    requires { (x : ℕ) → C.test set.now x ≡ true → x < length ordered.now.order }
+    ensures run { IsRun (Suits (problem_at ordered.now) (people_of (problem_at ordered.now) (places_of (length ordered.now.order) (C.test set.now)))) result }
+    ensures small { IfSome result (λ r. (r.0 < 65536) × (r.1 < 65536)) }
+{
+    let _places = ordered.places();
+    let people = people_in(ordered, set);
+    let (low, high) = ordered.problem().seats_range(people)?;
+    Some((u64::from(low), u64::from(high)))
+}
+
+/// The least numbers of seats of the sets, added up, and the greatest; `None` where the people of some set suit
+/// no number.
+fn seat_sums<C: CountySet>(ordered: &Ordered, sets: &[C]) -> Option<(u64, u64)>
+    requires few { length sets.now ≤ 65536 }
+    requires below { All (λ s. (x : ℕ) → C.test s x ≡ true → x < length ordered.now.order) sets.now }
+    ensures { IsSums (problem_at ordered.now) (map (λ s. places_of (length ordered.now.order) (C.test s)) sets.now) result }
+{
+    let mut least: u64 = 0;
+    let mut greatest: u64 = 0;
+    for set in sets {
+        let Some((low, high)) = seats_in(ordered, set) else {
+            return None;
+        };
+        least += low;
+        greatest += high;
+    }
+    Some((least, greatest))
+}
+
+/// Whether a number of seats is below the least or above the greatest.
+fn is_outside(seats: u64, least: u64, greatest: u64) -> bool
+    ensures { result ≡ (nat_lt seats least || nat_lt greatest seats) }
+{
+    seats < least || greatest < seats
+}
+
+/// Whether a seats leaf is valid: each connected part of the rest suits some number of seats, and the least
+/// numbers over the closed groups and the parts add up to more than the seats left, or the greatest to less.
+pub fn is_off_seats<C: CountySet>(
+    alloc: Global,
+    ordered: &Ordered,
+    near: &[C],
+    state: &State<C>,
+) -> Result<bool, AllocError>
+    requires fits { length ordered.now.order ≤ C.PLACES }
+    requires rows { AreRows C C.test (problem_at ordered.now) (length ordered.now.order) near.now }
+    requires places { length state.now.least.items ≡ length ordered.now.order }
+    requires below { (x : ℕ) → C.test state.now.rest x ≡ true → x < length ordered.now.order }
+    requires closed { All (λ s. (x : ℕ) → C.test s x ≡ true → x < length ordered.now.order) state.now.closed.items }
+    requires few { length state.now.closed.items ≤ 65536 }
+    ensures { IfOk result (λ off. IsTrue off ↔ IsOffSeats (problem_at ordered.now) (state_of C.test state.now)) }
+{
+    let _places = ordered.places();
+    let parts = parts_of(alloc, ordered, near, &state.rest)?;
+    let Some(closed) = seat_sums(ordered, &state.closed) else {
+        return Ok(false);
+    };
+    let Some(rest) = seat_sums(ordered, &parts) else {
+        return Ok(false);
+    };
+    let seats = u64::from(ordered.problem().seats_left());
+    Ok(is_outside(seats, closed.0 + rest.0, closed.1 + rest.1))
+}

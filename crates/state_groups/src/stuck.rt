@@ -1,0 +1,249 @@
+//! The parts of the rest that no groups can fill, and the sets that leave such a part behind.
+
+ghost use Rattle.std.specs.Prelude.{◌≡◌, ℕ, true, false, ◌<◌, ◌≤◌, List, length, get_or, IfOk, IsTrue, ◌↔◌};
+ghost use Rattle.grouping_laws.specs.Sets.{member};
+ghost use Rattle.grouping_laws.specs.Parts.{IsPart};
+ghost use Rattle.place_laws.specs.PlaceSets.{places_of};
+ghost use Rattle.county_problem.specs.OrderedValue.{problem_at};
+ghost use Rattle.connected_sets.specs.Rows.{AreRows};
+ghost use Rattle.state_groups.specs.StateValue.{state_of};
+ghost use Rattle.certificate_laws.specs.Stuck.{CannotFill};
+ghost use Rattle.certificate_laws.specs.Fitting.{IsLive};
+ghost use Rattle.certificate_laws.specs.Leaves.{IsStuck};
+ghost use Rattle.state_groups.specs.Cut.{CutOff};
+ghost use Rattle.state_groups.specs.Stranding.{NoneFits, IsTooSmall, IsStranded, StrandedPart};
+
+use crate::state::State;
+use crate::sums::people_in;
+use certificate_data::Language;
+use connected_sets::part_around;
+use county_problem::Ordered;
+use place_sets::CountySet;
+use std::alloc::{AllocError, Global};
+
+/// Whether some county of the set asks for a group of more counties than that.
+pub(crate) fn asks_more<C: CountySet>(state: &State<C>, set: &C, size: u32) -> bool
+    requires below { (x : ℕ) → C.test set.now x ≡ true → x < length state.now.least.items }
+    ensures { IsTrue result ↔ ((c : ℕ) × (C.test set.now c ≡ true) × (size < get_or state.now.least.items c 0)) }
+{
+    let mut from = 0;
+    while let Some(place) = set.next(from) {
+        if u32::from(state.least[usize::from(place)]) > size {
+            return true;
+        }
+        from = u32::from(place) + 1;
+    }
+    false
+}
+
+/// Whether no groups can fill the set: its people suit no number of seats, or one of its counties asks for a
+/// group of more counties than the set has.
+pub fn is_stuck<C: CountySet>(ordered: &Ordered, state: &State<C>, part: &C) -> bool
+    requires places { length state.now.least.items ≡ length ordered.now.order }
+    requires below { (x : ℕ) → C.test part.now x ≡ true → x < length ordered.now.order }
+    ensures { IsTrue result
+        ↔ CannotFill (problem_at ordered.now) (state_of C.test state.now) (places_of (length ordered.now.order) (C.test part.now)) }
+{
+    let _places = ordered.places();
+    let people = people_in(ordered, part);
+    if ordered.problem().seats_range(people).is_none() {
+        return true;
+    }
+    asks_more(state, part, part.size())
+}
+
+/// Whether the set has none of the free places and can't be filled.
+fn is_cut_off<C: CountySet>(ordered: &Ordered, state: &State<C>, part: &C, free: &C) -> bool
+    requires places { length state.now.least.items ≡ length ordered.now.order }
+    requires below { (x : ℕ) → C.test part.now x ≡ true → x < length ordered.now.order }
+    ensures { IsTrue result
+        ↔ (((x : ℕ) → C.test part.now x ≡ true → C.test free.now x ≡ false)
+        × CannotFill (problem_at ordered.now) (state_of C.test state.now) (places_of (length ordered.now.order) (C.test part.now))) }
+{
+    if part.meets(free) {
+        return false;
+    }
+    is_stuck(ordered, state, part)
+}
+
+/// Whether some connected part of the region that has none of the free places can't be filled.
+pub fn has_stuck_part<C: CountySet>(
+    alloc: Global,
+    ordered: &Ordered,
+    near: &[C],
+    state: &State<C>,
+    region: C,
+    free: &C,
+) -> Result<bool, AllocError>
+    requires fits { length ordered.now.order ≤ C.PLACES }
+    requires rows { AreRows C C.test (problem_at ordered.now) (length ordered.now.order) near.now }
+    requires places { length state.now.least.items ≡ length ordered.now.order }
+    requires below { (x : ℕ) → C.test region x ≡ true → x < length ordered.now.order }
+    ensures { IfOk result (λ stuck. IsTrue stuck
+        ↔ CutOff (problem_at ordered.now) (state_of C.test state.now) (C.test region) (C.test free.now)) }
+{
+    let mut rest = region;
+    while let Some(place) = rest.next(0) {
+        let (part, left) = part_around(alloc, ordered, near, &rest, place)?;
+        if is_cut_off(ordered, state, &part, free) {
+            return Ok(true);
+        }
+        rest = left;
+    }
+    Ok(false)
+}
+
+/// Whether the set has a place that is not free, and nothing of the set around such a place can be filled: the set has
+/// fewer people than one seat asks for, or fewer places than the place asks for.
+fn is_too_small<C: CountySet>(
+    alloc: Global,
+    ordered: &Ordered,
+    state: &State<C>,
+    part: &C,
+    free: &C,
+) -> Result<bool, AllocError>
+    requires places { length state.now.least.items ≡ length ordered.now.order }
+    requires below { (x : ℕ) → C.test part.now x ≡ true → x < length ordered.now.order }
+    ensures { IfOk
+        result
+        (λ small. IsTrue small
+        → IsTooSmall (problem_at ordered.now) (state_of C.test state.now) (C.test free.now) (places_of (length ordered.now.order) (C.test part.now))) }
+{
+    let _places = ordered.places();
+    let kept = part.copy(alloc)?.minus(free);
+    let Some(_place) = kept.next(0) else {
+        return Ok(false);
+    };
+    let problem = ordered.problem();
+    if people_in(ordered, part) < problem.district_bounds(1).0 {
+        return Ok(true);
+    }
+    Ok(asks_more(state, &kept, part.size()))
+}
+
+/// Whether the set has no free place and can't be filled, or has another place and is too small for it.
+fn is_stranded<C: CountySet>(
+    alloc: Global,
+    ordered: &Ordered,
+    state: &State<C>,
+    part: &C,
+    free: &C,
+) -> Result<bool, AllocError>
+    requires places { length state.now.least.items ≡ length ordered.now.order }
+    requires below { (x : ℕ) → C.test part.now x ≡ true → x < length ordered.now.order }
+    ensures { IfOk
+        result
+        (λ found. IsTrue found
+        → IsStranded (problem_at ordered.now) (state_of C.test state.now) (C.test free.now) (places_of (length ordered.now.order) (C.test part.now))) }
+{
+    if !part.meets(free) {
+        return Ok(is_stuck(ordered, state, part));
+    }
+    is_too_small(alloc, ordered, state, part, free)
+}
+
+/// Whether some connected part of the region is stranded.
+fn has_stranded_part<C: CountySet>(
+    alloc: Global,
+    ordered: &Ordered,
+    near: &[C],
+    state: &State<C>,
+    region: C,
+    free: &C,
+) -> Result<bool, AllocError>
+    requires fits { length ordered.now.order ≤ C.PLACES }
+    requires rows { AreRows C C.test (problem_at ordered.now) (length ordered.now.order) near.now }
+    requires places { length state.now.least.items ≡ length ordered.now.order }
+    requires below { (x : ℕ) → C.test region x ≡ true → x < length ordered.now.order }
+    ensures { IfOk result (λ found. IsTrue found
+        → StrandedPart (problem_at ordered.now) (state_of C.test state.now) (C.test region) (C.test free.now)) }
+{
+    let mut rest = region;
+    while let Some(place) = rest.next(0) {
+        let (part, left) = part_around(alloc, ordered, near, &rest, place)?;
+        let stranded = is_stranded(alloc, ordered, state, &part, free)?;
+        if stranded {
+            return Ok(true);
+        }
+        rest = left;
+    }
+    Ok(false)
+}
+
+/// Whether each group that has all of the set, else only free places, leaves a part behind that can't be filled:
+/// one that no free place can reach, or one in a part of what the set leaves that is too small for a place that is not
+/// free. In a plain language no group is left out for that.
+///
+/// # Errors
+///
+/// Where memory was refused.
+pub fn strands<C: CountySet>(
+    alloc: Global,
+    ordered: &Ordered,
+    near: &[C],
+    language: Language,
+    state: &State<C>,
+    set: &C,
+    free: &C,
+) -> Result<bool, AllocError>
+    requires fits { length ordered.now.order ≤ C.PLACES }
+    requires rows { AreRows C C.test (problem_at ordered.now) (length ordered.now.order) near.now }
+    requires places { length state.now.least.items ≡ length ordered.now.order }
+    requires below { (x : ℕ) → C.test state.now.rest x ≡ true → x < length ordered.now.order }
+    ensures { IfOk
+        result
+        (λ none. IsTrue none
+        → (limit : ℕ)
+        → NoneFits language (problem_at ordered.now) (length ordered.now.order) limit (state_of C.test state.now) (C.test set.now) (C.test free.now)) }
+{
+    match language {
+        Language::Plain => Ok(false),
+        Language::Wide => {
+            let left = state.rest.copy(alloc)?.minus(set);
+            has_stranded_part(alloc, ordered, near, state, left, free)
+        }
+    }
+}
+
+/// Whether a group of the rest is live: no connected part of the rest without it is stuck.
+pub fn is_live<C: CountySet>(
+    alloc: Global,
+    ordered: &Ordered,
+    near: &[C],
+    state: &State<C>,
+    group: &C,
+) -> Result<bool, AllocError>
+    requires fits { length ordered.now.order ≤ C.PLACES }
+    requires rows { AreRows C C.test (problem_at ordered.now) (length ordered.now.order) near.now }
+    requires places { length state.now.least.items ≡ length ordered.now.order }
+    requires below { (x : ℕ) → C.test state.now.rest x ≡ true → x < length ordered.now.order }
+    ensures { IfOk
+        result
+        (λ live. IsTrue live
+        ↔ IsLive (problem_at ordered.now) (state_of C.test state.now) (places_of (length ordered.now.order) (C.test group.now))) }
+{
+    let left = state.rest.copy(alloc)?.minus(group);
+    let none = C::empty(alloc)?;
+    let stuck = has_stuck_part(alloc, ordered, near, state, left, &none)?;
+    Ok(!stuck)
+}
+
+/// Whether a stuck leaf that names the county at the place, one of the rest, is valid: the connected part of the
+/// rest around it is stuck.
+pub fn is_stuck_at<C: CountySet>(
+    alloc: Global,
+    ordered: &Ordered,
+    near: &[C],
+    state: &State<C>,
+    place: u16,
+) -> Result<bool, AllocError>
+    requires fits { length ordered.now.order ≤ C.PLACES }
+    requires rows { AreRows C C.test (problem_at ordered.now) (length ordered.now.order) near.now }
+    requires places { length state.now.least.items ≡ length ordered.now.order }
+    requires below { (x : ℕ) → C.test state.now.rest x ≡ true → x < length ordered.now.order }
+    requires there { C.test state.now.rest place ≡ true }
+    ensures { IfOk result (λ stuck. IsTrue stuck ↔ IsStuck (problem_at ordered.now) (state_of C.test state.now) place) }
+{
+    let (part, _left) = part_around(alloc, ordered, near, &state.rest, place)?;
+    Ok(is_stuck(ordered, state, &part))
+}

@@ -1,0 +1,70 @@
+//! The tables that are made once before sets grow: places by people, windows of seats, and the people of the rest.
+
+ghost use Rattle.std.specs.Prelude.{◌≡◌, ℕ, true, ◌<◌, ◌≤◌, length, IfOk};
+ghost use Rattle.place_laws.specs.PlaceSets.{places_of};
+ghost use Rattle.county_problem.specs.OrderedValue.{problem_at};
+ghost use Rattle.state_groups.specs.People.{AreTables, IsDivided};
+
+use crate::people::places_by_people;
+use crate::state::State;
+use crate::sums::people_in;
+use crate::windows::seat_windows;
+use certificate_data::Language;
+use county_problem::Ordered;
+use place_sets::CountySet;
+use std::alloc::{AllocError, Global};
+
+/// What is made once for a state and a region of its rest.
+#[derive(Drop)]
+pub(crate) struct Tables {
+    /// The places of the region, each with its people, the fewest people first.
+    pub(crate) by_people: Vec<(u32, u16)>,
+    /// For each number of seats the least and the greatest number of people that suit it.
+    pub(crate) windows: Vec<(u64, u64)>,
+    /// The people of the rest, if what a group that fits leaves of them has to suit some number of seats.
+    pub(crate) rest_people: Option<u64>,
+}
+
+/// The people of the rest, if the language is wide and no group of at most `limit` counties has all of the rest.
+fn divided_people<C: CountySet>(
+    ordered: &Ordered,
+    language: Language,
+    state: &State<C>,
+    limit: u16,
+) -> Option<u64>
+    requires { (x : ℕ) → C.test state.now.rest x ≡ true → x < length ordered.now.order }
+    ensures { IsDivided language (problem_at ordered.now) (length ordered.now.order) limit (C.test state.now.rest) result }
+{
+    match language {
+        Language::Plain => None,
+        Language::Wide => {
+            if state.rest.size() <= u32::from(limit) {
+                return None;
+            }
+            Some(people_in(ordered, &state.rest))
+        }
+    }
+}
+
+/// The tables for a state and a region of its rest.
+pub(crate) fn make_tables<C: CountySet>(
+    alloc: Global,
+    ordered: &Ordered,
+    language: Language,
+    state: &State<C>,
+    region: &C,
+    limit: u16,
+) -> Result<Tables, AllocError>
+    requires fits { length ordered.now.order ≤ C.PLACES }
+    requires rest { (x : ℕ) → C.test state.now.rest x ≡ true → x < length ordered.now.order }
+    requires below { (x : ℕ) → C.test region.now x ≡ true → x < length ordered.now.order }
+    ensures { IfOk
+        result
+        (λ t. AreTables language (problem_at ordered.now) (length ordered.now.order) limit (C.test state.now.rest) (C.test region.now) t) }
+{
+    Ok(Tables {
+        by_people: places_by_people(alloc, ordered, region)?,
+        windows: seat_windows(alloc, ordered, people_in(ordered, &state.rest))?,
+        rest_people: divided_people(ordered, language, state, limit),
+    })
+}

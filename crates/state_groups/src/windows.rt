@@ -1,0 +1,76 @@
+//! The windows of people for each number of seats, and the tests whether some people may suit one.
+
+ghost use Rattle.std.specs.Prelude.{◌≡◌, ℕ, true, ◌-◌, ◌<◌, ◌≤◌, IsTrue, IfOk};
+ghost use Rattle.county_problem.specs.OrderedValue.{problem_at};
+ghost use Rattle.state_groups.specs.People.{HasSeatWindow, AreWindows};
+
+use county_problem::Ordered;
+use std::alloc::{AllocError, Global};
+
+/// The least and the greatest number of people that suit a number of seats, for each number that at most so many
+/// people may suit.
+pub(crate) fn seat_windows(
+    alloc: Global,
+    ordered: &Ordered,
+    people: u64,
+) -> Result<Vec<(u64, u64)>, AllocError>
+    requires { people ≤ ordered.now.problem.total_people }
+    ensures { IfOk result (λ v. AreWindows (problem_at ordered.now) people v.items) }
+{
+    let _places = ordered.places();
+    let problem = ordered.problem();
+    let _window = problem.window();
+    let _chamber = problem.chamber();
+    let mut windows = Vec::new(alloc);
+    for seats in 1..2001 {
+        let window = problem.district_bounds(seats);
+        if window.0 > people {
+            return Ok(windows);
+        }
+        windows.push(window)?;
+    }
+    Ok(windows)
+}
+
+/// Whether some window has a number of people from the least to the greatest.
+pub(crate) fn may_suit(windows: &[(u64, u64)], least: u64, greatest: u64) -> bool
+    ensures { (people : ℕ) → least ≤ people → people ≤ greatest → HasSeatWindow windows.now people → IsTrue result }
+{
+    windows
+        .iter()
+        .any(|window| window.0 <= greatest && least <= window.1)
+}
+
+/// Whether a window has a number of people from the least to the greatest, and some window what that leaves of all
+/// people.
+fn divides(windows: &[(u64, u64)], window: (u64, u64), all: u64, least: u64, greatest: u64) -> bool
+    ensures { (people : ℕ)
+        → least ≤ people
+        → people ≤ greatest
+        → window.0 ≤ people
+        → people ≤ window.1
+        → HasSeatWindow windows.now (all - people)
+        → IsTrue result }
+{
+    let low = least.max(window.0);
+    let high = greatest.min(window.1);
+    low <= high && may_suit(windows, all.saturating_sub(high), all.saturating_sub(low))
+}
+
+/// Whether some window has a number of people from the least to the greatest, and some window what that leaves of
+/// all people.
+pub(crate) fn may_divide(windows: &[(u64, u64)], all: u64, least: u64, greatest: u64) -> bool
+    ensures { (people : ℕ)
+        → least ≤ people
+        → people ≤ greatest
+        → HasSeatWindow windows.now people
+        → HasSeatWindow windows.now (all - people)
+        → IsTrue result }
+{
+    for window in windows {
+        if divides(windows, *window, all, least, greatest) {
+            return true;
+        }
+    }
+    false
+}

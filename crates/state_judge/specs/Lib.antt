@@ -1,0 +1,5 @@
+pub mod Placed
+pub mod CheckFaults
+pub mod LineStops
+pub mod Weights
+pub mod Allowed

@@ -1,0 +1,196 @@
+//! The verdict on a line of a bound leaf: how many groups of one size the line allows.
+
+ghost use Rattle.std.specs.Prelude.{◌≡◌, ℕ, ◌+◌, ◌-◌, ◌*◌, ◌/◌, ◌<◌, ◌≤◌, min, length, IfOk, IsErrOf, MatchResult};
+ghost use Rattle.county_codes.specs.Limits.{most_counties};
+ghost use Rattle.grouping_laws.specs.Grouping.{counts};
+ghost use Rattle.county_problem.specs.ProblemValue.{problem_of};
+ghost use Rattle.county_problem.specs.OrderedValue.{problem_at};
+ghost use Rattle.connected_sets.specs.Rows.{AreRows};
+ghost use Rattle.certificate_data.specs.RoundValue.{round_of};
+ghost use Rattle.certificate_laws.specs.BoundLines.{room_at, allowance, IsFair};
+ghost use Rattle.certificate_data.specs.TreeValue.{allowance_of};
+ghost use Rattle.checker_laws.specs.Leaves.{IsAllowanceFault};
+ghost use Rattle.checker_laws.specs.Cost.{LineLooks};
+ghost use Rattle.state_judge.specs.Placed.{state_at, IsPlaced};
+ghost use Rattle.state_judge.specs.LineStops.{StopsAt};
+ghost use Rattle.state_judge.specs.declared.fault.LineStop.{LineStop};
+ghost use Rattle.state_judge.specs.Weights.{IsUnfair};
+ghost use Rattle.state_judge.specs.Allowed.{AllowanceIsSpelled, IsAllowed};
+
+use crate::fault::{CheckFault, LineStop};
+use crate::judging::judge_weights;
+use certificate_data::{Allowance, Round};
+use county_problem::{Ordered, Steps};
+use place_sets::CountySet;
+use state_groups::{State, room};
+use std::alloc::{AllocError, Global};
+
+/// What a line of a bound leaf allows, beside the closed groups, against the target's groups of that size.
+#[derive(Clone, Copy, Debug, PartialEq, Eq)]
+pub enum Allowed {
+    /// Fewer groups than the target has: the lines behind count for nothing.
+    Loss,
+    /// As many, and so many counties are used up by groups of this size or a smaller one.
+    Even(u32),
+}
+
+/// How many counties are open to a group of a size, in counties, less those that smaller groups use up; 0 where that
+/// is more. An error comes where memory was refused.
+pub fn room_left<C: CountySet>(
+    alloc: Global,
+    ordered: &Ordered,
+    state: &State<C>,
+    size: u16,
+    used: u32,
+) -> Result<u32, AllocError>
+    requires fits { length ordered.now.order ≤ C.PLACES }
+    requires placed { IsPlaced (length ordered.now.order) C.test state.now }
+    ensures value { IfOk result (λ left. left
+        ≡ room_at (problem_of ordered.now.problem) (state_at ordered.now.order C.test state.now) size used) }
+    ensures few { IfOk result (λ left. left ≤ most_counties - used) }
+{
+    let _places = ordered.places();
+    let _problem = ordered.problem();
+    room(alloc, ordered, state, size, used)
+}
+
+/// How many closed groups have so many counties.
+pub fn closed_of_size<C: CountySet>(ordered: &Ordered, state: &State<C>, size: u16) -> u32
+    requires placed { IsPlaced (length ordered.now.order) C.test state.now }
+    ensures value { result ≡ counts (state_at ordered.now.order C.test state.now).closed size }
+    ensures few { result ≤ most_counties }
+{
+    let _places = ordered.places();
+    let mut count = 0;
+    for group in &state.closed {
+        if group.size() == u32::from(size) {
+            count += 1;
+        }
+    }
+    count
+}
+
+/// The groups that share a weight, each at least the quota, but no more than that many.
+fn shared(most: u32, weight: u64, quota: u32) -> u32
+    requires { 1 ≤ quota }
+    ensures { result ≡ min most (weight / quota) }
+{
+    u64::from(most).min(weight / u64::from(quota)) as u32
+}
+
+/// How many groups of a size, in counties, the line allows, where smaller groups use up so many counties.
+fn fair_allowance<C: CountySet>(
+    alloc: Global,
+    ordered: &Ordered,
+    near: &[C],
+    round: &Round,
+    state: &State<C>,
+    size: u16,
+    used: u32,
+    line: &Allowance,
+    steps: &mut Steps,
+) -> Result<u32, LineStop>
+    requires fits { length ordered.now.order ≤ C.PLACES }
+    requires rows { AreRows C C.test (problem_at ordered.now) (length ordered.now.order) near.now }
+    requires placed { IsPlaced (length ordered.now.order) C.test state.now }
+    requires order { ordered.now.order ≡ round.now.order }
+    requires size { 1 ≤ size }
+    requires used { used ≤ most_counties }
+    ensures line { MatchResult
+        result
+        (λ allowed. IsFair round.now.language (problem_of ordered.now.problem) (state_at ordered.now.order C.test state.now) size (allowance_of line.now)
+        × (allowed
+        ≡ allowance (problem_of ordered.now.problem) (state_at ordered.now.order C.test state.now) size used (allowance_of line.now)))
+        (λ stop. StopsAt
+        stop
+        (IsUnfair round.now.language (problem_of ordered.now.problem) (state_at ordered.now.order C.test state.now) size (allowance_of line.now))
+        (AllowanceIsSpelled line.now → ⊥)) }
+    ensures few { IfOk result (λ allowed. (allowed ≤ most_counties) × (used + size * allowed ≤ most_counties)) }
+    ensures steps { (m : ℕ)
+        → LineLooks (allowance_of line.now) (problem_of ordered.now.problem) (round_of round.now) (state_at ordered.now.order C.test state.now) size m
+        → steps.new.used ≤ steps.old.used + m }
+    ensures limit { steps.new.limit ≡ steps.old.limit }
+    ensures more { steps.old.used ≤ steps.new.used }
+    ensures stopped { IsErrOf result LineStop.StepLimit → steps.new.used ≡ steps.new.limit }
+{
+    let most = room_left(alloc, ordered, state, size, used)? / u32::from(size);
+    match line {
+        Allowance::Room => Ok(most),
+        Allowance::Weigh { quota, weights } => {
+            let weight = judge_weights(
+                alloc,
+                ordered,
+                near,
+                round,
+                state,
+                size,
+                *quota,
+                weights.as_slice(),
+                steps,
+            )?;
+            Ok(shared(most, weight, *quota))
+        }
+    }
+}
+
+/// Judges the line of a bound leaf for a size, in counties, where the target has so many groups of this size and
+/// smaller groups use up so many counties, at most 256.
+///
+/// `near` are the rows of the order (`neighbour_rows`). A step is taken for each set that is split.
+///
+/// # Errors
+///
+/// `Unspelled` where the quota is 0 or the codes of the weights don't ascend. Else the first fault of
+/// `WrongCounty` (a weight of no county of the problem), `LightGroup` (a group of this size that fits weighs less
+/// than the quota) and `BoundOver` (more groups are allowed than the target has). `StepLimit` where no step was
+/// left, `Memory` where memory was refused.
+pub fn judge_allowance<C: CountySet>(
+    alloc: Global,
+    ordered: &Ordered,
+    near: &[C],
+    round: &Round,
+    state: &State<C>,
+    size: u16,
+    wanted: u16,
+    used: u32,
+    line: &Allowance,
+    steps: &mut Steps,
+) -> Result<Allowed, LineStop>
+    requires fits { length ordered.now.order ≤ C.PLACES }
+    requires rows { AreRows C C.test (problem_at ordered.now) (length ordered.now.order) near.now }
+    requires placed { IsPlaced (length ordered.now.order) C.test state.now }
+    requires order { ordered.now.order ≡ round.now.order }
+    requires size { 1 ≤ size }
+    requires used { used ≤ most_counties }
+    ensures line { (counts : ℕ → ℕ)
+        → counts size ≡ wanted
+        → MatchResult
+        result
+        (IsAllowed round.now.language (problem_of ordered.now.problem) (state_at ordered.now.order C.test state.now) counts size used (allowance_of line.now))
+        (λ stop. StopsAt
+        stop
+        (IsAllowanceFault round.now.language (problem_of ordered.now.problem) (state_at ordered.now.order C.test state.now) counts size used (allowance_of line.now))
+        (AllowanceIsSpelled line.now → ⊥)) }
+    ensures steps { IfOk
+        result
+        (λ _. (m : ℕ)
+        → LineLooks (allowance_of line.now) (problem_of ordered.now.problem) (round_of round.now) (state_at ordered.now.order C.test state.now) size m
+        → steps.new.used ≤ steps.old.used + 2 * m) }
+    ensures limit { steps.new.limit ≡ steps.old.limit }
+    ensures more { steps.old.used ≤ steps.new.used }
+    ensures stopped { IsErrOf result LineStop.StepLimit
+        → (m : ℕ)
+        → LineLooks (allowance_of line.now) (problem_of ordered.now.problem) (round_of round.now) (state_at ordered.now.order C.test state.now) size m
+        → steps.old.limit ≤ steps.old.used + 2 * m }
+{
+    let allowance = fair_allowance(alloc, ordered, near, round, state, size, used, line, steps)?;
+    let all = closed_of_size(ordered, state, size) + allowance;
+    let wanted = u32::from(wanted);
+    if all > wanted {
+        return Err(LineStop::Fault(CheckFault::BoundOver));
+    }
+    if all < wanted {
+        return Ok(Allowed::Loss);
+    }
+    Ok(Allowed::Even(used + u32::from(size) * allowance))
+}

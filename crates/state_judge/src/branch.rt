@@ -1,0 +1,250 @@
+//! The verdict on the line of a branch, with the groups that it must take, and on the line of a take.
+
+ghost use Rattle.std.specs.Prelude.{◌≡◌, ℕ, ◌+◌, ◌*◌, ◌<◌, ◌≤◌, true, length, All, Contains, IfOk, IsErrOf, IsTrue};
+ghost use Rattle.std.specs.Prelude.{MatchOption, MatchResult, ◌↔◌};
+ghost use Rattle.county_problem.specs.ProblemValue.{problem_of};
+ghost use Rattle.county_problem.specs.OrderedValue.{problem_at, code_at};
+ghost use Rattle.connected_sets.specs.Rows.{AreRows};
+ghost use Rattle.connected_laws.specs.Listing.{AreBelow};
+ghost use Rattle.certificate_data.specs.declared.language.Language.TheVariants.{Plain};
+ghost use Rattle.certificate_data.specs.RoundValue.{round_of};
+ghost use Rattle.certificate_laws.specs.Groups.{AreGroupsAt, IsSetAt};
+ghost use Rattle.certificate_laws.specs.Proving.{limit_of, NamesLimit, CanBranch};
+ghost use Rattle.checker_laws.specs.Branches.{IsBranchFault, IsNextTake, IsTakeFault};
+ghost use Rattle.checker_laws.specs.Cost.{AreSoMany};
+ghost use Rattle.state_judge.specs.Placed.{state_at, codes_of_set, codes_of_sets, IsPlaced, IsClosable};
+ghost use Rattle.state_judge.specs.CheckFaults.{NamesFault};
+ghost use Rattle.state_judge.specs.LineStops.{StopsAt};
+ghost use Rattle.state_judge.specs.declared.fault.LineStop.{LineStop};
+
+use crate::fault::{CheckFault, LineStop};
+use certificate_data::{Language, Round};
+use county_codes::CountyCode;
+use county_problem::{Ordered, Steps};
+use place_sets::CountySet;
+use state_groups::{State, groups_at, open_places};
+use std::alloc::Global;
+
+/// A branch that can stand: the place of its county, its limit, and the groups that its takes have to be, in their
+/// order.
+#[derive(Debug, Drop)]
+pub struct Branching<C> {
+    /// The place of the county.
+    pub place: u16,
+    /// The greatest size of a group that is taken, in counties.
+    pub limit: u16,
+    /// The groups that fit, have the county and are within the limit, by size and then by places.
+    pub groups: Vec<C>,
+}
+
+/// The limit of a branch that names this one: the round's in a plain round, its own in a wide one. `None` where a
+/// plain branch names a limit, or a wide one none.
+fn limit_for(round: &Round, named: Option<u16>) -> Option<u16>
+    ensures { MatchOption
+        result
+        (NamesLimit round.now.language named → ⊥)
+        (λ limit. NamesLimit round.now.language named × (limit ≡ limit_of (round_of round.now) named)
+        × (round.now.language ≡ Plain → limit ≡ round.now.limit)) }
+{
+    match (round.language, named) {
+        (Language::Plain, None) => Some(round.limit),
+        (Language::Wide, Some(limit)) => Some(limit),
+        _ => None,
+    }
+}
+
+/// The place of the county at which a branch of the limit can stand.
+///
+/// # Errors
+///
+/// The fault `NoLeaf` where no county is open to a group within the limit, `WrongCounty` where the branch can't be
+/// at the county; `Memory` where memory was refused.
+fn branch_place<C: CountySet>(
+    alloc: Global,
+    ordered: &Ordered,
+    round: &Round,
+    state: &State<C>,
+    county: CountyCode,
+    limit: u16,
+) -> Result<u16, LineStop>
+    requires fits { length ordered.now.order ≤ C.PLACES }
+    requires placed { IsPlaced (length ordered.now.order) C.test state.now }
+    requires order { ordered.now.order ≡ round.now.order }
+    requires limit { round.now.language ≡ Plain → limit ≡ round.now.limit }
+    ensures branch { MatchResult
+        result
+        (λ place. CanBranch (round_of round.now) (state_at ordered.now.order C.test state.now) county limit)
+        (λ stop. StopsAt stop (IsBranchFault (round_of round.now) (state_at ordered.now.order C.test state.now) county limit) ⊥) }
+    ensures place { IfOk result (λ place. (place < length ordered.now.order)
+        × (code_at ordered.now.order place ≡ county)) }
+    ensures no_steps { IsErrOf result LineStop.StepLimit → ⊥ }
+{
+    let _places = ordered.places();
+    let open = open_places(alloc, state, limit)?;
+    let Some(first) = open.next(0) else {
+        return Err(LineStop::Fault(CheckFault::NoLeaf));
+    };
+    if limit > round.limit {
+        return Err(LineStop::Fault(CheckFault::WrongCounty));
+    }
+    let Some(place) = ordered.place_of(county) else {
+        return Err(LineStop::Fault(CheckFault::WrongCounty));
+    };
+    if !open.has(place) {
+        return Err(LineStop::Fault(CheckFault::WrongCounty));
+    }
+    match round.language {
+        Language::Wide => Ok(place),
+        Language::Plain => {
+            if place != first {
+                return Err(LineStop::Fault(CheckFault::WrongCounty));
+            }
+            Ok(place)
+        }
+    }
+}
+
+/// Judges the line of a branch at a county, with a limit of its own in a wide round, and lists its groups.
+///
+/// `near` are the rows of the order (`neighbour_rows`). A step is taken for each set that is split.
+///
+/// # Errors
+///
+/// `Unspelled` where a plain branch names a limit or a wide one none. Else the fault `NoLeaf` where no county is
+/// open to a group within the limit, `WrongCounty` where the branch can't be at the county. `StepLimit` where no
+/// step was left, `Memory` where memory was refused.
+pub fn judge_branch<C: CountySet>(
+    alloc: Global,
+    ordered: &Ordered,
+    near: &[C],
+    round: &Round,
+    state: &State<C>,
+    county: CountyCode,
+    limit: Option<u16>,
+    steps: &mut Steps,
+) -> Result<Branching<C>, LineStop>
+    requires fits { length ordered.now.order ≤ C.PLACES }
+    requires rows { AreRows C C.test (problem_at ordered.now) (length ordered.now.order) near.now }
+    requires placed { IsPlaced (length ordered.now.order) C.test state.now }
+    requires order { ordered.now.order ≡ round.now.order }
+    ensures branch { MatchResult
+        result
+        (λ b. NamesLimit round.now.language limit
+        × CanBranch (round_of round.now) (state_at ordered.now.order C.test state.now) county (limit_of (round_of round.now) limit)
+        × AreGroupsAt
+        (problem_of ordered.now.problem)
+        (round_of round.now)
+        (state_at ordered.now.order C.test state.now)
+        county
+        (limit_of (round_of round.now) limit)
+        (codes_of_sets ordered.now.order C.test b.groups.items))
+        (λ stop. StopsAt
+        stop
+        (IsBranchFault (round_of round.now) (state_at ordered.now.order C.test state.now) county (limit_of (round_of round.now) limit))
+        (NamesLimit round.now.language limit → ⊥)) }
+    ensures place { IfOk result (λ b. (b.place < length ordered.now.order)
+        × (code_at ordered.now.order b.place ≡ county)) }
+    ensures size { IfOk result (λ b. b.limit ≡ limit_of (round_of round.now) limit) }
+    ensures groups { IfOk result (λ b. All (IsClosable C.test state.now) b.groups.items) }
+    ensures steps { IfOk
+        result
+        (λ b. (m : ℕ)
+        → AreSoMany ordered.now.order (IsSetAt (problem_of ordered.now.problem) ordered.now.order (state_at ordered.now.order C.test state.now) county (limit_of (round_of round.now) limit)) m
+        → steps.new.used ≤ steps.old.used + 2 * m) }
+    ensures limit { steps.new.limit ≡ steps.old.limit }
+    ensures more { steps.old.used ≤ steps.new.used }
+    ensures stopped { IsErrOf result LineStop.StepLimit
+        → NamesLimit round.now.language limit
+        × CanBranch (round_of round.now) (state_at ordered.now.order C.test state.now) county (limit_of (round_of round.now) limit)
+        × ((m : ℕ)
+        → AreSoMany ordered.now.order (IsSetAt (problem_of ordered.now.problem) ordered.now.order (state_at ordered.now.order C.test state.now) county (limit_of (round_of round.now) limit)) m
+        → steps.old.limit ≤ steps.old.used + 2 * m) }
+{
+    let _places = ordered.places();
+    let Some(limit) = limit_for(round, limit) else {
+        return Err(LineStop::Unspelled);
+    };
+    let place = branch_place(alloc, ordered, round, state, county, limit)?;
+    if limit == 0 {
+        return Ok(Branching {
+            place,
+            limit,
+            groups: Vec::new(alloc),
+        });
+    }
+    let groups = groups_at(
+        alloc,
+        ordered,
+        near,
+        round.language,
+        state,
+        place,
+        limit,
+        steps,
+    )?;
+    Ok(Branching {
+        place,
+        limit,
+        groups,
+    })
+}
+
+/// Whether the set has these codes, in the order of its places.
+fn has_codes<C: CountySet>(ordered: &Ordered, set: &C, codes: &[CountyCode]) -> bool
+    requires { (x : ℕ) → C.test set.now x ≡ true → x < length ordered.now.order }
+    ensures { IsTrue result ↔ (codes_of_set ordered.now.order C.test set.now ≡ codes.now) }
+{
+    let _places = ordered.places();
+    let mut from = 0;
+    for code in codes {
+        let Some(place) = set.next(from) else {
+            return false;
+        };
+        if ordered.code(place) != *code {
+            return false;
+        }
+        from = u32::from(place) + 1;
+    }
+    set.next(from).is_none()
+}
+
+/// Whether one of the sets has these codes.
+fn is_listed<C: CountySet>(ordered: &Ordered, sets: &[C], codes: &[CountyCode]) -> bool
+    requires { AreBelow (length ordered.now.order) C.test sets.now }
+    ensures { IsTrue result ↔ Contains (codes_of_sets ordered.now.order C.test sets.now) codes.now }
+{
+    for set in sets {
+        if has_codes(ordered, set, codes) {
+            return true;
+        }
+    }
+    false
+}
+
+/// Judges the line of a take: the first of these groups has to have these codes, in the order of places.
+///
+/// # Errors
+///
+/// The fault `MissingGroup` where a later group has them, and else `StrayGroup`.
+pub fn judge_take<C: CountySet>(
+    ordered: &Ordered,
+    groups: &[C],
+    codes: &[CountyCode],
+) -> Result<(), CheckFault>
+    requires fits { length ordered.now.order ≤ C.PLACES }
+    requires below { AreBelow (length ordered.now.order) C.test groups.now }
+    ensures { MatchResult
+        result
+        (λ _. IsNextTake (codes_of_sets ordered.now.order C.test groups.now) codes.now)
+        (λ fault. NamesFault fault (IsTakeFault (codes_of_sets ordered.now.order C.test groups.now) codes.now)) }
+{
+    if let Some(first) = groups.first() {
+        if has_codes(ordered, first, codes) {
+            return Ok(());
+        }
+    }
+    if is_listed(ordered, groups, codes) {
+        return Err(CheckFault::MissingGroup);
+    }
+    Err(CheckFault::StrayGroup)
+}

@@ -1,0 +1,21 @@
+//! What one line of a certificate is worth at a state: fine, or its fault.
+//!
+//! The lines are those of a stuck leaf, a seats leaf, a branch, a take and a bound leaf. A line of a bound leaf allows
+//! fewer groups than the target has, or as many, or is at fault. Any bound goes by the room for groups of a size and by
+//! the closed groups of that size, which are counted here. A state is told by the places of an order, and what is said
+//! of it by codes. Any form of sets of places serves.
+#![tactic(auto)]
+
+mod bound;
+mod branch;
+mod fault;
+mod judging;
+mod leaf;
+mod states;
+mod weights;
+
+pub use bound::{Allowed, closed_of_size, judge_allowance, room_left};
+pub use branch::{Branching, judge_branch, judge_take};
+pub use fault::{CheckFault, LineStop};
+pub use leaf::{judge_seats, judge_stuck};
+pub use states::{closed_state, copied_state, first_state, raise_place};

@@ -1,0 +1,98 @@
+//! The states of a tree by places: the first one, and those after a group is closed or a county raised.
+
+ghost use Rattle.std.specs.Prelude.{◌≡◌, ℕ, ◌<◌, ◌≤◌, cond, length, get_or, IfOk};
+ghost use Rattle.county_problem.specs.ProblemValue.{problem_of};
+ghost use Rattle.county_problem.specs.OrderedValue.{code_at};
+ghost use Rattle.certificate_laws.specs.State.{empty_state, close, raise};
+ghost use Rattle.state_judge.specs.Placed.{state_at, codes_of_set, IsPlaced, IsClosable};
+
+use county_problem::Ordered;
+use place_sets::{CountySet, copy_sets};
+use state_groups::State;
+use std::alloc::{AllocError, Global};
+
+/// Sets the sizes at a set's places to 0.
+fn clear_sizes<C: CountySet>(least: &mut Vec<u16>, set: &C)
+    requires fits { length least.old.items ≤ C.PLACES }
+    requires few { length least.old.items < 65536 }
+    ensures count { length least.new.items ≡ length least.old.items }
+    ensures sizes { (x : ℕ) → x < length least.old.items
+        → get_or least.new.items x 0 ≡ cond (C.test set.now x) 0 (get_or least.old.items x 0) }
+{
+    for place in 0..least.len() {
+        if set.has(place as u16) {
+            least[place] = 0;
+        }
+    }
+}
+
+/// The state at which a certificate begins: no group is closed, and nothing is asked of a county. An error comes
+/// where memory was refused.
+pub fn first_state<C: CountySet>(alloc: Global, ordered: &Ordered) -> Result<State<C>, AllocError>
+    requires fits { length ordered.now.order ≤ C.PLACES }
+    ensures value { IfOk result (λ s. state_at ordered.now.order C.test s
+        ≡ empty_state (problem_of ordered.now.problem)) }
+    ensures placed { IfOk result (λ s. IsPlaced (length ordered.now.order) C.test s) }
+{
+    let _places = ordered.places();
+    State::empty(alloc, ordered)
+}
+
+/// The state where one more group of the rest is closed; the old one stays. An error comes where memory was
+/// refused.
+pub fn closed_state<C: CountySet>(
+    alloc: Global,
+    ordered: &Ordered,
+    state: &State<C>,
+    group: &C,
+) -> Result<State<C>, AllocError>
+    requires fits { length ordered.now.order ≤ C.PLACES }
+    requires placed { IsPlaced (length ordered.now.order) C.test state.now }
+    requires group { IsClosable C.test state.now group.now }
+    ensures value { IfOk result (λ s. state_at ordered.now.order C.test s
+        ≡ close (codes_of_set ordered.now.order C.test group.now) (state_at ordered.now.order C.test state.now)) }
+    ensures placed { IfOk result (λ s. IsPlaced (length ordered.now.order) C.test s) }
+{
+    let _places = ordered.places();
+    let mut closed = copy_sets(alloc, &state.closed)?;
+    closed.push(group.copy(alloc)?)?;
+    let rest = state.rest.copy(alloc)?.minus(group);
+    let mut least = state.least.clone()?;
+    clear_sizes(&mut least, group);
+    Ok(State {
+        closed,
+        rest,
+        least,
+    })
+}
+
+/// An equal state, or an error where memory was refused.
+pub fn copied_state<C: CountySet>(
+    alloc: Global,
+    ordered: &Ordered,
+    state: &State<C>,
+) -> Result<State<C>, AllocError>
+    requires placed { IsPlaced (length ordered.now.order) C.test state.now }
+    ensures value { IfOk result (λ s. state_at ordered.now.order C.test s
+        ≡ state_at ordered.now.order C.test state.now) }
+    ensures placed { IfOk result (λ s. IsPlaced (length ordered.now.order) C.test s) }
+{
+    Ok(State {
+        closed: copy_sets(alloc, &state.closed)?,
+        rest: state.rest.copy(alloc)?,
+        least: state.least.clone()?,
+    })
+}
+
+/// Raises the county at the place past a limit: from now on it lies in a group of more counties than that.
+pub fn raise_place<C: CountySet>(ordered: &Ordered, state: &mut State<C>, place: u16, limit: u16)
+    requires placed { IsPlaced (length ordered.now.order) C.test state.old }
+    requires place { place < length ordered.now.order }
+    requires limit { limit < 65535 }
+    ensures value { state_at ordered.now.order C.test state.new
+        ≡ raise (code_at ordered.now.order place) limit (state_at ordered.now.order C.test state.old) }
+    ensures placed { IsPlaced (length ordered.now.order) C.test state.new }
+{
+    let _places = ordered.places();
+    state.least[usize::from(place)] = limit + 1;
+}

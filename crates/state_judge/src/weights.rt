@@ -1,0 +1,57 @@
+//! The weights of a line, by county: whether a text may spell them, and what each county weighs.
+
+ghost use Rattle.std.specs.Prelude.{◌≡◌, ◌≤◌, true, map, IfOk, IsTrue, ◌↔◌};
+ghost use Rattle.std.specs.List.{list_all};
+ghost use Rattle.grouping_laws.specs.Sets.{member};
+ghost use Rattle.certificate_lines.specs.Lines.{ascend};
+ghost use Rattle.state_judge.specs.Weights.{county_weight};
+
+use certificate_data::Weight;
+use certificate_lines::ascend;
+use county_codes::{CountyCode, has_code};
+use std::alloc::{AllocError, Global};
+
+/// Whether a text may spell the quota and the weights: the quota is no 0, and the codes ascend.
+pub(crate) fn is_spelled(quota: u32, weights: &[Weight]) -> bool
+    ensures { IsTrue result ↔ ((1 ≤ quota) × (ascend weights.now ≡ true)) }
+{
+    quota > 0 && ascend(weights)
+}
+
+/// Whether each weight is that of one of the codes.
+pub(crate) fn are_known(codes: &[CountyCode], weights: &[Weight]) -> bool
+    ensures { result ≡ list_all (λ w. member codes.now w.county) weights.now }
+{
+    weights.iter().all(|weight| has_code(codes, weight.county))
+}
+
+/// The weight of the county with the code, 0 where there is none.
+fn weight_at(weights: &[Weight], code: CountyCode) -> u32
+    requires { ascend weights.now ≡ true }
+    ensures { result ≡ county_weight weights.now code }
+{
+    let mut weights = weights;
+    while let [first, rest @ ..] = weights {
+        if first.county == code {
+            return first.weight;
+        }
+        weights = rest;
+    }
+    0
+}
+
+/// The weight of each code.
+pub(crate) fn weights_at(
+    alloc: Global,
+    codes: &[CountyCode],
+    weights: &[Weight],
+) -> Result<Vec<u32>, AllocError>
+    requires { ascend weights.now ≡ true }
+    ensures { IfOk result (λ v. v.items ≡ map (county_weight weights.now) codes.now) }
+{
+    let mut table = Vec::new(alloc);
+    for code in codes {
+        table.push(weight_at(weights, *code))?;
+    }
+    Ok(table)
+}

@@ -1,5 +1,0 @@
-pub mod SumLemmas
-pub mod StuckLemmas
-pub mod StrandLemmas
-pub mod FitLemmas
-pub mod SeatLemmas

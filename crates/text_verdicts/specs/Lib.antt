@@ -1,3 +1,0 @@
-pub mod TextVerdict
-pub mod TextCost
-pub mod Laws
