@@ -21,16 +21,16 @@
 mod answering;
 mod gap;
 mod laws;
-mod list_laws;
 mod listing;
 mod position;
 mod seating;
 mod shortfall;
 mod sorting;
+mod text_law;
 mod walk;
 
 pub use answering::all_best;
 pub use gap::Gap;
 pub use laws::{gaps_tell, lists_agree};
-pub use list_laws::listings_are_one;
 pub use listing::Listing;
+pub use text_law::listings_are_one;
