@@ -1,6 +1,6 @@
 -- The free places that are adjacent to a set, kept as the set grows.
 use Rattle.std.proofs.Common.{◌≡◌, ℕ, ◌<◌, ◌≤◌, Bool, true, false, ◌||◌, ◌&&◌, not, ◌==◌, length, arith, refl, sym, ap, ◌∙◌, ◌⊎◌, inl, inr, ⊎_elim}
-use Rattle.std.proofs.lemmas.Bool.{false≢true, eqb-true, eq-eqb}
+use Rattle.std.proofs.lemmas.Bool.{and_parts, and_from, false≢true, eqb-true, eq-eqb}
 use Rattle.grouping_laws.specs.Problem.{Problem}
 use Rattle.place_laws.specs.PlaceSets.{places_of}
 use Rattle.connected_laws.specs.Growing.{IsGrowth, IsCandidate, IsWhole, IsMove, IsFront, only}
@@ -12,14 +12,6 @@ or_cases false b e = inr e
 or_second : (a b : Bool) → b ≡ true → (a || b) ≡ true
 or_second true b e = refl
 or_second false b e = e
-
-and_parts : (a b : Bool) → (a && b) ≡ true → (a ≡ true) × (b ≡ true)
-and_parts true b e = (refl, e)
-and_parts false b e = absurd (false≢true e)
-
-and_join : (a b : Bool) → a ≡ true → b ≡ true → (a && b) ≡ true
-and_join true b e f = f
-and_join false b e f = absurd (false≢true e)
 
 -- a place joins: its neighbours come in, and what isn't free any more goes out
 pub grown_front : (p : Problem) (n limit : ℕ) (set free front more less row beside : ℕ → Bool) (c : ℕ) → IsGrowth p n limit set free → free c ≡ true → IsMove set free more less c → IsFront p set free front
@@ -42,7 +34,7 @@ grown_front p n limit set free front more less row beside c h is m f at b = reco
         new k = record { is_free = q.1; from = c; from_set = m.with c ∙ or_second (set c) (c == c) (eq-eqb c c refl); touch = sym (at x (h.free_below x (still x q.1))) ∙ k }
 
     all : (x y : ℕ) → more x ≡ true → less y ≡ true → p.adjacent x y ≡ true → beside y ≡ true
-    all x y e k t = b y ∙ and_join (front y || row y) (less y) (⊎_elim old new (or_cases (set x) (x == c) (sym (m.with x) ∙ e))) k
+    all x y e k t = b y ∙ and_from (front y || row y) (less y) (⊎_elim old new (or_cases (set x) (x == c) (sym (m.with x) ∙ e))) k
       where
         old : set x ≡ true → (front y || row y) ≡ true
         old s = ap (λ z. z || row y) (f.all x y s (still y k) t)
@@ -58,12 +50,12 @@ skipped_front p set free front more less beside c m f b = record { each = each; 
     each x e =
         let q = and_parts (front x) (not (x == c)) (sym (b x) ∙ e) in
         let o = f.each x q.0 in
-        record { is_free = m.without x ∙ and_join (free x) (not (x == c)) o.is_free q.1; from = o.from; from_set = o.from_set; touch = o.touch }
+        record { is_free = m.without x ∙ and_from (free x) (not (x == c)) o.is_free q.1; from = o.from; from_set = o.from_set; touch = o.touch }
 
     all : (x y : ℕ) → set x ≡ true → less y ≡ true → p.adjacent x y ≡ true → beside y ≡ true
     all x y e k t =
         let q = and_parts (free y) (not (y == c)) (sym (m.without y) ∙ k) in
-        b y ∙ and_join (front y) (not (y == c)) (f.all x y e q.0 t) q.1
+        b y ∙ and_from (front y) (not (y == c)) (f.all x y e q.0 t) q.1
 
 -- the free neighbours of a place alone
 pub start_front : (p : Problem) (n at : ℕ) (set free row front : ℕ → Bool) → ((x : ℕ) → set x ≡ only at x) → ((x : ℕ) → free x ≡ true → x < n) → ((y : ℕ) → y < n → row y ≡ p.adjacent at y) → ((x : ℕ) → front x ≡ (row x && free x)) → IsFront p set free front
@@ -75,7 +67,7 @@ start_front p n at set free row front alone below r b = record { each = each; al
         record { is_free = q.1; from = at; from_set = alone at ∙ eq-eqb at at refl; touch = sym (r x (below x q.1)) ∙ q.0 }
 
     all : (x y : ℕ) → set x ≡ true → free y ≡ true → p.adjacent x y ≡ true → front y ≡ true
-    all x y e k t = b y ∙ and_join (row y) (free y) (r y (below y k) ∙ (ap (λ z. p.adjacent z y) (sym (eqb-true x at (sym (alone x) ∙ e))) ∙ t)) k
+    all x y e k t = b y ∙ and_from (row y) (free y) (r y (below y k) ∙ (ap (λ z. p.adjacent z y) (sym (eqb-true x at (sym (alone x) ∙ e))) ∙ t)) k
 
 -- with no such place, nothing free is adjacent to the set
 pub empty_front : (p : Problem) (set free front : ℕ → Bool) → IsFront p set free front → ((x : ℕ) → front x ≡ false) → (x y : ℕ) → set x ≡ true → free y ≡ true → p.adjacent x y ≡ false

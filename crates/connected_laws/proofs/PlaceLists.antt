@@ -1,6 +1,6 @@
 -- Lists of the places that pass a test.
 use Rattle.std.proofs.Common.{◌≡◌, ℕ, ◌≤◌, ◌<◌, Bool, true, false, nat_lt, ◌||◌, ◌&&◌, List, [], ◌∷◌, length, refl, sym, ap, ◌∙◌, arith}
-use Rattle.std.proofs.lemmas.Bool.{eq-eqb, ltb-true, false≢true}
+use Rattle.std.proofs.lemmas.Bool.{and_parts, eq-eqb, ltb-true}
 use Rattle.std.proofs.lemmas.Bool.Decides.{nat_tests}
 use Rattle.grouping_laws.specs.Sets.{often, member}
 use Rattle.place_laws.specs.PlaceSets.{places_of}
@@ -15,10 +15,6 @@ placed n c t l e = member-places_of n c t ∙ (ap (λ b. b && t c) (true_lt c n 
   where
     true_lt : (a b : ℕ) → a < b → nat_lt a b ≡ true
     true_lt a b e = grind (arith, nat_tests)
-
-and_parts : (a b : Bool) → (a && b) ≡ true → (a ≡ true) × (b ≡ true)
-and_parts true b e = (refl, e)
-and_parts false b e = absurd (false≢true e)
 
 pub placed_test : (n c : ℕ) (t : ℕ → Bool) → member (places_of n t) c ≡ true → t c ≡ true
 placed_test n c t m = (and_parts (nat_lt c n) (t c) (sym (member-places_of n c t) ∙ m)).1

@@ -1,6 +1,6 @@
 -- A part of a region that grows around a place.
 use Rattle.std.proofs.Common.{◌≡◌, ℕ, zero, suc, ◌+◌, ◌≤◌, ◌<◌, Bool, true, false, ◌||◌, ◌&&◌, not, ◌==◌, length, refl, sym, ap, ◌∙◌, arith}
-use Rattle.std.proofs.lemmas.Bool.{false≢true, eqb-true, eq-eqb}
+use Rattle.std.proofs.lemmas.Bool.{and_parts, and_from, false≢true, eqb-true, eq-eqb}
 use Rattle.std.proofs.lemmas.List.{length-map}
 use Rattle.place_laws.specs.Lists.{places_below}
 use Rattle.place_laws.specs.PlaceSets.{places_of}
@@ -16,14 +16,6 @@ use Rattle.connected_laws.proofs.Starts.{start_growth}
 use Rattle.connected_laws.specs.Growing.{later}
 use Rattle.connected_laws.proofs.StartSets.{starts_as}
 use Rattle.place_laws.proofs.PlaceSums.{total_all}
-
-pub and_parts : (a b : Bool) → (a && b) ≡ true → (a ≡ true) × (b ≡ true)
-and_parts true b e = (refl, e)
-and_parts false b e = absurd (false≢true e)
-
-pub and_join : (a b : Bool) → a ≡ true → b ≡ true → (a && b) ≡ true
-and_join true b e f = f
-and_join false b e f = absurd (false≢true e)
 
 length_below : (n : ℕ) → length (places_below n) ≡ n
 length_below zero = refl
@@ -74,7 +66,7 @@ filled_start p n at region part rest row front below there s r a b = record {
         record { is_free = q.1; from = at; from_set = s at ∙ eq-eqb at at refl; touch = sym (a x (free_below x q.1)) ∙ q.0 }
 
     all : (x y : ℕ) → part x ≡ true → rest y ≡ true → p.adjacent x y ≡ true → front y ≡ true
-    all x y e k t = b y ∙ and_join (row y) (rest y) (a y (free_below y k) ∙ (ap (λ z. p.adjacent z y) (sym (is_at x e)) ∙ t)) k
+    all x y e k t = b y ∙ and_from (row y) (rest y) (a y (free_below y k) ∙ (ap (λ z. p.adjacent z y) (sym (is_at x e)) ∙ t)) k
 
 -- a place of the front joins
 pub filled_step : (p : Problem) (n : ℕ) (region part rest front more less row beside : ℕ → Bool) (c : ℕ) → ((x y : ℕ) → p.adjacent x y ≡ true → p.adjacent y x ≡ true) → IsFilled p n region part rest front → front c ≡ true → IsMove part rest more less c
@@ -110,4 +102,4 @@ filled_part p n region part rest front h none = record {
   where
     whole : (x y : ℕ) → part x ≡ true → region y ≡ true → p.adjacent x y ≡ true → (s : Bool) → part y ≡ s → member (places_of n part) y ≡ true
     whole x y e k t true i = placed n y part (h.growth.below y i) i
-    whole x y e k t false i = absurd (false≢true (sym (empty_front p part rest front h.fringe none x y e (h.left y ∙ and_join (region y) (not (part y)) k (ap not i))) ∙ t))
+    whole x y e k t false i = absurd (false≢true (sym (empty_front p part rest front h.fringe none x y e (h.left y ∙ and_from (region y) (not (part y)) k (ap not i))) ∙ t))

@@ -1,6 +1,6 @@
 -- Parts that are taken from a region one after another.
 use Rattle.std.proofs.Common.{◌≡◌, ℕ, ◌+◌, ◌<◌, Bool, true, false, nat_lt, ◌&&◌, not, ◌==◌, List, [], ◌∷◌, ◌++◌, length, refl, sym, ap, ◌∙◌, arith, ⊎_elim, subst}
-use Rattle.std.proofs.lemmas.Bool.{false≢true, eqb-true, ltb-true}
+use Rattle.std.proofs.lemmas.Bool.{and_from, and_parts, false≢true, eqb-true, ltb-true}
 use Rattle.std.proofs.lemmas.Bool.Decides.{nat_tests}
 use Rattle.place_laws.specs.PlaceSets.{places_of}
 use Rattle.place_laws.proofs.Sums.{total-append, total_ones}
@@ -10,7 +10,6 @@ use Rattle.grouping_laws.specs.Problem.{Problem}
 use Rattle.grouping_laws.specs.Parts.{IsPart, AreParts}
 use Rattle.grouping_laws.proofs.Elements.{Has, has_append, all_from_has}
 use Rattle.connected_laws.proofs.PlaceLists.{placed, placed_test}
-use Rattle.connected_sets.proofs.Filling.{and_parts, and_join}
 
 -- what was found so far: parts of the region, and a rest that touches none of them
 pub record IsParted (p : Problem) (region rest : ℕ → Bool) (parts : List (List ℕ)) : Type 0 where
@@ -58,7 +57,7 @@ parted_more p n region rest part left parts symmetric below h is w = record { ea
     share c true b e f = omega (arith, often-places_of n c part, one c (below c (parted_inside p region rest parts h c e)) b f)
       where
         one : (c : ℕ) → c < n → (b : Bool) → part c ≡ b → digit (nat_lt c n && part c) + digit (not b) ≡ 1
-        one c l true f = ap (λ z. digit z + 0) (and_join (nat_lt c n) (part c) (true_lt c n l) f)
+        one c l true f = ap (λ z. digit z + 0) (and_from (nat_lt c n) (part c) (true_lt c n l) f)
         one c l false f = ap (λ z. digit (nat_lt c n && z) + 1) f ∙ zero (nat_lt c n)
           where
             zero : (b : Bool) → digit (b && false) + 1 ≡ 1
@@ -78,7 +77,7 @@ parted_more p n region rest part left parts symmetric below h is w = record { ea
     once c = omega (arith, h.once c, total-append (often c) parts (places_of n part ∷ []), share c (rest c) (part c) refl refl, ap digit (w c))
 
     apart : (x y : ℕ) → left x ≡ true → region y ≡ true → p.adjacent x y ≡ true → left y ≡ true
-    apart x y l k t = w y ∙ and_join (rest y) (not (part y)) there (out (part y) refl)
+    apart x y l k t = w y ∙ and_from (rest y) (not (part y)) there (out (part y) refl)
       where
         both : (rest x ≡ true) × (not (part x) ≡ true)
         both = and_parts (rest x) (not (part x)) (sym (w x) ∙ l)
@@ -99,7 +98,7 @@ parted_fewer n at rest part left l there has w =
     others x = rest x && not (x == at)
 
     within : (x : ℕ) → left x ≡ true → others x ≡ true
-    within x e = and_join (rest x) (not (x == at)) both.0 (other (x == at) refl)
+    within x e = and_from (rest x) (not (x == at)) both.0 (other (x == at) refl)
       where
         both : (rest x ≡ true) × (not (part x) ≡ true)
         both = and_parts (rest x) (not (part x)) (sym (w x) ∙ e)

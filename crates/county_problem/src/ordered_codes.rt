@@ -1,6 +1,7 @@
-//! The codes of a set of places of an order, and the place of a code.
+//! The codes of an order and of a set of its places, and the place of a code.
 
 ghost use Rattle.std.specs.Prelude.{◌≡◌, false, ◌<◌, ◌≤◌, length, All, IfOk, MatchOption};
+ghost use Rattle.std.specs.List.{AllByRecursion};
 ghost use Rattle.grouping_laws.specs.Sets.{member};
 ghost use Rattle.county_problem.specs.OrderedValue.{code_at};
 ghost use Rattle.county_problem.specs.OrderCodes.{codes_of_set};
@@ -11,6 +12,20 @@ use place_sets::CountySet;
 use std::alloc::{AllocError, Global};
 
 impl Ordered<'_> {
+    /// The codes of all counties, in their order. An error comes where memory was refused.
+    pub fn codes(&self, alloc: Global) -> Result<Codes, AllocError>
+        ensures value { IfOk result (λ codes. codes ≡ self.now.order) }
+        ensures small { IfOk result (AllByRecursion (λ c. c ≤ 99999)) }
+    {
+        let mut codes = Vec::new(alloc);
+        for place in 0..self.places() {
+            let code = self.code(place);
+            let _small = code.get();
+            codes.push(code)?;
+        }
+        Ok(Codes::new(codes))
+    }
+
     /// The codes of the counties of a set, in the order of their places. An error comes where memory was refused.
     pub fn codes_of<C: CountySet>(&self, alloc: Global, set: &C) -> Result<Codes, AllocError>
         requires fits { length self.now.order ≤ C.PLACES }

@@ -27,6 +27,19 @@ abbrev pub values_of : {X K F : Type 0} → (List ℕ → Result X K) → (K →
 values_of read at_line at_cut lines fault =
     unless_fault (option_map (λ f. at_line f.0 f.1) (slice_get (filter_map (fault_on read) lines) 0)) (option_map at_cut fault) (filter_map (value_on read) lines)
 
+-- what is wrong with the line of a number, and the number, or else the later fault
+abbrev pub fault_or_later : {K : Type 0} → ℕ → Option K → Option (K × ℕ) → Option (K × ℕ)
+fault_or_later number (Some kind) later = Some (kind, number)
+fault_or_later number None later = later
+
+-- What is wrong with the first line at fault, and its number, if earlier lines count: `judge` says what is wrong with a
+-- line after what was read before it, and `read` what has been read with it.
+abbrev pub first_fault_after : {S K : Type 0} → (judge : S → Line → Option K) → (read : S → Line → S) → S → List Line
+    → Option (K × ℕ)
+first_fault_after judge read before [] = None
+first_fault_after judge read before (l ∷ ls) =
+    fault_or_later l.number (judge before l) (first_fault_after judge read (read before l) ls)
+
 -- the values of the lines before with that of a further line, unless it is at fault
 abbrev pub with_value : {X K : Type 0} → List X → Result X K → Result (List X) K
 with_value before (Ok x) = Ok (before ++ x ∷ [])

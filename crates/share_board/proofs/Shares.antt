@@ -1,5 +1,6 @@
 -- What the branches of an opening cost: each has its share, and its sets are among the connected ones within the limit.
 use Rattle.std.proofs.Common.{◌≡◌, ℕ, ◌+◌, ◌*◌, ◌≤◌, ◌<◌, Bool, true, false, ◌&&◌, List, [], ◌∷◌, length, filter, cond, refl, sym, ap, ◌∙◌, arith, inl, inr, Contains}
+use Rattle.std.proofs.lemmas.Bool.{and_parts}
 use Rattle.grouping_laws.specs.Sets.{member}
 use Rattle.grouping_laws.specs.Problem.{Problem}
 use Rattle.grouping_laws.specs.GroupsFrom.{IsBefore}
@@ -7,7 +8,6 @@ use Rattle.grouping_laws.proofs.Elements.{Has, has_from_contains, contains_from_
 use Rattle.grouping_laws.proofs.Parts.{has-filter}
 use Rattle.grouping_laws.proofs.Places.{has_member}
 use Rattle.grouping_laws.proofs.PlaceCodes.{member_has}
-use Rattle.connected_sets.proofs.Filling.{and_parts}
 use Rattle.certificate_laws.proofs.Kept.{filter_pairs, filter_has}
 use Rattle.certificate_data.specs.Round.{Round}
 use Rattle.certificate_laws.specs.State.{State, open_to}

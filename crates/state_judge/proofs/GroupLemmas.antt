@@ -1,5 +1,6 @@
 -- The groups of a branch by places and by codes, and the steps that were taken for them.
 use Rattle.std.proofs.Common.{◌≡◌, ℕ, ◌+◌, ◌≤◌, ◌<◌, Bool, true, nat_le, ◌&&◌, List, [], ◌∷◌, map, length, refl, sym, ap, ◌∙◌, subst, arith, inl, inr, All, Result, Err}
+use Rattle.std.proofs.lemmas.Bool.{and_parts}
 use Rattle.std.proofs.lemmas.List.{length-map}
 use Rattle.grouping_laws.specs.Sets.{often, Inside}
 use Rattle.grouping_laws.specs.Problem.{Problem}
@@ -14,7 +15,6 @@ use Rattle.connected_laws.specs.Listing.{lists_of, AreBelow, OneStepEach}
 use Rattle.connected_laws.proofs.Distinct.{Distinct, no_more_than, distinct_from_pairs}
 use Rattle.connected_laws.proofs.Keys.{map_twice}
 use Rattle.connected_laws.proofs.PlaceLists.{placed, placed_test}
-use Rattle.connected_sets.proofs.Filling.{and_parts}
 use Rattle.state_groups.specs.declared.state.State.{State as StateHeld}
 use Rattle.certificate_data.specs.Round.{Round}
 use Rattle.certificate_laws.specs.State.{State, open_to}

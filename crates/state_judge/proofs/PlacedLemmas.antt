@@ -1,6 +1,6 @@
 -- States by places that a call makes.
 use Rattle.std.proofs.Common.{◌≡◌, ℕ, ◌+◌, ◌≤◌, ◌<◌, Bool, true, false, not, ◌&&◌, List, [], ◌∷◌, ◌++◌, map, length, get_or, refl, sym, ap, ◌∙◌, subst, arith, inl, inr, ⊎_elim, All, Result, Ok, Err, IfOk}
-use Rattle.std.proofs.lemmas.Bool.{ltb-true, lt-ltb}
+use Rattle.std.proofs.lemmas.Bool.{and_parts, ltb-true, lt-ltb}
 use Rattle.std.proofs.lemmas.List.{length-map, length-append}
 use Rattle.std.proofs.lemmas.List.Elements.{All-nil}
 use Rattle.grouping_laws.specs.Problem.{Problem}
@@ -8,7 +8,7 @@ use Rattle.grouping_laws.proofs.Elements.{Has, has_all, all_from_has}
 use Rattle.place_laws.specs.PlaceSets.{places_of}
 use Rattle.place_laws.specs.Lists.{places_below, member}
 use Rattle.county_problem.specs.OrderedValue.{at_places}
-use Rattle.connected_sets.proofs.Filling.{few, and_parts}
+use Rattle.connected_sets.proofs.Filling.{few}
 use Rattle.connected_laws.specs.Listing.{lists_of, AreBelow}
 use Rattle.connected_laws.proofs.PlaceLists.{placed, placed_test}
 use Rattle.state_groups.specs.declared.state.State.{State as StateHeld}

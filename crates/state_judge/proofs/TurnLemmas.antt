@@ -1,6 +1,6 @@
 -- Where a branch can stand, by the open places.
 use Rattle.std.proofs.Common.{◌≡◌, ◌≢◌, ℕ, ◌≤◌, ◌<◌, Bool, true, false, nat_le, ◌&&◌, None, List, ◌∷◌, filter, length, refl, sym, ap, ◌∙◌, subst, arith, inr}
-use Rattle.std.proofs.lemmas.Bool.{false≢true}
+use Rattle.std.proofs.lemmas.Bool.{and_parts, false≢true}
 use Rattle.grouping_laws.specs.Sets.{member}
 use Rattle.grouping_laws.specs.Problem.{Problem}
 use Rattle.grouping_laws.specs.GroupsFrom.{IsOrder, BeginsWith, place}
@@ -10,7 +10,6 @@ use Rattle.grouping_laws.proofs.Places.{place_at, places_are_codes}
 use Rattle.place_laws.specs.PlaceSets.{IsNext}
 use Rattle.connected_laws.proofs.Starts.{begins_least}
 use Rattle.county_problem.specs.OrderedValue.{code_at}
-use Rattle.connected_sets.proofs.Filling.{and_parts}
 use Rattle.certificate_data.specs.declared.language.Language.TheVariants.{Plain, Wide}
 use Rattle.certificate_data.specs.Round.{Round}
 use Rattle.certificate_laws.specs.State.{State, open_to}
