@@ -1,32 +1,23 @@
 -- What a growth looks at, and where it stands.
-use Rattle.std.specs.Prelude.{ℕ, ◌≡◌, ◌≤◌, ◌^◌, Bool, length}
+use Rattle.std.specs.Prelude.{ℕ, ◌≡◌, Bool, length}
 use Rattle.place_laws.specs.PlaceSets.{places_of}
 use Rattle.grouping_laws.specs.Problem.{Problem, people_of}
-use Rattle.grouping_laws.specs.Places.{places_below}
-use Rattle.county_problem.specs.OrderedValue.{problem_at}
 use Rattle.connected_laws.specs.Growing.{IsGrowth, IsFront}
-use Rattle.connected_sets.specs.Rows.{AreRows}
+use Rattle.connected_sets.specs.Graphs.{graph_places, place_problem}
 use Rattle.connected_sets.specs.declared.input.GrowthInput.{GrowthInput}
 use Rattle.connected_sets.specs.declared.input.Growth.{Growth}
 
 -- the problem by places that a growth looks at
 abbrev pub problem_in : {C : Type 0} → GrowthInput C → Problem
-problem_in g = problem_at g.ordered.now
+problem_in g = place_problem g.graph.now
 
 -- how many places it has
 abbrev pub places_in : {C : Type 0} → GrowthInput C → ℕ
-places_in g = length g.ordered.now.order
+places_in g = graph_places g.graph.now
 
 -- how many of them a set has
 abbrev pub size_in : {C : Type 0} → GrowthInput C → (ℕ → Bool) → ℕ
 size_in g set = length (places_of (places_in g) set)
-
--- the sets hold all places, the rows are those of the order, and no sum of people is too great
-pub record IsSoundGround (C : Type 0) (test : C → ℕ → Bool) (held : ℕ) (g : GrowthInput C) : Type 0 where
-  pub fits : places_in g ≤ held
-  pub rows : AreRows C test (problem_in g) (places_in g) g.near.now
-  pub total : people_of (problem_in g) (places_below (places_in g)) ≤ g.ordered.now.problem.total_people
-  pub bound : g.ordered.now.problem.total_people ≤ 2 ^ 40
 
 -- the set is connected and not too large, and its front and its people are its own
 pub record IsSoundGrowth (C : Type 0) (test : C → ℕ → Bool) (g : GrowthInput C) (stand : Growth C) : Type 0 where

@@ -5,7 +5,8 @@ ghost use Rattle.std.specs.Prelude.{◌≡◌, ℕ, ◌+◌, Bool, List, ◌<◌
 ghost use Rattle.std.specs.Prelude.{IfOk, IsErrOf, length};
 ghost use Rattle.connected_laws.specs.Growing.{IsCandidate, IsMove, IsWhole};
 ghost use Rattle.connected_laws.specs.Listing.{IsListed, HasStepped};
-ghost use Rattle.connected_sets.specs.Growths.{problem_in, places_in, size_in, IsSoundGround, IsSoundGrowth};
+ghost use Rattle.connected_sets.specs.Growths.{problem_in, places_in, size_in, IsSoundGrowth};
+ghost use Rattle.connected_sets.specs.Graphs.{IsGraph};
 ghost use Rattle.connected_sets.specs.declared.stop.Stop.{Stop};
 
 use crate::growth_test::GrowthTest;
@@ -13,7 +14,7 @@ use crate::input::{Growth, GrowthInput};
 use crate::stop::Stop;
 use county_problem::Steps;
 use place_sets::CountySet;
-use std::alloc::{AllocError, Global};
+use std::alloc::AllocError;
 
 /// The place of the front that the test names, if the set may have one more place.
 fn next_place<C: CountySet, T: GrowthTest<C>>(
@@ -31,7 +32,7 @@ fn next_place<C: CountySet, T: GrowthTest<C>>(
     if growth.set.size() >= u32::from(input.limit) {
         return None;
     }
-    test.next_place(input.ordered, &growth.front)
+    test.next_place(input.graph.ordered, &growth.front)
 }
 
 /// Takes a step.
@@ -51,13 +52,12 @@ fn take_step(steps: &mut Steps) -> Result<(), Stop>
 
 /// Puts the set of a growth that grows no further behind the groups if it is kept.
 fn put_if_kept<C: CountySet, T: GrowthTest<C>>(
-    alloc: Global,
     input: &GrowthInput<C>,
     test: &T,
     growth: Growth<C>,
     groups: &mut Vec<C>,
 ) -> Result<(), AllocError>
-    requires sound { IsSoundGround C C.test C.PLACES input.now }
+    requires graph { IsGraph C.test C.PLACES input.now.graph.now }
     requires growth { IsSoundGrowth C C.test input.now growth }
     requires knows { T.knows test.now (problem_in input.now) (places_in input.now) input.now.limit (C.test growth.free) }
     requires whole { IsWhole (problem_in input.now) (places_in input.now) input.now.limit (C.test growth.set) (C.test growth.free) }
@@ -78,7 +78,7 @@ fn put_if_kept<C: CountySet, T: GrowthTest<C>>(
         groups.new.items) }
     ensures counted { OnOk result (length groups.new.items ≤ length groups.old.items + 1) }
 {
-    if test.is_kept(alloc, input, &growth)? {
+    if test.is_kept(input, &growth)? {
         groups.push(growth.set)?;
     }
     Ok(())
@@ -86,14 +86,13 @@ fn put_if_kept<C: CountySet, T: GrowthTest<C>>(
 
 /// Ends a growth whose set grows no further: takes a step, and puts the set behind the groups if it is kept.
 fn end_growth<C: CountySet, T: GrowthTest<C>>(
-    alloc: Global,
     input: &GrowthInput<C>,
     test: &T,
     growth: Growth<C>,
     steps: &mut Steps,
     groups: &mut Vec<C>,
 ) -> Result<(), Stop>
-    requires sound { IsSoundGround C C.test C.PLACES input.now }
+    requires graph { IsGraph C.test C.PLACES input.now.graph.now }
     requires growth { IsSoundGrowth C C.test input.now growth }
     requires knows { T.knows test.now (problem_in input.now) (places_in input.now) input.now.limit (C.test growth.free) }
     requires whole { IsWhole (problem_in input.now) (places_in input.now) input.now.limit (C.test growth.set) (C.test growth.free) }
@@ -119,7 +118,7 @@ fn end_growth<C: CountySet, T: GrowthTest<C>>(
     ensures stopped { IsErrOf result Stop.StepLimit → steps.new.used ≡ steps.new.limit }
 {
     take_step(steps)?;
-    put_if_kept(alloc, input, test, growth, groups)?;
+    put_if_kept(input, test, growth, groups)?;
     Ok(())
 }
 
@@ -135,7 +134,7 @@ fn pass_over<C: CountySet, T: GrowthTest<C>>(
     ensures limit { steps.new.limit ≡ steps.old.limit }
     ensures stopped { IsErrOf result Stop.StepLimit → steps.new.used ≡ steps.new.limit }
 {
-    let _ground = input;
+    let _input = input;
     let _growth = growth;
     if T::COUNTS_PASSED {
         take_step(steps)?;
@@ -145,22 +144,21 @@ fn pass_over<C: CountySet, T: GrowthTest<C>>(
 
 /// The growth in which a place of the front joins the set.
 fn with_place<C: CountySet>(
-    alloc: Global,
     input: &GrowthInput<C>,
     growth: &Growth<C>,
     place: u16,
 ) -> Result<Growth<C>, AllocError>
-    requires sound { IsSoundGround C C.test C.PLACES input.now }
+    requires graph { IsGraph C.test C.PLACES input.now.graph.now }
     requires growth { IsSoundGrowth C C.test input.now growth.now }
     requires there { IsCandidate (problem_in input.now) (C.test growth.now.set) (C.test growth.now.free) place }
     requires room { size_in input.now (C.test growth.now.set) < input.now.limit }
     ensures moved { IfOk result (λ more. IsMove (C.test growth.now.set) (C.test growth.now.free) (C.test more.set) (C.test more.free) place) }
     ensures growth { IfOk result (λ more. IsSoundGrowth C C.test input.now more) }
 {
-    let people = growth.people + u64::from(input.ordered.people(place));
-    let set = growth.set.with(alloc, place)?;
-    let free = growth.free.copy(alloc)?.without(place);
-    let both = growth.front.union(alloc, &input.near[usize::from(place)])?;
+    let people = growth.people + u64::from(input.graph.ordered.people(place));
+    let set = growth.set.with(input.graph.alloc, place)?;
+    let free = growth.free.copy(input.graph.alloc)?.without(place);
+    let both = growth.front.union(input.graph.alloc, &input.graph.near[usize::from(place)])?;
     let front = both.intersection(&free);
     Ok(Growth {
         set,
@@ -190,14 +188,13 @@ fn without_place<C: CountySet>(growth: Growth<C>, place: u16) -> Growth<C>
 /// front has the free places that are adjacent to the set. A step is taken for each set that grows no further, and if
 /// the test counts them, for each set that is passed over.
 pub fn grow<C: CountySet, T: GrowthTest<C>>(
-    alloc: Global,
     input: &GrowthInput<C>,
     test: &T,
     growth: Growth<C>,
     steps: &mut Steps,
     groups: &mut Vec<C>,
 ) -> Result<(), Stop>
-    requires sound { IsSoundGround C C.test C.PLACES input.now }
+    requires graph { IsGraph C.test C.PLACES input.now.graph.now }
     requires growth { IsSoundGrowth C C.test input.now growth }
     requires knows { T.knows test.now (problem_in input.now) (places_in input.now) input.now.limit (C.test growth.free) }
     ensures listed { OnOk
@@ -221,16 +218,16 @@ pub fn grow<C: CountySet, T: GrowthTest<C>>(
     ensures limit { steps.new.limit ≡ steps.old.limit }
     ensures stopped { IsErrOf result Stop.StepLimit → steps.new.used ≡ steps.new.limit }
 {
-    if test.is_passed_over(alloc, input, &growth)? {
+    if test.is_passed_over(input, &growth)? {
         return pass_over::<C, T>(input, &growth, steps);
     }
     match next_place(input, test, &growth) {
-        None => end_growth(alloc, input, test, growth, steps, groups),
+        None => end_growth(input, test, growth, steps, groups),
         Some(place) => {
-            let joined = with_place(alloc, input, &growth, place)?;
-            grow(alloc, input, test, joined, steps, groups)?;
+            let joined = with_place(input, &growth, place)?;
+            grow(input, test, joined, steps, groups)?;
             let others = without_place(growth, place);
-            grow(alloc, input, test, others, steps, groups)
+            grow(input, test, others, steps, groups)
         }
     }
 }

@@ -4,12 +4,13 @@ ghost use Rattle.std.specs.Prelude.{◌≡◌, ℕ, Bool, List, [], true, false,
 ghost use Rattle.place_laws.specs.PlaceSets.{places_of};
 ghost use Rattle.grouping_laws.specs.Problem.{Problem};
 ghost use Rattle.connected_laws.specs.Growing.{IsWhole, AreKept};
-ghost use Rattle.connected_sets.specs.Growths.{problem_in, places_in, IsSoundGround, IsSoundGrowth};
+ghost use Rattle.connected_sets.specs.Growths.{problem_in, places_in, IsSoundGrowth};
+ghost use Rattle.connected_sets.specs.Graphs.{IsGraph};
 
 use crate::input::{Growth, GrowthInput};
 use county_problem::Ordered;
 use place_sets::CountySet;
-use std::alloc::{AllocError, Global};
+use std::alloc::AllocError;
 
 /// The test of a growth. It says which sets that grow no further are kept, and which growths are passed over since no
 /// kept set comes of them.
@@ -26,11 +27,10 @@ pub trait GrowthTest<C: CountySet> {
     /// Whether a growth is passed over. No kept set comes of one that is.
     fn is_passed_over(
         &self,
-        alloc: Global,
         input: &GrowthInput<C>,
         growth: &Growth<C>,
     ) -> Result<bool, AllocError>
-        requires sound { IsSoundGround C C.test C.PLACES input.now }
+        requires graph { IsGraph C.test C.PLACES input.now.graph.now }
         requires growth { IsSoundGrowth C C.test input.now growth.now }
         requires knows { knows self.now (problem_in input.now) (places_in input.now) input.now.limit (C.test growth.now.free) }
         ensures passed { IfOk
@@ -48,11 +48,10 @@ pub trait GrowthTest<C: CountySet> {
     /// Whether the set of a growth that grows no further is kept.
     fn is_kept(
         &self,
-        alloc: Global,
         input: &GrowthInput<C>,
         growth: &Growth<C>,
     ) -> Result<bool, AllocError>
-        requires sound { IsSoundGround C C.test C.PLACES input.now }
+        requires graph { IsGraph C.test C.PLACES input.now.graph.now }
         requires growth { IsSoundGrowth C C.test input.now growth.now }
         requires knows { knows self.now (problem_in input.now) (places_in input.now) input.now.limit (C.test growth.now.free) }
         requires whole { IsWhole (problem_in input.now) (places_in input.now) input.now.limit (C.test growth.now.set) (C.test growth.now.free) }

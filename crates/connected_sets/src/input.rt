@@ -1,15 +1,12 @@
 //! What a growth of connected sets looks at, and where it stands.
 
-use county_problem::Ordered;
+use crate::county_graph::CountyGraph;
 
-/// What a growth looks at: the problem by places, for each place the places adjacent to it, and how many places a set
-/// may have.
+/// What a growth looks at: the county graph, and how many places a set may have.
 #[derive(Drop)]
-pub struct GrowthInput<'a, 'b, C> {
-    /// The problem by places.
-    pub ordered: &'a Ordered<'b>,
-    /// The rows of the order (`neighbour_rows`).
-    pub near: &'a [C],
+pub struct GrowthInput<'g, 'a, 'b, C> {
+    /// The county graph.
+    pub graph: &'g CountyGraph<'a, 'b, C>,
     /// How many places a set may have.
     pub limit: u16,
 }

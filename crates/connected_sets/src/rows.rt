@@ -1,7 +1,7 @@
 //! The rows of neighbours: for each place of an order, the places adjacent to it.
 
 ghost use Rattle.std.specs.Prelude.{◌≡◌, ℕ, ◌<◌, ◌≤◌, ◌&&◌, nat_lt, length, IfOk};
-ghost use Rattle.connected_sets.specs.Rows.{problem_at, AreRows};
+ghost use Rattle.connected_sets.specs.Graphs.{problem_at, AreRows};
 
 use county_problem::Ordered;
 use place_sets::CountySet;
@@ -23,9 +23,8 @@ fn row<C: CountySet>(alloc: Global, ordered: &Ordered, place: u16) -> Result<C, 
     Ok(near)
 }
 
-/// The row of each place: the set of the places adjacent to it. They are made once for an order, for the
-/// searches from all of its places.
-pub fn neighbour_rows<C: CountySet>(alloc: Global, ordered: &Ordered) -> Result<Vec<C>, AllocError>
+/// The row of each place: the set of the places adjacent to it.
+pub(crate) fn neighbour_rows<C: CountySet>(alloc: Global, ordered: &Ordered) -> Result<Vec<C>, AllocError>
     requires fits { length ordered.now.order ≤ C.PLACES }
     ensures { IfOk result (λ v. AreRows C C.test (problem_at ordered.now) (length ordered.now.order) v.items) }
 {

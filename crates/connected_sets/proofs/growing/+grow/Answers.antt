@@ -16,27 +16,27 @@ use Rattle.connected_sets.proofs.Failing.{refused_not_stopped, handed_on}
 use Rattle.connected_sets.proofs.growing.+grow.Goals as goal
 
 pub returns-in_err-is_passed_over-clause-steps : goal.returns-in_err-is_passed_over-clause-steps
-returns-in_err-is_passed_over-clause-steps g t c = stepped_none (problem_at c.args.input.now.ordered.now) (length c.args.input.now.ordered.now.order) c.args.input.now.limit (g.C.CountySet.test c.args.growth.set) (g.C.CountySet.test c.args.growth.free) c.args.steps.now.used c.args.steps.now.used refl
+returns-in_err-is_passed_over-clause-steps g t c = stepped_none (problem_at c.args.input.now.graph.now.ordered.now) (length c.args.input.now.graph.now.ordered.now.order) c.args.input.now.limit (g.C.CountySet.test c.args.growth.set) (g.C.CountySet.test c.args.growth.free) c.args.steps.now.used c.args.steps.now.used refl
 
 pub returns-then-branch-clause-steps : goal.returns-then-branch-clause-steps
 returns-then-branch-clause-steps g t c = c.pass_over.ensures.steps
 
 pub returns-in_err-joined-in-Some-clause-steps : goal.returns-in_err-joined-in-Some-clause-steps
-returns-in_err-joined-in-Some-clause-steps g t c = stepped_none (problem_at c.args.input.now.ordered.now) (length c.args.input.now.ordered.now.order) c.args.input.now.limit (g.C.CountySet.test c.args.growth.set) (g.C.CountySet.test c.args.growth.free) c.args.steps.now.used c.args.steps.now.used refl
+returns-in_err-joined-in-Some-clause-steps g t c = stepped_none (problem_at c.args.input.now.graph.now.ordered.now) (length c.args.input.now.graph.now.ordered.now.order) c.args.input.now.limit (g.C.CountySet.test c.args.growth.set) (g.C.CountySet.test c.args.growth.free) c.args.steps.now.used c.args.steps.now.used refl
 
 pub returns-then-branch-clause-listed : goal.returns-then-branch-clause-listed
 returns-then-branch-clause-listed g t c =
     let test = g.C.CountySet.test in
-    let p = problem_at c.args.input.now.ordered.now in
-    let n = length c.args.input.now.ordered.now.order in
+    let p = problem_at c.args.input.now.graph.now.ordered.now in
+    let n = length c.args.input.now.graph.now.ordered.now.order in
     on_ok c.pass_over.result c.pass_over.ensures.counted (λ one keep d.
     listed_none g.row.C.Denot test p n c.args.input.now.limit keep (test c.args.growth.set) (test c.args.growth.free) c.args.groups.now.items c.args.groups.now.items (c.in_ok-is_passed_over.ensures.passed c.if-branch.true keep d) refl)
 
 pub returns-in_err-grow-in-Some-clause-steps : goal.returns-in_err-grow-in-Some-clause-steps
 returns-in_err-grow-in-Some-clause-steps g t c =
     let test = g.C.CountySet.test in
-    let p = problem_at c.args.input.now.ordered.now in
-    let n = length c.args.input.now.ordered.now.order in
+    let p = problem_at c.args.input.now.graph.now.ordered.now in
+    let n = length c.args.input.now.graph.now.ordered.now.order in
     let growth = c.args.growth in
     let limit = c.args.input.now.limit in
     let more = test c.in_ok-joined-in-Some.joined.set in
@@ -49,8 +49,8 @@ returns-in_err-grow-in-Some-clause-steps g t c =
 pub grow-requires : goal.grow-requires
 grow-requires g t c κs within =
     let test = g.C.CountySet.test in
-    let p = problem_at c.args.input.now.ordered.now in
-    let n = length c.args.input.now.ordered.now.order in
+    let p = problem_at c.args.input.now.graph.now.ordered.now in
+    let n = length c.args.input.now.graph.now.ordered.now.order in
     let growth = c.args.growth in
     let limit = c.args.input.now.limit in
     let more = test c.in_ok-joined-in-Some.joined.set in
@@ -62,13 +62,13 @@ grow-requires g t c κs within =
     let lower : (x : ℕ) → less x ≡ true → test growth.free x ≡ true = λ x e. (and_parts (test growth.free x) (not (x == place)) (sym (m.without x) ∙ e)).0 in
     let knows = g.met.T.GrowthTest.shrinks c.args.test.now p n limit (test growth.free) less lower c.requires.knows in
     let joined = c.in_ok-joined-in-Some.ensures in
-    (first_of (omega (arith, fewer), search (rules, fewer)), (within.0, (within.1, (c.requires.sound, (joined.growth, knows)))))
+    (first_of (omega (arith, fewer), search (rules, fewer)), (within.0, (within.1, (c.requires.graph, (joined.growth, knows)))))
 
 pub grow-requires-in-Some : goal.grow-requires-in-Some
 grow-requires-in-Some g t c κs within =
     let test = g.C.CountySet.test in
-    let p = problem_at c.args.input.now.ordered.now in
-    let n = length c.args.input.now.ordered.now.order in
+    let p = problem_at c.args.input.now.graph.now.ordered.now in
+    let n = length c.args.input.now.graph.now.ordered.now.order in
     let growth = c.args.growth in
     let limit = c.args.input.now.limit in
     let more = test c.in_ok-joined-in-Some.joined.set in
@@ -91,13 +91,13 @@ grow-requires-in-Some g t c κs within =
       front = subst (λ (z : g.row.C.Denot). IsFront p (test z) rest (test c.without_place-others.result.front)) (sym set) front;
       people = people;
     } in
-    (first_of (omega (arith, fewer), search (rules, fewer)), (within.0, (within.1, (c.requires.sound, (sound, knows)))))
+    (first_of (omega (arith, fewer), search (rules, fewer)), (within.0, (within.1, (c.requires.graph, (sound, knows)))))
 
 pub returns-in_ok-grow-in-Some-clause-steps : goal.returns-in_ok-grow-in-Some-clause-steps
 returns-in_ok-grow-in-Some-clause-steps g t c =
     let test = g.C.CountySet.test in
-    let p = problem_at c.args.input.now.ordered.now in
-    let n = length c.args.input.now.ordered.now.order in
+    let p = problem_at c.args.input.now.graph.now.ordered.now in
+    let n = length c.args.input.now.graph.now.ordered.now.order in
     let growth = c.args.growth in
     let limit = c.args.input.now.limit in
     let more = test c.in_ok-joined-in-Some.joined.set in
@@ -115,8 +115,8 @@ returns-in_ok-grow-in-Some-clause-steps g t c =
 pub returns-in_ok-grow-in-Some-clause-listed : goal.returns-in_ok-grow-in-Some-clause-listed
 returns-in_ok-grow-in-Some-clause-listed g t c =
     let test = g.C.CountySet.test in
-    let p = problem_at c.args.input.now.ordered.now in
-    let n = length c.args.input.now.ordered.now.order in
+    let p = problem_at c.args.input.now.graph.now.ordered.now in
+    let n = length c.args.input.now.graph.now.ordered.now.order in
     let growth = c.args.growth in
     let limit = c.args.input.now.limit in
     let more = test c.in_ok-joined-in-Some.joined.set in

@@ -8,22 +8,22 @@ use Rattle.connected_sets.proofs.growing.end_growth.Goals as goal
 pub returns-in_err-put_if_kept-clause-steps : goal.returns-in_err-put_if_kept-clause-steps
 returns-in_err-put_if_kept-clause-steps g c =
     let test = g.C.CountySet.test in
-    let p = problem_at c.args.input.now.ordered.now in
-    let n = length c.args.input.now.ordered.now.order in
+    let p = problem_at c.args.input.now.graph.now.ordered.now in
+    let n = length c.args.input.now.graph.now.ordered.now.order in
     stepped_leaf p n c.args.input.now.limit (test c.args.growth.set) (test c.args.growth.free) c.args.steps.now.used c.take_step.new.steps.used c.requires.growth.growth c.requires.whole c.in_ok-take_step.ensures.used
 
 pub returns-clause-steps : goal.returns-clause-steps
 returns-clause-steps g c =
     let test = g.C.CountySet.test in
-    let p = problem_at c.args.input.now.ordered.now in
-    let n = length c.args.input.now.ordered.now.order in
+    let p = problem_at c.args.input.now.graph.now.ordered.now in
+    let n = length c.args.input.now.graph.now.ordered.now.order in
     stepped_leaf p n c.args.input.now.limit (test c.args.growth.set) (test c.args.growth.free) c.args.steps.now.used c.take_step.new.steps.used c.requires.growth.growth c.requires.whole c.in_ok-take_step.ensures.used
 
 pub returns-in_err-take_step-clause-steps : goal.returns-in_err-take_step-clause-steps
 returns-in_err-take_step-clause-steps g c =
     let test = g.C.CountySet.test in
-    let p = problem_at c.args.input.now.ordered.now in
-    let n = length c.args.input.now.ordered.now.order in
+    let p = problem_at c.args.input.now.graph.now.ordered.now in
+    let n = length c.args.input.now.graph.now.ordered.now.order in
     stepped_none p n c.args.input.now.limit (test c.args.growth.set) (test c.args.growth.free) c.args.steps.now.used c.take_step.new.steps.used c.in_err-take_step.ensures.used.1
 
 pub returns-in_err-take_step-clause-listed : goal.returns-in_err-take_step-clause-listed

@@ -14,8 +14,8 @@ found p n limit set free front (Some c) growth f h few = (f.each c h, few)
 pub returns : goal.returns
 returns g c =
     let test = g.C.CountySet.test in
-    let p = problem_at c.args.input.now.ordered.now in
-    let n = length c.args.input.now.ordered.now.order in
+    let p = problem_at c.args.input.now.graph.now.ordered.now in
+    let n = length c.args.input.now.graph.now.ordered.now.order in
     let growth = c.args.growth.now in
     let size = c.size.ensures.count n c.requires.growth.growth.below in
     let few : length (places_of n (test growth.set)) < c.args.input.now.limit = grind (arith, tests, size) in

@@ -1,5 +1,5 @@
 use Rattle.std.proofs.Common.{◌≡◌, ℕ, ◌<◌, length, get_or}
-use Rattle.connected_sets.specs.Rows.{problem_at}
+use Rattle.connected_sets.specs.Graphs.{problem_at}
 use Rattle.connected_sets.proofs.rows.neighbour_rows.Given as goal
 
 abbrev pub invariant-loop-place : goal.invariant-loop-place

@@ -1,6 +1,6 @@
 use Rattle.std.proofs.Common.{◌∙◌, sym}
 use Rattle.place_sets.proofs.MadeSets.{put_next, skip_next}
-use Rattle.connected_sets.specs.Rows.{problem_at}
+use Rattle.connected_sets.specs.Graphs.{problem_at}
 use Rattle.connected_sets.proofs.rows.row.Goals.{then-touch+in_ok-near-2, else-touch}
 use Rattle.connected_sets.proofs.rows.row.Goals as goal
 

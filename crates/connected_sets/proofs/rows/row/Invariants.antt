@@ -1,5 +1,5 @@
 use Rattle.std.proofs.Common.{◌≡◌, ℕ, ◌&&◌, nat_lt}
-use Rattle.connected_sets.specs.Rows.{problem_at}
+use Rattle.connected_sets.specs.Graphs.{problem_at}
 use Rattle.connected_sets.proofs.rows.row.Given as goal
 
 abbrev pub invariant-loop-other : goal.invariant-loop-other
