@@ -4,16 +4,15 @@ ghost use Rattle.std.specs.Prelude.{◌≡◌, ℕ, true, ◌<◌, ◌≤◌, le
 ghost use Rattle.grouping_laws.specs.Sets.{Inside};
 ghost use Rattle.grouping_laws.specs.Problem.{Connected, people_of};
 ghost use Rattle.place_laws.specs.PlaceSets.{places_of};
-ghost use Rattle.county_problem.specs.OrderedValue.{problem_at};
-ghost use Rattle.connected_sets.specs.Rows.{AreRows};
 ghost use Rattle.certificate_laws.specs.State.{open_to};
 ghost use Rattle.state_groups.specs.StateValue.{state_of};
 ghost use Rattle.certificate_laws.specs.Fitting.{Fits};
+ghost use Rattle.connected_sets.specs.Graphs.{graph_places, place_problem, IsGraph};
 
 use crate::state::State;
 use crate::stuck::{asks_more, is_live};
 use certificate_data::Language;
-use county_problem::Ordered;
+use connected_sets::CountyGraph;
 use place_sets::CountySet;
 use std::alloc::{AllocError, Global};
 
@@ -53,29 +52,25 @@ pub fn is_open<C: CountySet>(state: &State<C>, group: &C) -> bool
 /// Whether a connected group, which has so many people, fits the state: its people suit some number of seats, each
 /// of its counties is open to a group of its size, and in a wide language it is live.
 pub fn fits<C: CountySet>(
-    alloc: Global,
-    ordered: &Ordered,
-    near: &[C],
+    graph: &CountyGraph<C>,
     language: Language,
     state: &State<C>,
     group: &C,
     people: u64,
 ) -> Result<bool, AllocError>
-    requires fits { length ordered.now.order ≤ C.PLACES }
-    requires rows { AreRows C C.test (problem_at ordered.now) (length ordered.now.order) near.now }
-    requires places { length state.now.least.items ≡ length ordered.now.order }
-    requires below { (x : ℕ) → C.test state.now.rest x ≡ true → x < length ordered.now.order }
-    requires group_below { (x : ℕ) → C.test group.now x ≡ true → x < length ordered.now.order }
-    requires connected { Connected (problem_at ordered.now) (places_of (length ordered.now.order) (C.test group.now)) }
+    requires graph { IsGraph C.test C.PLACES graph.now }
+    requires places { length state.now.least.items ≡ graph_places graph.now }
+    requires below { (x : ℕ) → C.test state.now.rest x ≡ true → x < graph_places graph.now }
+    requires group_below { (x : ℕ) → C.test group.now x ≡ true → x < graph_places graph.now }
+    requires connected { Connected (place_problem graph.now) (places_of (graph_places graph.now) (C.test group.now)) }
     requires people { people
-        ≡ people_of (problem_at ordered.now) (places_of (length ordered.now.order) (C.test group.now)) }
+        ≡ people_of (place_problem graph.now) (places_of (graph_places graph.now) (C.test group.now)) }
     ensures { IfOk
         result
         (λ fit. IsTrue fit
-        ↔ Fits language (problem_at ordered.now) (state_of C.test state.now) (places_of (length ordered.now.order) (C.test group.now))) }
+        ↔ Fits language (place_problem graph.now) (state_of C.test state.now) (places_of (graph_places graph.now) (C.test group.now))) }
 {
-    let _places = ordered.places();
-    if ordered.problem().seats_range(people).is_none() {
+    if graph.ordered.problem().seats_range(people).is_none() {
         return Ok(false);
     }
     if !is_open(state, group) {
@@ -83,6 +78,6 @@ pub fn fits<C: CountySet>(
     }
     match language {
         Language::Plain => Ok(true),
-        Language::Wide => is_live(alloc, ordered, near, state, group),
+        Language::Wide => is_live(graph, state, group),
     }
 }

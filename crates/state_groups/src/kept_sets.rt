@@ -3,11 +3,11 @@
 ghost use Rattle.std.specs.Prelude.{◌≡◌, ℕ, true, false, ◌<◌, ◌≤◌, MatchOption, IfOk, IsTrue, ◌↔◌, length};
 ghost use Rattle.grouping_laws.specs.Problem.{Connected, people_of};
 ghost use Rattle.place_laws.specs.PlaceSets.{places_of};
-ghost use Rattle.county_problem.specs.OrderedValue.{problem_at};
-ghost use Rattle.connected_sets.specs.Rows.{AreRows};
 ghost use Rattle.state_groups.specs.StateValue.{state_of};
 ghost use Rattle.certificate_laws.specs.Fitting.{Fits};
 ghost use Rattle.state_groups.specs.Keeping.{IsAsked};
+ghost use Rattle.connected_sets.specs.Graphs.{IsGraph};
+ghost use Rattle.connected_sets.specs.Growths.{problem_in, places_in};
 
 use crate::fitting::fits;
 use crate::passing::is_passed_over;
@@ -15,7 +15,7 @@ use crate::state_test::StateTest;
 use connected_sets::{Growth, GrowthInput, GrowthTest};
 use county_problem::Ordered;
 use place_sets::CountySet;
-use std::alloc::{AllocError, Global};
+use std::alloc::AllocError;
 
 /// The first place of the set that has as many people as any of its places.
 pub(crate) fn most_populous<C: CountySet>(ordered: &Ordered, set: &C) -> Option<u16>
@@ -35,10 +35,10 @@ pub(crate) fn most_populous<C: CountySet>(ordered: &Ordered, set: &C) -> Option<
 
 /// Whether the set has the size that is asked for.
 fn has_size<C: CountySet>(input: &GrowthInput<C>, test: &StateTest<C>, set: &C) -> bool
-    requires small { length (places_of (length input.now.ordered.now.order) (C.test set.now)) ≤ input.now.limit }
-    requires below { (x : ℕ) → C.test set.now x ≡ true → x < length input.now.ordered.now.order }
+    requires small { length (places_of (places_in input.now) (C.test set.now)) ≤ input.now.limit }
+    requires below { (x : ℕ) → C.test set.now x ≡ true → x < places_in input.now }
     ensures { IsTrue result
-        ↔ IsAsked test.now.exact input.now.limit (places_of (length input.now.ordered.now.order) (C.test set.now)) }
+        ↔ IsAsked test.now.exact input.now.limit (places_of (places_in input.now) (C.test set.now)) }
 {
     if !test.exact {
         return true;
@@ -48,39 +48,29 @@ fn has_size<C: CountySet>(input: &GrowthInput<C>, test: &StateTest<C>, set: &C) 
 
 /// Whether a connected set, which has so many people, is kept: it fits the state and has the size that is asked for.
 fn fits_and_is_asked<C: CountySet>(
-    alloc: Global,
     input: &GrowthInput<C>,
     test: &StateTest<C>,
     set: &C,
     people: u64,
 ) -> Result<bool, AllocError>
-    requires fits { length input.now.ordered.now.order ≤ C.PLACES }
-    requires rows { AreRows C C.test (problem_at input.now.ordered.now) (length input.now.ordered.now.order) input.now.near.now }
-    requires places { length test.now.state.now.least.items ≡ length input.now.ordered.now.order }
-    requires rest { (x : ℕ) → C.test test.now.state.now.rest x ≡ true → x < length input.now.ordered.now.order }
-    requires below { (x : ℕ) → C.test set.now x ≡ true → x < length input.now.ordered.now.order }
-    requires connected { Connected (problem_at input.now.ordered.now) (places_of (length input.now.ordered.now.order) (C.test set.now)) }
-    requires small { length (places_of (length input.now.ordered.now.order) (C.test set.now)) ≤ input.now.limit }
+    requires graph { IsGraph C.test C.PLACES input.now.graph.now }
+    requires places { length test.now.state.now.least.items ≡ places_in input.now }
+    requires rest { (x : ℕ) → C.test test.now.state.now.rest x ≡ true → x < places_in input.now }
+    requires below { (x : ℕ) → C.test set.now x ≡ true → x < places_in input.now }
+    requires connected { Connected (problem_in input.now) (places_of (places_in input.now) (C.test set.now)) }
+    requires small { length (places_of (places_in input.now) (C.test set.now)) ≤ input.now.limit }
     requires people { people
-        ≡ people_of (problem_at input.now.ordered.now) (places_of (length input.now.ordered.now.order) (C.test set.now)) }
+        ≡ people_of (problem_in input.now) (places_of (places_in input.now) (C.test set.now)) }
     ensures { IfOk
         result
         (λ kept. IsTrue kept
-        ↔ (Fits test.now.language (problem_at input.now.ordered.now) (state_of C.test test.now.state.now) (places_of (length input.now.ordered.now.order) (C.test set.now))
-        × IsAsked test.now.exact input.now.limit (places_of (length input.now.ordered.now.order) (C.test set.now)))) }
+        ↔ (Fits test.now.language (problem_in input.now) (state_of C.test test.now.state.now) (places_of (places_in input.now) (C.test set.now))
+        × IsAsked test.now.exact input.now.limit (places_of (places_in input.now) (C.test set.now)))) }
 {
     if !has_size(input, test, set) {
         return Ok(false);
     }
-    let fit = fits(
-        alloc,
-        input.ordered,
-        input.near,
-        test.language,
-        test.state,
-        set,
-        people,
-    )?;
+    let fit = fits(input.graph, test.language, test.state, set, people)?;
     Ok(fit)
 }
 
@@ -100,24 +90,18 @@ impl<C: CountySet> GrowthTest<C> for StateTest<'_, C> {
 
     fn is_passed_over(
         &self,
-        alloc: Global,
         input: &GrowthInput<C>,
         growth: &Growth<C>,
     ) -> Result<bool, AllocError> {
-        is_passed_over(alloc, input, self, growth)
+        is_passed_over(input, self, growth)
     }
 
     fn next_place(&self, ordered: &Ordered, front: &C) -> Option<u16> {
         most_populous(ordered, front)
     }
 
-    fn is_kept(
-        &self,
-        alloc: Global,
-        input: &GrowthInput<C>,
-        growth: &Growth<C>,
-    ) -> Result<bool, AllocError> {
-        fits_and_is_asked(alloc, input, self, &growth.set, growth.people)
+    fn is_kept(&self, input: &GrowthInput<C>, growth: &Growth<C>) -> Result<bool, AllocError> {
+        fits_and_is_asked(input, self, &growth.set, growth.people)
     }
 
     ghost shrinks = { λ t p n limit free less lower k.

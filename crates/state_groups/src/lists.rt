@@ -2,8 +2,6 @@
 
 ghost use Rattle.std.specs.Prelude.{◌≡◌, ℕ, ◌+◌, true, false, ◌<◌, ◌≤◌, Bool, List, OnOk, IfOk, IsErrOf, length};
 ghost use Rattle.grouping_laws.specs.Places.{places_below};
-ghost use Rattle.county_problem.specs.OrderedValue.{problem_at};
-ghost use Rattle.connected_sets.specs.Rows.{AreRows};
 ghost use Rattle.connected_laws.specs.Growing.{only};
 ghost use Rattle.connected_laws.specs.Listing.{lists_of, AreBelow, IsListed, HasStepped, OneStepEach};
 ghost use Rattle.certificate_data.specs.Round.{Round};
@@ -13,6 +11,7 @@ ghost use Rattle.certificate_laws.specs.Groups.{IsSetAt, AreGroupsAt, IsSetWithi
 ghost use Rattle.state_groups.specs.Keeping.{Decides, others};
 ghost use Rattle.state_groups.specs.People.{AreTables};
 ghost use Rattle.connected_sets.specs.declared.stop.Stop.{Stop};
+ghost use Rattle.connected_sets.specs.Graphs.{graph_places, place_problem, IsGraph};
 
 use crate::fitting::open_places;
 use crate::kept_sets::most_populous;
@@ -20,17 +19,14 @@ use crate::state::State;
 use crate::state_test::StateTest;
 use crate::tables::{Tables, make_tables};
 use certificate_data::Language;
-use connected_sets::{GrowthInput, Stop, grow, start_growth};
-use county_problem::{Ordered, Steps};
+use connected_sets::{CountyGraph, GrowthInput, Stop, grow, start_growth};
+use county_problem::Steps;
 use place_sets::{CountySet, sorted};
-use std::alloc::Global;
 
 /// Puts the connected sets of the region that have the place and at most `limit` places, and are kept, behind the
 /// groups.
 fn search<C: CountySet>(
-    alloc: Global,
-    ordered: &Ordered,
-    near: &[C],
+    graph: &CountyGraph<C>,
     language: Language,
     state: &State<C>,
     region: C,
@@ -41,47 +37,41 @@ fn search<C: CountySet>(
     steps: &mut Steps,
     groups: &mut Vec<C>,
 ) -> Result<(), Stop>
-    requires fits { length ordered.now.order ≤ C.PLACES }
-    requires rows { AreRows C C.test (problem_at ordered.now) (length ordered.now.order) near.now }
-    requires places { length state.now.least.items ≡ length ordered.now.order }
-    requires rest { (x : ℕ) → C.test state.now.rest x ≡ true → x < length ordered.now.order }
+    requires graph { IsGraph C.test C.PLACES graph.now }
+    requires places { length state.now.least.items ≡ graph_places graph.now }
+    requires rest { (x : ℕ) → C.test state.now.rest x ≡ true → x < graph_places graph.now }
     requires some { 1 ≤ limit }
-    requires below { (x : ℕ) → C.test region x ≡ true → x < length ordered.now.order }
+    requires below { (x : ℕ) → C.test region x ≡ true → x < graph_places graph.now }
     requires there { C.test region place ≡ true }
-    requires tables { AreTables language (problem_at ordered.now) (length ordered.now.order) limit (C.test state.now.rest) (C.test region) tables.now }
+    requires tables { AreTables language (place_problem graph.now) (graph_places graph.now) limit (C.test state.now.rest) (C.test region) tables.now }
     ensures listed { OnOk
         result
         ((keep : List ℕ → Bool)
-        → Decides language (problem_at ordered.now) (length ordered.now.order) limit exact (state_of C.test state.now) keep
-        → IsListed C C.test (problem_at ordered.now) (length ordered.now.order) limit keep (only place) (others (C.test region) place) groups.old.items groups.new.items) }
-    ensures steps { HasStepped (problem_at ordered.now) (length ordered.now.order) limit (only place) (others (C.test region) place) steps.old.used steps.new.used }
+        → Decides language (place_problem graph.now) (graph_places graph.now) limit exact (state_of C.test state.now) keep
+        → IsListed C C.test (place_problem graph.now) (graph_places graph.now) limit keep (only place) (others (C.test region) place) groups.old.items groups.new.items) }
+    ensures steps { HasStepped (place_problem graph.now) (graph_places graph.now) limit (only place) (others (C.test region) place) steps.old.used steps.new.used }
     ensures counted { OnOk result (steps.old.used + length groups.new.items ≤ steps.new.used
         + length groups.old.items) }
     ensures limit { steps.new.limit ≡ steps.old.limit }
     ensures stopped { IsErrOf result Stop.StepLimit → steps.new.used ≡ steps.new.limit }
 {
-    let _places = ordered.places();
-    let _at_most = ordered.problem().total_people();
+    let _at_most = graph.ordered.problem().total_people();
     let free = region.without(place);
-    let growth = start_growth(alloc, ordered, near, place, free)?;
-    let input = GrowthInput {
-        ordered,
-        near,
-        limit,
-    };
+    let growth = start_growth(graph, place, free)?;
+    let input = GrowthInput { graph, limit };
     let test = StateTest {
         language,
         state,
         exact,
         tables,
     };
-    grow(alloc, &input, &test, growth, steps, groups)
+    grow(&input, &test, growth, steps, groups)
 }
 
 /// The groups that fit the state, have the county at the place and have at most `limit` counties, each once, by
 /// size, and groups of one size by their lists of places: what the takes of a branch have to be.
 ///
-/// `near` are the rows of the order (`neighbour_rows`). A step is taken for each connected set of open counties that
+/// A step is taken for each connected set of open counties that
 /// is met, each with the place and at most `limit` counties. Of the open counties at most so many moves away from a
 /// set as may join it, some have to give it people that suit some number of seats; if none do, the search passes over
 /// the set. In a wide language it also passes over a set that leaves people of the rest that suit no number of seats.
@@ -89,40 +79,35 @@ fn search<C: CountySet>(
 /// groups, and at most as many as such sets. `StepLimit` comes only where all steps are used, `Memory` only where a
 /// growth was refused; the steps that were taken stay taken.
 pub fn groups_at<C: CountySet>(
-    alloc: Global,
-    ordered: &Ordered,
-    near: &[C],
+    graph: &CountyGraph<C>,
     language: Language,
     state: &State<C>,
     place: u16,
     limit: u16,
     steps: &mut Steps,
 ) -> Result<Vec<C>, Stop>
-    requires fits { length ordered.now.order ≤ C.PLACES }
-    requires rows { AreRows C C.test (problem_at ordered.now) (length ordered.now.order) near.now }
-    requires places { length state.now.least.items ≡ length ordered.now.order }
-    requires rest { (x : ℕ) → C.test state.now.rest x ≡ true → x < length ordered.now.order }
+    requires graph { IsGraph C.test C.PLACES graph.now }
+    requires places { length state.now.least.items ≡ graph_places graph.now }
+    requires rest { (x : ℕ) → C.test state.now.rest x ≡ true → x < graph_places graph.now }
     requires there { open_to (state_of C.test state.now) limit place ≡ true }
     requires some { 1 ≤ limit }
     ensures groups { IfOk
         result
         (λ v. (round : Round)
-        → round.order ≡ places_below (length ordered.now.order)
+        → round.order ≡ places_below (graph_places graph.now)
         → round.language ≡ language
-        → AreGroupsAt (problem_at ordered.now) round (state_of C.test state.now) place limit (lists_of (length ordered.now.order) C.test v.items)) }
-    ensures below { IfOk result (λ v. AreBelow (length ordered.now.order) C.test v.items) }
-    ensures steps { OneStepEach (IsSetAt (problem_at ordered.now) (places_below (length ordered.now.order)) (state_of C.test state.now) place limit) steps.old.used steps.new.used }
+        → AreGroupsAt (place_problem graph.now) round (state_of C.test state.now) place limit (lists_of (graph_places graph.now) C.test v.items)) }
+    ensures below { IfOk result (λ v. AreBelow (graph_places graph.now) C.test v.items) }
+    ensures steps { OneStepEach (IsSetAt (place_problem graph.now) (places_below (graph_places graph.now)) (state_of C.test state.now) place limit) steps.old.used steps.new.used }
     ensures counted { IfOk result (λ v. steps.old.used + length v.items ≤ steps.new.used) }
     ensures limit { steps.new.limit ≡ steps.old.limit }
     ensures stopped { IsErrOf result Stop.StepLimit → steps.new.used ≡ steps.new.limit }
 {
-    let _places = ordered.places();
-    let region = open_places(alloc, state, limit)?;
-    let tables = make_tables(alloc, ordered, language, state, &region, limit)?;
-    let mut sets = Vec::new(alloc);
+    let region = open_places(graph.alloc, state, limit)?;
+    let tables = make_tables(graph.alloc, graph.ordered, language, state, &region, limit)?;
+    let mut sets = Vec::new(graph.alloc);
     search(
-        alloc, ordered, near, language, state, region, place, limit, false, &tables, steps,
-        &mut sets,
+        graph, language, state, region, place, limit, false, &tables, steps, &mut sets,
     )?;
     Ok(sorted(sets)?)
 }
@@ -133,40 +118,35 @@ pub fn groups_at<C: CountySet>(
 /// A step is taken for each connected set of at most so many open counties that is met, as in `groups_at`. The sets
 /// that have the most populous open county come first, then those of the others that have the next one, and so on.
 pub fn groups_of<C: CountySet>(
-    alloc: Global,
-    ordered: &Ordered,
-    near: &[C],
+    graph: &CountyGraph<C>,
     language: Language,
     state: &State<C>,
     size: u16,
     steps: &mut Steps,
 ) -> Result<Vec<C>, Stop>
-    requires fits { length ordered.now.order ≤ C.PLACES }
-    requires rows { AreRows C C.test (problem_at ordered.now) (length ordered.now.order) near.now }
-    requires places { length state.now.least.items ≡ length ordered.now.order }
-    requires rest { (x : ℕ) → C.test state.now.rest x ≡ true → x < length ordered.now.order }
+    requires graph { IsGraph C.test C.PLACES graph.now }
+    requires places { length state.now.least.items ≡ graph_places graph.now }
+    requires rest { (x : ℕ) → C.test state.now.rest x ≡ true → x < graph_places graph.now }
     requires some { 1 ≤ size }
     ensures groups { IfOk
         result
         (λ v. (round : Round)
-        → round.order ≡ places_below (length ordered.now.order)
+        → round.order ≡ places_below (graph_places graph.now)
         → round.language ≡ language
-        → AreGroupsOf (problem_at ordered.now) round (state_of C.test state.now) size (lists_of (length ordered.now.order) C.test v.items)) }
-    ensures below { IfOk result (λ v. AreBelow (length ordered.now.order) C.test v.items) }
-    ensures steps { OneStepEach (IsSetWithin (problem_at ordered.now) (places_below (length ordered.now.order)) (state_of C.test state.now) size) steps.old.used steps.new.used }
+        → AreGroupsOf (place_problem graph.now) round (state_of C.test state.now) size (lists_of (graph_places graph.now) C.test v.items)) }
+    ensures below { IfOk result (λ v. AreBelow (graph_places graph.now) C.test v.items) }
+    ensures steps { OneStepEach (IsSetWithin (place_problem graph.now) (places_below (graph_places graph.now)) (state_of C.test state.now) size) steps.old.used steps.new.used }
     ensures counted { IfOk result (λ v. steps.old.used + length v.items ≤ steps.new.used) }
     ensures limit { steps.new.limit ≡ steps.old.limit }
     ensures stopped { IsErrOf result Stop.StepLimit → steps.new.used ≡ steps.new.limit }
 {
-    let _places = ordered.places();
-    let mut region = open_places(alloc, state, size)?;
-    let tables = make_tables(alloc, ordered, language, state, &region, size)?;
-    let mut sets = Vec::new(alloc);
-    while let Some(place) = most_populous(ordered, &region) {
-        let left = region.copy(alloc)?;
+    let mut region = open_places(graph.alloc, state, size)?;
+    let tables = make_tables(graph.alloc, graph.ordered, language, state, &region, size)?;
+    let mut sets = Vec::new(graph.alloc);
+    while let Some(place) = most_populous(graph.ordered, &region) {
+        let left = region.copy(graph.alloc)?;
         search(
-            alloc, ordered, near, language, state, left, place, size, true, &tables, steps,
-            &mut sets,
+            graph, language, state, left, place, size, true, &tables, steps, &mut sets,
         )?;
         region = region.without(place);
     }

@@ -6,13 +6,13 @@ ghost use Rattle.grouping_laws.specs.Sets.{member};
 ghost use Rattle.grouping_laws.specs.Problem.{people_of};
 ghost use Rattle.place_laws.specs.PlaceSets.{places_of};
 ghost use Rattle.grouping_laws.specs.Places.{places_below};
-ghost use Rattle.county_problem.specs.OrderedValue.{problem_at};
-ghost use Rattle.connected_sets.specs.Rows.{AreRows};
 ghost use Rattle.connected_laws.specs.Growing.{IsGrowth, IsFront, IsExtension, AreKept};
 ghost use Rattle.state_groups.specs.StateValue.{state_of};
 ghost use Rattle.certificate_laws.specs.Fitting.{Fits};
 ghost use Rattle.state_groups.specs.Keeping.{Decides, IsAsked};
 ghost use Rattle.state_groups.specs.People.{AreByPeople, AreWindows, IsDivided, AreTables};
+ghost use Rattle.connected_sets.specs.Graphs.{IsGraph};
+ghost use Rattle.connected_sets.specs.Growths.{problem_in, places_in};
 
 use crate::people::first_people;
 use crate::reach::reached;
@@ -22,7 +22,7 @@ use crate::sums::people_in;
 use crate::windows::{may_divide, may_suit};
 use connected_sets::{Growth, GrowthInput};
 use place_sets::CountySet;
-use std::alloc::{AllocError, Global};
+use std::alloc::AllocError;
 
 /// The least number of people of so many places in reach, if sets of one size are asked for; else 0.
 fn fewest_more<C: CountySet>(
@@ -31,13 +31,13 @@ fn fewest_more<C: CountySet>(
     reach: &C,
     more: u32,
 ) -> u64
-    requires fits { length input.now.ordered.now.order ≤ C.PLACES }
-    requires below { (x : ℕ) → C.test reach.now x ≡ true → x < length input.now.ordered.now.order }
-    requires places { AreByPeople (problem_at input.now.ordered.now) (length input.now.ordered.now.order) (C.test reach.now) test.now.tables.now.by_people.items }
+    requires fits { places_in input.now ≤ C.PLACES }
+    requires below { (x : ℕ) → C.test reach.now x ≡ true → x < places_in input.now }
+    requires places { AreByPeople (problem_in input.now) (places_in input.now) (C.test reach.now) test.now.tables.now.by_people.items }
     ensures least { (joins : ℕ → Bool)
         → ((x : ℕ) → joins x ≡ true → C.test reach.now x ≡ true)
-        → (test.now.exact ≡ true → length (places_of (length input.now.ordered.now.order) joins) ≡ more)
-        → result ≤ people_of (problem_at input.now.ordered.now) (places_of (length input.now.ordered.now.order) joins) }
+        → (test.now.exact ≡ true → length (places_of (places_in input.now) joins) ≡ more)
+        → result ≤ people_of (problem_in input.now) (places_of (places_in input.now) joins) }
     ensures bound { result ≤ 2 ^ 48 }
 {
     if !test.exact {
@@ -49,17 +49,17 @@ fn fewest_more<C: CountySet>(
 /// The greatest number of people of at most so many places in reach: all people in reach but those of the others,
 /// which have the fewest.
 fn most_more<C: CountySet>(input: &GrowthInput<C>, test: &StateTest<C>, reach: &C, more: u32) -> u64
-    requires fits { length input.now.ordered.now.order ≤ C.PLACES }
-    requires below { (x : ℕ) → C.test reach.now x ≡ true → x < length input.now.ordered.now.order }
-    requires places { AreByPeople (problem_at input.now.ordered.now) (length input.now.ordered.now.order) (C.test reach.now) test.now.tables.now.by_people.items }
+    requires fits { places_in input.now ≤ C.PLACES }
+    requires below { (x : ℕ) → C.test reach.now x ≡ true → x < places_in input.now }
+    requires places { AreByPeople (problem_in input.now) (places_in input.now) (C.test reach.now) test.now.tables.now.by_people.items }
     ensures greatest { (joins : ℕ → Bool)
         → ((x : ℕ) → joins x ≡ true → C.test reach.now x ≡ true)
-        → length (places_of (length input.now.ordered.now.order) joins) ≤ more
-        → people_of (problem_at input.now.ordered.now) (places_of (length input.now.ordered.now.order) joins) ≤ result }
-    ensures bound { result ≤ input.now.ordered.now.problem.total_people }
+        → length (places_of (places_in input.now) joins) ≤ more
+        → people_of (problem_in input.now) (places_of (places_in input.now) joins) ≤ result }
+    ensures bound { result ≤ input.now.graph.now.ordered.now.problem.total_people }
 {
     let others = reach.size().saturating_sub(more);
-    people_in(input.ordered, reach) - first_people(&test.tables.by_people, reach, others)
+    people_in(input.graph.ordered, reach) - first_people(&test.tables.by_people, reach, others)
 }
 
 /// Whether people from the least to the greatest may suit, and what they leave of the rest too, if that has to.
@@ -69,19 +69,19 @@ fn may_fit<C: CountySet>(
     least: u64,
     greatest: u64,
 ) -> bool
-    requires places { length test.now.state.now.least.items ≡ length input.now.ordered.now.order }
-    requires rest { (x : ℕ) → C.test test.now.state.now.rest x ≡ true → x < length input.now.ordered.now.order }
-    requires windows { AreWindows (problem_at input.now.ordered.now) (people_of (problem_at input.now.ordered.now) (places_of (length input.now.ordered.now.order) (C.test test.now.state.now.rest))) test.now.tables.now.windows.items }
-    requires divided { IsDivided test.now.language (problem_at input.now.ordered.now) (length input.now.ordered.now.order) input.now.limit (C.test test.now.state.now.rest) test.now.tables.now.rest_people }
+    requires places { length test.now.state.now.least.items ≡ places_in input.now }
+    requires rest { (x : ℕ) → C.test test.now.state.now.rest x ≡ true → x < places_in input.now }
+    requires windows { AreWindows (problem_in input.now) (people_of (problem_in input.now) (places_of (places_in input.now) (C.test test.now.state.now.rest))) test.now.tables.now.windows.items }
+    requires divided { IsDivided test.now.language (problem_in input.now) (places_in input.now) input.now.limit (C.test test.now.state.now.rest) test.now.tables.now.rest_people }
     ensures { (g : List ℕ)
-        → filter (member g) (places_below (length input.now.ordered.now.order)) ≡ g
+        → filter (member g) (places_below (places_in input.now)) ≡ g
         → length g ≤ input.now.limit
-        → Fits test.now.language (problem_at input.now.ordered.now) (state_of C.test test.now.state.now) g
-        → least ≤ people_of (problem_at input.now.ordered.now) g
-        → people_of (problem_at input.now.ordered.now) g ≤ greatest
+        → Fits test.now.language (problem_in input.now) (state_of C.test test.now.state.now) g
+        → least ≤ people_of (problem_in input.now) g
+        → people_of (problem_in input.now) g ≤ greatest
         → IsTrue result }
 {
-    let _places = input.ordered.places();
+    let _places = input.graph.ordered.places();
     match test.tables.rest_people {
         None => may_suit(&test.tables.windows, least, greatest),
         Some(all) => may_divide(&test.tables.windows, all, least, greatest),
@@ -95,21 +95,18 @@ fn may_grow<C: CountySet>(
     growth: &Growth<C>,
     reach: &C,
 ) -> bool
-    requires fits { length input.now.ordered.now.order ≤ C.PLACES }
-    requires places { length test.now.state.now.least.items ≡ length input.now.ordered.now.order }
-    requires rest { (x : ℕ) → C.test test.now.state.now.rest x ≡ true → x < length input.now.ordered.now.order }
-    requires growth { IsGrowth (problem_at input.now.ordered.now) (length input.now.ordered.now.order) input.now.limit (C.test growth.now.set) (C.test growth.now.free) }
+    requires graph { IsGraph C.test C.PLACES input.now.graph.now }
+    requires places { length test.now.state.now.least.items ≡ places_in input.now }
+    requires rest { (x : ℕ) → C.test test.now.state.now.rest x ≡ true → x < places_in input.now }
+    requires growth { IsGrowth (problem_in input.now) (places_in input.now) input.now.limit (C.test growth.now.set) (C.test growth.now.free) }
     requires people { growth.now.people
-        ≡ people_of (problem_at input.now.ordered.now) (places_of (length input.now.ordered.now.order) (C.test growth.now.set)) }
-    requires total { people_of (problem_at input.now.ordered.now) (places_below (length input.now.ordered.now.order))
-        ≤ input.now.ordered.now.problem.total_people }
-    requires bound { input.now.ordered.now.problem.total_people ≤ 2 ^ 40 }
-    requires tables { AreTables test.now.language (problem_at input.now.ordered.now) (length input.now.ordered.now.order) input.now.limit (C.test test.now.state.now.rest) (C.test growth.now.free) test.now.tables.now }
+        ≡ people_of (problem_in input.now) (places_of (places_in input.now) (C.test growth.now.set)) }
+    requires tables { AreTables test.now.language (problem_in input.now) (places_in input.now) input.now.limit (C.test test.now.state.now.rest) (C.test growth.now.free) test.now.tables.now }
     requires free { (x : ℕ) → C.test reach.now x ≡ true → C.test growth.now.free x ≡ true }
     ensures { (g : List ℕ)
-        → IsExtension (problem_at input.now.ordered.now) (length input.now.ordered.now.order) input.now.limit (C.test growth.now.set) (C.test reach.now) g
+        → IsExtension (problem_in input.now) (places_in input.now) input.now.limit (C.test growth.now.set) (C.test reach.now) g
         → IsAsked test.now.exact input.now.limit g
-        → Fits test.now.language (problem_at input.now.ordered.now) (state_of C.test test.now.state.now) g
+        → Fits test.now.language (problem_in input.now) (state_of C.test test.now.state.now) g
         → IsTrue result }
 {
     let more = u32::from(input.limit) - growth.set.size();
@@ -125,42 +122,35 @@ fn may_grow<C: CountySet>(
 /// people that may fit, or it leaves a part behind that can't be filled. If the set has as many places as may be, it
 /// is not passed over.
 pub(crate) fn is_passed_over<C: CountySet>(
-    alloc: Global,
     input: &GrowthInput<C>,
     test: &StateTest<C>,
     growth: &Growth<C>,
 ) -> Result<bool, AllocError>
-    requires fits { length input.now.ordered.now.order ≤ C.PLACES }
-    requires rows { AreRows C C.test (problem_at input.now.ordered.now) (length input.now.ordered.now.order) input.now.near.now }
-    requires places { length test.now.state.now.least.items ≡ length input.now.ordered.now.order }
-    requires rest { (x : ℕ) → C.test test.now.state.now.rest x ≡ true → x < length input.now.ordered.now.order }
-    requires growth { IsGrowth (problem_at input.now.ordered.now) (length input.now.ordered.now.order) input.now.limit (C.test growth.now.set) (C.test growth.now.free) }
-    requires front { IsFront (problem_at input.now.ordered.now) (C.test growth.now.set) (C.test growth.now.free) (C.test growth.now.front) }
+    requires graph { IsGraph C.test C.PLACES input.now.graph.now }
+    requires places { length test.now.state.now.least.items ≡ places_in input.now }
+    requires rest { (x : ℕ) → C.test test.now.state.now.rest x ≡ true → x < places_in input.now }
+    requires growth { IsGrowth (problem_in input.now) (places_in input.now) input.now.limit (C.test growth.now.set) (C.test growth.now.free) }
+    requires front { IsFront (problem_in input.now) (C.test growth.now.set) (C.test growth.now.free) (C.test growth.now.front) }
     requires people { growth.now.people
-        ≡ people_of (problem_at input.now.ordered.now) (places_of (length input.now.ordered.now.order) (C.test growth.now.set)) }
-    requires total { people_of (problem_at input.now.ordered.now) (places_below (length input.now.ordered.now.order))
-        ≤ input.now.ordered.now.problem.total_people }
-    requires bound { input.now.ordered.now.problem.total_people ≤ 2 ^ 40 }
-    requires tables { AreTables test.now.language (problem_at input.now.ordered.now) (length input.now.ordered.now.order) input.now.limit (C.test test.now.state.now.rest) (C.test growth.now.free) test.now.tables.now }
+        ≡ people_of (problem_in input.now) (places_of (places_in input.now) (C.test growth.now.set)) }
+    requires tables { AreTables test.now.language (problem_in input.now) (places_in input.now) input.now.limit (C.test test.now.state.now.rest) (C.test growth.now.free) test.now.tables.now }
     ensures { IfOk
         result
         (λ passed. IsTrue passed
         → (keep : List ℕ → Bool)
-        → Decides test.now.language (problem_at input.now.ordered.now) (length input.now.ordered.now.order) input.now.limit test.now.exact (state_of C.test test.now.state.now) keep
-        → AreKept (problem_at input.now.ordered.now) (length input.now.ordered.now.order) input.now.limit keep (C.test growth.now.set) (C.test growth.now.free) []) }
+        → Decides test.now.language (problem_in input.now) (places_in input.now) input.now.limit test.now.exact (state_of C.test test.now.state.now) keep
+        → AreKept (problem_in input.now) (places_in input.now) input.now.limit keep (C.test growth.now.set) (C.test growth.now.free) []) }
 {
     let more = u32::from(input.limit) - growth.set.size();
     if more == 0 {
         return Ok(false);
     }
-    let reach = reached(alloc, input, growth, more)?;
+    let reach = reached(input, growth, more)?;
     if !may_grow(input, test, growth, &reach) {
         return Ok(true);
     }
     strands(
-        alloc,
-        input.ordered,
-        input.near,
+        input.graph,
         test.language,
         test.state,
         &growth.set,

@@ -5,17 +5,17 @@ ghost use Rattle.grouping_laws.specs.Problem.{Suits, people_of};
 ghost use Rattle.grouping_laws.specs.SeatWindow.{IsRun};
 ghost use Rattle.place_laws.specs.PlaceSets.{places_of};
 ghost use Rattle.county_problem.specs.OrderedValue.{problem_at};
-ghost use Rattle.connected_sets.specs.Rows.{AreRows};
 ghost use Rattle.state_groups.specs.StateValue.{state_of};
 ghost use Rattle.certificate_laws.specs.Leaves.{IsOffSeats};
 ghost use Rattle.state_groups.specs.Sums.{IsSums};
+ghost use Rattle.connected_sets.specs.Graphs.{graph_places, place_problem, IsGraph};
 
 use crate::state::State;
 use crate::sums::people_in;
-use connected_sets::parts_of;
+use connected_sets::{CountyGraph, parts_of};
 use county_problem::Ordered;
 use place_sets::CountySet;
-use std::alloc::{AllocError, Global};
+use std::alloc::AllocError;
 
 /// The least and the greatest number of seats that the people of a set suit.
 fn seats_in<C: CountySet>(ordered: &Ordered, set: &C) -> Option<(u64, u64)>
@@ -58,27 +58,23 @@ fn is_outside(seats: u64, least: u64, greatest: u64) -> bool
 /// Whether a seats leaf is valid: each connected part of the rest suits some number of seats, and the least
 /// numbers over the closed groups and the parts add up to more than the seats left, or the greatest to less.
 pub fn is_off_seats<C: CountySet>(
-    alloc: Global,
-    ordered: &Ordered,
-    near: &[C],
+    graph: &CountyGraph<C>,
     state: &State<C>,
 ) -> Result<bool, AllocError>
-    requires fits { length ordered.now.order ≤ C.PLACES }
-    requires rows { AreRows C C.test (problem_at ordered.now) (length ordered.now.order) near.now }
-    requires places { length state.now.least.items ≡ length ordered.now.order }
-    requires below { (x : ℕ) → C.test state.now.rest x ≡ true → x < length ordered.now.order }
-    requires closed { All (λ s. (x : ℕ) → C.test s x ≡ true → x < length ordered.now.order) state.now.closed.items }
+    requires graph { IsGraph C.test C.PLACES graph.now }
+    requires places { length state.now.least.items ≡ graph_places graph.now }
+    requires below { (x : ℕ) → C.test state.now.rest x ≡ true → x < graph_places graph.now }
+    requires closed { All (λ s. (x : ℕ) → C.test s x ≡ true → x < graph_places graph.now) state.now.closed.items }
     requires few { length state.now.closed.items ≤ 65536 }
-    ensures { IfOk result (λ off. IsTrue off ↔ IsOffSeats (problem_at ordered.now) (state_of C.test state.now)) }
+    ensures { IfOk result (λ off. IsTrue off ↔ IsOffSeats (place_problem graph.now) (state_of C.test state.now)) }
 {
-    let _places = ordered.places();
-    let parts = parts_of(alloc, ordered, near, &state.rest)?;
-    let Some(closed) = seat_sums(ordered, &state.closed) else {
+    let parts = parts_of(graph, &state.rest)?;
+    let Some(closed) = seat_sums(graph.ordered, &state.closed) else {
         return Ok(false);
     };
-    let Some(rest) = seat_sums(ordered, &parts) else {
+    let Some(rest) = seat_sums(graph.ordered, &parts) else {
         return Ok(false);
     };
-    let seats = u64::from(ordered.problem().seats_left());
+    let seats = u64::from(graph.ordered.problem().seats_left());
     Ok(is_outside(seats, closed.0 + rest.0, closed.1 + rest.1))
 }

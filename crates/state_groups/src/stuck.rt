@@ -1,22 +1,22 @@
 //! The parts of the rest that no groups can fill, and the sets that leave such a part behind.
 
-ghost use Rattle.std.specs.Prelude.{◌≡◌, ℕ, true, false, ◌<◌, ◌≤◌, List, length, get_or, IfOk, IsTrue, ◌↔◌};
+ghost use Rattle.std.specs.Prelude.{◌≡◌, ℕ, true, false, ◌<◌, List, length, get_or, IfOk, IsTrue, ◌↔◌};
 ghost use Rattle.grouping_laws.specs.Sets.{member};
 ghost use Rattle.grouping_laws.specs.Parts.{IsPart};
 ghost use Rattle.place_laws.specs.PlaceSets.{places_of};
 ghost use Rattle.county_problem.specs.OrderedValue.{problem_at};
-ghost use Rattle.connected_sets.specs.Rows.{AreRows};
 ghost use Rattle.state_groups.specs.StateValue.{state_of};
 ghost use Rattle.certificate_laws.specs.Stuck.{CannotFill};
 ghost use Rattle.certificate_laws.specs.Fitting.{IsLive};
 ghost use Rattle.certificate_laws.specs.Leaves.{IsStuck};
 ghost use Rattle.state_groups.specs.Cut.{CutOff};
 ghost use Rattle.state_groups.specs.Stranding.{NoneFits, IsTooSmall, IsStranded, StrandedPart};
+ghost use Rattle.connected_sets.specs.Graphs.{graph_places, place_problem, IsGraph};
 
 use crate::state::State;
 use crate::sums::people_in;
 use certificate_data::Language;
-use connected_sets::part_around;
+use connected_sets::{CountyGraph, part_around};
 use county_problem::Ordered;
 use place_sets::CountySet;
 use std::alloc::{AllocError, Global};
@@ -68,24 +68,21 @@ fn is_cut_off<C: CountySet>(ordered: &Ordered, state: &State<C>, part: &C, free:
 
 /// Whether some connected part of the region that has none of the free places can't be filled.
 pub fn has_stuck_part<C: CountySet>(
-    alloc: Global,
-    ordered: &Ordered,
-    near: &[C],
+    graph: &CountyGraph<C>,
     state: &State<C>,
     region: C,
     free: &C,
 ) -> Result<bool, AllocError>
-    requires fits { length ordered.now.order ≤ C.PLACES }
-    requires rows { AreRows C C.test (problem_at ordered.now) (length ordered.now.order) near.now }
-    requires places { length state.now.least.items ≡ length ordered.now.order }
-    requires below { (x : ℕ) → C.test region x ≡ true → x < length ordered.now.order }
+    requires graph { IsGraph C.test C.PLACES graph.now }
+    requires places { length state.now.least.items ≡ graph_places graph.now }
+    requires below { (x : ℕ) → C.test region x ≡ true → x < graph_places graph.now }
     ensures { IfOk result (λ stuck. IsTrue stuck
-        ↔ CutOff (problem_at ordered.now) (state_of C.test state.now) (C.test region) (C.test free.now)) }
+        ↔ CutOff (place_problem graph.now) (state_of C.test state.now) (C.test region) (C.test free.now)) }
 {
     let mut rest = region;
     while let Some(place) = rest.next(0) {
-        let (part, left) = part_around(alloc, ordered, near, &rest, place)?;
-        if is_cut_off(ordered, state, &part, free) {
+        let (part, left) = part_around(graph, &rest, place)?;
+        if is_cut_off(graph.ordered, state, &part, free) {
             return Ok(true);
         }
         rest = left;
@@ -144,24 +141,21 @@ fn is_stranded<C: CountySet>(
 
 /// Whether some connected part of the region is stranded.
 fn has_stranded_part<C: CountySet>(
-    alloc: Global,
-    ordered: &Ordered,
-    near: &[C],
+    graph: &CountyGraph<C>,
     state: &State<C>,
     region: C,
     free: &C,
 ) -> Result<bool, AllocError>
-    requires fits { length ordered.now.order ≤ C.PLACES }
-    requires rows { AreRows C C.test (problem_at ordered.now) (length ordered.now.order) near.now }
-    requires places { length state.now.least.items ≡ length ordered.now.order }
-    requires below { (x : ℕ) → C.test region x ≡ true → x < length ordered.now.order }
+    requires graph { IsGraph C.test C.PLACES graph.now }
+    requires places { length state.now.least.items ≡ graph_places graph.now }
+    requires below { (x : ℕ) → C.test region x ≡ true → x < graph_places graph.now }
     ensures { IfOk result (λ found. IsTrue found
-        → StrandedPart (problem_at ordered.now) (state_of C.test state.now) (C.test region) (C.test free.now)) }
+        → StrandedPart (place_problem graph.now) (state_of C.test state.now) (C.test region) (C.test free.now)) }
 {
     let mut rest = region;
     while let Some(place) = rest.next(0) {
-        let (part, left) = part_around(alloc, ordered, near, &rest, place)?;
-        let stranded = is_stranded(alloc, ordered, state, &part, free)?;
+        let (part, left) = part_around(graph, &rest, place)?;
+        let stranded = is_stranded(graph.alloc, graph.ordered, state, &part, free)?;
         if stranded {
             return Ok(true);
         }
@@ -178,72 +172,63 @@ fn has_stranded_part<C: CountySet>(
 ///
 /// Where memory was refused.
 pub fn strands<C: CountySet>(
-    alloc: Global,
-    ordered: &Ordered,
-    near: &[C],
+    graph: &CountyGraph<C>,
     language: Language,
     state: &State<C>,
     set: &C,
     free: &C,
 ) -> Result<bool, AllocError>
-    requires fits { length ordered.now.order ≤ C.PLACES }
-    requires rows { AreRows C C.test (problem_at ordered.now) (length ordered.now.order) near.now }
-    requires places { length state.now.least.items ≡ length ordered.now.order }
-    requires below { (x : ℕ) → C.test state.now.rest x ≡ true → x < length ordered.now.order }
+    requires graph { IsGraph C.test C.PLACES graph.now }
+    requires places { length state.now.least.items ≡ graph_places graph.now }
+    requires below { (x : ℕ) → C.test state.now.rest x ≡ true → x < graph_places graph.now }
     ensures { IfOk
         result
         (λ none. IsTrue none
         → (limit : ℕ)
-        → NoneFits language (problem_at ordered.now) (length ordered.now.order) limit (state_of C.test state.now) (C.test set.now) (C.test free.now)) }
+        → NoneFits language (place_problem graph.now) (graph_places graph.now) limit (state_of C.test state.now) (C.test set.now) (C.test free.now)) }
 {
     match language {
         Language::Plain => Ok(false),
         Language::Wide => {
-            let left = state.rest.copy(alloc)?.minus(set);
-            has_stranded_part(alloc, ordered, near, state, left, free)
+            let left = state.rest.copy(graph.alloc)?.minus(set);
+            has_stranded_part(graph, state, left, free)
         }
     }
 }
 
 /// Whether a group of the rest is live: no connected part of the rest without it is stuck.
 pub fn is_live<C: CountySet>(
-    alloc: Global,
-    ordered: &Ordered,
-    near: &[C],
+    graph: &CountyGraph<C>,
     state: &State<C>,
     group: &C,
 ) -> Result<bool, AllocError>
-    requires fits { length ordered.now.order ≤ C.PLACES }
-    requires rows { AreRows C C.test (problem_at ordered.now) (length ordered.now.order) near.now }
-    requires places { length state.now.least.items ≡ length ordered.now.order }
-    requires below { (x : ℕ) → C.test state.now.rest x ≡ true → x < length ordered.now.order }
+    requires graph { IsGraph C.test C.PLACES graph.now }
+    requires places { length state.now.least.items ≡ graph_places graph.now }
+    requires below { (x : ℕ) → C.test state.now.rest x ≡ true → x < graph_places graph.now }
     ensures { IfOk
         result
         (λ live. IsTrue live
-        ↔ IsLive (problem_at ordered.now) (state_of C.test state.now) (places_of (length ordered.now.order) (C.test group.now))) }
+        ↔ IsLive (place_problem graph.now) (state_of C.test state.now) (places_of (graph_places graph.now) (C.test group.now))) }
 {
-    let left = state.rest.copy(alloc)?.minus(group);
-    let none = C::empty(alloc)?;
-    let stuck = has_stuck_part(alloc, ordered, near, state, left, &none)?;
+    let left = state.rest.copy(graph.alloc)?.minus(group);
+    let none = C::empty(graph.alloc)?;
+    let stuck = has_stuck_part(graph, state, left, &none)?;
     Ok(!stuck)
 }
 
 /// Whether a stuck leaf that names the county at the place, one of the rest, is valid: the connected part of the
 /// rest around it is stuck.
 pub fn is_stuck_at<C: CountySet>(
-    alloc: Global,
-    ordered: &Ordered,
-    near: &[C],
+    graph: &CountyGraph<C>,
     state: &State<C>,
     place: u16,
 ) -> Result<bool, AllocError>
-    requires fits { length ordered.now.order ≤ C.PLACES }
-    requires rows { AreRows C C.test (problem_at ordered.now) (length ordered.now.order) near.now }
-    requires places { length state.now.least.items ≡ length ordered.now.order }
-    requires below { (x : ℕ) → C.test state.now.rest x ≡ true → x < length ordered.now.order }
+    requires graph { IsGraph C.test C.PLACES graph.now }
+    requires places { length state.now.least.items ≡ graph_places graph.now }
+    requires below { (x : ℕ) → C.test state.now.rest x ≡ true → x < graph_places graph.now }
     requires there { C.test state.now.rest place ≡ true }
-    ensures { IfOk result (λ stuck. IsTrue stuck ↔ IsStuck (problem_at ordered.now) (state_of C.test state.now) place) }
+    ensures { IfOk result (λ stuck. IsTrue stuck ↔ IsStuck (place_problem graph.now) (state_of C.test state.now) place) }
 {
-    let (part, _left) = part_around(alloc, ordered, near, &state.rest, place)?;
-    Ok(is_stuck(ordered, state, &part))
+    let (part, _left) = part_around(graph, &state.rest, place)?;
+    Ok(is_stuck(graph.ordered, state, &part))
 }

@@ -19,18 +19,18 @@ use Rattle.state_groups.proofs.fitting.fits.Goals as goal
 
 pub seats_range-requires : goal.seats_range-requires
 seats_range-requires g c =
-    let all = total_all (problem_at c.args.ordered.now).people (length c.args.ordered.now.order) (g.C.CountySet.test c.args.group.now) in
-    omega (arith, all, c.requires.people, c.places-places.ensures.people, ap (λ (v : ProblemValue). v.total_people) c.problem.ensures.value)
+    let all = total_all (problem_at c.args.graph.now.ordered.now).people (length c.args.graph.now.ordered.now.order) (g.C.CountySet.test c.args.group.now) in
+    omega (arith, all, c.requires.people, c.requires.graph.people, ap (λ (v : ProblemValue). v.total_people) c.problem.ensures.value)
 
 pub returns-in-Plain : goal.returns-in-Plain
 returns-in-Plain g c =
     let test = g.C.CountySet.test in
-    let p = problem_at c.args.ordered.now in
-    let n = length c.args.ordered.now.order in
+    let p = problem_at c.args.graph.now.ordered.now in
+    let n = length c.args.graph.now.ordered.now.order in
     let s = state_of test c.args.state.now in
     let t = test c.args.group.now in
     let people = c.args.people in
-    let problem = c.places-places.ensures.problem in
+    let problem = c.requires.graph.rows.problem in
     let law : IsRun (Suits p people) c.seats_range.result =
     subst (IsRun (Suits p people)) (sym (c.seats_range.ensures.value ∙ ap (λ (v : ProblemValue). seat_run (problem_of v) people) c.problem.ensures.value)) (window_law p problem.tolerated problem.some_people people) in
     let k = one_suits p people c.seats_range.result law c.if-is_none.ensures in
@@ -40,12 +40,12 @@ returns-in-Plain g c =
 pub returns-in-Wide : goal.returns-in-Wide
 returns-in-Wide g c =
     let test = g.C.CountySet.test in
-    let p = problem_at c.args.ordered.now in
-    let n = length c.args.ordered.now.order in
+    let p = problem_at c.args.graph.now.ordered.now in
+    let n = length c.args.graph.now.ordered.now.order in
     let s = state_of test c.args.state.now in
     let t = test c.args.group.now in
     let people = c.args.people in
-    let problem = c.places-places.ensures.problem in
+    let problem = c.requires.graph.rows.problem in
     let law : IsRun (Suits p people) c.seats_range.result =
     subst (IsRun (Suits p people)) (sym (c.seats_range.ensures.value ∙ ap (λ (v : ProblemValue). seat_run (problem_of v) people) c.problem.ensures.value)) (window_law p problem.tolerated problem.some_people people) in
     let k = one_suits p people c.seats_range.result law c.if-is_none.ensures in
@@ -59,9 +59,9 @@ returns-in-Wide g c =
 
 pub returns-then-is_none : goal.returns-then-is_none
 returns-then-is_none g c =
-    let p = problem_at c.args.ordered.now in
+    let p = problem_at c.args.graph.now.ordered.now in
     let people = c.args.people in
-    let problem = c.places-places.ensures.problem in
+    let problem = c.requires.graph.rows.problem in
     let law : IsRun (Suits p people) c.seats_range.result =
     subst (IsRun (Suits p people)) (sym (c.seats_range.ensures.value ∙ ap (λ (v : ProblemValue). seat_run (problem_of v) people) c.problem.ensures.value)) (window_law p problem.tolerated problem.some_people people) in
     (λ e. absurd (false≢true e), λ f. absurd (none_suits p people c.seats_range.result law c.if-is_none.ensures f.lawful.seats (subst (λ z. Suits p z f.lawful.seats) (sym c.requires.people) f.lawful.suits)))

@@ -21,13 +21,13 @@ use Rattle.state_groups.proofs.lists.groups_at.Goals as goal
 pub returns-clause-groups : goal.returns-clause-groups
 returns-clause-groups g c =
     let test = g.C.CountySet.test in
-    let p = problem_at c.args.ordered.now in
-    let n = length c.args.ordered.now.order in
+    let p = problem_at c.args.graph.now.ordered.now in
+    let n = length c.args.graph.now.ordered.now.order in
     let s = state_of test c.args.state.now in
     let limit = c.args.limit in
     let at = c.args.place in
     let region = test c.in_ok-region.region in
-    let k = decided c.args.language p n limit false s c.places-places.ensures.problem refl c.requires.rest in
+    let k = decided c.args.language p n limit false s c.requires.graph.rows.problem refl c.requires.rest in
     let listed = c.in_ok-search.ensures.listed k.0 k.1 in
     let more = listed.more ∙ ap (λ (z : List g.row.C.Denot). z ++ listed.added) c.new-sets.ensures.items in
     let kept : AreKept p n limit k.0 (only at) (others region at) (lists_of n test c.search.new.groups.items) = subst (λ (z : List g.row.C.Denot). AreKept p n limit k.0 (only at) (others region at) (lists_of n test z)) (sym more) listed.kept in
@@ -38,10 +38,10 @@ returns-clause-groups g c =
 pub returns-clause-below : goal.returns-clause-below
 returns-clause-below g c =
     let test = g.C.CountySet.test in
-    let p = problem_at c.args.ordered.now in
-    let n = length c.args.ordered.now.order in
+    let p = problem_at c.args.graph.now.ordered.now in
+    let n = length c.args.graph.now.ordered.now.order in
     let s = state_of test c.args.state.now in
-    let k = decided c.args.language p n c.args.limit false s c.places-places.ensures.problem refl c.requires.rest in
+    let k = decided c.args.language p n c.args.limit false s c.requires.graph.rows.problem refl c.requires.rest in
     let listed = c.in_ok-search.ensures.listed k.0 k.1 in
     let more = listed.more ∙ ap (λ (z : List g.row.C.Denot). z ++ listed.added) c.new-sets.ensures.items in
     all_moved (λ (z : g.row.C.Denot). (x : ℕ) → test z x ≡ true → x < n) c.search.new.groups.items c.in_ok-sorted.field-0.items c.in_ok-sorted.ensures.same
@@ -55,31 +55,31 @@ returns-clause-counted g c =
 pub returns-in_err-region-clause-steps : goal.returns-in_err-region-clause-steps
 returns-in_err-region-clause-steps g c =
     let test = g.C.CountySet.test in
-    no_steps (IsSetAt (problem_at c.args.ordered.now) (places_below (length c.args.ordered.now.order)) (state_of test c.args.state.now) c.args.place c.args.limit) c.args.steps.now.used c.args.steps.now.used refl
+    no_steps (IsSetAt (problem_at c.args.graph.now.ordered.now) (places_below (length c.args.graph.now.ordered.now.order)) (state_of test c.args.state.now) c.args.place c.args.limit) c.args.steps.now.used c.args.steps.now.used refl
 
 pub returns-in_err-search-clause-steps : goal.returns-in_err-search-clause-steps
 returns-in_err-search-clause-steps g c =
     let test = g.C.CountySet.test in
-    let n = length c.args.ordered.now.order in
+    let n = length c.args.graph.now.ordered.now.order in
     let s = state_of test c.args.state.now in
     let region = test c.in_ok-region.region in
-    steps_at (problem_at c.args.ordered.now) n c.args.limit c.args.place s (only c.args.place) (others region c.args.place) c.args.steps.now.used c.search.new.steps.used (starts_open n c.args.place c.args.limit s region c.requires.rest c.in_ok-region.ensures c.requires.there) c.search.ensures.steps
+    steps_at (problem_at c.args.graph.now.ordered.now) n c.args.limit c.args.place s (only c.args.place) (others region c.args.place) c.args.steps.now.used c.search.new.steps.used (starts_open n c.args.place c.args.limit s region c.requires.rest c.in_ok-region.ensures c.requires.there) c.search.ensures.steps
 
 pub returns-in_err-sorted-clause-steps : goal.returns-in_err-sorted-clause-steps
 returns-in_err-sorted-clause-steps g c =
     let test = g.C.CountySet.test in
-    let n = length c.args.ordered.now.order in
+    let n = length c.args.graph.now.ordered.now.order in
     let s = state_of test c.args.state.now in
     let region = test c.in_ok-region.region in
-    steps_at (problem_at c.args.ordered.now) n c.args.limit c.args.place s (only c.args.place) (others region c.args.place) c.args.steps.now.used c.search.new.steps.used (starts_open n c.args.place c.args.limit s region c.requires.rest c.in_ok-region.ensures c.requires.there) c.search.ensures.steps
+    steps_at (problem_at c.args.graph.now.ordered.now) n c.args.limit c.args.place s (only c.args.place) (others region c.args.place) c.args.steps.now.used c.search.new.steps.used (starts_open n c.args.place c.args.limit s region c.requires.rest c.in_ok-region.ensures c.requires.there) c.search.ensures.steps
 
 pub returns-clause-steps : goal.returns-clause-steps
 returns-clause-steps g c =
     let test = g.C.CountySet.test in
-    let n = length c.args.ordered.now.order in
+    let n = length c.args.graph.now.ordered.now.order in
     let s = state_of test c.args.state.now in
     let region = test c.in_ok-region.region in
-    steps_at (problem_at c.args.ordered.now) n c.args.limit c.args.place s (only c.args.place) (others region c.args.place) c.args.steps.now.used c.search.new.steps.used (starts_open n c.args.place c.args.limit s region c.requires.rest c.in_ok-region.ensures c.requires.there) c.search.ensures.steps
+    steps_at (problem_at c.args.graph.now.ordered.now) n c.args.limit c.args.place s (only c.args.place) (others region c.args.place) c.args.steps.now.used c.search.new.steps.used (starts_open n c.args.place c.args.limit s region c.requires.rest c.in_ok-region.ensures c.requires.there) c.search.ensures.steps
 
 pub returns-in_err-region-clause-groups : goal.returns-in_err-region-clause-groups
 returns-in_err-region-clause-groups g c = IfOk-from_err c.from_residual.result _ c.from_residual.ensures.0

@@ -26,8 +26,8 @@ use Rattle.state_groups.proofs.lists.groups_of.Goals as goal
 pub loop-place-init : goal.loop-place-init
 loop-place-init g c =
     let test = g.C.CountySet.test in
-    let p = problem_at c.args.ordered.now in
-    let n = length c.args.ordered.now.order in
+    let p = problem_at c.args.graph.now.ordered.now in
+    let n = length c.args.graph.now.ordered.now.order in
     let s = state_of test c.args.state.now in
     let i = c.args.size in
     let region = test c.in_ok-region.region in
@@ -52,15 +52,15 @@ search-requires-clause-below g c =
 pub search-requires-clause-tables : goal.search-requires-clause-tables
 search-requires-clause-tables g c =
     let test = g.C.CountySet.test in
-    let p = problem_at c.args.ordered.now in
-    let n = length c.args.ordered.now.order in
+    let p = problem_at c.args.graph.now.ordered.now in
+    let n = length c.args.graph.now.ordered.now.order in
     fewer_tables c.args.language p n c.args.size (test c.args.state.now.rest) (test c.in_ok-region.region) (test c.in_ok-left.left) c.in_ok-tables.tables
     (λ x e. c.in_ok-region.ensures x ∙ c.loop-place.invariant.left x (sym (c.in_ok-left.ensures.places x) ∙ e)) c.in_ok-tables.ensures
 
 pub loop-place-smaller : goal.loop-place-smaller
 loop-place-smaller g c =
     let test = g.C.CountySet.test in
-    let n = length c.args.ordered.now.order in
+    let n = length c.args.graph.now.ordered.now.order in
     let s = state_of test c.args.state.now in
     let i = c.args.size in
     let region = test c.loop-place.region in
@@ -71,8 +71,8 @@ loop-place-smaller g c =
 pub loop-place-preserved : goal.loop-place-preserved
 loop-place-preserved g c =
     let test = g.C.CountySet.test in
-    let p = problem_at c.args.ordered.now in
-    let n = length c.args.ordered.now.order in
+    let p = problem_at c.args.graph.now.ordered.now in
+    let n = length c.args.graph.now.ordered.now.order in
     let s = state_of test c.args.state.now in
     let i = c.args.size in
     let inv = c.loop-place.invariant in
@@ -93,8 +93,8 @@ loop-place-preserved g c =
 pub returns-in_err-search-clause-steps : goal.returns-in_err-search-clause-steps
 returns-in_err-search-clause-steps g c =
     let test = g.C.CountySet.test in
-    let p = problem_at c.args.ordered.now in
-    let n = length c.args.ordered.now.order in
+    let p = problem_at c.args.graph.now.ordered.now in
+    let n = length c.args.graph.now.ordered.now.order in
     let s = state_of test c.args.state.now in
     let i = c.args.size in
     let inv = c.loop-place.invariant in
@@ -108,38 +108,38 @@ returns-in_err-search-clause-steps g c =
 pub returns-in_err-left-clause-steps : goal.returns-in_err-left-clause-steps
 returns-in_err-left-clause-steps g c =
     let test = g.C.CountySet.test in
-    let p = problem_at c.args.ordered.now in
-    let n = length c.args.ordered.now.order in
+    let p = problem_at c.args.graph.now.ordered.now in
+    let n = length c.args.graph.now.ordered.now.order in
     steps_within p n (state_of test c.args.state.now) c.args.size (test c.loop-place.region) c.args.steps.now.used c.loop-place.steps.used c.loop-place.invariant.stepped
 
 pub returns-in_err-sorted-clause-steps : goal.returns-in_err-sorted-clause-steps
 returns-in_err-sorted-clause-steps g c =
     let test = g.C.CountySet.test in
-    let p = problem_at c.args.ordered.now in
-    let n = length c.args.ordered.now.order in
+    let p = problem_at c.args.graph.now.ordered.now in
+    let n = length c.args.graph.now.ordered.now.order in
     steps_within p n (state_of test c.args.state.now) c.args.size (test c.loop-place.region) c.args.steps.now.used c.loop-place.steps.used c.loop-place.invariant.stepped
 
 pub returns-in_err-region-clause-steps : goal.returns-in_err-region-clause-steps
 returns-in_err-region-clause-steps g c =
     let test = g.C.CountySet.test in
-    no_steps (IsSetWithin (problem_at c.args.ordered.now) (places_below (length c.args.ordered.now.order)) (state_of test c.args.state.now) c.args.size) c.args.steps.now.used c.args.steps.now.used refl
+    no_steps (IsSetWithin (problem_at c.args.graph.now.ordered.now) (places_below (length c.args.graph.now.ordered.now.order)) (state_of test c.args.state.now) c.args.size) c.args.steps.now.used c.args.steps.now.used refl
 
 pub returns-clause-steps : goal.returns-clause-steps
 returns-clause-steps g c =
     let test = g.C.CountySet.test in
-    let p = problem_at c.args.ordered.now in
-    let n = length c.args.ordered.now.order in
+    let p = problem_at c.args.graph.now.ordered.now in
+    let n = length c.args.graph.now.ordered.now.order in
     steps_within p n (state_of test c.args.state.now) c.args.size (test c.loop-place.region) c.args.steps.now.used c.loop-place.steps.used c.loop-place.invariant.stepped
 
 pub returns-clause-groups : goal.returns-clause-groups
 returns-clause-groups g c =
     let test = g.C.CountySet.test in
-    let p = problem_at c.args.ordered.now in
-    let n = length c.args.ordered.now.order in
+    let p = problem_at c.args.graph.now.ordered.now in
+    let n = length c.args.graph.now.ordered.now.order in
     let s = state_of test c.args.state.now in
     let i = c.args.size in
     let inv = c.loop-place.invariant in
-    let k = decided c.args.language p n i true s c.places-places.ensures.problem refl c.requires.rest in
+    let k = decided c.args.language p n i true s c.requires.graph.rows.problem refl c.requires.rest in
     let found = inv.found k.0 k.1 in
     let up : IsSortedBy (λ g' h. is_lt (slice_cmp nat_cmp (sort_key g') (sort_key h))) (lists_of n test c.in_ok-sorted.field-0.items) = c.in_ok-sorted.ensures.sorted n found.below in
     found_groups g.row.C.Denot test c.args.language p n s i k.0 (test c.loop-place.region) c.loop-place.sets.items c.in_ok-sorted.field-0.items k.1 c.in_default.ensures found c.in_ok-sorted.ensures.same up
@@ -147,12 +147,12 @@ returns-clause-groups g c =
 pub returns-clause-below : goal.returns-clause-below
 returns-clause-below g c =
     let test = g.C.CountySet.test in
-    let p = problem_at c.args.ordered.now in
-    let n = length c.args.ordered.now.order in
+    let p = problem_at c.args.graph.now.ordered.now in
+    let n = length c.args.graph.now.ordered.now.order in
     let s = state_of test c.args.state.now in
     let i = c.args.size in
     let inv = c.loop-place.invariant in
-    let k = decided c.args.language p n i true s c.places-places.ensures.problem refl c.requires.rest in
+    let k = decided c.args.language p n i true s c.requires.graph.rows.problem refl c.requires.rest in
     all_moved (λ (z : g.row.C.Denot). (x : ℕ) → test z x ≡ true → x < n) c.loop-place.sets.items c.in_ok-sorted.field-0.items c.in_ok-sorted.ensures.same (inv.found k.0 k.1).below
 
 pub returns-clause-counted : goal.returns-clause-counted

@@ -19,13 +19,13 @@ use Rattle.state_groups.proofs.lists.search.Goals as goal
 pub grow-requires-clause-growth : goal.grow-requires-clause-growth
 grow-requires-clause-growth g c =
     let test = g.C.CountySet.test in
-    let n = length c.args.ordered.now.order in
+    let n = length c.args.graph.now.ordered.now.order in
     let growth = c.in_ok-growth.growth in
     let freed : (x : ℕ) → test growth.free x ≡ others (test c.args.region) c.args.place x = λ x. ap (λ (z : g.row.C.Denot). test z x) c.in_ok-growth.ensures.free ∙ c.without-free.ensures.places x in
-    let p = problem_at c.args.ordered.now in
+    let p = problem_at c.args.graph.now.ordered.now in
     let there = c.requires.below c.args.place c.requires.there in
     record {
-      growth = regions_are_grown.growth (problem_at c.args.ordered.now) n c.args.limit c.args.place (test c.args.region) (test growth.set) (test growth.free) c.requires.some
+      growth = regions_are_grown.growth (problem_at c.args.graph.now.ordered.now) n c.args.limit c.args.place (test c.args.region) (test growth.set) (test growth.free) c.requires.some
           (record { below = c.requires.below; there = c.requires.there; set_is = c.in_ok-growth.ensures.set; free_is = freed });
       front = c.in_ok-growth.ensures.front;
       people = c.in_ok-growth.ensures.people ∙ (people_only p n c.args.place (only c.args.place) (later n c.args.place) (starts n c.args.place there) ∙ ap (λ (z : ℕ → Bool). people_of p (places_of n z)) (sym (fun_ext c.in_ok-growth.ensures.set)));
@@ -34,8 +34,8 @@ grow-requires-clause-growth g c =
 pub returns-clause-listed : goal.returns-clause-listed
 returns-clause-listed g c =
     let test = g.C.CountySet.test in
-    let p = problem_at c.args.ordered.now in
-    let n = length c.args.ordered.now.order in
+    let p = problem_at c.args.graph.now.ordered.now in
+    let n = length c.args.graph.now.ordered.now.order in
     let growth = c.in_ok-growth.growth in
     let freed : (x : ℕ) → test growth.free x ≡ others (test c.args.region) c.args.place x = λ x. ap (λ (z : g.row.C.Denot). test z x) c.in_ok-growth.ensures.free ∙ c.without-free.ensures.places x in
     let old = c.args.groups.now.items in
@@ -50,8 +50,8 @@ returns-clause-listed g c =
 pub returns-clause-steps : goal.returns-clause-steps
 returns-clause-steps g c =
     let test = g.C.CountySet.test in
-    let p = problem_at c.args.ordered.now in
-    let n = length c.args.ordered.now.order in
+    let p = problem_at c.args.graph.now.ordered.now in
+    let n = length c.args.graph.now.ordered.now.order in
     let growth = c.in_ok-growth.growth in
     let freed : (x : ℕ) → test growth.free x ≡ others (test c.args.region) c.args.place x = λ x. ap (λ (z : g.row.C.Denot). test z x) c.in_ok-growth.ensures.free ∙ c.without-free.ensures.places x in
     let set : test growth.set ≡ only c.args.place = fun_ext c.in_ok-growth.ensures.set in
@@ -82,13 +82,13 @@ returns-in_err-growth-clause-stopped g c = refused_not_stopped c.from_residual.r
 
 pub returns-in_err-growth-clause-steps : goal.returns-in_err-growth-clause-steps
 returns-in_err-growth-clause-steps g c =
-    stepped_none (problem_at c.args.ordered.now) (length c.args.ordered.now.order) c.args.limit (only c.args.place) (others (g.C.CountySet.test c.args.region) c.args.place) c.args.steps.now.used c.args.steps.now.used refl
+    stepped_none (problem_at c.args.graph.now.ordered.now) (length c.args.graph.now.ordered.now.order) c.args.limit (only c.args.place) (others (g.C.CountySet.test c.args.region) c.args.place) c.args.steps.now.used c.args.steps.now.used refl
 
 pub grow-requires-clause-knows : goal.grow-requires-clause-knows
 grow-requires-clause-knows g c =
     let test = g.C.CountySet.test in
-    let p = problem_at c.args.ordered.now in
-    let n = length c.args.ordered.now.order in
+    let p = problem_at c.args.graph.now.ordered.now in
+    let n = length c.args.graph.now.ordered.now.order in
     let growth = c.in_ok-growth.growth in
     let freed : (x : ℕ) → test growth.free x ≡ others (test c.args.region) c.args.place x = λ x. ap (λ (z : g.row.C.Denot). test z x) c.in_ok-growth.ensures.free ∙ c.without-free.ensures.places x in (
       c.requires.places,

@@ -6,8 +6,8 @@ use Rattle.state_groups.proofs.passing.fewest_more.Goals as goal
 
 pub returns-clause-least : goal.returns-clause-least
 returns-clause-least g c =
-    let p = problem_at c.args.input.now.ordered.now in
-    let n = length c.args.input.now.ordered.now.order in
+    let p = problem_at c.args.input.now.graph.now.ordered.now in
+    let n = length c.args.input.now.graph.now.ordered.now.order in
     let reach = g.C.CountySet.test c.args.reach.now in
     let are : AreByPeople p n reach c.deref.result.now = subst (AreByPeople p n reach) (sym c.deref.ensures.value) c.requires.places in
     let exact : c.args.test.now.exact ≡ true = search (rules, c.if-not-test.false) in

@@ -9,13 +9,13 @@ returns g c =
     let test = g.C.CountySet.test in
     let input = c.args.input.now in
     let it = c.args.test.now in
-    none_fits_ok it.language (problem_at input.ordered.now) (length input.ordered.now.order) input.limit it.exact (state_of test it.state.now) (test c.args.growth.now.set) (test c.args.growth.now.free) c.strands.result c.strands.ensures
+    none_fits_ok it.language (problem_at input.graph.now.ordered.now) (length input.graph.now.ordered.now.order) input.limit it.exact (state_of test it.state.now) (test c.args.growth.now.set) (test c.args.growth.now.free) c.strands.result c.strands.ensures
 
 pub returns-then-not-may_grow : goal.returns-then-not-may_grow
 returns-then-not-may_grow g c =
     let test = g.C.CountySet.test in
-    let p = problem_at c.args.input.now.ordered.now in
-    let n = length c.args.input.now.ordered.now.order in
+    let p = problem_at c.args.input.now.graph.now.ordered.now in
+    let n = length c.args.input.now.graph.now.ordered.now.order in
     let input = c.args.input.now in
     let it = c.args.test.now in
     let growth = c.args.growth.now in

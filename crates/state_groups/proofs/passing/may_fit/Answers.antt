@@ -8,8 +8,8 @@ use Rattle.state_groups.proofs.passing.may_fit.Goals as goal
 
 pub returns-in-None : goal.returns-in-None
 returns-in-None g c =
-    let p = problem_at c.args.input.now.ordered.now in
-    let n = length c.args.input.now.ordered.now.order in
+    let p = problem_at c.args.input.now.graph.now.ordered.now in
+    let n = length c.args.input.now.graph.now.ordered.now.order in
     let s = state_of g.C.CountySet.test c.args.test.now.state.now in
     λ h order small fits least greatest.
     let has = group_window p c.places-places.ensures.problem n refl s c.requires.rest h order (fits_rest c.args.test.now.language p s h fits) c.args.test.now.language fits c.args.test.now.tables.now.windows.items c.requires.windows in
@@ -17,8 +17,8 @@ returns-in-None g c =
 
 pub returns-in-Some : goal.returns-in-Some
 returns-in-Some g c =
-    let p = problem_at c.args.input.now.ordered.now in
-    let n = length c.args.input.now.ordered.now.order in
+    let p = problem_at c.args.input.now.graph.now.ordered.now in
+    let n = length c.args.input.now.graph.now.ordered.now.order in
     let input = c.args.input.now in
     let it = c.args.test.now in
     let s = state_of g.C.CountySet.test it.state.now in

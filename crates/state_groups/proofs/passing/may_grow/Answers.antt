@@ -11,8 +11,8 @@ use Rattle.state_groups.proofs.passing.may_grow.Goals as goal
 pub returns-then-size-more : goal.returns-then-size-more
 returns-then-size-more g c =
     let test = g.C.CountySet.test in
-    let p = problem_at c.args.input.now.ordered.now in
-    let n = length c.args.input.now.ordered.now.order in
+    let p = problem_at c.args.input.now.graph.now.ordered.now in
+    let n = length c.args.input.now.graph.now.ordered.now.order in
     let input = c.args.input.now in
     let set = test c.args.growth.now.set in
     let reach = test c.args.reach.now in
@@ -36,22 +36,22 @@ returns-then-size-more g c =
 pub overflow_add-least : goal.overflow_add-least
 overflow_add-least g c =
     let test = g.C.CountySet.test in
-    let p = problem_at c.args.input.now.ordered.now in
-    let n = length c.args.input.now.ordered.now.order in
-    omega (arith, total_all p.people n (test c.args.growth.now.set), c.requires.people, c.requires.total, c.requires.bound, c.fewest_more.ensures.bound)
+    let p = problem_at c.args.input.now.graph.now.ordered.now in
+    let n = length c.args.input.now.graph.now.ordered.now.order in
+    omega (arith, total_all p.people n (test c.args.growth.now.set), c.requires.people, c.requires.graph.people, c.requires.graph.bound, c.fewest_more.ensures.bound)
 
 pub overflow_add-greatest : goal.overflow_add-greatest
 overflow_add-greatest g c =
     let test = g.C.CountySet.test in
-    let p = problem_at c.args.input.now.ordered.now in
-    let n = length c.args.input.now.ordered.now.order in
-    omega (arith, total_all p.people n (test c.args.growth.now.set), c.requires.people, c.requires.total, c.requires.bound, c.most_more.ensures.bound)
+    let p = problem_at c.args.input.now.graph.now.ordered.now in
+    let n = length c.args.input.now.graph.now.ordered.now.order in
+    omega (arith, total_all p.people n (test c.args.growth.now.set), c.requires.people, c.requires.graph.people, c.requires.graph.bound, c.most_more.ensures.bound)
 
 pub returns : goal.returns
 returns g c =
     let test = g.C.CountySet.test in
-    let p = problem_at c.args.input.now.ordered.now in
-    let n = length c.args.input.now.ordered.now.order in
+    let p = problem_at c.args.input.now.graph.now.ordered.now in
+    let n = length c.args.input.now.graph.now.ordered.now.order in
     let input = c.args.input.now in
     let set = test c.args.growth.now.set in
     let reach = test c.args.reach.now in

@@ -8,8 +8,8 @@ use Rattle.state_groups.proofs.passing.most_more.Goals as goal
 
 pub overflow_sub-result : goal.overflow_sub-result
 overflow_sub-result g c =
-    let p = problem_at c.args.input.now.ordered.now in
-    let n = length c.args.input.now.ordered.now.order in
+    let p = problem_at c.args.input.now.graph.now.ordered.now in
+    let n = length c.args.input.now.graph.now.ordered.now.order in
     let reach = g.C.CountySet.test c.args.reach.now in
     let are : AreByPeople p n reach c.deref.result.now = subst (AreByPeople p n reach) (sym c.deref.ensures.value) c.requires.places in
     let all = first_all p n reach c.deref.result.now are reach (λ x e. e) c.requires.below c.saturating_sub-others.result in
@@ -17,8 +17,8 @@ overflow_sub-result g c =
 
 pub returns-clause-greatest : goal.returns-clause-greatest
 returns-clause-greatest g c =
-    let p = problem_at c.args.input.now.ordered.now in
-    let n = length c.args.input.now.ordered.now.order in
+    let p = problem_at c.args.input.now.graph.now.ordered.now in
+    let n = length c.args.input.now.graph.now.ordered.now.order in
     let reach = g.C.CountySet.test c.args.reach.now in
     let are : AreByPeople p n reach c.deref.result.now = subst (AreByPeople p n reach) (sym c.deref.ensures.value) c.requires.places in
     let others : c.saturating_sub-others.result ≡ length (places_of n reach) - c.args.more = c.saturating_sub-others.ensures ∙ ap (λ z. z - c.args.more) (c.size.ensures.count n c.requires.below) in

@@ -9,14 +9,14 @@ use Rattle.state_groups.proofs.reach.neighbours_of.Goals as goal
 pub loop-place-preserved : goal.loop-place-preserved
 loop-place-preserved g c =
     let test = g.C.CountySet.test in
-    let p = problem_at c.args.ordered.now in
-    let n = length c.args.ordered.now.order in
+    let p = problem_at c.args.graph.now.ordered.now in
+    let n = length c.args.graph.now.ordered.now.order in
     let set = test c.args.set.now in
     let place = c.in-Some.place in
     let inv = c.loop-place.invariant in
-    let near = c.index-near-from.result in
+    let near = c.index.result.now in
     let found = test c.loop-place.found in
-    let row = row_named g.row.C.Denot test p n c.args.near.now c.requires.rows place c.from.result near c.from.ensures c.index-near-from.is (c.requires.below place c.in-Some.ensures.least.1) in
+    let row = row_named g.row.C.Denot test p n c.args.graph.now.near.items c.requires.graph.rows place c.from.result near c.from.ensures c.index.ensures (c.requires.below place c.in-Some.ensures.least.1) in
     record {
       within = omega (arith, c.in-Some.ensures.fits, c.from-from.ensures);
       all = λ x y e l m touch. c.in_ok-found-2.ensures.places y ∙ first_from p set found (test near) c.loop-place.from place x y

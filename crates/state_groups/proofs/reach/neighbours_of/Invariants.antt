@@ -5,7 +5,7 @@ use Rattle.state_groups.proofs.reach.neighbours_of.Given as goal
 abbrev pub invariant-loop-place : goal.invariant-loop-place
 invariant-loop-place g l = record {
   within : l.from ≤ g.C.CountySet.PLACES;
-  all : (x y : ℕ) → g.C.CountySet.test l.set x ≡ true → x < l.from → y < length l.ordered.order → (problem_at l.ordered).adjacent x y ≡ true → g.C.CountySet.test l.found y ≡ true;
+  all : (x y : ℕ) → g.C.CountySet.test l.set x ≡ true → x < l.from → y < length l.graph.ordered.now.order → (problem_at l.graph.ordered.now).adjacent x y ≡ true → g.C.CountySet.test l.found y ≡ true;
 }
 
 abbrev pub decreases-loop-place : goal.decreases-loop-place

@@ -13,8 +13,8 @@ use Rattle.state_groups.proofs.seats.is_off_seats.Goals as goal
 pub returns-in_default : goal.returns-in_default
 returns-in_default g c =
     let test = g.C.CountySet.test in
-    let p = problem_at c.args.ordered.now in
-    let n = length c.args.ordered.now.order in
+    let p = problem_at c.args.graph.now.ordered.now in
+    let n = length c.args.graph.now.ordered.now.order in
     let s = state_of test c.args.state.now in
     let sets = c.args.state.now.closed.items in
     let same : map (λ (z : g.row.C.Denot). places_of n (test z)) c.deref.result.now ≡ s.closed =
@@ -24,8 +24,8 @@ returns-in_default g c =
 pub returns-in_default-seat_sums : goal.returns-in_default-seat_sums
 returns-in_default-seat_sums g c =
     let test = g.C.CountySet.test in
-    let p = problem_at c.args.ordered.now in
-    let n = length c.args.ordered.now.order in
+    let p = problem_at c.args.graph.now.ordered.now in
+    let n = length c.args.graph.now.ordered.now.order in
     let s = state_of test c.args.state.now in
     let places = λ (z : g.row.C.Denot). places_of n (test z) in
     (λ e. absurd (false≢true e), λ v. absurd (parts_none p s (map places c.in_ok-parts.parts.items) c.in_ok-parts.ensures.parts (subst (λ z. IsSums p (map places z) None) c.deref-2.ensures.value c.in_default-seat_sums.ensures) v))
@@ -33,8 +33,8 @@ returns-in_default-seat_sums g c =
 pub returns : goal.returns
 returns g c =
     let test = g.C.CountySet.test in
-    let p = problem_at c.args.ordered.now in
-    let n = length c.args.ordered.now.order in
+    let p = problem_at c.args.graph.now.ordered.now in
+    let n = length c.args.graph.now.ordered.now.order in
     let s = state_of test c.args.state.now in
     let sets = c.args.state.now.closed.items in
     let places = λ (z : g.row.C.Denot). places_of n (test z) in
@@ -57,10 +57,10 @@ pub seat_sums-requires-clause-few : goal.seat_sums-requires-clause-few
 seat_sums-requires-clause-few g c = omega (arith, c.requires.few, ap length c.deref.ensures.value)
 
 pub seat_sums-requires-clause-below : goal.seat_sums-requires-clause-below
-seat_sums-requires-clause-below g c = subst (λ (z : List g.row.C.Denot). (k : ℕ) (d : g.row.C.Denot) → k < length z → (x : ℕ) → g.C.CountySet.test (get_or z k d) x ≡ true → x < length c.args.ordered.now.order) (sym c.deref.ensures.value) c.requires.closed
+seat_sums-requires-clause-below g c = subst (λ (z : List g.row.C.Denot). (k : ℕ) (d : g.row.C.Denot) → k < length z → (x : ℕ) → g.C.CountySet.test (get_or z k d) x ≡ true → x < length c.args.graph.now.ordered.now.order) (sym c.deref.ensures.value) c.requires.closed
 
 pub seat_sums-requires-2-clause-few : goal.seat_sums-requires-2-clause-few
-seat_sums-requires-2-clause-few g c = omega (arith, ap length c.deref-2.ensures.value, c.in_ok-parts.ensures.few, c.places-places.ensures.few, c.places-places.ensures.value)
+seat_sums-requires-2-clause-few g c = omega (arith, ap length c.deref-2.ensures.value, c.in_ok-parts.ensures.few, c.requires.graph.few)
 
 pub seat_sums-requires-2-clause-below : goal.seat_sums-requires-2-clause-below
 seat_sums-requires-2-clause-below g c =
@@ -71,10 +71,10 @@ seat_sums-requires-2-clause-below g c =
 
 pub overflow_add-closed : goal.overflow_add-closed
 overflow_add-closed g c =
-    let f = λ (z : g.row.C.Denot). places_of (length c.args.ordered.now.order) (g.C.CountySet.test z) in
-    omega (arith, c.in-Some.ensures.small.0, c.in-Some-seat_sums.ensures.small.0, length-map c.deref.result.now f, length-map c.deref-2.result.now f, ap length c.deref.ensures.value, ap length c.deref-2.ensures.value, c.requires.few, c.in_ok-parts.ensures.few, c.places-places.ensures.few, c.places-places.ensures.value)
+    let f = λ (z : g.row.C.Denot). places_of (length c.args.graph.now.ordered.now.order) (g.C.CountySet.test z) in
+    omega (arith, c.in-Some.ensures.small.0, c.in-Some-seat_sums.ensures.small.0, length-map c.deref.result.now f, length-map c.deref-2.result.now f, ap length c.deref.ensures.value, ap length c.deref-2.ensures.value, c.requires.few, c.in_ok-parts.ensures.few, c.requires.graph.few)
 
 pub overflow_add-closed-2 : goal.overflow_add-closed-2
 overflow_add-closed-2 g c =
-    let f = λ (z : g.row.C.Denot). places_of (length c.args.ordered.now.order) (g.C.CountySet.test z) in
-    omega (arith, c.in-Some.ensures.small.1, c.in-Some-seat_sums.ensures.small.1, length-map c.deref.result.now f, length-map c.deref-2.result.now f, ap length c.deref.ensures.value, ap length c.deref-2.ensures.value, c.requires.few, c.in_ok-parts.ensures.few, c.places-places.ensures.few, c.places-places.ensures.value)
+    let f = λ (z : g.row.C.Denot). places_of (length c.args.graph.now.ordered.now.order) (g.C.CountySet.test z) in
+    omega (arith, c.in-Some.ensures.small.1, c.in-Some-seat_sums.ensures.small.1, length-map c.deref.result.now f, length-map c.deref-2.result.now f, ap length c.deref.ensures.value, ap length c.deref-2.ensures.value, c.requires.few, c.in_ok-parts.ensures.few, c.requires.graph.few)

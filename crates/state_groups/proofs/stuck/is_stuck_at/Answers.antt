@@ -12,9 +12,9 @@ is_stuck-requires-clause-below g c = λ x e. c.requires.below x (c.in_ok-part.en
 pub returns : goal.returns
 returns g c =
     let test = g.C.CountySet.test in
-    let p = problem_at c.args.ordered.now in
+    let p = problem_at c.args.graph.now.ordered.now in
     let s = state_of test c.args.state.now in
-    let n = length c.args.ordered.now.order in
+    let n = length c.args.graph.now.ordered.now.order in
     let xs = places_of n (test c.in_ok-part.part) in
     let has = placed n c.args.place (test c.in_ok-part.part) (c.requires.below c.args.place c.requires.there) c.in_ok-part.ensures.around in (
       λ e. record { part = xs; is_part = c.in_ok-part.ensures.part; around = has; cannot_fill = c.is_stuck.ensures.0 e },

@@ -8,8 +8,8 @@ use Rattle.state_groups.proofs.kept_sets.StateTestGrowthTest.is_kept.Goals as go
 pub returns : goal.returns
 returns g c =
     let test = g.C.CountySet.test in
-    let p = problem_at c.args.input.now.ordered.now in
-    let n = length c.args.input.now.ordered.now.order in
+    let p = problem_at c.args.input.now.graph.now.ordered.now in
+    let n = length c.args.input.now.graph.now.ordered.now.order in
     let growth = c.args.growth.now in
     let it = c.args.self.now in
     record {
