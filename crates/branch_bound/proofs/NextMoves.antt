@@ -10,7 +10,7 @@ use Rattle.connected_laws.proofs.PlaceLists.{some_member}
 use Rattle.certificate_laws.specs.State.{State}
 use Rattle.certificate_laws.specs.Fitting.{Fits, IsLive}
 use Rattle.certificate_laws.specs.Groups.{AreGroupsOf}
-use Rattle.state_judge.specs.Placed.{codes_of_set, codes_of_sets, IsPlaced}
+use Rattle.state_groups.specs.Placed.{codes_of_set, codes_of_sets, IsPlaced}
 use Rattle.search_groups.specs.Known.{IsKnown, IsCandidateGroup, AreCandidates, AreThose}
 use Rattle.search_groups.proofs.KnownGroups.{known_serves, none_left, candidates_fit, candidates_listed}
 use Rattle.search_groups.proofs.KeptSteps.{code_in, place_in}

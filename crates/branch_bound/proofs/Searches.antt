@@ -19,7 +19,7 @@ use Rattle.certificate_data.specs.TreeValue.{tree_of, leaf_of, take_onto, list_o
 use Rattle.certificate_text.specs.Trees.{leaf_items}
 use Rattle.certificate_data.proofs.TreeLists.{list_onto, made_tree, made_takes}
 use Rattle.certificate_text.proofs.TreeViews.{items_of_branches, tree_items, made_branch}
-use Rattle.state_judge.specs.Placed.{codes_of_set, codes_of_sets}
+use Rattle.state_groups.specs.Placed.{codes_of_set, codes_of_sets}
 use Rattle.certificate_laws.specs.Agreement.{Agrees}
 use Rattle.certificate_laws.specs.Fitting.{Fits}
 use Rattle.certificate_laws.specs.Groups.{IsGroupAt, AreGroupsAt}

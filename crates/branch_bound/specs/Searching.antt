@@ -28,7 +28,7 @@ use Rattle.certificate_data.specs.declared.tree.Take.{Take}
 use Rattle.certificate_data.specs.TreeValue.{leaf_of, tree_of, take_onto, list_of_takes}
 use Rattle.certificate_text.specs.Trees.{items_of_takes, items_of_tree}
 use Rattle.certificate_lines.specs.declared.item.Item.TheVariants as item
-use Rattle.state_judge.specs.Placed.{state_at, codes_of_sets, IsPlaced}
+use Rattle.state_groups.specs.Placed.{state_at, codes_of_sets, IsPlaced}
 use Rattle.certificate_text.specs.TreeItems.{FitsInTree, HasLines, HasTargetLines}
 use Rattle.search_groups.specs.Known.{AreCandidates, IsKnown}
 use Rattle.search_ends.specs.GivenLeaf.{IsGivenLeaf}

@@ -8,7 +8,7 @@ ghost use Rattle.county_problem.specs.OrderedValue.{problem_at};
 ghost use Rattle.connected_laws.specs.Listing.{AreBelow};
 ghost use Rattle.certificate_laws.specs.Groups.{AreGroupsOf};
 ghost use Rattle.certificate_laws.specs.Leaves.{IsStuck};
-ghost use Rattle.state_judge.specs.Placed.{codes_of_sets};
+ghost use Rattle.state_groups.specs.Placed.{codes_of_sets};
 ghost use Rattle.search_groups.specs.PartLists.{AreListsOf};
 ghost use Rattle.connected_sets.specs.declared.stop.Stop.{Stop};
 ghost use Rattle.branch_bound.specs.Searching.{search_problem, search_round, search_state, IsSearchInput, IsPositionAt};

@@ -10,7 +10,7 @@ ghost use Rattle.grouping_laws.specs.GroupsFrom.{IsOrder};
 ghost use Rattle.county_problem.specs.ProblemValue.{problem_of};
 ghost use Rattle.county_problem.specs.OrderedValue.{problem_at};
 ghost use Rattle.search_groups.specs.PartLists.{AreListsOf};
-ghost use Rattle.state_judge.specs.Placed.{state_at, IsPlaced};
+ghost use Rattle.state_groups.specs.Placed.{state_at, IsPlaced};
 ghost use Rattle.branch_bound.specs.PlainRounds.{IsPlainGround, IsStateOf};
 ghost use Rattle.branch_bound.specs.Searching.{search_problem, search_round, search_state, IsSearchInput, IsPositionAt};
 ghost use Rattle.branch_bound.specs.Searching.{IsBetter, IsChoice, IsOutcome};

@@ -19,7 +19,7 @@ ghost use Rattle.checker_laws.specs.Lines.{window_line, target_lines};
 ghost use Rattle.checker_laws.specs.Verdict.{IsWindowFault, IsOrderFault, IsLargeEnough, IsLimitFault, IsLawfulTarget};
 ghost use Rattle.checker_laws.specs.Verdict.{IsTargetFault};
 ghost use Rattle.checker_laws.specs.Work.{a_tree};
-ghost use Rattle.state_judge.specs.Placed.{state_at, IsPlaced};
+ghost use Rattle.state_groups.specs.Placed.{state_at, IsPlaced};
 ghost use Rattle.certificate_checker.specs.Readable.{IsReadable};
 ghost use Rattle.certificate_checker.specs.Feeding.{stream_of, CountsSteps, IsFed, FeedsThrough, ForEach};
 ghost use Rattle.certificate_checker.specs.Judging.{IsJudged, AreWanted};

@@ -6,7 +6,7 @@ ghost use Rattle.county_problem.specs.ProblemValue.{problem_of};
 ghost use Rattle.certificate_data.specs.RoundValue.{round_of};
 ghost use Rattle.certificate_data.specs.Tree.{Allowance as AllowanceValue, stuck, seats, bound};
 ghost use Rattle.certificate_lines.specs.declared.item.Item.{Item as ItemValue};
-ghost use Rattle.state_judge.specs.Placed.{state_at, IsPlaced};
+ghost use Rattle.state_groups.specs.Placed.{state_at, IsPlaced};
 ghost use Rattle.certificate_checker.specs.Readable.{AllowancesAreSpelled};
 ghost use Rattle.certificate_checker.specs.Feeding.{FeedValue, stream_of, CountsSteps, IsFed, FeedsThrough, ForEach};
 ghost use Rattle.certificate_checker.specs.Judging.{IsCheckInput, IsLeafJudged, IsFoundAt, IsEndOf, IsSmall};

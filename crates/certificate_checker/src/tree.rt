@@ -7,7 +7,7 @@ ghost use Rattle.certificate_data.specs.Tree.{Tree, Takes};
 ghost use Rattle.certificate_text.specs.Trees.{items_of_tree};
 ghost use Rattle.certificate_lines.specs.declared.item.Item.{Item as ItemValue};
 ghost use Rattle.checker_laws.specs.Work.{Open, a_tree, some_takes};
-ghost use Rattle.state_judge.specs.Placed.{state_at, codes_of_sets, IsPlaced, IsClosable};
+ghost use Rattle.state_groups.specs.Placed.{state_at, codes_of_sets, IsPlaced, IsClosable};
 ghost use Rattle.certificate_checker.specs.Readable.{IsReadable, AreReadable};
 ghost use Rattle.certificate_checker.specs.Feeding.{stream_of, CountsSteps, IsFed, FeedsThrough, ForEach};
 ghost use Rattle.certificate_checker.specs.Feeding.{items_to_mark};

@@ -12,7 +12,7 @@ ghost use Rattle.certificate_data.specs.TreeValue.{tree_of};
 ghost use Rattle.certificate_text.specs.Ranges.{AreTreeNumbers};
 ghost use Rattle.certificate_text.specs.TreeFault.{lines_of_tree};
 ghost use Rattle.checker_laws.specs.Verdict.{IsLawfulTarget};
-ghost use Rattle.state_judge.specs.Placed.{state_at, IsPlaced};
+ghost use Rattle.state_groups.specs.Placed.{state_at, IsPlaced};
 ghost use Rattle.certificate_checker.specs.Judging.{AreWanted};
 ghost use Rattle.certificate_checker.specs.TreeAnswered.{IsTreeAnswer, IsRightOfTrees, IsSaid};
 

@@ -13,7 +13,7 @@ use Rattle.grouping_laws.specs.Grouping.{Grouping, sets_of}
 use Rattle.grouping_laws.specs.GroupsFrom.{IsOrder}
 use Rattle.grouping_laws.specs.Ranges.{seated}
 use Rattle.grouping_laws.proofs.Elements.{Has, has_all, all_from_has, has_set}
-use Rattle.state_judge.proofs.PlacedLemmas.{all_one}
+use Rattle.state_groups.proofs.PlacedLemmas.{all_one}
 use Rattle.certificate_text.specs.TreeItems.{HasTargetLines}
 use Rattle.search_ends.specs.Finished.{CoverOnce, HasNumbers}
 use Rattle.search_ends.proofs.Covering.{size_covered, one_size, few_sets}

@@ -9,7 +9,7 @@ use Rattle.grouping_laws.specs.Places.{places_below}
 use Rattle.grouping_laws.specs.PlaceProblem.{at_places}
 use Rattle.place_laws.proofs.Sums.{total-map}
 use Rattle.county_problem.specs.Allot.{SuitEach}
-use Rattle.state_judge.specs.Placed.{codes_of_set, codes_of_sets}
+use Rattle.state_groups.specs.Placed.{codes_of_set, codes_of_sets}
 use Rattle.search_ends.specs.Finished.{CoverOnce}
 use Rattle.search_ends.proofs.Covering.{people_covered}
 

@@ -20,7 +20,7 @@ use Rattle.certificate_laws.proofs.Decided.{fits_alike}
 use Rattle.certificate_data.specs.declared.weights.Weight.{Weight as WeightHeld}
 use Rattle.certificate_data.specs.declared.allowance.Allowance.TheVariants.{Weigh}
 use Rattle.certificate_data.specs.TreeValue as held
-use Rattle.state_judge.specs.Placed.{codes_of_sets}
+use Rattle.state_groups.specs.Placed.{codes_of_sets}
 use Rattle.state_judge.specs.Weights.{weights_of, county_weight}
 use Rattle.state_judge.proofs.FairLines.{all_heavy, open_sum}
 use Rattle.search_groups.specs.Known.{IsKnown}

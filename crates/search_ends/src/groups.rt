@@ -2,7 +2,7 @@
 
 ghost use Rattle.std.specs.Prelude.{◌≡◌, ◌≤◌, length, All, IfOk};
 ghost use Rattle.grouping_laws.specs.Ranges.{seated};
-ghost use Rattle.state_judge.specs.Placed.{codes_of_set, codes_of_sets};
+ghost use Rattle.state_groups.specs.Placed.{codes_of_set, codes_of_sets};
 ghost use Rattle.search_ends.specs.Finished.{HasNumbers};
 
 use county_codes::Group;

@@ -6,7 +6,7 @@ ghost use Rattle.county_problem.specs.ProblemValue.{problem_of};
 ghost use Rattle.certificate_data.specs.RoundValue.{round_of};
 ghost use Rattle.certificate_laws.specs.Fitting.{Fits};
 ghost use Rattle.certificate_data.specs.TreeValue.{leaf_of};
-ghost use Rattle.state_judge.specs.Placed.{state_at, IsPlaced};
+ghost use Rattle.state_groups.specs.Placed.{state_at, IsPlaced};
 ghost use Rattle.list_laws.specs.Complete.{IsCompleteLeaf};
 ghost use Rattle.search_ends.specs.GivenLeaf.{IsGivenLeaf};
 

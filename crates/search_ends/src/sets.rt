@@ -6,7 +6,7 @@ ghost use Rattle.county_problem.specs.ProblemValue.{problem_of};
 ghost use Rattle.county_problem.specs.OrderedValue.{problem_at};
 ghost use Rattle.connected_sets.specs.Rows.{AreRows};
 ghost use Rattle.connected_laws.specs.Listing.{AreBelow};
-ghost use Rattle.state_judge.specs.Placed.{state_at, codes_of_sets, IsPlaced};
+ghost use Rattle.state_groups.specs.Placed.{state_at, codes_of_sets, IsPlaced};
 ghost use Rattle.search_ends.specs.Finished.{AreFinished};
 
 use connected_sets::parts_of;

@@ -6,7 +6,7 @@ ghost use Rattle.county_problem.specs.OrderedValue.{problem_at};
 ghost use Rattle.connected_sets.specs.Rows.{AreRows};
 ghost use Rattle.state_groups.specs.StateValue.{state_of};
 ghost use Rattle.certificate_laws.specs.Leaves.{IsStuck};
-ghost use Rattle.state_judge.specs.Placed.{state_at, IsPlaced};
+ghost use Rattle.state_groups.specs.Placed.{state_at, IsPlaced};
 
 use county_codes::CountyCode;
 use county_problem::Ordered;

@@ -8,7 +8,7 @@ ghost use Rattle.county_problem.specs.ProblemValue.{problem_of};
 ghost use Rattle.connected_laws.specs.Listing.{AreBelow};
 ghost use Rattle.certificate_data.specs.RoundValue.{round_of};
 ghost use Rattle.certificate_data.specs.TreeValue.{leaf_of};
-ghost use Rattle.state_judge.specs.Placed.{state_at, codes_of_sets, IsPlaced};
+ghost use Rattle.state_groups.specs.Placed.{state_at, codes_of_sets, IsPlaced};
 ghost use Rattle.search_groups.specs.Known.{IsKnown};
 ghost use Rattle.list_laws.specs.Complete.{IsCompleteLeaf};
 ghost use Rattle.search_ends.specs.GivenLeaf.{IsGivenLeaf};

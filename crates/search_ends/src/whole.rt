@@ -8,7 +8,7 @@ ghost use Rattle.connected_sets.specs.Rows.{AreRows};
 ghost use Rattle.certificate_data.specs.RoundValue.{round_of};
 ghost use Rattle.certificate_laws.specs.Leaves.{IsStuck, IsOffSeats};
 ghost use Rattle.certificate_data.specs.TreeValue.{leaf_of};
-ghost use Rattle.state_judge.specs.Placed.{state_at, IsPlaced};
+ghost use Rattle.state_groups.specs.Placed.{state_at, IsPlaced};
 ghost use Rattle.list_laws.specs.Complete.{IsCompleteLeaf};
 ghost use Rattle.search_ends.specs.GivenLeaf.{IsGivenLeaf};
 

@@ -9,7 +9,7 @@ ghost use Rattle.connected_sets.specs.Rows.{AreRows};
 ghost use Rattle.connected_laws.specs.Listing.{AreBelow};
 ghost use Rattle.certificate_laws.specs.Fitting.{IsLive};
 ghost use Rattle.connected_sets.specs.declared.stop.Stop.{Stop};
-ghost use Rattle.state_judge.specs.Placed.{state_at, codes_of_set, codes_of_sets, IsPlaced};
+ghost use Rattle.state_groups.specs.Placed.{state_at, codes_of_set, codes_of_sets, IsPlaced};
 ghost use Rattle.search_groups.specs.Known.{AreThose, IsApart, Lacks, Has, Tells};
 
 use connected_sets::Stop;

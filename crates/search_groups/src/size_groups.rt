@@ -14,7 +14,7 @@ ghost use Rattle.certificate_laws.specs.Fitting.{Fits};
 ghost use Rattle.certificate_laws.specs.Leaves.{IsStuck};
 ghost use Rattle.certificate_laws.specs.Groups.{AreGroupsOf};
 ghost use Rattle.connected_sets.specs.declared.stop.Stop.{Stop};
-ghost use Rattle.state_judge.specs.Placed.{state_at, codes_of_sets, IsPlaced};
+ghost use Rattle.state_groups.specs.Placed.{state_at, codes_of_sets, IsPlaced};
 ghost use Rattle.search_groups.specs.PartLists.{ArePartGroups, AreNextGroups, AreListsOf};
 
 use crate::part_lists::PartLists;
@@ -103,42 +103,6 @@ fn rest_groups<C: CountySet>(
     let parts = parts_of(alloc, ordered, near, rest)?;
     let groups = part_groups(alloc, ordered, near, &parts, size, lists, steps)?;
     Ok(sorted(groups)?)
-}
-
-/// The groups of a size, in counties, that fit the state, each once, by their lists of places, whatever smaller groups
-/// fit.
-///
-/// `near` are the rows of the order (`neighbour_rows`). Steps are taken as by `groups_of`. `StepLimit` comes only
-/// where all steps are used, `Memory` only where a growth was refused.
-pub fn all_groups_of_size<C: CountySet>(
-    alloc: Global,
-    ordered: &Ordered,
-    near: &[C],
-    round: &Round,
-    state: &State<C>,
-    size: u16,
-    steps: &mut Steps,
-) -> Result<Vec<C>, Stop>
-    requires fits { length ordered.now.order ≤ C.PLACES }
-    requires rows { AreRows C C.test (problem_at ordered.now) (length ordered.now.order) near.now }
-    requires placed { IsPlaced (length ordered.now.order) C.test state.now }
-    requires order { ordered.now.order ≡ round.now.order }
-    requires size { 1 ≤ size }
-    ensures groups { IfOk
-        result
-        (λ v. AreGroupsOf
-        (problem_of ordered.now.problem)
-        (round_of round.now)
-        (state_at ordered.now.order C.test state.now)
-        size
-        (codes_of_sets ordered.now.order C.test v.items)) }
-    ensures below { IfOk result (λ v. AreBelow (length ordered.now.order) C.test v.items) }
-    ensures more { steps.old.used ≤ steps.new.used }
-    ensures limit { steps.new.limit ≡ steps.old.limit }
-    ensures stopped { IsErrOf result Stop.StepLimit → steps.new.used ≡ steps.new.limit }
-{
-    let _places = ordered.places();
-    groups_of(alloc, ordered, near, round.language, state, size, steps)
 }
 
 /// The groups of a size, in counties, that fit the state, each once, by their lists of places: what a search knows of

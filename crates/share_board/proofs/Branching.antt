@@ -13,7 +13,7 @@ use Rattle.state_groups.specs.declared.state.State.{State as StateHeld}
 use Rattle.certificate_laws.specs.Groups.{AreGroupsAt}
 use Rattle.certificate_data.specs.Tree.{Tree, leaf, seats, Takes, no_take, take}
 use Rattle.certificate_laws.specs.Proving.{NamesLimit, CanBranch}
-use Rattle.state_judge.specs.Placed.{state_at, codes_of_set, codes_of_sets, IsPlaced}
+use Rattle.state_groups.specs.Placed.{state_at, codes_of_set, codes_of_sets, IsPlaced}
 use Rattle.connected_sets.specs.declared.stop.Stop.{Stop}
 use Rattle.connected_sets.specs.declared.stop.Stop.TheVariants as search
 use Rattle.share_board.specs.OpeningStops.{opening_stop}

@@ -13,7 +13,7 @@ use Rattle.certificate_laws.specs.Groups.{AreGroupsAt}
 use Rattle.certificate_laws.specs.Proving.{CanBranch}
 use Rattle.certificate_data.specs.Tree.{Tree, Takes}
 use Rattle.checker_laws.specs.Cost.{AreSoMany}
-use Rattle.state_judge.specs.Placed.{state_at, codes_of_sets, IsClosable}
+use Rattle.state_groups.specs.Placed.{state_at, codes_of_sets, IsClosable}
 use Rattle.state_judge.specs.declared.branch.Branching.{Branching}
 use Rattle.board_laws.specs.Skeleton.{Skeleton, Parts, groups_in}
 use Rattle.board_laws.specs.Standing.{StandsAt, StandsIn}

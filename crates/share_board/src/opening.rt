@@ -4,7 +4,7 @@ ghost use Rattle.std.specs.Prelude.{◌≡◌, ℕ, ◌-◌, ◌≤◌, All, len
 ghost use Rattle.county_codes.specs.Limits.{most_counties};
 ghost use Rattle.certificate_data.specs.TreeValue.{tree_of, list_of_takes};
 ghost use Rattle.county_problem.specs.ProblemValue.{problem_of};
-ghost use Rattle.state_judge.specs.Placed.{codes_of_sets, IsPlaced, IsClosable};
+ghost use Rattle.state_groups.specs.Placed.{codes_of_sets, IsPlaced, IsClosable};
 ghost use Rattle.certificate_data.specs.declared.language.Language.TheVariants.{Plain};
 ghost use Rattle.certificate_data.specs.RoundValue.{round_of};
 ghost use Rattle.certificate_laws.specs.State.{empty_state};

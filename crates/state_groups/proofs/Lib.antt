@@ -12,3 +12,5 @@ pub mod SeatWindows
 pub mod Moves
 pub mod RestPeople
 pub mod PeopleRows
+pub mod PlacedLemmas
+pub mod OpenCounties

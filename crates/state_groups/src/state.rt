@@ -1,11 +1,11 @@
-//! States by the places of an order: closed groups, the rest, and the least size that each county asks for.
+//! States by the places of an order: the first one, and those after a group is closed or a county raised.
 
-ghost use Rattle.std.specs.Prelude.{◌≡◌, ℕ, ◌<◌, ◌≤◌, true, cond, nat_lt, length, get_or, IfOk};
+ghost use Rattle.std.specs.Prelude.{◌≡◌, ℕ, ◌<◌, ◌≤◌, cond, nat_lt, length, get_or, IfOk};
 ghost use Rattle.county_problem.specs.ProblemValue.{problem_of};
-ghost use Rattle.county_problem.specs.OrderedValue.{at_places};
-ghost use Rattle.place_laws.specs.PlaceSets.{places_of};
+ghost use Rattle.county_problem.specs.OrderedValue.{at_places, code_at};
 ghost use Rattle.certificate_laws.specs.State.{empty_state, close, raise};
 ghost use Rattle.state_groups.specs.StateValue.{state_of};
+ghost use Rattle.state_groups.specs.Placed.{state_at, codes_of_set, IsPlaced, IsClosable};
 
 use county_problem::Ordered;
 use place_sets::{CountySet, copy_sets};
@@ -66,67 +66,88 @@ fn clear_sizes<C: CountySet>(least: &mut Vec<u16>, set: &C)
     }
 }
 
-impl<C: CountySet> State<C> {
-    /// The state of an order at which a search begins: no group is closed, and each county may lie in a group
-    /// of any size. An error comes where memory was refused.
-    pub fn empty(alloc: Global, ordered: &Ordered) -> Result<State<C>, AllocError>
-        requires fits { length ordered.now.order ≤ C.PLACES }
-        ensures value { IfOk result (λ s. state_of C.test s
-            ≡ empty_state (at_places (problem_of ordered.now.problem) ordered.now.order)) }
-        ensures places { IfOk result (λ s. length s.least.items ≡ length ordered.now.order) }
-    {
-        let places = ordered.places();
-        Ok(State {
-            closed: Vec::new(alloc),
-            rest: all_places(alloc, places)?,
-            least: no_sizes(alloc, places)?,
-        })
-    }
+/// The state of an order at which a search begins: no group is closed, and each county may lie in a group of any size.
+fn empty_by_places<C: CountySet>(alloc: Global, ordered: &Ordered) -> Result<State<C>, AllocError>
+    requires fits { length ordered.now.order ≤ C.PLACES }
+    ensures value { IfOk result (λ s. state_of C.test s
+        ≡ empty_state (at_places (problem_of ordered.now.problem) ordered.now.order)) }
+    ensures places { IfOk result (λ s. length s.least.items ≡ length ordered.now.order) }
+{
+    let places = ordered.places();
+    Ok(State {
+        closed: Vec::new(alloc),
+        rest: all_places(alloc, places)?,
+        least: no_sizes(alloc, places)?,
+    })
+}
 
-    /// An equal state, or an error where memory was refused.
-    pub fn copy(&self, alloc: Global) -> Result<State<C>, AllocError>
-        ensures value { IfOk result (λ s. state_of C.test s ≡ state_of C.test self.now) }
-        ensures places { IfOk result (λ s. length s.least.items ≡ length self.now.least.items) }
-    {
-        Ok(State {
-            closed: copy_sets(alloc, &self.closed)?,
-            rest: self.rest.copy(alloc)?,
-            least: self.least.clone()?,
-        })
-    }
+/// The state at which a certificate begins: no group is closed, and nothing is asked of a county. An error comes
+/// where memory was refused.
+pub fn first_state<C: CountySet>(alloc: Global, ordered: &Ordered) -> Result<State<C>, AllocError>
+    requires fits { length ordered.now.order ≤ C.PLACES }
+    ensures value { IfOk result (λ s. state_at ordered.now.order C.test s
+        ≡ empty_state (problem_of ordered.now.problem)) }
+    ensures placed { IfOk result (λ s. IsPlaced (length ordered.now.order) C.test s) }
+{
+    let _places = ordered.places();
+    empty_by_places(alloc, ordered)
+}
 
-    /// The state where one more group is closed: it is taken from the rest, and nothing is asked for its
-    /// counties any more. An error comes where memory was refused.
-    pub fn close(self, group: C) -> Result<State<C>, AllocError>
-        requires fits { length self.least.items ≤ C.PLACES }
-        requires few { length self.least.items < 65536 }
-        requires places { (x : ℕ) → C.test group x ≡ true → x < length self.least.items }
-        ensures value { IfOk result (λ s. state_of C.test s
-            ≡ close (places_of (length self.least.items) (C.test group)) (state_of C.test self)) }
-        ensures places { IfOk result (λ s. length s.least.items ≡ length self.least.items) }
-    {
-        let State {
-            mut closed,
-            rest,
-            mut least,
-        } = self;
-        let rest = rest.minus(&group);
-        clear_sizes(&mut least, &group);
-        closed.push(group)?;
-        Ok(State {
-            closed,
-            rest,
-            least,
-        })
-    }
+/// The state where one more group of the rest is closed; the old one stays. An error comes where memory was
+/// refused.
+pub fn closed_state<C: CountySet>(
+    alloc: Global,
+    ordered: &Ordered,
+    state: &State<C>,
+    group: &C,
+) -> Result<State<C>, AllocError>
+    requires fits { length ordered.now.order ≤ C.PLACES }
+    requires placed { IsPlaced (length ordered.now.order) C.test state.now }
+    requires group { IsClosable C.test state.now group.now }
+    ensures value { IfOk result (λ s. state_at ordered.now.order C.test s
+        ≡ close (codes_of_set ordered.now.order C.test group.now) (state_at ordered.now.order C.test state.now)) }
+    ensures placed { IfOk result (λ s. IsPlaced (length ordered.now.order) C.test s) }
+{
+    let _places = ordered.places();
+    let mut closed = copy_sets(alloc, &state.closed)?;
+    closed.push(group.copy(alloc)?)?;
+    let rest = state.rest.copy(alloc)?.minus(group);
+    let mut least = state.least.clone()?;
+    clear_sizes(&mut least, group);
+    Ok(State {
+        closed,
+        rest,
+        least,
+    })
+}
 
-    /// Raises the county at the place past a limit: from now on it lies in a group of more counties than that.
-    pub fn raise(&mut self, place: u16, limit: u16)
-        requires place { place < length self.old.least.items }
-        requires limit { limit < 65535 }
-        ensures value { state_of C.test self.new ≡ raise place limit (state_of C.test self.old) }
-        ensures places { length self.new.least.items ≡ length self.old.least.items }
-    {
-        self.least[usize::from(place)] = limit + 1;
-    }
+/// An equal state, or an error where memory was refused.
+pub fn copied_state<C: CountySet>(
+    alloc: Global,
+    ordered: &Ordered,
+    state: &State<C>,
+) -> Result<State<C>, AllocError>
+    requires placed { IsPlaced (length ordered.now.order) C.test state.now }
+    ensures value { IfOk result (λ s. state_at ordered.now.order C.test s
+        ≡ state_at ordered.now.order C.test state.now) }
+    ensures placed { IfOk result (λ s. IsPlaced (length ordered.now.order) C.test s) }
+{
+    Ok(State {
+        closed: copy_sets(alloc, &state.closed)?,
+        rest: state.rest.copy(alloc)?,
+        least: state.least.clone()?,
+    })
+}
+
+/// Raises the county at the place past a limit: from now on it lies in a group of more counties than that.
+pub fn raise_place<C: CountySet>(ordered: &Ordered, state: &mut State<C>, place: u16, limit: u16)
+    requires placed { IsPlaced (length ordered.now.order) C.test state.old }
+    requires place { place < length ordered.now.order }
+    requires limit { limit < 65535 }
+    ensures value { state_at ordered.now.order C.test state.new
+        ≡ raise (code_at ordered.now.order place) limit (state_at ordered.now.order C.test state.old) }
+    ensures placed { IsPlaced (length ordered.now.order) C.test state.new }
+{
+    let _places = ordered.places();
+    state.least[usize::from(place)] = limit + 1;
 }

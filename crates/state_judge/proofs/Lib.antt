@@ -1,9 +1,7 @@
 pub mod TakeLemmas
-pub mod PlacedLemmas
 pub mod LeafLemmas
 pub mod TurnLemmas
 pub mod GroupLemmas
-pub mod OpenCounties
 pub mod CountyWeights
 pub mod Counting
 pub mod FairLines

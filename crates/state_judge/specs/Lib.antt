@@ -1,4 +1,3 @@
-pub mod Placed
 pub mod CheckFaults
 pub mod LineStops
 pub mod Weights

@@ -4,7 +4,7 @@ use Rattle.grouping_laws.specs.GroupsFrom.{IsOrder}
 use Rattle.certificate_data.specs.Round.{Round}
 use Rattle.certificate_data.specs.RoundValue.{round_of}
 use Rattle.certificate_laws.specs.State.{IsState, empty_state}
-use Rattle.state_judge.specs.Placed.{state_at, IsPlaced}
+use Rattle.state_groups.specs.Placed.{state_at, IsPlaced}
 use Rattle.board_laws.specs.Standing.{StandsAt}
 use Rattle.share_board.specs.Spelled.{HasFiveDigits}
 use Rattle.branch_bound.specs.Pieces.{IsPiece}

@@ -1,5 +1,5 @@
 use Rattle.std.proofs.Common.{refl, subst}
-use Rattle.state_judge.specs.Placed.{codes_of_sets}
+use Rattle.state_groups.specs.Placed.{codes_of_sets}
 use Rattle.certificate_laws.specs.Fitting.{IsLive}
 use Rattle.search_groups.specs.Known.{AreThose}
 use Rattle.branch_bound.specs.Searching.{search_problem, search_state}

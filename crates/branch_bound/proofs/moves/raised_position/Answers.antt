@@ -1,5 +1,5 @@
 use Rattle.std.proofs.Common.{refl, subst}
-use Rattle.state_judge.specs.Placed.{codes_of_sets}
+use Rattle.state_groups.specs.Placed.{codes_of_sets}
 use Rattle.search_groups.specs.Known.{AreThose, Lacks}
 use Rattle.county_problem.specs.OrderedValue.{code_at}
 use Rattle.branch_bound.specs.Searching.{search_state}

@@ -3,7 +3,7 @@ use Rattle.search_groups.proofs.KnownGroups.{known_serves}
 use Rattle.std.proofs.Common.{length, subst, sym, arith}
 use Rattle.std.proofs.lemmas.Bool.{false≢true}
 use Rattle.branch_bound.specs.Searching.{search_problem, search_round, search_state}
-use Rattle.state_judge.specs.Placed.{codes_of_sets}
+use Rattle.state_groups.specs.Placed.{codes_of_sets}
 use Rattle.search_groups.specs.Known.{IsKnown}
 use Rattle.connected_laws.specs.Listing.{AreBelow}
 

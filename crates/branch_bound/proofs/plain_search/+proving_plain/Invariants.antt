@@ -1,7 +1,7 @@
 use Rattle.std.proofs.Common.{◌≡◌, ◌≤◌, ◌+◌, ◌*◌, ◌-◌, take}
 use Rattle.std.specs.List.{AllByRecursion}
 use Rattle.grouping_laws.specs.Grouping.{Grouping}
-use Rattle.state_judge.specs.Placed.{codes_of_sets}
+use Rattle.state_groups.specs.Placed.{codes_of_sets}
 use Rattle.certificate_laws.specs.Agreement.{Agrees}
 use Rattle.certificate_data.specs.Tree.{Tree}
 use Rattle.certificate_laws.specs.Proving.{Proves}

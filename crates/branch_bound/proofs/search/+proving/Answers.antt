@@ -1,7 +1,7 @@
 use Rattle.std.proofs.Common.{◌≡◌, ◌<◌, ℕ, true, length, Ok, IfOk, Some, sym, ap, ◌∙◌, subst, arith}
 use Rattle.grouping_laws.proofs.Elements.{has_all}
 use Rattle.county_problem.specs.OrderedValue.{code_at}
-use Rattle.state_judge.specs.Placed.{codes_of_set, codes_of_sets}
+use Rattle.state_groups.specs.Placed.{codes_of_set, codes_of_sets}
 use Rattle.connected_laws.specs.Listing.{AreBelow}
 use Rattle.certificate_laws.specs.Agreement.{Agrees}
 use Rattle.certificate_laws.specs.State.{raise}

@@ -1,6 +1,6 @@
 use Rattle.std.proofs.Common.{◌≡◌, ◌++◌, drop, All}
 use Rattle.grouping_laws.specs.Ranges.{seated}
-use Rattle.state_judge.specs.Placed.{codes_of_sets}
+use Rattle.state_groups.specs.Placed.{codes_of_sets}
 use Rattle.search_ends.specs.Finished.{HasNumbers}
 use Rattle.search_ends.proofs.groups.seated_groups.Given as goal
 

@@ -4,7 +4,7 @@ use Rattle.grouping_laws.proofs.PlaceProblem.{order_once}
 use Rattle.grouping_laws.specs.Sets.{member}
 use Rattle.county_problem.specs.ProblemValue.{problem_of}
 use Rattle.county_problem.specs.OrderedValue.{code_at}
-use Rattle.state_judge.specs.Placed.{codes_of_sets}
+use Rattle.state_groups.specs.Placed.{codes_of_sets}
 use Rattle.search_groups.specs.Known.{AreThose, Lacks}
 use Rattle.search_groups.proofs.KeptSteps.{lacking_told, not_true, true_not, those_as}
 use Rattle.search_groups.proofs.kept_groups.groups_lacking.Goals as goal

@@ -1,7 +1,7 @@
 use Rattle.std.proofs.Common.{ℕ, ◌≡◌, Bool, true, List, take, length}
 use Rattle.std.specs.Fn.{FnReturnsAt}
 use Rattle.connected_laws.specs.Listing.{AreBelow}
-use Rattle.state_judge.specs.Placed.{codes_of_sets}
+use Rattle.state_groups.specs.Placed.{codes_of_sets}
 use Rattle.search_groups.specs.Known.{AreThose, Tells}
 use Rattle.search_groups.proofs.kept_groups.groups_passing.Given as goal
 

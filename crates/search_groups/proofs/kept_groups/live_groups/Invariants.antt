@@ -2,7 +2,7 @@ use Rattle.std.proofs.Common.{◌≡◌, ◌+◌, ◌≤◌, take, length}
 use Rattle.county_problem.specs.ProblemValue.{problem_of}
 use Rattle.connected_laws.specs.Listing.{AreBelow}
 use Rattle.certificate_laws.specs.Fitting.{IsLive}
-use Rattle.state_judge.specs.Placed.{state_at, codes_of_sets}
+use Rattle.state_groups.specs.Placed.{state_at, codes_of_sets}
 use Rattle.search_groups.specs.Known.{AreThose}
 use Rattle.search_groups.proofs.kept_groups.live_groups.Given as goal
 

@@ -2,7 +2,7 @@ use Rattle.std.proofs.Common.{◌-◌, ◌+◌, Err, length, drop, sym, ap, subs
 use Rattle.certificate_data.specs.TreeValue.{tree_of, list_of_takes}
 use Rattle.certificate_data.specs.declared.tree.Take.{roll-Take}
 use Rattle.county_problem.specs.OrderedValue.{code_at}
-use Rattle.state_judge.specs.Placed.{codes_of_set, codes_of_sets, IsClosable}
+use Rattle.state_groups.specs.Placed.{codes_of_set, codes_of_sets, IsClosable}
 use Rattle.share_board.specs.Opened.{IsOpened, AreOpened, board_problem, board_round, board_state, IsHalted, AreHalted}
 use Rattle.share_board.proofs.Onto.{made_take}
 use Rattle.share_board.proofs.Openings.{are_opened_kept, branch_opened}

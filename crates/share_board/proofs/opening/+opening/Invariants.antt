@@ -1,5 +1,5 @@
 use Rattle.std.proofs.Common.{◌+◌, ◌*◌, ◌≤◌, length, drop}
-use Rattle.state_judge.specs.Placed.{codes_of_sets}
+use Rattle.state_groups.specs.Placed.{codes_of_sets}
 use Rattle.share_board.specs.Replies.{most_opening}
 use Rattle.share_board.specs.Opened.{StatesAreKept, board_problem, board_round, board_state}
 use Rattle.share_board.proofs.Branching.{OpenOn, MoreOn}

@@ -8,7 +8,7 @@ use Rattle.certificate_laws.specs.BoundLines.{room_at}
 use Rattle.state_groups.specs.StateValue.{state_of}
 use Rattle.certificate_laws.specs.Places.{IsStateAt, in_codes}
 use Rattle.certificate_laws.proofs.PlaceStates.{states_have_codes}
-use Rattle.state_judge.proofs.OpenCounties.{room_same, room_few}
+use Rattle.state_groups.proofs.OpenCounties.{room_same, room_few}
 use Rattle.state_judge.proofs.bound.room_left.Goals as goal
 
 pub returns-clause-value : goal.returns-clause-value

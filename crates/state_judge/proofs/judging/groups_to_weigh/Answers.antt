@@ -12,7 +12,7 @@ use Rattle.certificate_laws.specs.Groups.{AreGroupsOf, IsSetWithin}
 use Rattle.certificate_laws.specs.Places.{IsStateAt, in_codes}
 use Rattle.certificate_laws.proofs.PlaceStates.{states_have_codes}
 use Rattle.state_judge.proofs.Counting.{steps_counted}
-use Rattle.state_judge.proofs.OpenCounties.{groups_by_codes, set_within, within_below}
+use Rattle.state_groups.proofs.OpenCounties.{groups_by_codes, set_within, within_below}
 use Rattle.state_judge.proofs.judging.groups_to_weigh.Goals as goal
 
 pub returns-in-Ok-clause-groups : goal.returns-in-Ok-clause-groups

@@ -6,7 +6,7 @@ use Rattle.certificate_laws.specs.State.{raise}
 use Rattle.state_groups.specs.StateValue.{state_of}
 use Rattle.certificate_laws.specs.Places.{in_codes}
 use Rattle.certificate_laws.proofs.PlaceStates.{states_have_codes}
-use Rattle.state_judge.proofs.states.raise_place.Goals as goal
+use Rattle.state_groups.proofs.state.raise_place.Goals as goal
 
 pub returns-clause-value : goal.returns-clause-value
 returns-clause-value g c =

@@ -4,8 +4,8 @@ use Rattle.std.proofs.lemmas.Slice.Zip.{AllZip-map}
 use Rattle.connected_laws.specs.Listing.{lists_of}
 use Rattle.certificate_laws.specs.Places.{in_codes}
 use Rattle.state_groups.specs.declared.state.State.{State as StateHeld}
-use Rattle.state_judge.proofs.PlacedLemmas.{copied_value, copied_placed}
-use Rattle.state_judge.proofs.states.copied_state.Goals as goal
+use Rattle.state_groups.proofs.PlacedLemmas.{copied_value, copied_placed}
+use Rattle.state_groups.proofs.state.copied_state.Goals as goal
 
 pub returns-clause-value : goal.returns-clause-value
 returns-clause-value g c =

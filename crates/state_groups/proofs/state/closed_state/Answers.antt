@@ -16,8 +16,8 @@ use Rattle.certificate_laws.specs.Places.{in_codes}
 use Rattle.certificate_laws.proofs.PlaceStates.{states_have_codes}
 use Rattle.certificate_laws.proofs.States.{same_state}
 use Rattle.certificate_laws.proofs.StateLemmas.{cleared, own_places}
-use Rattle.state_judge.proofs.PlacedLemmas.{all_one, copied_below, closed_lists, closed_apart}
-use Rattle.state_judge.proofs.states.closed_state.Goals as goal
+use Rattle.state_groups.proofs.PlacedLemmas.{all_one, copied_below, closed_lists, closed_apart}
+use Rattle.state_groups.proofs.state.closed_state.Goals as goal
 
 pub returns-clause-value : goal.returns-clause-value
 returns-clause-value g c =
