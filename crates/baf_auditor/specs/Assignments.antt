@@ -9,7 +9,7 @@ use Rattle.field_lines.specs.Cut.{Line, cut}
 use Rattle.field_lines.specs.Fault.{line_of_fault}
 use Rattle.field_lines.specs.Fields.{field_of}
 use Rattle.field_lines.specs.Number.{digits_of}
-use Rattle.field_lines.specs.Values.{unless_fault}
+use Rattle.field_lines.specs.Values.{first_fault_after, unless_fault}
 use Rattle.field_lines.specs.declared.fault.LineFault.{LineFault}
 use Rattle.baf_auditor.specs.declared.assignments.Assignment.{Assignment}
 use Rattle.baf_auditor.specs.declared.fault.AssignmentKind.{AssignmentKind}
@@ -60,21 +60,18 @@ abbrev pub row_fault : ℕ → Result Assignment AssignmentKind → Option Assig
 row_fault count (Err kind) = Some kind
 row_fault count (Ok assignment) = if nat_le most_assignments count then Some TooMany else None
 
--- what is wrong with a line, or else the later fault
-abbrev pub assignment_fault_at : ℕ → Option AssignmentKind → Option AssignmentFault → Option AssignmentFault
-assignment_fault_at number (Some kind) later = Some (assignment_line_fault kind number)
-assignment_fault_at number None later = later
-
--- the fault of the first line at fault, after so many assignments
-abbrev pub first_assignment_fault : ℕ → ℕ → List Line → Option AssignmentFault
-first_assignment_fault delimiter count [] = None
-first_assignment_fault delimiter count (l ∷ ls) =
-    assignment_fault_at l.number (row_fault count (assignment_on delimiter l.bytes)) (first_assignment_fault delimiter (count + 1) ls)
+-- what is wrong with the first line at fault after so many assignments, and its number
+abbrev pub first_assignment_fault : ℕ → ℕ → List Line → Option (AssignmentKind × ℕ)
+first_assignment_fault delimiter count lines =
+    first_fault_after (λ count l. row_fault count (assignment_on delimiter l.bytes)) (λ count l. count + 1) count lines
 
 -- the assignments before and those of further lines, unless a line is at fault, or the cut after all its lines
 abbrev pub rows_after : ℕ → List Assignment → List Line → Option LineFault → Result (List Assignment) AssignmentFault
 rows_after delimiter before lines fault =
-    unless_fault (first_assignment_fault delimiter (length before) lines) (option_map assignment_cut_fault fault) (before ++ filter_map (λ l. result_ok (assignment_on delimiter l.bytes)) lines)
+    unless_fault
+    (option_map (λ f. assignment_line_fault f.0 f.1) (first_assignment_fault delimiter (length before) lines))
+    (option_map assignment_cut_fault fault)
+    (before ++ filter_map (λ l. result_ok (assignment_on delimiter l.bytes)) lines)
 
 -- the assignments of lines, of which the first may be a header
 abbrev pub assignments_of : List Line → Option LineFault → Result (List Assignment) AssignmentFault

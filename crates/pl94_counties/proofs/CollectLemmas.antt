@@ -8,12 +8,13 @@ use Rattle.std.specs.Cmp.{ranked, unsigned_tied}
 use Rattle.std.specs.List.{cons_option}
 use Rattle.std.specs.BTreeMap.{insert_entry}
 use Rattle.field_lines.specs.Cut.{Cut, Line, cut}
+use Rattle.field_lines.specs.Values.{fault_or_later}
 use Rattle.field_lines.specs.declared.fault.LineFault.{LineFault}
 use Rattle.pl94_counties.specs.declared.fault.Pl94Kind.{Pl94Kind}
 use Rattle.pl94_counties.specs.declared.fault.Pl94Kind.TheVariants.{TooMany}
 use Rattle.pl94_counties.specs.declared.fault.File.{File}
 use Rattle.pl94_counties.specs.declared.fault.Pl94Fault.{Pl94Fault}
-use Rattle.pl94_counties.specs.Numbered.{people_at_number, LineEntry, Rule, people_of_numbers, people_by_number, has_number, by_number, entries_on, entry_of, pl94_line_fault, first_entry_fault, entry_fault_at, unless_entry_fault, with_given, pl94_cut_fault}
+use Rattle.pl94_counties.specs.Numbered.{people_at_number, LineEntry, Rule, people_of_numbers, people_by_number, has_number, by_number, entries_on, entry_of, pl94_line_fault, first_entry_fault, unless_entry_fault, with_given, pl94_cut_fault}
 use Rattle.std.proofs.lemmas.List.{append-nil}
 use Rattle.std.proofs.lemmas.List.Elements.{filter_map-append}
 use Rattle.std.proofs.lemmas.List.Sums.{fold-append}
@@ -101,7 +102,7 @@ module _ (read : List ℕ → LineEntry) (rule : Rule) (file : File) (fault : Op
       → (elim (if b then Err rule.double else if full then Err TooMany else Ok more) as (λ _. Result (List (ℕ × ℕ)) Pl94Fault) [
         | Ok more ↦ collect_from read rule file more ls fault
         | Err kind ↦ Err (record { kind = kind; file = file; line = number })
-      ]) ≡ unless_entry_fault file (entry_fault_at number (if d then Some rule.double else if full then Some TooMany else None) later) fault entries
+      ]) ≡ unless_entry_fault file (fault_or_later number (if d then Some rule.double else if full then Some TooMany else None) later) fault entries
   choose number more entries ls later true true full same rest = refl
   choose number more entries ls later true false full same rest = cc
   choose number more entries ls later false true full same rest = cc
@@ -112,7 +113,7 @@ module _ (read : List ℕ → LineEntry) (rule : Rule) (file : File) (fault : Op
       → (elim (with_given rule (by_number (entries_on read before)) g) as (λ _. Result (List (ℕ × ℕ)) Pl94Fault) [
         | Ok more ↦ collect_from read rule file more ls fault
         | Err kind ↦ Err (record { kind = kind; file = file; line = l.number })
-      ]) ≡ unless_entry_fault file (entry_fault_at l.number (pl94_line_fault rule (entries_on read before) g) (first_entry_fault read rule (before ++ l ∷ []) ls)) fault (by_number (entries_on read (before ++ l ∷ ls)))
+      ]) ≡ unless_entry_fault file (fault_or_later l.number (pl94_line_fault rule (entries_on read before) g) (first_entry_fault read rule (before ++ l ∷ []) ls)) fault (by_number (entries_on read (before ++ l ∷ ls)))
   after_line before l ls ih (Err kind) is = refl
   after_line before l ls ih (Ok None) is =
       let same : entries_on read (before ++ l ∷ []) ≡ entries_on read before =

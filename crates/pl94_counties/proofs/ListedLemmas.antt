@@ -1,5 +1,5 @@
 -- The counties and the blocks that two texts give are those of their lines.
-use Rattle.std.proofs.Common.{◌≡◌, ℕ, zero, suc, ◌+◌, ◌<◌, ◌≤◌, List, [], ◌∷◌, length, map, fold, Option, Some, None, Result, Ok, Err, All, refl, sym, ap, ◌∙◌, subst, get_or, arith}
+use Rattle.std.proofs.Common.{◌≡◌, ℕ, zero, suc, ◌+◌, ◌<◌, List, [], ◌∷◌, map, fold, Option, Some, None, Result, Ok, Err, All, refl, sym, subst, get_or, arith}
 use Rattle.std.specs.declared.cmp.Ordering.{Ordering}
 use Rattle.std.specs.declared.cmp.Ordering.TheVariants.{Less, Equal, Greater}
 use Rattle.std.specs.Ordering.{nat_cmp, match_ordering}
@@ -7,10 +7,10 @@ use Rattle.std.specs.Cmp.{ranked}
 use Rattle.std.specs.BTreeMap.{insert_entry}
 use Rattle.std.specs.Result.{result_map_both}
 use Rattle.std.specs.List.Sorted.{IsStrictlyIncreasing}
-use Rattle.std.proofs.lemmas.List.Elements.{All-cons, All-tail, All-nil, All-map}
+use Rattle.std.proofs.lemmas.List.Elements.{All-cons, All-map}
 use Rattle.std.proofs.lemmas.List.Kept.{AllPairs-from_increasing}
 use Rattle.std.proofs.lemmas.Map.Views.{All-keys-insert_entry}
-use Rattle.field_lines.specs.Cut.{Line, cut}
+use Rattle.field_lines.specs.Cut.{cut}
 use Rattle.field_lines.specs.declared.fault.LineFault.{LineFault}
 use Rattle.county_codes.specs.declared.county.County.{County}
 use Rattle.pl94_counties.specs.declared.blocks.Block.{Block}
@@ -24,7 +24,7 @@ use Rattle.pl94_counties.specs.Geo.{area_on}
 use Rattle.pl94_counties.specs.Numbered.{entries_on}
 use Rattle.pl94_counties.specs.Areas.{area_list, found_list}
 use Rattle.pl94_counties.specs.Counties.{county_of, block_of, county_list, block_list}
-use Rattle.pl94_counties.specs.Joined.{IsJoined, IsListedArea}
+use Rattle.pl94_counties.specs.Joined.{IsJoined}
 use Rattle.pl94_counties.specs.Listed.{AreCounties, AreBlocks}
 use Rattle.pl94_counties.proofs.ListLemmas.{codes_made, listed_made}
 use Rattle.pl94_counties.proofs.LawLemmas.{from_lines, each_line}

@@ -5,6 +5,7 @@ use Rattle.field_lines.specs.Raw.{RawLine, raw_lines}
 use Rattle.field_lines.specs.Fault.{most_lines, most_bytes}
 use Rattle.field_lines.specs.Cut.{Cut, Line, cut, fault_in}
 use Rattle.field_lines.specs.Chain.{◌>>=◌}
+use Rattle.field_lines.specs.Values.{fault_or_later}
 use Rattle.field_lines.specs.declared.fault.LineFault.{LineFault}
 use Rattle.field_lines.specs.declared.fault.LineFault.TheVariants.{LineTooLong, TooManyLines}
 use Rattle.pl94_counties.specs.declared.fault.Pl94Kind.{Pl94Kind}
@@ -15,7 +16,7 @@ use Rattle.pl94_counties.specs.declared.fault.Pl94Fault.{Pl94Fault}
 use Rattle.pl94_counties.specs.declared.geo.Area.{Area}
 use Rattle.pl94_counties.specs.declared.geo.Area.TheVariants as areas
 use Rattle.pl94_counties.specs.Fields.{field, small_number, GeoFields, geo_fields}
-use Rattle.pl94_counties.specs.Numbered.{LineEntry, Rule, people_at_number, has_number, is_full, by_number, pl94_line_fault, entry_fault_at, entries_on, first_entry_fault, pl94_cut_fault, unless_entry_fault, people_by_number}
+use Rattle.pl94_counties.specs.Numbered.{LineEntry, Rule, people_at_number, has_number, is_full, by_number, pl94_line_fault, entries_on, first_entry_fault, pl94_cut_fault, unless_entry_fault, people_by_number}
 use Rattle.pl94_counties.specs.Segment.{record_on, record_rule, record_list, record_list_in}
 use Rattle.pl94_counties.specs.Geo.{area_code, rule_of, is_line_of, joined, area_on}
 use Rattle.pl94_counties.specs.Areas.{found_list, found_list_in, no_areas, some_areas, area_list_in, area_list}
@@ -82,7 +83,7 @@ module _ (read : List ℕ → LineEntry) (rule : Rule) (own : (line : List ℕ) 
   of_line earlier line (Ok None) kind gives is = absurd cc
   of_line earlier line (Ok (Some e)) kind gives is = of_double (has_number e.0 earlier) (is_full rule.most (length (by_number earlier))) kind is
 
-  of_first : (number : ℕ) (o : Option Pl94Kind) (later : Option (Pl94Kind × ℕ)) (f : Pl94Kind × ℕ) → ((kind : Pl94Kind) → o ≡ Some kind → IsPl94OfText kind) → (later ≡ Some f → IsPl94OfText f.0) → entry_fault_at number o later ≡ Some f → IsPl94OfText f.0
+  of_first : (number : ℕ) (o : Option Pl94Kind) (later : Option (Pl94Kind × ℕ)) (f : Pl94Kind × ℕ) → ((kind : Pl94Kind) → o ≡ Some kind → IsPl94OfText kind) → (later ≡ Some f → IsPl94OfText f.0) → fault_or_later number o later ≡ Some f → IsPl94OfText f.0
   of_first number (Some kind) later f here after is =
       let same : ◌≡◌ {A = Pl94Kind × ℕ} (kind, number) f = cc in
       subst (λ (p : Pl94Kind × ℕ). IsPl94OfText p.0) same (here kind refl)

@@ -78,16 +78,11 @@ pl94_line_fault rule earlier (Ok (Some e)) =
     else if is_full rule.most (length (by_number earlier)) then Some TooMany
     else None
 
--- what is wrong with a line and its number, or else the later fault
-abbrev pub entry_fault_at : ℕ → Option Pl94Kind → Option (Pl94Kind × ℕ) → Option (Pl94Kind × ℕ)
-entry_fault_at number (Some kind) later = Some (kind, number)
-entry_fault_at number None later = later
-
 -- what is wrong with the first line at fault, and its number; `before` are the lines before the others
 abbrev pub first_entry_fault : (List ℕ → LineEntry) → Rule → List Line → List Line → Option (Pl94Kind × ℕ)
-first_entry_fault read rule before [] = None
-first_entry_fault read rule before (l ∷ ls) =
-    entry_fault_at l.number (pl94_line_fault rule (entries_on read before) (read l.bytes)) (first_entry_fault read rule (before ++ l ∷ []) ls)
+first_entry_fault read rule before lines =
+    values.first_fault_after (λ before l. pl94_line_fault rule (entries_on read before) (read l.bytes))
+    (λ before l. before ++ l ∷ []) before lines
 
 -- memory was refused
 abbrev pub IsPl94Memory : Pl94Fault → Type 0
