@@ -16,9 +16,7 @@ use certificate_data::Leaf;
 use connected_sets::Stop;
 use county_problem::Steps;
 use place_sets::CountySet;
-use search_ends::{
-    empty_leaf, finished_grouping, room_leaf, wanted_more, weighed_leaf, whole_leaf,
-};
+use search_ends::{empty_leaf, finished_grouping, room_leaf, wanted_more, weighed_leaf, whole_leaf};
 use search_groups::{PartLists, county_of_choice, live_groups, weigh};
 use std::alloc::AllocError;
 

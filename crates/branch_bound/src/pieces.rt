@@ -25,7 +25,7 @@ use crate::position::Position;
 use crate::search::prove;
 use crate::watcher::NoWatcher;
 use certificate_data::{Language, Round, Tree};
-use connected_sets::{Stop, neighbour_rows};
+use connected_sets::Stop;
 use county_codes::Grouping;
 use county_problem::{OrderFault, Ordered, Problem, Steps};
 use place_sets::CountySet;

@@ -5,9 +5,7 @@ ghost use Rattle.std.specs.List.Sorted.{IsStrictlyIncreasing};
 ghost use Rattle.county_codes.specs.Limits.{most_counties};
 ghost use Rattle.county_codes.specs.Windows.{FitsRange};
 ghost use Rattle.certificate_lines.specs.Fits.{AreCodes};
-ghost use Rattle.connected_sets.specs.Rows.{AreRows};
 ghost use Rattle.county_problem.specs.ProblemValue.{problem_of};
-ghost use Rattle.county_problem.specs.OrderedValue.{problem_at};
 ghost use Rattle.certificate_data.specs.declared.language.Language.TheVariants.{Plain, Wide};
 ghost use Rattle.certificate_data.specs.RoundValue.{round_of, target_of};
 ghost use Rattle.certificate_laws.specs.Leaves.{IsStuck, IsOffSeats};
@@ -19,6 +17,7 @@ ghost use Rattle.branch_bound.specs.Searching.{IsOutcome, IsProof};
 ghost use Rattle.branch_bound.specs.Solving.{round_over, IsTarget, IsFirst};
 ghost use Rattle.search_ends.specs.GivenLeaf.{IsGivenLeaf};
 ghost use Rattle.branch_bound.specs.Answered.{IsSolveAnswer, Certifies, SolveIsRight, HasCompleteTree, SaysWhether};
+ghost use Rattle.connected_sets.specs.Graphs.{graph_problem, graph_order, graph_places, place_problem, IsGraph};
 
 use crate::answer::Answer;
 use crate::input::SearchInput;
@@ -27,7 +26,7 @@ use crate::outcome::{First, SearchOutcome};
 use crate::search::prove;
 use crate::watcher::{NoWatcher, Watcher};
 use certificate_data::{Certificate, Language, Leaf, Round, Tree};
-use connected_sets::{Stop, neighbour_rows};
+use connected_sets::{CountyGraph, Stop};
 use county_codes::{Codes, Grouping, listed_codes};
 use county_problem::{OrderFault, Ordered, Problem, Steps};
 use place_sets::{CountySet, MaskSet, Places, fits_mask};
@@ -102,29 +101,26 @@ fn round_for(
 
 /// The search of a round, from the state at which nothing is closed.
 fn prove_first<C: CountySet, W: Watcher>(
-    alloc: Global,
-    ordered: &Ordered,
-    near: &[C],
+    graph: &CountyGraph<C>,
     round: &Round,
     lists: &mut PartLists<C>,
     watcher: &mut W,
     steps: &mut Steps,
 ) -> Result<SearchOutcome, Stop>
-    requires fits { length ordered.now.order ≤ C.PLACES }
-    requires rows { AreRows C C.test (problem_at ordered.now) (length ordered.now.order) near.now }
-    requires order { ordered.now.order ≡ round.now.order }
+    requires graph { IsGraph C.test C.PLACES graph.now }
+    requires order { graph_order graph.now ≡ round.now.order }
     requires small { round.now.limit ≤ most_counties }
     requires wide { round.now.language ≡ Wide }
-    requires lists { AreListsOf C.test (problem_at ordered.now) (length ordered.now.order) lists.old }
-    ensures outcome { IfOk result (IsOutcome (problem_of ordered.now.problem) (round_of round.now) (empty_state (problem_of ordered.now.problem))) }
+    requires lists { AreListsOf C.test (place_problem graph.now) (graph_places graph.now) lists.old }
+    ensures outcome { IfOk result (IsOutcome (graph_problem graph.now) (round_of round.now) (empty_state (graph_problem graph.now))) }
     ensures counted { OnOk result (steps.old.used < steps.new.used) }
-    ensures lists { AreListsOf C.test (problem_at ordered.now) (length ordered.now.order) lists.new }
+    ensures lists { AreListsOf C.test (place_problem graph.now) (graph_places graph.now) lists.new }
     ensures limit { steps.new.limit ≡ steps.old.limit }
     ensures stopped { IsErrOf result Stop.StepLimit → steps.new.used ≡ steps.new.limit }
 {
     let input = SearchInput {
-        alloc,
-        ordered,
+        graph.alloc,
+        graph.ordered,
         near,
         round,
     };
@@ -134,33 +130,30 @@ fn prove_first<C: CountySet, W: Watcher>(
 
 /// A round of the search: a proof tree of it, or a greater grouping.
 fn prove_round<C: CountySet, W: Watcher>(
-    alloc: Global,
-    ordered: &Ordered,
-    near: &[C],
+    graph: &CountyGraph<C>,
     target: &Grouping,
     limit: u16,
     lists: &mut PartLists<C>,
     watcher: &mut W,
     steps: &mut Steps,
 ) -> Result<SearchOutcome, Stop>
-    requires fits { length ordered.now.order ≤ C.PLACES }
-    requires rows { AreRows C C.test (problem_at ordered.now) (length ordered.now.order) near.now }
+    requires graph { IsGraph C.test C.PLACES graph.now }
     requires small { limit ≤ most_counties }
-    requires lists { AreListsOf C.test (problem_at ordered.now) (length ordered.now.order) lists.old }
+    requires lists { AreListsOf C.test (place_problem graph.now) (graph_places graph.now) lists.old }
     ensures outcome { IfOk
         result
         (IsOutcome
-        (problem_of ordered.now.problem)
-        (round_over (problem_of ordered.now.problem) ordered.now.order limit (Some target.now.groups.items) Wide)
-        (empty_state (problem_of ordered.now.problem))) }
+        (graph_problem graph.now)
+        (round_over (graph_problem graph.now) (graph_order graph.now) limit (Some target.now.groups.items) Wide)
+        (empty_state (graph_problem graph.now))) }
     ensures counted { OnOk result (steps.old.used < steps.new.used) }
     ensures within { OnOk result (steps.new.used ≤ steps.new.limit) }
-    ensures lists { AreListsOf C.test (problem_at ordered.now) (length ordered.now.order) lists.new }
+    ensures lists { AreListsOf C.test (place_problem graph.now) (graph_places graph.now) lists.new }
     ensures limit { steps.new.limit ≡ steps.old.limit }
     ensures stopped { IsErrOf result Stop.StepLimit → steps.new.used ≡ steps.new.limit }
 {
-    let round = round_for(alloc, ordered, limit, Some(target.copy()?), Language::Wide)?;
-    let outcome = prove_first(alloc, ordered, near, &round, lists, watcher, steps);
+    let round = round_for(graph.alloc, graph.ordered, limit, Some(target.copy()?), Language::Wide)?;
+    let outcome = prove_first(graph, &round, lists, watcher, steps);
     let _used = steps.used();
     outcome
 }
@@ -194,35 +187,32 @@ fn best(
 /// The answer that a search comes to from a lawful grouping: rounds with each greater grouping as the next target, and
 /// with larger and larger limits, until the limit is the size of the target's largest group.
 fn improve<C: CountySet, W: Watcher>(
-    alloc: Global,
-    ordered: &Ordered,
-    near: &[C],
+    graph: &CountyGraph<C>,
     first: Grouping,
     watcher: &mut W,
     steps: &mut Steps,
 ) -> Result<Answer, AllocError>
-    requires fits { length ordered.now.order ≤ C.PLACES }
-    requires rows { AreRows C C.test (problem_at ordered.now) (length ordered.now.order) near.now }
-    requires order { IsStrictlyIncreasing ordered.now.order }
-    requires target { IsTarget (problem_of ordered.now.problem) ordered.now.order first.groups.items }
+    requires graph { IsGraph C.test C.PLACES graph.now }
+    requires order { IsStrictlyIncreasing (graph_order graph.now) }
+    requires target { IsTarget (graph_problem graph.now) (graph_order graph.now) first.groups.items }
     requires some { 1 ≤ steps.old.limit }
-    ensures answer { IfOk result (IsSolveAnswer (problem_of ordered.now.problem) steps.old.limit) }
-    ensures complete { IfOk result (HasCompleteTree (problem_of ordered.now.problem)) }
+    ensures answer { IfOk result (IsSolveAnswer (graph_problem graph.now) steps.old.limit) }
+    ensures complete { IfOk result (HasCompleteTree (graph_problem graph.now)) }
 {
-    let _places = ordered.places();
     let mut target = first;
     let mut cap = FIRST_LIMIT;
-    let mut lists = PartLists::new(alloc);
+    let mut lists = PartLists::new(graph.alloc);
     loop {
         let largest = largest_size(&target);
         let limit = cap.min(largest);
         watcher.round(limit, &target);
         match prove_round(
-            alloc, ordered, near, &target, limit, &mut lists, watcher, steps,
+            graph,
+            &target, limit, &mut lists, watcher, steps,
         ) {
             Ok(SearchOutcome::Proved(tree)) => {
                 if limit == largest {
-                    return best(alloc, ordered, target, limit, tree);
+                    return best(graph.alloc, graph.ordered, target, limit, tree);
                 }
                 cap = limit_after(cap);
             }
@@ -254,61 +244,51 @@ fn impossible(alloc: Global, ordered: &Ordered, round: Round, leaf: Leaf) -> Cer
 
 /// The lawful grouping of the connected parts, at a state at which nothing is closed and where no leaf is valid.
 fn parts_found<C: CountySet>(
-    alloc: Global,
-    ordered: &Ordered,
-    near: &[C],
+    graph: &CountyGraph<C>,
     round: &Round,
     state: &State<C>,
 ) -> Result<First, AllocError>
-    requires fits { length ordered.now.order ≤ C.PLACES }
-    requires rows { AreRows C C.test (problem_at ordered.now) (length ordered.now.order) near.now }
-    requires placed { IsPlaced (length ordered.now.order) C.test state.now }
-    requires empty { state_at ordered.now.order C.test state.now ≡ empty_state (problem_of ordered.now.problem) }
-    requires value { round_of round.now ≡ round_over (problem_of ordered.now.problem) ordered.now.order 0 None Plain }
+    requires graph { IsGraph C.test C.PLACES graph.now }
+    requires placed { IsPlaced (graph_places graph.now) C.test state.now }
+    requires empty { state_at (graph_order graph.now) C.test state.now ≡ empty_state (graph_problem graph.now) }
+    requires value { round_of round.now ≡ round_over (graph_problem graph.now) (graph_order graph.now) 0 None Plain }
     requires no_stuck { (c : ℕ)
-        → ¬ IsStuck (problem_of ordered.now.problem) (state_at ordered.now.order C.test state.now) c }
-    requires no_seats { ¬ IsOffSeats (problem_of ordered.now.problem) (state_at ordered.now.order C.test state.now) }
-    ensures { IfOk result (IsFirst (problem_of ordered.now.problem) ordered.now.order) }
+        → ¬ IsStuck (graph_problem graph.now) (state_at (graph_order graph.now) C.test state.now) c }
+    requires no_seats { ¬ IsOffSeats (graph_problem graph.now) (state_at (graph_order graph.now) C.test state.now) }
+    ensures { IfOk result (IsFirst (graph_problem graph.now) (graph_order graph.now)) }
 {
-    let _places = ordered.places();
-    let found = finished_grouping(alloc, ordered, near, round, state)?;
+    let found = finished_grouping(graph, round, state)?;
     Ok(First::Found(found))
 }
 
 /// The first lawful grouping, or a certificate that none is lawful, by a state at which nothing is closed. The round is
 /// one without a target, in which groups of no size are closed.
 fn first_at<C: CountySet>(
-    alloc: Global,
-    ordered: &Ordered,
-    near: &[C],
+    graph: &CountyGraph<C>,
     state: &State<C>,
 ) -> Result<First, AllocError>
-    requires fits { length ordered.now.order ≤ C.PLACES }
-    requires rows { AreRows C C.test (problem_at ordered.now) (length ordered.now.order) near.now }
-    requires placed { IsPlaced (length ordered.now.order) C.test state.now }
-    requires empty { state_at ordered.now.order C.test state.now ≡ empty_state (problem_of ordered.now.problem) }
-    ensures { IfOk result (IsFirst (problem_of ordered.now.problem) ordered.now.order) }
+    requires graph { IsGraph C.test C.PLACES graph.now }
+    requires placed { IsPlaced (graph_places graph.now) C.test state.now }
+    requires empty { state_at (graph_order graph.now) C.test state.now ≡ empty_state (graph_problem graph.now) }
+    ensures { IfOk result (IsFirst (graph_problem graph.now) (graph_order graph.now)) }
 {
-    let round = round_for(alloc, ordered, 0, None, Language::Plain)?;
-    match whole_leaf(alloc, ordered, near, &round, state) {
-        Ok(Some(leaf)) => Ok(First::Impossible(impossible(alloc, ordered, round, leaf))),
-        Ok(None) => parts_found(alloc, ordered, near, &round, state),
+    let round = round_for(graph.alloc, graph.ordered, 0, None, Language::Plain)?;
+    match whole_leaf(graph, &round, state) {
+        Ok(Some(leaf)) => Ok(First::Impossible(impossible(graph.alloc, graph.ordered, round, leaf))),
+        Ok(None) => parts_found(graph, &round, state),
         Err(refused) => Err(refused),
     }
 }
 
 /// The first lawful grouping, that of the connected parts, or a certificate that none is lawful.
 fn first_found<C: CountySet>(
-    alloc: Global,
-    ordered: &Ordered,
-    near: &[C],
+    graph: &CountyGraph<C>,
 ) -> Result<First, AllocError>
-    requires fits { length ordered.now.order ≤ C.PLACES }
-    requires rows { AreRows C C.test (problem_at ordered.now) (length ordered.now.order) near.now }
-    ensures { IfOk result (IsFirst (problem_of ordered.now.problem) ordered.now.order) }
+    requires graph { IsGraph C.test C.PLACES graph.now }
+    ensures { IfOk result (IsFirst (graph_problem graph.now) (graph_order graph.now)) }
 {
-    let state: State<C> = first_state(alloc, ordered)?;
-    first_at(alloc, ordered, near, &state)
+    let state: State<C> = first_state(graph.alloc, graph.ordered)?;
+    first_at(graph, &state)
 }
 
 /// What a desk answers of counties in ascending order of their codes, where a step is left.

@@ -33,7 +33,6 @@ use crate::rounds::read_round;
 use crate::tree::judge_tree;
 use certificate_data::Round;
 use certificate_lines::{ItemSource, MOST};
-use connected_sets::neighbour_rows;
 use county_codes::{Group, Grouping, Window};
 use county_problem::{Counts, GroupingFault, OrderFault, Ordered, Problem, judge};
 use place_sets::CountySet;

@@ -3,6 +3,7 @@
 ghost use Rattle.std.specs.Prelude.{◌≡◌, ℕ, ◌+◌, ◌-◌, ◌*◌, ◌^◌, true, ◌<◌, ◌≤◌, nat_lt, is_some};
 ghost use Rattle.grouping_laws.specs.SeatWindow.{seat_run};
 ghost use Rattle.connected_groups.specs.Search.{problem_at, places_in, size_in};
+ghost use Rattle.connected_sets.specs.Growths.{places_in, size_in};
 
 use connected_sets::{Growth, GrowthInput, GrowthTest};
 use county_problem::Ordered;

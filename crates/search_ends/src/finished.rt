@@ -1,12 +1,9 @@
 //! The lawful grouping of a state that a search can't go on from.
 
-ghost use Rattle.std.specs.Prelude.{◌≡◌, ℕ, ◌≤◌, length, filter, All, AllPairs, IfOk};
+ghost use Rattle.std.specs.Prelude.{◌≡◌, ℕ, filter, All, AllPairs, IfOk};
 ghost use Rattle.grouping_laws.specs.Sets.{member};
 ghost use Rattle.grouping_laws.specs.Grouping.{sets_of};
 ghost use Rattle.grouping_laws.specs.GroupsFrom.{IsBefore};
-ghost use Rattle.county_problem.specs.ProblemValue.{problem_of};
-ghost use Rattle.county_problem.specs.OrderedValue.{problem_at};
-ghost use Rattle.connected_sets.specs.Rows.{AreRows};
 ghost use Rattle.certificate_data.specs.RoundValue.{round_of};
 ghost use Rattle.certificate_laws.specs.State.{IsState};
 ghost use Rattle.certificate_laws.specs.Fitting.{NoGroupFits};
@@ -15,16 +12,17 @@ ghost use Rattle.certificate_laws.specs.Search.{IsFound};
 ghost use Rattle.certificate_text.specs.TreeItems.{HasTargetLines};
 ghost use Rattle.state_groups.specs.Placed.{state_at, IsPlaced};
 ghost use Rattle.search_groups.specs.Standing.{StandsAhead};
+ghost use Rattle.connected_sets.specs.Graphs.{graph_problem, graph_order, graph_places, IsGraph};
 
 use crate::groups::seated_groups;
 use crate::seats::seats_for;
 use crate::sets::finished_sets;
 use certificate_data::Round;
 use county_codes::Grouping;
-use county_problem::Ordered;
+use connected_sets::CountyGraph;
 use place_sets::CountySet;
 use state_groups::State;
-use std::alloc::{AllocError, Global};
+use std::alloc::AllocError;
 
 /// The lawful grouping of a state that a search can't go on from: no group of at most the limit fits, no leaf is valid,
 /// and the closed groups are ahead of the target, if there is one. Its sets are the closed groups and the connected
@@ -36,35 +34,31 @@ use std::alloc::{AllocError, Global};
 /// (`neighbour_rows`). `_round` is the round of the search, and nothing of it is read. An error comes where memory was
 /// refused.
 pub fn finished_grouping<C: CountySet>(
-    alloc: Global,
-    ordered: &Ordered,
-    near: &[C],
+    graph: &CountyGraph<C>,
     _round: &Round,
     state: &State<C>,
 ) -> Result<Grouping, AllocError>
-    requires fits { length ordered.now.order ≤ C.PLACES }
-    requires rows { AreRows C C.test (problem_at ordered.now) (length ordered.now.order) near.now }
-    requires placed { IsPlaced (length ordered.now.order) C.test state.now }
-    requires order { ordered.now.order ≡ _round.now.order }
-    requires state { IsState (problem_of ordered.now.problem) (round_of _round.now) (state_at ordered.now.order C.test state.now) }
-    requires none { NoGroupFits (problem_of ordered.now.problem) (round_of _round.now) (state_at ordered.now.order C.test state.now) }
-    requires ahead { StandsAhead (round_of _round.now) (state_at ordered.now.order C.test state.now) }
+    requires graph { IsGraph C.test C.PLACES graph.now }
+    requires placed { IsPlaced (graph_places graph.now) C.test state.now }
+    requires order { graph_order graph.now ≡ _round.now.order }
+    requires state { IsState (graph_problem graph.now) (round_of _round.now) (state_at (graph_order graph.now) C.test state.now) }
+    requires none { NoGroupFits (graph_problem graph.now) (round_of _round.now) (state_at (graph_order graph.now) C.test state.now) }
+    requires ahead { StandsAhead (round_of _round.now) (state_at (graph_order graph.now) C.test state.now) }
     requires no_stuck { (c : ℕ)
-        → ¬ IsStuck (problem_of ordered.now.problem) (state_at ordered.now.order C.test state.now) c }
-    requires no_seats { ¬ IsOffSeats (problem_of ordered.now.problem) (state_at ordered.now.order C.test state.now) }
+        → ¬ IsStuck (graph_problem graph.now) (state_at (graph_order graph.now) C.test state.now) c }
+    requires no_seats { ¬ IsOffSeats (graph_problem graph.now) (state_at (graph_order graph.now) C.test state.now) }
     ensures found { IfOk
         result
-        (λ g. IsFound (problem_of ordered.now.problem) (round_of _round.now) (state_at ordered.now.order C.test state.now) g.groups.items) }
-    ensures in_turn { IfOk result (λ g. AllPairs (IsBefore ordered.now.order) (sets_of g.groups.items)) }
-    ensures in_order { IfOk result (λ g. All (λ m. filter (member m.codes) ordered.now.order
+        (λ g. IsFound (graph_problem graph.now) (round_of _round.now) (state_at (graph_order graph.now) C.test state.now) g.groups.items) }
+    ensures in_turn { IfOk result (λ g. AllPairs (IsBefore (graph_order graph.now)) (sets_of g.groups.items)) }
+    ensures in_order { IfOk result (λ g. All (λ m. filter (member m.codes) (graph_order graph.now)
         ≡ m.codes) g.groups.items) }
     ensures lines { IfOk result (λ g. HasTargetLines g.groups.items) }
 {
-    let _places = ordered.places();
-    let _problem = ordered.problem();
-    let sets = finished_sets(alloc, ordered, near, state)?;
-    let seats = seats_for(alloc, ordered, &sets)?;
+    let _problem = graph.ordered.problem();
+    let sets = finished_sets(graph, state)?;
+    let seats = seats_for(graph.alloc, graph.ordered, &sets)?;
     Ok(Grouping {
-        groups: seated_groups(alloc, ordered, &sets, &seats)?,
+        groups: seated_groups(graph.alloc, graph.ordered, &sets, &seats)?,
     })
 }

@@ -1,38 +1,31 @@
 //! The closed groups of a state and the connected parts of its rest, sorted.
 
-ghost use Rattle.std.specs.Prelude.{◌≢◌, ◌≤◌, length, AllPairs, IfOk};
+ghost use Rattle.std.specs.Prelude.{◌≢◌, AllPairs, IfOk};
 ghost use Rattle.grouping_laws.specs.GroupsFrom.{IsBefore};
-ghost use Rattle.county_problem.specs.ProblemValue.{problem_of};
-ghost use Rattle.county_problem.specs.OrderedValue.{problem_at};
-ghost use Rattle.connected_sets.specs.Rows.{AreRows};
 ghost use Rattle.connected_laws.specs.Listing.{AreBelow};
 ghost use Rattle.state_groups.specs.Placed.{state_at, codes_of_sets, IsPlaced};
 ghost use Rattle.search_ends.specs.Finished.{AreFinished};
+ghost use Rattle.connected_sets.specs.Graphs.{graph_problem, graph_order, graph_places, IsGraph};
 
-use connected_sets::parts_of;
-use county_problem::Ordered;
+use connected_sets::{CountyGraph, parts_of};
 use place_sets::{CountySet, copy_sets, sorted};
 use state_groups::State;
-use std::alloc::{AllocError, Global};
+use std::alloc::AllocError;
 
 /// The closed groups of a state, and behind them the connected parts of its rest.
 fn closed_and_parts<C: CountySet>(
-    alloc: Global,
-    ordered: &Ordered,
-    near: &[C],
+    graph: &CountyGraph<C>,
     state: &State<C>,
 ) -> Result<Vec<C>, AllocError>
-    requires fits { length ordered.now.order ≤ C.PLACES }
-    requires rows { AreRows C C.test (problem_at ordered.now) (length ordered.now.order) near.now }
-    requires placed { IsPlaced (length ordered.now.order) C.test state.now }
+    requires graph { IsGraph C.test C.PLACES graph.now }
+    requires placed { IsPlaced (graph_places graph.now) C.test state.now }
     ensures finished { IfOk
         result
-        (λ v. AreFinished (problem_of ordered.now.problem) (state_at ordered.now.order C.test state.now) (codes_of_sets ordered.now.order C.test v.items)) }
-    ensures below { IfOk result (λ v. AreBelow (length ordered.now.order) C.test v.items) }
+        (λ v. AreFinished (graph_problem graph.now) (state_at (graph_order graph.now) C.test state.now) (codes_of_sets (graph_order graph.now) C.test v.items)) }
+    ensures below { IfOk result (λ v. AreBelow (graph_places graph.now) C.test v.items) }
 {
-    let _places = ordered.places();
-    let mut parts = parts_of(alloc, ordered, near, &state.rest)?;
-    let mut sets = copy_sets(alloc, &state.closed)?;
+    let mut parts = parts_of(graph, &state.rest)?;
+    let mut sets = copy_sets(graph.alloc, &state.closed)?;
     sets.append(&mut parts)?;
     Ok(sets)
 }
@@ -40,24 +33,20 @@ fn closed_and_parts<C: CountySet>(
 /// The closed groups of a state and the connected parts of its rest, by size and then by places. Sets that differ stand
 /// in that order.
 pub(crate) fn finished_sets<C: CountySet>(
-    alloc: Global,
-    ordered: &Ordered,
-    near: &[C],
+    graph: &CountyGraph<C>,
     state: &State<C>,
 ) -> Result<Vec<C>, AllocError>
-    requires fits { length ordered.now.order ≤ C.PLACES }
-    requires rows { AreRows C C.test (problem_at ordered.now) (length ordered.now.order) near.now }
-    requires placed { IsPlaced (length ordered.now.order) C.test state.now }
+    requires graph { IsGraph C.test C.PLACES graph.now }
+    requires placed { IsPlaced (graph_places graph.now) C.test state.now }
     ensures finished { IfOk
         result
-        (λ v. AreFinished (problem_of ordered.now.problem) (state_at ordered.now.order C.test state.now) (codes_of_sets ordered.now.order C.test v.items)) }
+        (λ v. AreFinished (graph_problem graph.now) (state_at (graph_order graph.now) C.test state.now) (codes_of_sets (graph_order graph.now) C.test v.items)) }
     ensures in_turn { IfOk
         result
-        (λ v. AllPairs (λ g h. g ≢ h) (codes_of_sets ordered.now.order C.test v.items)
-        → AllPairs (IsBefore ordered.now.order) (codes_of_sets ordered.now.order C.test v.items)) }
-    ensures below { IfOk result (λ v. AreBelow (length ordered.now.order) C.test v.items) }
+        (λ v. AllPairs (λ g h. g ≢ h) (codes_of_sets (graph_order graph.now) C.test v.items)
+        → AllPairs (IsBefore (graph_order graph.now)) (codes_of_sets (graph_order graph.now) C.test v.items)) }
+    ensures below { IfOk result (λ v. AreBelow (graph_places graph.now) C.test v.items) }
 {
-    let _places = ordered.places();
-    let sets = closed_and_parts(alloc, ordered, near, state)?;
+    let sets = closed_and_parts(graph, state)?;
     Ok(sorted(sets)?)
 }

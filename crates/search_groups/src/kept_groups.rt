@@ -3,16 +3,15 @@
 ghost use Rattle.std.specs.Prelude.{◌≡◌, ℕ, ◌+◌, ◌≤◌, ◌<◌, Bool, true, not, List, length, IfOk, IsErrOf};
 ghost use Rattle.std.specs.Fn.{FnReturnsAt};
 ghost use Rattle.place_laws.specs.PlaceSets.{Meets};
-ghost use Rattle.county_problem.specs.ProblemValue.{problem_of};
-ghost use Rattle.county_problem.specs.OrderedValue.{problem_at, code_at};
-ghost use Rattle.connected_sets.specs.Rows.{AreRows};
+ghost use Rattle.county_problem.specs.OrderedValue.{code_at};
 ghost use Rattle.connected_laws.specs.Listing.{AreBelow};
 ghost use Rattle.certificate_laws.specs.Fitting.{IsLive};
 ghost use Rattle.connected_sets.specs.declared.stop.Stop.{Stop};
 ghost use Rattle.state_groups.specs.Placed.{state_at, codes_of_set, codes_of_sets, IsPlaced};
 ghost use Rattle.search_groups.specs.Known.{AreThose, IsApart, Lacks, Has, Tells};
+ghost use Rattle.connected_sets.specs.Graphs.{graph_problem, graph_order, graph_places, IsGraph};
 
-use connected_sets::Stop;
+use connected_sets::{CountyGraph, Stop};
 use county_problem::{Ordered, Steps};
 use place_sets::CountySet;
 use state_groups::{State, is_live};
@@ -127,41 +126,37 @@ pub fn groups_lacking<C: CountySet>(
 
 /// The live ones of the groups, in turn: those that leave no part of the rest behind that is stuck.
 ///
-/// `near` are the rows of the order (`neighbour_rows`). A step is taken for each group that is tested. `StepLimit`
+/// A step is taken for each group that is tested. `StepLimit`
 /// comes only where all steps are used, `Memory` only where a growth was refused.
 pub fn live_groups<C: CountySet>(
-    alloc: Global,
-    ordered: &Ordered,
-    near: &[C],
+    graph: &CountyGraph<C>,
     state: &State<C>,
     groups: &[C],
     steps: &mut Steps,
 ) -> Result<Vec<C>, Stop>
-    requires fits { length ordered.now.order ≤ C.PLACES }
-    requires rows { AreRows C C.test (problem_at ordered.now) (length ordered.now.order) near.now }
-    requires placed { IsPlaced (length ordered.now.order) C.test state.now }
-    requires below { AreBelow (length ordered.now.order) C.test groups.now }
+    requires graph { IsGraph C.test C.PLACES graph.now }
+    requires placed { IsPlaced (graph_places graph.now) C.test state.now }
+    requires below { AreBelow (graph_places graph.now) C.test groups.now }
     ensures those { IfOk
         result
         (λ v. AreThose
-        ordered.now.order
-        (IsLive (problem_of ordered.now.problem) (state_at ordered.now.order C.test state.now))
-        (codes_of_sets ordered.now.order C.test groups.now)
-        (codes_of_sets ordered.now.order C.test v.items)) }
-    ensures below { IfOk result (λ v. AreBelow (length ordered.now.order) C.test v.items) }
+        (graph_order graph.now)
+        (IsLive (graph_problem graph.now) (state_at (graph_order graph.now) C.test state.now))
+        (codes_of_sets (graph_order graph.now) C.test groups.now)
+        (codes_of_sets (graph_order graph.now) C.test v.items)) }
+    ensures below { IfOk result (λ v. AreBelow (graph_places graph.now) C.test v.items) }
     ensures steps { steps.new.used ≤ steps.old.used + length groups.now }
     ensures more { steps.old.used ≤ steps.new.used }
     ensures limit { steps.new.limit ≡ steps.old.limit }
     ensures stopped { IsErrOf result Stop.StepLimit → steps.new.used ≡ steps.new.limit }
 {
-    let _places = ordered.places();
-    let mut live = Vec::new(alloc);
+    let mut live = Vec::new(graph.alloc);
     for group in groups {
         if !steps.tick() {
             return Err(Stop::StepLimit);
         }
-        if is_live(alloc, ordered, near, state, group)? {
-            let copy = group.copy(alloc)?;
+        if is_live(graph, state, group)? {
+            let copy = group.copy(graph.alloc)?;
             if let Err(error) = live.push(copy) {
                 return Err(AllocError::from(error).into());
             }

@@ -3,17 +3,16 @@
 ghost use Rattle.std.specs.Prelude.{◌≡◌, ℕ, ◌+◌, ◌≤◌, ◌<◌, ◌++◌, true, cond, get_or, length, All, IfOk, OnOk, IfSome};
 ghost use Rattle.std.specs.Prelude.{IsErrOf, IsTrue};
 ghost use Rattle.grouping_laws.specs.Problem.{Problem};
-ghost use Rattle.county_problem.specs.OrderedValue.{problem_at};
-ghost use Rattle.connected_sets.specs.Rows.{AreRows};
 ghost use Rattle.connected_laws.specs.Listing.{AreBelow, lists_of};
 ghost use Rattle.state_groups.specs.StateValue.{state_of};
 ghost use Rattle.connected_sets.specs.declared.stop.Stop.{Stop};
 ghost use Rattle.search_groups.specs.Alone.{alone};
 ghost use Rattle.search_groups.specs.PartLists.{IsPartList, IsListFor, ArePut, AreListsOf};
+ghost use Rattle.connected_sets.specs.Graphs.{graph_places, place_problem, IsGraph};
 
 use certificate_data::Language;
-use connected_sets::Stop;
-use county_problem::{Ordered, Steps};
+use connected_sets::{CountyGraph, Stop};
+use county_problem::Steps;
 use place_sets::CountySet;
 use state_groups::{State, groups_of};
 use std::alloc::{AllocError, Global};
@@ -137,27 +136,24 @@ fn state_alone<C: CountySet>(
 
 /// Makes the list of the part and the size. Steps are taken as by `groups_of`.
 fn list_part<C: CountySet>(
-    alloc: Global,
-    ordered: &Ordered,
-    near: &[C],
+    graph: &CountyGraph<C>,
     part: &C,
     size: u16,
     steps: &mut Steps,
 ) -> Result<PartList<C>, Stop>
-    requires fits { length ordered.now.order ≤ C.PLACES }
-    requires rows { AreRows C C.test (problem_at ordered.now) (length ordered.now.order) near.now }
-    requires below { (x : ℕ) → C.test part.now x ≡ true → x < length ordered.now.order }
+    requires graph { IsGraph C.test C.PLACES graph.now }
+    requires below { (x : ℕ) → C.test part.now x ≡ true → x < graph_places graph.now }
     requires size { 1 ≤ size }
-    ensures list { IfOk result (IsPartList C.test (problem_at ordered.now) (length ordered.now.order)) }
+    ensures list { IfOk result (IsPartList C.test (place_problem graph.now) (graph_places graph.now)) }
     ensures is_for { IfOk result (IsListFor C.test part.now size) }
     ensures more { steps.old.used ≤ steps.new.used }
     ensures limit { steps.new.limit ≡ steps.old.limit }
     ensures stopped { IsErrOf result Stop.StepLimit → steps.new.used ≡ steps.new.limit }
 {
-    let state = state_alone(alloc, ordered.places(), part, size)?;
-    let groups = groups_of(alloc, ordered, near, Language::Wide, &state, size, steps)?;
+    let state = state_alone(graph.alloc, graph.ordered.places(), part, size)?;
+    let groups = groups_of(graph, Language::Wide, &state, size, steps)?;
     Ok(PartList {
-        part: part.copy(alloc)?,
+        part: part.copy(graph.alloc)?,
         size,
         groups,
     })
@@ -244,21 +240,18 @@ impl<C: CountySet> PartLists<C> {
     /// taken for the look. Where the list is made, steps are taken as by `groups_of`.
     pub(crate) fn put(
         &mut self,
-        alloc: Global,
-        ordered: &Ordered,
-        near: &[C],
+        graph: &CountyGraph<C>,
         part: &C,
         size: u16,
         groups: &mut Vec<C>,
         steps: &mut Steps,
     ) -> Result<(), Stop>
-        requires fits { length ordered.now.order ≤ C.PLACES }
-        requires rows { AreRows C C.test (problem_at ordered.now) (length ordered.now.order) near.now }
-        requires below { (x : ℕ) → C.test part.now x ≡ true → x < length ordered.now.order }
+        requires graph { IsGraph C.test C.PLACES graph.now }
+        requires below { (x : ℕ) → C.test part.now x ≡ true → x < graph_places graph.now }
         requires size { 1 ≤ size }
-        requires lists { AreListsOf C.test (problem_at ordered.now) (length ordered.now.order) self.old }
-        ensures put { OnOk result (ArePut C.test (problem_at ordered.now) (length ordered.now.order) part.now size groups.old.items groups.new.items) }
-        ensures lists { AreListsOf C.test (problem_at ordered.now) (length ordered.now.order) self.new }
+        requires lists { AreListsOf C.test (place_problem graph.now) (graph_places graph.now) self.old }
+        ensures put { OnOk result (ArePut C.test (place_problem graph.now) (graph_places graph.now) part.now size groups.old.items groups.new.items) }
+        ensures lists { AreListsOf C.test (place_problem graph.now) (graph_places graph.now) self.new }
         ensures more { steps.old.used ≤ steps.new.used }
         ensures limit { steps.new.limit ≡ steps.old.limit }
         ensures stopped { IsErrOf result Stop.StepLimit → steps.new.used ≡ steps.new.limit }
@@ -267,12 +260,12 @@ impl<C: CountySet> PartLists<C> {
             return Err(Stop::StepLimit);
         }
         let at = bucket_of(part, size);
-        if self.put_kept(alloc, at, part, size, groups)? {
+        if self.put_kept(graph.alloc, at, part, size, groups)? {
             return Ok(());
         }
-        let list = list_part(alloc, ordered, near, part, size, steps)?;
-        put_copies(alloc, &list.groups, groups)?;
-        self.keep(alloc, at, list)?;
+        let list = list_part(graph, part, size, steps)?;
+        put_copies(graph.alloc, &list.groups, groups)?;
+        self.keep(graph.alloc, at, list)?;
         Ok(())
     }
 }

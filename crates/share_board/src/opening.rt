@@ -19,7 +19,6 @@ use crate::piece::Fate;
 use crate::steps::{branched, next_branch, place_piece, put_take, share_of};
 use crate::stop::OpeningStop;
 use certificate_data::{Round, Take, Tree};
-use connected_sets::neighbour_rows;
 use county_problem::Ordered;
 use place_sets::CountySet;
 use state_groups::State;

@@ -4,8 +4,6 @@ ghost use Rattle.std.specs.Prelude.{◌≡◌, ℕ, ◌+◌, ◌-◌, ◌*◌, �
 ghost use Rattle.county_codes.specs.Limits.{most_counties};
 ghost use Rattle.grouping_laws.specs.Grouping.{counts};
 ghost use Rattle.county_problem.specs.ProblemValue.{problem_of};
-ghost use Rattle.county_problem.specs.OrderedValue.{problem_at};
-ghost use Rattle.connected_sets.specs.Rows.{AreRows};
 ghost use Rattle.certificate_data.specs.RoundValue.{round_of};
 ghost use Rattle.certificate_laws.specs.BoundLines.{room_at, allowance, IsFair};
 ghost use Rattle.certificate_data.specs.TreeValue.{allowance_of};
@@ -16,10 +14,12 @@ ghost use Rattle.state_judge.specs.LineStops.{StopsAt};
 ghost use Rattle.state_judge.specs.declared.fault.LineStop.{LineStop};
 ghost use Rattle.state_judge.specs.Weights.{IsUnfair};
 ghost use Rattle.state_judge.specs.Allowed.{AllowanceIsSpelled, IsAllowed};
+ghost use Rattle.connected_sets.specs.Graphs.{graph_problem, graph_order, graph_places, IsGraph};
 
 use crate::fault::{CheckFault, LineStop};
 use crate::judging::judge_weights;
 use certificate_data::{Allowance, Round};
+use connected_sets::CountyGraph;
 use county_problem::{Ordered, Steps};
 use place_sets::CountySet;
 use state_groups::{State, room};
@@ -80,9 +80,7 @@ fn shared(most: u32, weight: u64, quota: u32) -> u32
 
 /// How many groups of a size, in counties, the line allows, where smaller groups use up so many counties.
 fn fair_allowance<C: CountySet>(
-    alloc: Global,
-    ordered: &Ordered,
-    near: &[C],
+    graph: &CountyGraph<C>,
     round: &Round,
     state: &State<C>,
     size: u16,
@@ -90,37 +88,34 @@ fn fair_allowance<C: CountySet>(
     line: &Allowance,
     steps: &mut Steps,
 ) -> Result<u32, LineStop>
-    requires fits { length ordered.now.order ≤ C.PLACES }
-    requires rows { AreRows C C.test (problem_at ordered.now) (length ordered.now.order) near.now }
-    requires placed { IsPlaced (length ordered.now.order) C.test state.now }
-    requires order { ordered.now.order ≡ round.now.order }
+    requires graph { IsGraph C.test C.PLACES graph.now }
+    requires placed { IsPlaced (graph_places graph.now) C.test state.now }
+    requires order { graph_order graph.now ≡ round.now.order }
     requires size { 1 ≤ size }
     requires used { used ≤ most_counties }
     ensures line { MatchResult
         result
-        (λ allowed. IsFair round.now.language (problem_of ordered.now.problem) (state_at ordered.now.order C.test state.now) size (allowance_of line.now)
+        (λ allowed. IsFair round.now.language (graph_problem graph.now) (state_at (graph_order graph.now) C.test state.now) size (allowance_of line.now)
         × (allowed
-        ≡ allowance (problem_of ordered.now.problem) (state_at ordered.now.order C.test state.now) size used (allowance_of line.now)))
+        ≡ allowance (graph_problem graph.now) (state_at (graph_order graph.now) C.test state.now) size used (allowance_of line.now)))
         (λ stop. StopsAt
         stop
-        (IsUnfair round.now.language (problem_of ordered.now.problem) (state_at ordered.now.order C.test state.now) size (allowance_of line.now))
+        (IsUnfair round.now.language (graph_problem graph.now) (state_at (graph_order graph.now) C.test state.now) size (allowance_of line.now))
         (AllowanceIsSpelled line.now → ⊥)) }
     ensures few { IfOk result (λ allowed. (allowed ≤ most_counties) × (used + size * allowed ≤ most_counties)) }
     ensures steps { (m : ℕ)
-        → LineLooks (allowance_of line.now) (problem_of ordered.now.problem) (round_of round.now) (state_at ordered.now.order C.test state.now) size m
+        → LineLooks (allowance_of line.now) (graph_problem graph.now) (round_of round.now) (state_at (graph_order graph.now) C.test state.now) size m
         → steps.new.used ≤ steps.old.used + m }
     ensures limit { steps.new.limit ≡ steps.old.limit }
     ensures more { steps.old.used ≤ steps.new.used }
     ensures stopped { IsErrOf result LineStop.StepLimit → steps.new.used ≡ steps.new.limit }
 {
-    let most = room_left(alloc, ordered, state, size, used)? / u32::from(size);
+    let most = room_left(graph.alloc, graph.ordered, state, size, used)? / u32::from(size);
     match line {
         Allowance::Room => Ok(most),
         Allowance::Weigh { quota, weights } => {
             let weight = judge_weights(
-                alloc,
-                ordered,
-                near,
+                graph,
                 round,
                 state,
                 size,
@@ -136,7 +131,7 @@ fn fair_allowance<C: CountySet>(
 /// Judges the line of a bound leaf for a size, in counties, where the target has so many groups of this size and
 /// smaller groups use up so many counties, at most 256.
 ///
-/// `near` are the rows of the order (`neighbour_rows`). A step is taken for each set that is split.
+/// A step is taken for each set that is split.
 ///
 /// # Errors
 ///
@@ -145,9 +140,7 @@ fn fair_allowance<C: CountySet>(
 /// than the quota) and `BoundOver` (more groups are allowed than the target has). `StepLimit` where no step was
 /// left, `Memory` where memory was refused.
 pub fn judge_allowance<C: CountySet>(
-    alloc: Global,
-    ordered: &Ordered,
-    near: &[C],
+    graph: &CountyGraph<C>,
     round: &Round,
     state: &State<C>,
     size: u16,
@@ -156,35 +149,34 @@ pub fn judge_allowance<C: CountySet>(
     line: &Allowance,
     steps: &mut Steps,
 ) -> Result<Allowed, LineStop>
-    requires fits { length ordered.now.order ≤ C.PLACES }
-    requires rows { AreRows C C.test (problem_at ordered.now) (length ordered.now.order) near.now }
-    requires placed { IsPlaced (length ordered.now.order) C.test state.now }
-    requires order { ordered.now.order ≡ round.now.order }
+    requires graph { IsGraph C.test C.PLACES graph.now }
+    requires placed { IsPlaced (graph_places graph.now) C.test state.now }
+    requires order { graph_order graph.now ≡ round.now.order }
     requires size { 1 ≤ size }
     requires used { used ≤ most_counties }
     ensures line { (counts : ℕ → ℕ)
         → counts size ≡ wanted
         → MatchResult
         result
-        (IsAllowed round.now.language (problem_of ordered.now.problem) (state_at ordered.now.order C.test state.now) counts size used (allowance_of line.now))
+        (IsAllowed round.now.language (graph_problem graph.now) (state_at (graph_order graph.now) C.test state.now) counts size used (allowance_of line.now))
         (λ stop. StopsAt
         stop
-        (IsAllowanceFault round.now.language (problem_of ordered.now.problem) (state_at ordered.now.order C.test state.now) counts size used (allowance_of line.now))
+        (IsAllowanceFault round.now.language (graph_problem graph.now) (state_at (graph_order graph.now) C.test state.now) counts size used (allowance_of line.now))
         (AllowanceIsSpelled line.now → ⊥)) }
     ensures steps { IfOk
         result
         (λ _. (m : ℕ)
-        → LineLooks (allowance_of line.now) (problem_of ordered.now.problem) (round_of round.now) (state_at ordered.now.order C.test state.now) size m
+        → LineLooks (allowance_of line.now) (graph_problem graph.now) (round_of round.now) (state_at (graph_order graph.now) C.test state.now) size m
         → steps.new.used ≤ steps.old.used + 2 * m) }
     ensures limit { steps.new.limit ≡ steps.old.limit }
     ensures more { steps.old.used ≤ steps.new.used }
     ensures stopped { IsErrOf result LineStop.StepLimit
         → (m : ℕ)
-        → LineLooks (allowance_of line.now) (problem_of ordered.now.problem) (round_of round.now) (state_at ordered.now.order C.test state.now) size m
+        → LineLooks (allowance_of line.now) (graph_problem graph.now) (round_of round.now) (state_at (graph_order graph.now) C.test state.now) size m
         → steps.old.limit ≤ steps.old.used + 2 * m }
 {
-    let allowance = fair_allowance(alloc, ordered, near, round, state, size, used, line, steps)?;
-    let all = closed_of_size(ordered, state, size) + allowance;
+    let allowance = fair_allowance(graph, round, state, size, used, line, steps)?;
+    let all = closed_of_size(graph.ordered, state, size) + allowance;
     let wanted = u32::from(wanted);
     if all > wanted {
         return Err(LineStop::Fault(CheckFault::BoundOver));

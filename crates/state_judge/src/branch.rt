@@ -2,9 +2,7 @@
 
 ghost use Rattle.std.specs.Prelude.{◌≡◌, ℕ, ◌+◌, ◌*◌, ◌<◌, ◌≤◌, true, length, All, Contains, IfOk, IsErrOf, IsTrue};
 ghost use Rattle.std.specs.Prelude.{MatchOption, MatchResult, ◌↔◌};
-ghost use Rattle.county_problem.specs.ProblemValue.{problem_of};
-ghost use Rattle.county_problem.specs.OrderedValue.{problem_at, code_at};
-ghost use Rattle.connected_sets.specs.Rows.{AreRows};
+ghost use Rattle.county_problem.specs.OrderedValue.{code_at};
 ghost use Rattle.connected_laws.specs.Listing.{AreBelow};
 ghost use Rattle.certificate_data.specs.declared.language.Language.TheVariants.{Plain};
 ghost use Rattle.certificate_data.specs.RoundValue.{round_of};
@@ -16,9 +14,11 @@ ghost use Rattle.state_groups.specs.Placed.{state_at, codes_of_set, codes_of_set
 ghost use Rattle.state_judge.specs.CheckFaults.{NamesFault};
 ghost use Rattle.state_judge.specs.LineStops.{StopsAt};
 ghost use Rattle.state_judge.specs.declared.fault.LineStop.{LineStop};
+ghost use Rattle.connected_sets.specs.Graphs.{graph_problem, graph_order, graph_places, IsGraph};
 
 use crate::fault::{CheckFault, LineStop};
 use certificate_data::{Language, Round};
+use connected_sets::CountyGraph;
 use county_codes::CountyCode;
 use county_problem::{Ordered, Steps};
 use place_sets::CountySet;
@@ -106,7 +106,7 @@ fn branch_place<C: CountySet>(
 
 /// Judges the line of a branch at a county, with a limit of its own in a wide round, and lists its groups.
 ///
-/// `near` are the rows of the order (`neighbour_rows`). A step is taken for each set that is split.
+/// A step is taken for each set that is split.
 ///
 /// # Errors
 ///
@@ -114,74 +114,61 @@ fn branch_place<C: CountySet>(
 /// open to a group within the limit, `WrongCounty` where the branch can't be at the county. `StepLimit` where no
 /// step was left, `Memory` where memory was refused.
 pub fn judge_branch<C: CountySet>(
-    alloc: Global,
-    ordered: &Ordered,
-    near: &[C],
+    graph: &CountyGraph<C>,
     round: &Round,
     state: &State<C>,
     county: CountyCode,
     limit: Option<u16>,
     steps: &mut Steps,
 ) -> Result<Branching<C>, LineStop>
-    requires fits { length ordered.now.order ≤ C.PLACES }
-    requires rows { AreRows C C.test (problem_at ordered.now) (length ordered.now.order) near.now }
-    requires placed { IsPlaced (length ordered.now.order) C.test state.now }
-    requires order { ordered.now.order ≡ round.now.order }
+    requires graph { IsGraph C.test C.PLACES graph.now }
+    requires placed { IsPlaced (graph_places graph.now) C.test state.now }
+    requires order { graph_order graph.now ≡ round.now.order }
     ensures branch { MatchResult
         result
         (λ b. NamesLimit round.now.language limit
-        × CanBranch (round_of round.now) (state_at ordered.now.order C.test state.now) county (limit_of (round_of round.now) limit)
+        × CanBranch (round_of round.now) (state_at (graph_order graph.now) C.test state.now) county (limit_of (round_of round.now) limit)
         × AreGroupsAt
-        (problem_of ordered.now.problem)
+        (graph_problem graph.now)
         (round_of round.now)
-        (state_at ordered.now.order C.test state.now)
+        (state_at (graph_order graph.now) C.test state.now)
         county
         (limit_of (round_of round.now) limit)
-        (codes_of_sets ordered.now.order C.test b.groups.items))
+        (codes_of_sets (graph_order graph.now) C.test b.groups.items))
         (λ stop. StopsAt
         stop
-        (IsBranchFault (round_of round.now) (state_at ordered.now.order C.test state.now) county (limit_of (round_of round.now) limit))
+        (IsBranchFault (round_of round.now) (state_at (graph_order graph.now) C.test state.now) county (limit_of (round_of round.now) limit))
         (NamesLimit round.now.language limit → ⊥)) }
-    ensures place { IfOk result (λ b. (b.place < length ordered.now.order)
-        × (code_at ordered.now.order b.place ≡ county)) }
+    ensures place { IfOk result (λ b. (b.place < graph_places graph.now)
+        × (code_at (graph_order graph.now) b.place ≡ county)) }
     ensures size { IfOk result (λ b. b.limit ≡ limit_of (round_of round.now) limit) }
     ensures groups { IfOk result (λ b. All (IsClosable C.test state.now) b.groups.items) }
     ensures steps { IfOk
         result
         (λ b. (m : ℕ)
-        → AreSoMany ordered.now.order (IsSetAt (problem_of ordered.now.problem) ordered.now.order (state_at ordered.now.order C.test state.now) county (limit_of (round_of round.now) limit)) m
+        → AreSoMany (graph_order graph.now) (IsSetAt (graph_problem graph.now) (graph_order graph.now) (state_at (graph_order graph.now) C.test state.now) county (limit_of (round_of round.now) limit)) m
         → steps.new.used ≤ steps.old.used + 2 * m) }
     ensures limit { steps.new.limit ≡ steps.old.limit }
     ensures more { steps.old.used ≤ steps.new.used }
     ensures stopped { IsErrOf result LineStop.StepLimit
         → NamesLimit round.now.language limit
-        × CanBranch (round_of round.now) (state_at ordered.now.order C.test state.now) county (limit_of (round_of round.now) limit)
+        × CanBranch (round_of round.now) (state_at (graph_order graph.now) C.test state.now) county (limit_of (round_of round.now) limit)
         × ((m : ℕ)
-        → AreSoMany ordered.now.order (IsSetAt (problem_of ordered.now.problem) ordered.now.order (state_at ordered.now.order C.test state.now) county (limit_of (round_of round.now) limit)) m
+        → AreSoMany (graph_order graph.now) (IsSetAt (graph_problem graph.now) (graph_order graph.now) (state_at (graph_order graph.now) C.test state.now) county (limit_of (round_of round.now) limit)) m
         → steps.old.limit ≤ steps.old.used + 2 * m) }
 {
-    let _places = ordered.places();
     let Some(limit) = limit_for(round, limit) else {
         return Err(LineStop::Unspelled);
     };
-    let place = branch_place(alloc, ordered, round, state, county, limit)?;
+    let place = branch_place(graph.alloc, graph.ordered, round, state, county, limit)?;
     if limit == 0 {
         return Ok(Branching {
             place,
             limit,
-            groups: Vec::new(alloc),
+            groups: Vec::new(graph.alloc),
         });
     }
-    let groups = groups_at(
-        alloc,
-        ordered,
-        near,
-        round.language,
-        state,
-        place,
-        limit,
-        steps,
-    )?;
+    let groups = groups_at(graph, round.language, state, place, limit, steps)?;
     Ok(Branching {
         place,
         limit,

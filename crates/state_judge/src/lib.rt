@@ -11,11 +11,9 @@ mod branch;
 mod fault;
 mod judging;
 mod leaf;
-mod states;
 mod weights;
 
 pub use bound::{Allowed, closed_of_size, judge_allowance, room_left};
 pub use branch::{Branching, judge_branch, judge_take};
 pub use fault::{CheckFault, LineStop};
 pub use leaf::{judge_seats, judge_stuck};
-pub use states::{closed_state, copied_state, first_state, raise_place};

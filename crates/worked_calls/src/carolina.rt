@@ -7,7 +7,6 @@ use crate::room::room_for;
 use adjacency_reader::read_pairs;
 use anyhow::{Error, Result};
 use connected_groups::{GroupList, groups_over};
-use connected_sets::neighbour_rows;
 use county_codes::{County, CountyCode, listed_codes};
 use county_problem::{Ordered, Problem, Steps};
 use pl94_counties::read_counties;

@@ -6,7 +6,7 @@ use crate::groups::show_places;
 use crate::room::room_for;
 use crate::sketch::RING_OF_FOUR;
 use anyhow::Result;
-use connected_sets::{neighbour_rows, part_around};
+use connected_sets::part_around;
 use county_codes::listed_codes;
 use county_problem::{Ordered, Problem};
 use place_sets::CountySet;

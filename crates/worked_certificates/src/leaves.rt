@@ -3,21 +3,20 @@
 ghost use Rattle.std.specs.Prelude.{◌≡◌, ◌≤◌, map, length, IfOk};
 ghost use Rattle.std.specs.Vec.{vec_items};
 ghost use Rattle.county_codes.specs.Limits.{most_counties};
-ghost use Rattle.connected_sets.specs.Rows.{AreRows};
 ghost use Rattle.county_problem.specs.ProblemValue.{problem_of};
-ghost use Rattle.county_problem.specs.OrderedValue.{problem_at};
 ghost use Rattle.certificate_data.specs.RoundValue.{round_of, target_of};
 ghost use Rattle.state_groups.specs.Placed.{state_at, IsPlaced};
 ghost use Rattle.bound_proofs.specs.CountLeaves.{AreListsFrom};
 ghost use Rattle.grouping_laws.specs.GroupsFrom.{IsOrder};
 ghost use Rattle.checker_laws.specs.Verdict.{IsLawfulTarget};
+ghost use Rattle.connected_sets.specs.Graphs.{graph_problem, graph_order, graph_places, IsGraph};
 
 use anyhow::{Error, Result};
 use bound_proofs::find_leaf;
 use certificate_checker::{TreeVerdict, check_tree};
 use certificate_data::{Language, Leaf, Round, Tree};
-use connected_sets::neighbour_rows;
 use county_codes::{Codes, Grouping, MAX_COUNTIES, listed_codes};
+use connected_sets::CountyGraph;
 use county_problem::{Ordered, Problem, Steps, judge};
 use grouping_reader::read_grouping;
 use place_sets::{CountySet, MaskSet, fits_mask};
@@ -31,32 +30,29 @@ const ENOUGH: u64 = 100_000;
 
 /// The groups of each size up to the limit that fit the state.
 fn groups_by_size<C: CountySet>(
-    alloc: Global,
-    ordered: &Ordered,
-    near: &[C],
+    graph: &CountyGraph<C>,
     round: &Round,
     state: &State<C>,
 ) -> Result<Vec<Vec<C>>>
-    requires fits { length ordered.now.order ≤ C.PLACES }
-    requires rows { AreRows C C.test (problem_at ordered.now) (length ordered.now.order) near.now }
-    requires placed { IsPlaced (length ordered.now.order) C.test state.now }
-    requires order { ordered.now.order ≡ round.now.order }
+    requires graph { IsGraph C.test C.PLACES graph.now }
+    requires placed { IsPlaced (graph_places graph.now) C.test state.now }
+    requires order { graph_order graph.now ≡ round.now.order }
     ensures few { IfOk result (λ lists. length lists.items ≤ round.now.limit) }
     ensures lists { IfOk
         result
         (λ lists. AreListsFrom
         C.test
-        ordered.now.order
-        (problem_of ordered.now.problem)
+        (graph_order graph.now)
+        (graph_problem graph.now)
         (round_of round.now)
-        (state_at ordered.now.order C.test state.now)
+        (state_at (graph_order graph.now) C.test state.now)
         1
         (map vec_items lists.items)) }
 {
     let mut steps = Steps::new(ENOUGH);
-    let mut lists = Vec::new(alloc);
+    let mut lists = Vec::new(graph.alloc);
     for below in 0..round.limit {
-        let groups = all_groups_of_size(alloc, ordered, near, round, state, below + 1, &mut steps)?;
+        let groups = all_groups_of_size(graph, round, state, below + 1, &mut steps)?;
         lists.push(groups)?;
     }
     Ok(lists)

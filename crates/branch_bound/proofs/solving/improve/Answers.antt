@@ -8,11 +8,11 @@ returns-in-Err-StepLimit g c =
     let target = c.loop-tree.invariant.target in
     let all : c.used.result ≡ c.args.steps.now.limit =
     omega (arith, c.used.ensures.value, c.in-Err-StepLimit.ensures.stopped (ap Err c.in-Err-StepLimit.field-0-is), c.prove_round.ensures.limit, c.loop-tree.invariant.limit) in
-    record { answer = (all, (target.lawful, stands_in_order c.args.ordered.now.order c.requires.order c.loop-tree.target.groups.items target.sorted)); complete = tt }
+    record { answer = (all, (target.lawful, stands_in_order c.args.graph.now.ordered.now.order c.requires.order c.loop-tree.target.groups.items target.sorted)); complete = tt }
 
 pub loop-tree-init : goal.loop-tree-init
 loop-tree-init g c = record {
   target = c.requires.target;
-  lists = c.new-lists.ensures.lists (problem_at c.args.ordered.now) (length c.args.ordered.now.order);
+  lists = c.new-lists.ensures.lists (problem_at c.args.graph.now.ordered.now) (length c.args.graph.now.ordered.now.order);
   limit = refl;
 }

@@ -8,8 +8,8 @@ use Rattle.branch_bound.proofs.solving.improve.Given as goal
 
 abbrev pub invariant-loop-tree : goal.invariant-loop-tree
 invariant-loop-tree g l = record {
-  target : IsTarget (problem_of l.ordered.problem) l.ordered.order l.target.groups.items;
-  lists : AreListsOf g.C.CountySet.test (problem_at l.ordered) (length l.ordered.order) l.lists;
+  target : IsTarget (problem_of l.graph.ordered.now.problem) l.graph.ordered.now.order l.target.groups.items;
+  lists : AreListsOf g.C.CountySet.test (problem_at l.graph.ordered.now) (length l.graph.ordered.now.order) l.lists;
   limit : l.steps.limit ≡ l.fn.steps.limit;
 }
 

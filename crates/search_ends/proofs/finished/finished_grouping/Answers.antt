@@ -14,8 +14,8 @@ use Rattle.search_ends.proofs.finished.finished_grouping.Goals as goal
 pub seats_for-requires : goal.seats_for-requires
 seats_for-requires g c =
     let test = g.C.CountySet.test in
-    let order = c.args.ordered.now.order in
-    let p = problem_of c.args.ordered.now.problem in
+    let order = c.args.graph.now.ordered.now.order in
+    let p = problem_of c.args.graph.now.ordered.now.problem in
     let r = round_of c.args._round.now in
     let s = state_at order test c.args.state.now in
     let codes = codes_of_sets order test c.in_ok-sets.sets.items in
@@ -30,18 +30,18 @@ seats_for-requires g c =
 pub seated_groups-requires-clause-each : goal.seated_groups-requires-clause-each
 seated_groups-requires-clause-each g c =
     let test = g.C.CountySet.test in
-    let order = c.args.ordered.now.order in
-    let many = as_many (problem_of c.args.ordered.now.problem) (codes_of_sets order test c.deref.result.now) c.in_ok-seats.seats.items c.in_ok-seats.ensures.suit in
+    let order = c.args.graph.now.ordered.now.order in
+    let many = as_many (problem_of c.args.graph.now.ordered.now.problem) (codes_of_sets order test c.deref.result.now) c.in_ok-seats.seats.items c.in_ok-seats.ensures.suit in
     ap length c.deref-3.ensures.value ∙ (many ∙ (length-map c.deref.result.now (codes_of_set order test) ∙ ap length (c.deref.ensures.value ∙ sym c.deref-2.ensures.value)))
 
 pub returns : goal.returns
 returns g c =
     let test = g.C.CountySet.test in
-    let order = c.args.ordered.now.order in
-    let p = problem_of c.args.ordered.now.problem in
+    let order = c.args.graph.now.ordered.now.order in
+    let p = problem_of c.args.graph.now.ordered.now.problem in
     let r = round_of c.args._round.now in
     let s = state_at order test c.args.state.now in
-    let whole = c.places-places.ensures.order in
+    let whole = c.requires.graph.order in
     let sets = c.in_ok-sets.sets.items in
     let seats = c.in_ok-seats.seats.items in
     let groups = c.in_ok-seated_groups.field-0.items in
@@ -54,5 +54,5 @@ returns g c =
       found = groups_found test p r s order whole end sets are seats groups suit e c.in_ok-seats.ensures.sum;
       in_turn = groups_in_turn test p r s order whole end sets are seats groups suit e (c.in_ok-sets.ensures.in_turn (sets_differ test p r s order whole end sets are));
       in_order = groups_in_order test p r s order whole end sets are seats groups suit e;
-      lines = groups_lines test p r s order whole end sets are seats groups suit e (omega (arith, c.places-places.ensures.few, c.places-places.ensures.value)) c.in_ok-seated_groups.ensures.numbers;
+      lines = groups_lines test p r s order whole end sets are seats groups suit e (omega (arith, c.requires.graph.few, c.places-places.ensures.value)) c.in_ok-seated_groups.ensures.numbers;
     }

@@ -6,9 +6,9 @@ use Rattle.search_ends.proofs.stuck.stuck_place.Given as goal
 
 abbrev pub invariant-loop-place : goal.invariant-loop-place
 invariant-loop-place g l = record {
-  none : (x : ℕ) → x < l.from → IsStuck (problem_at l.ordered) (state_of g.C.CountySet.test l.state) x → ⊥;
-  within : l.from ≤ length l.ordered.order;
+  none : (x : ℕ) → x < l.from → IsStuck (problem_at l.graph.ordered.now) (state_of g.C.CountySet.test l.state) x → ⊥;
+  within : l.from ≤ length l.graph.ordered.now.order;
 }
 
 abbrev pub decreases-loop-place : goal.decreases-loop-place
-decreases-loop-place g l = length l.ordered.order - l.from
+decreases-loop-place g l = length l.graph.ordered.now.order - l.from

@@ -17,8 +17,8 @@ pub loop-group-preserved : goal.loop-group-preserved
 loop-group-preserved g c =
     let C = g.row.C.Denot in
     let test = g.C.CountySet.test in
-    let p = problem_of c.args.ordered.now.problem in
-    let order = c.args.ordered.now.order in
+    let p = problem_of c.args.graph.now.ordered.now.problem in
+    let order = c.args.graph.now.ordered.now.order in
     let t = state_of test c.args.state.now in
     let groups = c.args.groups.now in
     let Is = IsLive p (state_at order test c.args.state.now) in

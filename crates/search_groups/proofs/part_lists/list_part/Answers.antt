@@ -9,8 +9,8 @@ use Rattle.search_groups.proofs.part_lists.list_part.Goals as goal
 pub returns-clause-list : goal.returns-clause-list
 returns-clause-list g c =
     let test = g.C.CountySet.test in
-    let p = problem_at c.args.ordered.now in
-    let n = length c.args.ordered.now.order in
+    let p = problem_at c.args.graph.now.ordered.now in
+    let n = length c.args.graph.now.ordered.now.order in
     let size = c.args.size in
     let groups = c.in_ok-groups.groups in
     let same : (test c.in_ok-copy.field-0) ≡ (test c.args.part.now) = fun_ext c.in_ok-copy.ensures.places in

@@ -11,8 +11,8 @@ pub loop-part-preserved : goal.loop-part-preserved
 loop-part-preserved g c =
     let C = g.row.C.Denot in
     let test = g.C.CountySet.test in
-    let p = problem_at c.args.ordered.now in
-    let n = length c.args.ordered.now.order in
+    let p = problem_at c.args.graph.now.ordered.now in
+    let n = length c.args.graph.now.ordered.now.order in
     let size = c.args.size in
     let parts = c.args.parts.now in
     let i = c.loop-part.part-index in

@@ -7,25 +7,27 @@ use Rattle.place_laws.specs.PlaceSets.{places_of}
 use Rattle.county_problem.specs.ProblemValue.{problem_of}
 use Rattle.certificate_data.specs.RoundValue.{round_of}
 use Rattle.checker_laws.specs.Fault.{WrongCounty, LightGroup}
+use Rattle.state_groups.specs.StateValue.{state_of}
 use Rattle.state_groups.specs.Placed.{state_at, codes_of_sets}
 use Rattle.state_judge.specs.Weights.{county_weight}
 use Rattle.state_judge.proofs.FairLines.{foreign, fair, light, all_heavy, one_light, same_test}
+use Rattle.state_judge.proofs.Counting.{steps_of_size}
 use Rattle.state_judge.proofs.judging.judge_weights.Goals as goal
 
 pub returns-then-not-are_known-clause-weights : goal.returns-then-not-are_known-clause-weights
 returns-then-not-are_known-clause-weights g c =
-    let p = problem_of c.args.ordered.now.problem in
+    let p = problem_of c.args.graph.now.ordered.now.problem in
     let ws = c.args.weights.now in
     let round = c.args.round.now in
-    let whole : IsOrder p round.order = subst (IsOrder p) c.requires.order c.places-places.ensures.order in
+    let whole : IsOrder p round.order = subst (IsOrder p) c.requires.order c.requires.graph.order in
     let unknown : list_all (λ w. member round.order w.county) ws ≡ false = sym (ap (λ (z : List ℕ). list_all (λ w. member z w.county) ws) c.as_slice-codes.ensures) ∙ (sym c.are_known.ensures ∙ c.if-not-are_known.true) in
     (WrongCounty, refl, inl (refl, foreign p round.order c.args.quota ws whole unknown))
 
 pub returns-then-not-weigh_enough-clause-weights : goal.returns-then-not-weigh_enough-clause-weights
 returns-then-not-weigh_enough-clause-weights g c =
     let test = g.C.CountySet.test in
-    let order = c.args.ordered.now.order in
-    let p = problem_of c.args.ordered.now.problem in
+    let order = c.args.graph.now.ordered.now.order in
+    let p = problem_of c.args.graph.now.ordered.now.problem in
     let s = state_at order test c.args.state.now in
     let ws = c.args.weights.now in
     let w = county_weight ws in
@@ -33,7 +35,7 @@ returns-then-not-weigh_enough-clause-weights g c =
     let table = c.deref.result.now in
     let sets = c.in_ok-groups.groups.items in
     let quota = c.args.quota in
-    let whole : IsOrder p round.order = subst (IsOrder p) c.requires.order c.places-places.ensures.order in
+    let whole : IsOrder p round.order = subst (IsOrder p) c.requires.order c.requires.graph.order in
     let known : list_all (λ w. member round.order w.county) ws ≡ true = sym (ap (λ (z : List ℕ). list_all (λ w. member z w.county) ws) c.as_slice-codes.ensures) ∙ (sym c.are_known.ensures ∙ c.if-not-are_known.false) in
     let e : table ≡ map w order = c.deref.ensures.value ∙ (c.in_ok-table.ensures ∙ ap (map w) (c.as_slice-codes.ensures ∙ sym c.requires.order)) in
     let enough = same_test (λ (z : g.row.C.Denot). total (λ i. get_or table i 0) (places_of (length table) (test z))) c.weigh_enough.result c.from.result quota c.deref-2.result.now sets c.from.ensures c.deref-2.ensures.value c.weigh_enough.ensures in
@@ -43,8 +45,8 @@ returns-then-not-weigh_enough-clause-weights g c =
 pub returns-clause-weights : goal.returns-clause-weights
 returns-clause-weights g c =
     let test = g.C.CountySet.test in
-    let order = c.args.ordered.now.order in
-    let p = problem_of c.args.ordered.now.problem in
+    let order = c.args.graph.now.ordered.now.order in
+    let p = problem_of c.args.graph.now.ordered.now.problem in
     let s = state_at order test c.args.state.now in
     let ws = c.args.weights.now in
     let w = county_weight ws in
@@ -52,9 +54,33 @@ returns-clause-weights g c =
     let table = c.deref.result.now in
     let sets = c.in_ok-groups.groups.items in
     let quota = c.args.quota in
-    let whole : IsOrder p round.order = subst (IsOrder p) c.requires.order c.places-places.ensures.order in
+    let whole : IsOrder p round.order = subst (IsOrder p) c.requires.order c.requires.graph.order in
     let known : list_all (λ w. member round.order w.county) ws ≡ true = sym (ap (λ (z : List ℕ). list_all (λ w. member z w.county) ws) c.as_slice-codes.ensures) ∙ (sym c.are_known.ensures ∙ c.if-not-are_known.false) in
     let e : table ≡ map w order = c.deref.ensures.value ∙ (c.in_ok-table.ensures ∙ ap (map w) (c.as_slice-codes.ensures ∙ sym c.requires.order)) in
     let enough = same_test (λ (z : g.row.C.Denot). total (λ i. get_or table i 0) (places_of (length table) (test z))) c.weigh_enough.result c.from.result quota c.deref-2.result.now sets c.from.ensures c.deref-2.ensures.value c.weigh_enough.ensures in
     let heavy = all_heavy g.row.C.Denot test order table w e quota sets (enough.0 c.if-not-weigh_enough.false) in
     (fair p (round_of round) s c.args.size quota ws (codes_of_sets order test sets) whole c.in_ok-groups.ensures.groups (c.is_spelled.ensures.0 c.if-not-is_spelled.false).0 known heavy, c.in_ok-open_weight.ensures)
+
+pub returns-in_err-groups-clause-steps : goal.returns-in_err-groups-clause-steps
+returns-in_err-groups-clause-steps g c =
+    let t = state_of g.C.CountySet.test c.args.state.now in
+    λ m many.
+    steps_of_size (problem_of c.args.graph.now.ordered.now.problem) c.args.graph.now.ordered.now.order c.requires.graph.order t c.requires.placed.rest c.args.size c.args.steps.now.used c.all_groups_of_size.new.steps.used m c.in_err-groups.ensures.steps many
+
+pub returns-then-not-weigh_enough-clause-steps : goal.returns-then-not-weigh_enough-clause-steps
+returns-then-not-weigh_enough-clause-steps g c =
+    let t = state_of g.C.CountySet.test c.args.state.now in
+    λ m many.
+    steps_of_size (problem_of c.args.graph.now.ordered.now.problem) c.args.graph.now.ordered.now.order c.requires.graph.order t c.requires.placed.rest c.args.size c.args.steps.now.used c.all_groups_of_size.new.steps.used m c.in_ok-groups.ensures.steps many
+
+pub returns-in_err-open_weight-clause-steps : goal.returns-in_err-open_weight-clause-steps
+returns-in_err-open_weight-clause-steps g c =
+    let t = state_of g.C.CountySet.test c.args.state.now in
+    λ m many.
+    steps_of_size (problem_of c.args.graph.now.ordered.now.problem) c.args.graph.now.ordered.now.order c.requires.graph.order t c.requires.placed.rest c.args.size c.args.steps.now.used c.all_groups_of_size.new.steps.used m c.in_ok-groups.ensures.steps many
+
+pub returns-clause-steps : goal.returns-clause-steps
+returns-clause-steps g c =
+    let t = state_of g.C.CountySet.test c.args.state.now in
+    λ m many.
+    steps_of_size (problem_of c.args.graph.now.ordered.now.problem) c.args.graph.now.ordered.now.order c.requires.graph.order t c.requires.placed.rest c.args.size c.args.steps.now.used c.all_groups_of_size.new.steps.used m c.in_ok-groups.ensures.steps many

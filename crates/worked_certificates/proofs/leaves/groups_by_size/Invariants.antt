@@ -9,5 +9,5 @@ use Rattle.worked_certificates.proofs.leaves.groups_by_size.Given as goal
 abbrev pub invariant-loop-below : goal.invariant-loop-below
 invariant-loop-below g l = record {
   count : length l.lists.items ≡ l.below;
-  lists : AreListsFrom g.C.CountySet.test l.ordered.order (problem_of l.ordered.problem) (round_of l.round) (state_at l.ordered.order g.C.CountySet.test l.state) 1 (map vec_items l.lists.items);
+  lists : AreListsFrom g.C.CountySet.test l.graph.ordered.now.order (problem_of l.graph.ordered.now.problem) (round_of l.round) (state_at l.graph.ordered.now.order g.C.CountySet.test l.state) 1 (map vec_items l.lists.items);
 }
