@@ -20,30 +20,30 @@ use Rattle.branch_bound.specs.declared.position.Position.{Position}
 
 module _ (C : Type 0) (test : C → ℕ → Bool) (places : ℕ) (g : SearchInput C) (input : IsSearchInput places test g) where
   abbrev sets : List C → List (List ℕ)
-  sets = codes_of_sets g.ordered.now.order test
+  sets = codes_of_sets g.graph.now.ordered.now.order test
 
-  pub taken_groups : (s : State) (at : Position C) (c : ℕ) (those found : List (List ℕ)) → IsPositionAt test g s at → AreThose g.ordered.now.order (Has c) (codes_of_sets g.ordered.now.order test at.groups.items) those
-      → AreThose g.ordered.now.order (IsLive (search_problem g) (search_state g test at.state)) those found → AreGroupsAt (search_problem g) (search_round g) s c at.size found
+  pub taken_groups : (s : State) (at : Position C) (c : ℕ) (those found : List (List ℕ)) → IsPositionAt test g s at → AreThose g.graph.now.ordered.now.order (Has c) (codes_of_sets g.graph.now.ordered.now.order test at.groups.items) those
+      → AreThose g.graph.now.ordered.now.order (IsLive (search_problem g) (search_state g test at.state)) those found → AreGroupsAt (search_problem g) (search_round g) s c at.size found
   taken_groups s at c those found is has live =
       known_serves.takes (search_problem g) (search_round g) s at.size c (sets at.groups.items) those found input.wide is.known (subst (λ o. AreThose o (Has c) (sets at.groups.items) those) input.order has)
       (subst (λ z. AreThose g.round.now.order (IsLive (search_problem g) z) those found) is.is (subst (λ o. AreThose o (IsLive (search_problem g) (search_state g test at.state)) those found) input.order live))
 
-  pub closable : (s : State) (at : Position C) (c : ℕ) (group : C) → IsOrder (search_problem g) g.ordered.now.order → ((x : ℕ) → test group x ≡ true → x < length g.ordered.now.order) → IsPositionAt test g s at → IsGroupAt (search_problem g) (search_round g) s c at.size (codes_of_set g.ordered.now.order test group)
+  pub closable : (s : State) (at : Position C) (c : ℕ) (group : C) → IsOrder (search_problem g) g.graph.now.ordered.now.order → ((x : ℕ) → test group x ≡ true → x < length g.graph.now.ordered.now.order) → IsPositionAt test g s at → IsGroupAt (search_problem g) (search_round g) s c at.size (codes_of_set g.graph.now.ordered.now.order test group)
       → IsClosable test at.state group
   closable s at c group order below is fits =
-      let codes = codes_of_set g.ordered.now.order test group in
+      let codes = codes_of_set g.graph.now.ordered.now.order test group in
       let here : IsCandidateGroup (search_problem g) (search_round g) (search_state g test at.state) (length codes) codes =
       subst (λ z. IsCandidateGroup (search_problem g) (search_round g) z (length codes) codes) (sym is.is) (record { lawful = fits.fits.lawful; inside = fits.fits.inside; in_order = fits.in_order; size = refl }) in
-      candidate_closable C test g.ordered.now.order (search_problem g) order (search_round g) at.state is.placed (length codes) group below here
+      candidate_closable C test g.graph.now.ordered.now.order (search_problem g) order (search_round g) at.state is.placed (length codes) group below here
 
-  pub closed_at : (s : State) (at next : Position C) (c : ℕ) (group : C) → IsProblem (search_problem g) → IsPositionAt test g s at → IsGroupAt (search_problem g) (search_round g) s c at.size (codes_of_set g.ordered.now.order test group)
-      → IsPlaced (length g.ordered.now.order) test next.state → search_state g test next.state ≡ close (codes_of_set g.ordered.now.order test group) (search_state g test at.state) → next.size ≡ at.size → AreBelow (length g.ordered.now.order) test next.groups.items
-      → AreThose g.ordered.now.order (IsApart (codes_of_set g.ordered.now.order test group)) (codes_of_sets g.ordered.now.order test at.groups.items) (codes_of_sets g.ordered.now.order test next.groups.items)
-      → next.has_larger ≡ at.has_larger → AreBelow (length g.ordered.now.order) test next.larger.items
-      → AreThose g.ordered.now.order (IsApart (codes_of_set g.ordered.now.order test group)) (codes_of_sets g.ordered.now.order test at.larger.items) (codes_of_sets g.ordered.now.order test next.larger.items)
-      → IsPositionAt test g (close (codes_of_set g.ordered.now.order test group) s) next
+  pub closed_at : (s : State) (at next : Position C) (c : ℕ) (group : C) → IsProblem (search_problem g) → IsPositionAt test g s at → IsGroupAt (search_problem g) (search_round g) s c at.size (codes_of_set g.graph.now.ordered.now.order test group)
+      → IsPlaced (length g.graph.now.ordered.now.order) test next.state → search_state g test next.state ≡ close (codes_of_set g.graph.now.ordered.now.order test group) (search_state g test at.state) → next.size ≡ at.size → AreBelow (length g.graph.now.ordered.now.order) test next.groups.items
+      → AreThose g.graph.now.ordered.now.order (IsApart (codes_of_set g.graph.now.ordered.now.order test group)) (codes_of_sets g.graph.now.ordered.now.order test at.groups.items) (codes_of_sets g.graph.now.ordered.now.order test next.groups.items)
+      → next.has_larger ≡ at.has_larger → AreBelow (length g.graph.now.ordered.now.order) test next.larger.items
+      → AreThose g.graph.now.ordered.now.order (IsApart (codes_of_set g.graph.now.ordered.now.order test group)) (codes_of_sets g.graph.now.ordered.now.order test at.larger.items) (codes_of_sets g.graph.now.ordered.now.order test next.larger.items)
+      → IsPositionAt test g (close (codes_of_set g.graph.now.ordered.now.order test group) s) next
   closed_at s at next c group problem is fits placed value size below those same larger_below larger_those =
-      let codes = codes_of_set g.ordered.now.order test group in
+      let codes = codes_of_set g.graph.now.ordered.now.order test group in
       record {
         placed = placed;
         is = value ∙ ap (close codes) is.is;
@@ -59,8 +59,8 @@ module _ (C : Type 0) (test : C → ℕ → Bool) (places : ℕ) (g : SearchInpu
             (subst (λ o. AreThose o (IsApart codes) (sets at.larger.items) (sets next.larger.items)) input.order larger_those));
       }
 
-  pub raised_at : (s : State) (at next : Position C) (c : ℕ) → IsPositionAt test g s at → CanBranch (search_round g) s c at.size → IsPlaced (length g.ordered.now.order) test next.state → search_state g test next.state ≡ raise c at.size (search_state g test at.state) → next.size ≡ at.size
-      → AreBelow (length g.ordered.now.order) test next.groups.items → AreThose g.ordered.now.order (Lacks c) (codes_of_sets g.ordered.now.order test at.groups.items) (codes_of_sets g.ordered.now.order test next.groups.items)
+  pub raised_at : (s : State) (at next : Position C) (c : ℕ) → IsPositionAt test g s at → CanBranch (search_round g) s c at.size → IsPlaced (length g.graph.now.ordered.now.order) test next.state → search_state g test next.state ≡ raise c at.size (search_state g test at.state) → next.size ≡ at.size
+      → AreBelow (length g.graph.now.ordered.now.order) test next.groups.items → AreThose g.graph.now.ordered.now.order (Lacks c) (codes_of_sets g.graph.now.ordered.now.order test at.groups.items) (codes_of_sets g.graph.now.ordered.now.order test next.groups.items)
       → next.has_larger ≡ at.has_larger → next.larger ≡ at.larger → IsPositionAt test g (raise c at.size s) next
   raised_at s at next c is can placed value size below those same kept = record {
     placed = placed;
@@ -71,17 +71,17 @@ module _ (C : Type 0) (test : C → ℕ → Bool) (places : ℕ) (g : SearchInpu
     known = subst (λ n. IsKnown (search_problem g) (search_round g) (raise c at.size s) n (sets next.groups.items)) (sym size)
         (known_serves.raised (search_problem g) (search_round g) s at.size c (sets at.groups.items) (sets next.groups.items) (omega (arith, open_least s at.size c can.is_open)) is.known
         (subst (λ o. AreThose o (Lacks c) (sets at.groups.items) (sets next.groups.items)) input.order those));
-    larger_below = subst (λ (z : Vec C Global). AreBelow (length g.ordered.now.order) test z.items) (sym kept) is.larger_below;
+    larger_below = subst (λ (z : Vec C Global). AreBelow (length g.graph.now.ordered.now.order) test z.items) (sym kept) is.larger_below;
     larger = λ e. subst (λ (z : Vec C Global). AreCandidates (search_problem g) (search_round g) (raise c at.size s) (next.size + 1) (sets z.items)) (sym kept)
         (subst (λ n. AreCandidates (search_problem g) (search_round g) (raise c at.size s) (n + 1) (sets at.larger.items)) (sym size)
         (candidates_raised (search_problem g) (search_round g) s at.size c (sets at.larger.items) (omega (arith, open_least s at.size c can.is_open)) (is.larger (sym same ∙ e))));
   }
 
   -- one may branch at a county of a group that is known
-  pub choice_can : (s : State) (at : Position C) (place : ℕ) → IsPositionAt test g s at → IsChoice test g.ordered.now.order at.groups.items place → CanBranch (search_round g) s (code_at g.ordered.now.order place) at.size
+  pub choice_can : (s : State) (at : Position C) (place : ℕ) → IsPositionAt test g s at → IsChoice test g.graph.now.ordered.now.order at.groups.items place → CanBranch (search_round g) s (code_at g.graph.now.ordered.now.order place) at.size
   choice_can s at place is choice =
-      known_serves.can (search_problem g) (search_round g) s at.size (code_at g.ordered.now.order place) choice.group input.wide is.small (is.known.each choice.group choice.known) choice.has
+      known_serves.can (search_problem g) (search_round g) s at.size (code_at g.graph.now.ordered.now.order place) choice.group input.wide is.small (is.known.each choice.group choice.known) choice.has
 
   -- and such a group has a county
-  pub choice_some : (s : State) (at : Position C) (place : ℕ) → IsPositionAt test g s at → IsChoice test g.ordered.now.order at.groups.items place → 1 ≤ at.size
+  pub choice_some : (s : State) (at : Position C) (place : ℕ) → IsPositionAt test g s at → IsChoice test g.graph.now.ordered.now.order at.groups.items place → 1 ≤ at.size
   choice_some s at place is choice = let candidate = is.known.each choice.group choice.known in omega (arith, candidate.size, candidate.lawful.connected.some_county)

@@ -127,5 +127,5 @@ pub raised_agrees : (round : Round) (s next : State) (county size : ℕ) (h : Gr
 raised_agrees round s next county size h can raised a = (branch_keeps_state).raised_agrees s county size h (omega (arith, open_least s size county can.is_open)) (subst (λ z. Agrees z h) raised a)
 
 -- a county to branch at is in a group of a county or more
-pub choice_size : (C : Type 0) (test : C → ℕ → Bool) (g : SearchInput C) (s : State) (at : Position C) (place : ℕ) → IsPositionAt test g s at → IsChoice test g.ordered.now.order at.groups.items place → 1 ≤ at.size
+pub choice_size : (C : Type 0) (test : C → ℕ → Bool) (g : SearchInput C) (s : State) (at : Position C) (place : ℕ) → IsPositionAt test g s at → IsChoice test g.graph.now.ordered.now.order at.groups.items place → 1 ≤ at.size
 choice_size C test g s at place is choice = let c = is.known.each choice.group choice.known in omega (arith, c.size, c.lawful.connected.some_county)

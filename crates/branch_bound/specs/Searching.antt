@@ -9,7 +9,7 @@ use Rattle.grouping_laws.specs.Grouping.{Grouping, sets_of}
 use Rattle.grouping_laws.specs.GroupsFrom.{IsBefore}
 use Rattle.county_problem.specs.ProblemValue.{problem_of}
 use Rattle.county_problem.specs.OrderedValue.{problem_at, code_at}
-use Rattle.connected_sets.specs.Rows.{AreRows}
+use Rattle.connected_sets.specs.Graphs.{IsGraph}
 use Rattle.connected_laws.specs.Listing.{AreBelow}
 use Rattle.certificate_data.specs.Round.{Round}
 use Rattle.certificate_data.specs.declared.language.Language.TheVariants.{Wide}
@@ -47,19 +47,18 @@ use Rattle.branch_bound.specs.declared.outcome.Takes.TheVariants as takes
 
 -- the problem, the round and the order that a search goes by, and a state by its codes
 abbrev pub search_problem : {C : Type 0} → SearchInput C → Problem
-search_problem g = problem_of g.ordered.now.problem
+search_problem g = problem_of g.graph.now.ordered.now.problem
 
 abbrev pub search_round : {C : Type 0} → SearchInput C → Round
 search_round g = round_of g.round.now
 
 abbrev pub search_state : {C : Type 0} → SearchInput C → (C → ℕ → Bool) → StateHeld C → State
-search_state g test s = state_at g.ordered.now.order test s
+search_state g test s = state_at g.graph.now.ordered.now.order test s
 
--- the rows are those of the order, which is the round's, the sets have room for its places, and the round is a wide one
+-- the county graph is that of the round's order, and the round is a wide one
 pub record IsSearchInput {C : Type 0} (places : ℕ) (test : C → ℕ → Bool) (g : SearchInput C) : Type 0 where
-  pub fits : length g.ordered.now.order ≤ places
-  pub rows : AreRows C test (problem_at g.ordered.now) (length g.ordered.now.order) g.near.now
-  pub order : g.ordered.now.order ≡ g.round.now.order
+  pub graph : IsGraph test places g.graph.now
+  pub order : g.graph.now.ordered.now.order ≡ g.round.now.order
   pub small : g.round.now.limit ≤ most_counties
   pub wide : g.round.now.language ≡ Wide
 
@@ -67,16 +66,16 @@ pub record IsSearchInput {C : Type 0} (places : ℕ) (test : C → ℕ → Bool)
 -- maybe those of one county more.
 pub record IsPositionAt {C : Type 0} (test : C → ℕ → Bool) (g : SearchInput C) (s : State)
     (at : Position C) : Type 0 where
-  pub placed : IsPlaced (length g.ordered.now.order) test at.state
+  pub placed : IsPlaced (length g.graph.now.ordered.now.order) test at.state
   pub is : search_state g test at.state ≡ s
   pub state : IsState (search_problem g) (search_round g) s
   pub small : at.size ≤ g.round.now.limit
-  pub below : AreBelow (length g.ordered.now.order) test at.groups.items
-  pub known : IsKnown (search_problem g) (search_round g) s at.size (codes_of_sets g.ordered.now.order test at.groups.items)
-  pub larger_below : AreBelow (length g.ordered.now.order) test at.larger.items
+  pub below : AreBelow (length g.graph.now.ordered.now.order) test at.groups.items
+  pub known : IsKnown (search_problem g) (search_round g) s at.size (codes_of_sets g.graph.now.ordered.now.order test at.groups.items)
+  pub larger_below : AreBelow (length g.graph.now.ordered.now.order) test at.larger.items
   pub larger : at.has_larger ≡ true
       → AreCandidates (search_problem g) (search_round g) s (at.size
-      + 1) (codes_of_sets g.ordered.now.order test at.larger.items)
+      + 1) (codes_of_sets g.graph.now.ordered.now.order test at.larger.items)
 
 -- the groups stand by size and then by places, and the codes of each in the order of places
 pub record IsSorted (order : List ℕ) (g : Grouping) : Type 0 where
@@ -142,7 +141,7 @@ abbrev pub IsNextMove : {C : Type 0} → (C → ℕ → Bool) → SearchInput C 
 IsNextMove test g s (next_move.Leaf leaf) = IsEnd (search_problem g) (search_round g) s leaf
 IsNextMove test g s (next_move.Better found) = IsBetter (search_problem g) (search_round g) s found
 IsNextMove test g s (next_move.Branch place at) =
-    IsPositionAt test g s at × IsChoice test g.ordered.now.order at.groups.items place
+    IsPositionAt test g s at × IsChoice test g.graph.now.ordered.now.order at.groups.items place
 
 -- where no group of at most so many counties fits: a leaf that is valid, a grouping that is better, or the groups of
 -- one county more
@@ -151,5 +150,5 @@ IsNextSize test g s size (next.Leaf leaf) = IsEnd (search_problem g) (search_rou
 IsNextSize test g s size (next.Better found) = IsBetter (search_problem g) (search_round g) s found
 IsNextSize test g s size (next.Groups groups) =
     (size < g.round.now.limit)
-    × AreBelow (length g.ordered.now.order) test groups.items
-    × AreGroupsOf (search_problem g) (search_round g) s (size + 1) (codes_of_sets g.ordered.now.order test groups.items)
+    × AreBelow (length g.graph.now.ordered.now.order) test groups.items
+    × AreGroupsOf (search_problem g) (search_round g) s (size + 1) (codes_of_sets g.graph.now.ordered.now.order test groups.items)

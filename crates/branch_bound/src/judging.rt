@@ -3,10 +3,10 @@
 ghost use Rattle.std.specs.Prelude.{◌≡◌, ℕ, ◌+◌, ◌≤◌, ◌<◌, List, [], length, All, IfOk, OnOk, IsErrOf, MatchOption, ⊤};
 ghost use Rattle.certificate_laws.specs.Leaves.{IsStuck, IsOffSeats};
 ghost use Rattle.connected_sets.specs.declared.stop.Stop.{Stop};
-ghost use Rattle.county_problem.specs.OrderedValue.{problem_at};
 ghost use Rattle.search_groups.specs.PartLists.{AreListsOf};
 ghost use Rattle.branch_bound.specs.Searching.{search_problem, search_round, search_state, IsSearchInput, IsPositionAt};
 ghost use Rattle.branch_bound.specs.Searching.{IsEnd, IsNextMove, IsNextSize};
+ghost use Rattle.connected_sets.specs.Graphs.{graph_places, place_problem};
 
 use crate::input::SearchInput;
 use crate::larger::{next_groups, with_larger};
@@ -16,7 +16,9 @@ use certificate_data::Leaf;
 use connected_sets::Stop;
 use county_problem::Steps;
 use place_sets::CountySet;
-use search_ends::{empty_leaf, finished_grouping, room_leaf, wanted_more, weighed_leaf, whole_leaf};
+use search_ends::{
+    empty_leaf, finished_grouping, room_leaf, wanted_more, weighed_leaf, whole_leaf,
+};
 use search_groups::{PartLists, county_of_choice, live_groups, weigh};
 use std::alloc::AllocError;
 
@@ -33,31 +35,36 @@ fn next_size<C: CountySet>(
     requires no_stuck { (c : ℕ)
         → ¬ IsStuck (search_problem input.now) (search_state input.now C.test position.now.state) c }
     requires no_seats { ¬ IsOffSeats (search_problem input.now) (search_state input.now C.test position.now.state) }
-    requires lists { AreListsOf C.test (problem_at input.now.ordered.now) (length input.now.ordered.now.order) lists.old }
+    requires lists { AreListsOf C.test (place_problem input.now.graph.now) (graph_places input.now.graph.now) lists.old }
     ensures none { position.now.groups.items ≡ [] }
     ensures next { IfOk result (IsNextSize C.test input.now (search_state input.now C.test position.now.state) position.now.size) }
-    ensures lists { AreListsOf C.test (problem_at input.now.ordered.now) (length input.now.ordered.now.order) lists.new }
+    ensures lists { AreListsOf C.test (place_problem input.now.graph.now) (graph_places input.now.graph.now) lists.new }
     ensures more { steps.old.used ≤ steps.new.used }
     ensures limit { steps.new.limit ≡ steps.old.limit }
     ensures stopped { IsErrOf result Stop.StepLimit → steps.new.used ≡ steps.new.limit }
 {
-    let SearchInput {
-        alloc,
-        ordered,
-        near,
-        round,
-    } = input;
     let Position { state, size, .. } = position;
-    let _places = ordered.places();
-    let _problem = ordered.problem();
-    if let Some(leaf) = empty_leaf(*alloc, ordered, round, state, *size)? {
+    let _problem = input.graph.ordered.problem();
+    if let Some(leaf) = empty_leaf(
+        input.graph.alloc,
+        input.graph.ordered,
+        input.round,
+        state,
+        *size,
+    )? {
         return Ok(Next::Leaf(leaf));
     }
-    if *size == round.limit {
-        let found = finished_grouping(*alloc, ordered, near, round, state)?;
+    if *size == input.round.limit {
+        let found = finished_grouping(input.graph, input.round, state)?;
         return Ok(Next::Better(found));
     }
-    if let Some(leaf) = room_leaf(*alloc, ordered, round, state, *size + 1)? {
+    if let Some(leaf) = room_leaf(
+        input.graph.alloc,
+        input.graph.ordered,
+        input.round,
+        state,
+        *size + 1,
+    )? {
         return Ok(Next::Leaf(leaf));
     }
     match next_groups(input, position, lists, steps) {
@@ -75,11 +82,11 @@ fn branch_at<C: CountySet>(
     requires input { IsSearchInput C.PLACES C.test input.now }
     requires at { IsPositionAt C.test input.now (search_state input.now C.test position.state) position }
     requires some { 1 ≤ length position.groups.items }
-    requires count { length weights.now ≡ length input.now.ordered.now.order }
+    requires count { length weights.now ≡ graph_places input.now.graph.now }
     ensures { IfOk result (IsNextMove C.test input.now (search_state input.now C.test position.state)) }
 {
-    let places = input.ordered.places();
-    match county_of_choice(input.alloc, places, &position.groups, weights)? {
+    let places = input.graph.ordered.places();
+    match county_of_choice(input.graph.alloc, places, &position.groups, weights)? {
         Some(place) => Ok(Move::Branch(place, position)),
         None => unreachable!(),
     }
@@ -96,20 +103,28 @@ fn weighed<C: CountySet>(
     requires some { 1 ≤ length position.groups.items }
     ensures { IfOk result (IsNextMove C.test input.now (search_state input.now C.test position.state)) }
 {
-    let SearchInput {
-        alloc,
-        ordered,
-        round,
-        ..
-    } = input;
     let Position {
         state,
         size,
         groups,
         ..
     } = &position;
-    let weights = weigh(*alloc, ordered.places(), groups, *size, wanted)?;
-    if let Some(leaf) = weighed_leaf(*alloc, ordered, round, state, *size, groups, &weights)? {
+    let weights = weigh(
+        input.graph.alloc,
+        input.graph.ordered.places(),
+        groups,
+        *size,
+        wanted,
+    )?;
+    if let Some(leaf) = weighed_leaf(
+        input.graph.alloc,
+        input.graph.ordered,
+        input.round,
+        state,
+        *size,
+        groups,
+        &weights,
+    )? {
         return Ok(Move::Leaf(leaf));
     }
     branch_at(input, position, &weights)
@@ -125,10 +140,15 @@ fn move_at_groups<C: CountySet>(
     requires some { 1 ≤ length position.groups.items }
     ensures { IfOk result (IsNextMove C.test input.now (search_state input.now C.test position.state)) }
 {
-    match wanted_more(input.ordered, input.round, &position.state, position.size) {
+    match wanted_more(
+        input.graph.ordered,
+        input.round,
+        &position.state,
+        position.size,
+    ) {
         Some(wanted) => weighed(input, position, wanted),
         None => {
-            let weights = vec![in input.alloc; 0; usize::from(input.ordered.places())]?;
+            let weights = vec![in input.graph.alloc; 0; usize::from(input.graph.ordered.places())]?;
             branch_at(input, position, &weights)
         }
     }
@@ -146,14 +166,13 @@ fn move_at_sizes<C: CountySet>(
     requires no_stuck { (c : ℕ)
         → ¬ IsStuck (search_problem input.now) (search_state input.now C.test position.state) c }
     requires no_seats { ¬ IsOffSeats (search_problem input.now) (search_state input.now C.test position.state) }
-    requires lists { AreListsOf C.test (problem_at input.now.ordered.now) (length input.now.ordered.now.order) lists.old }
+    requires lists { AreListsOf C.test (place_problem input.now.graph.now) (graph_places input.now.graph.now) lists.old }
     ensures next_move { IfOk result (IsNextMove C.test input.now (search_state input.now C.test position.state)) }
-    ensures lists { AreListsOf C.test (problem_at input.now.ordered.now) (length input.now.ordered.now.order) lists.new }
+    ensures lists { AreListsOf C.test (place_problem input.now.graph.now) (graph_places input.now.graph.now) lists.new }
     ensures more { steps.old.used ≤ steps.new.used }
     ensures limit { steps.new.limit ≡ steps.old.limit }
     ensures stopped { IsErrOf result Stop.StepLimit → steps.new.used ≡ steps.new.limit }
 {
-    let _places = input.ordered.places();
     let mut position = position;
     while position.groups.is_empty() {
         match next_size(input, &position, lists, steps) {
@@ -163,7 +182,7 @@ fn move_at_sizes<C: CountySet>(
                 position.size += 1;
                 position.groups = groups;
                 position.tested = true;
-                position.larger = Vec::new(input.alloc);
+                position.larger = Vec::new(input.graph.alloc);
                 position.has_larger = false;
             }
             Err(stop) => return Err(stop),
@@ -194,7 +213,6 @@ fn without_dead<C: CountySet>(
     ensures limit { steps.new.limit ≡ steps.old.limit }
     ensures stopped { IsErrOf result Stop.StepLimit → steps.new.used ≡ steps.new.limit }
 {
-    let _places = input.ordered.places();
     if position.tested {
         return Ok(position);
     }
@@ -207,14 +225,7 @@ fn without_dead<C: CountySet>(
         larger_tested,
         ..
     } = position;
-    match live_groups(
-        input.alloc,
-        input.ordered,
-        input.near,
-        &state,
-        &groups,
-        steps,
-    ) {
+    match live_groups(input.graph, &state, &groups, steps) {
         Ok(groups) => Ok(Position {
             state,
             size,
@@ -241,8 +252,8 @@ fn present_room<C: CountySet>(
         return Ok(None);
     }
     room_leaf(
-        input.alloc,
-        input.ordered,
+        input.graph.alloc,
+        input.graph.ordered,
         input.round,
         &position.state,
         position.size,
@@ -264,13 +275,7 @@ fn early_leaf<C: CountySet>(
         × ¬ IsOffSeats (search_problem input.now) (search_state input.now C.test position.now.state))
         (IsEnd (search_problem input.now) (search_round input.now) (search_state input.now C.test position.now.state))) }
 {
-    let SearchInput {
-        alloc,
-        ordered,
-        near,
-        round,
-    } = input;
-    match whole_leaf(*alloc, ordered, near, round, &position.state)? {
+    match whole_leaf(input.graph, input.round, &position.state)? {
         Some(leaf) => Ok(Some(leaf)),
         None => present_room(input, position),
     }
@@ -285,11 +290,11 @@ pub(crate) fn next_move<C: CountySet>(
 ) -> Result<Move<C>, Stop>
     requires input { IsSearchInput C.PLACES C.test input.now }
     requires at { IsPositionAt C.test input.now (search_state input.now C.test position.state) position }
-    requires lists { AreListsOf C.test (problem_at input.now.ordered.now) (length input.now.ordered.now.order) lists.old }
+    requires lists { AreListsOf C.test (place_problem input.now.graph.now) (graph_places input.now.graph.now) lists.old }
     ensures next_move { IfOk result (IsNextMove C.test input.now (search_state input.now C.test position.state)) }
     ensures counted { OnOk result (steps.old.used < steps.new.used) }
     ensures left { OnOk result (steps.old.used < steps.old.limit) }
-    ensures lists { AreListsOf C.test (problem_at input.now.ordered.now) (length input.now.ordered.now.order) lists.new }
+    ensures lists { AreListsOf C.test (place_problem input.now.graph.now) (graph_places input.now.graph.now) lists.new }
     ensures more { steps.old.used ≤ steps.new.used }
     ensures limit { steps.new.limit ≡ steps.old.limit }
     ensures stopped { IsErrOf result Stop.StepLimit → steps.new.used ≡ steps.new.limit }

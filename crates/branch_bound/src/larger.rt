@@ -3,8 +3,7 @@
 //! If they are listed at a state, then no list of them is made below it until a larger size is next: those that are
 //! left there are tested. That spares steps where many groups of the present size are still wanted.
 
-ghost use Rattle.std.specs.Prelude.{◌≡◌, ℕ, ◌+◌, ◌≤◌, length, [], IfOk, IsErrOf};
-ghost use Rattle.county_problem.specs.OrderedValue.{problem_at};
+ghost use Rattle.std.specs.Prelude.{◌≡◌, ℕ, ◌+◌, ◌≤◌, [], IfOk, IsErrOf};
 ghost use Rattle.connected_laws.specs.Listing.{AreBelow};
 ghost use Rattle.certificate_laws.specs.Groups.{AreGroupsOf};
 ghost use Rattle.certificate_laws.specs.Leaves.{IsStuck};
@@ -12,6 +11,7 @@ ghost use Rattle.state_groups.specs.Placed.{codes_of_sets};
 ghost use Rattle.search_groups.specs.PartLists.{AreListsOf};
 ghost use Rattle.connected_sets.specs.declared.stop.Stop.{Stop};
 ghost use Rattle.branch_bound.specs.Searching.{search_problem, search_round, search_state, IsSearchInput, IsPositionAt};
+ghost use Rattle.connected_sets.specs.Graphs.{graph_order, graph_places, place_problem};
 
 use crate::input::SearchInput;
 use crate::position::Position;
@@ -19,7 +19,8 @@ use connected_sets::Stop;
 use county_problem::Steps;
 use place_sets::CountySet;
 use search_ends::wanted_more;
-use search_groups::{PartLists, all_groups_of_size, groups_of_size, live_groups};
+use search_groups::{PartLists, groups_of_size, live_groups};
+use state_groups::all_groups_of_size;
 
 /// Before so many steps none are listed ahead.
 const FIRST_STEPS: u64 = 100_000;
@@ -42,7 +43,7 @@ pub(crate) fn next_groups<C: CountySet>(
     requires none { position.now.groups.items ≡ [] }
     requires no_stuck { (c : ℕ)
         → ¬ IsStuck (search_problem input.now) (search_state input.now C.test position.now.state) c }
-    requires lists { AreListsOf C.test (problem_at input.now.ordered.now) (length input.now.ordered.now.order) lists.old }
+    requires lists { AreListsOf C.test (place_problem input.now.graph.now) (graph_places input.now.graph.now) lists.old }
     ensures groups { IfOk
         result
         (λ v. AreGroupsOf
@@ -50,30 +51,23 @@ pub(crate) fn next_groups<C: CountySet>(
         (search_round input.now)
         (search_state input.now C.test position.now.state)
         (position.now.size + 1)
-        (codes_of_sets input.now.ordered.now.order C.test v.items)) }
-    ensures below { IfOk result (λ v. AreBelow (length input.now.ordered.now.order) C.test v.items) }
-    ensures lists { AreListsOf C.test (problem_at input.now.ordered.now) (length input.now.ordered.now.order) lists.new }
+        (codes_of_sets (graph_order input.now.graph.now) C.test v.items)) }
+    ensures below { IfOk result (λ v. AreBelow (graph_places input.now.graph.now) C.test v.items) }
+    ensures lists { AreListsOf C.test (place_problem input.now.graph.now) (graph_places input.now.graph.now) lists.new }
     ensures more { steps.old.used ≤ steps.new.used }
     ensures limit { steps.new.limit ≡ steps.old.limit }
     ensures stopped { IsErrOf result Stop.StepLimit → steps.new.used ≡ steps.new.limit }
 {
-    let SearchInput {
-        alloc,
-        ordered,
-        near,
-        round,
-    } = input;
     let Position {
         state,
         size,
         larger,
         ..
     } = position;
-    let _places = ordered.places();
     if !position.has_larger {
-        return groups_of_size(*alloc, ordered, near, round, state, *size + 1, lists, steps);
+        return groups_of_size(input.graph, input.round, state, *size + 1, lists, steps);
     }
-    match live_groups(*alloc, ordered, near, state, larger, steps) {
+    match live_groups(input.graph, state, larger, steps) {
         Ok(groups) => Ok(groups),
         Err(stop) => Err(stop),
     }
@@ -93,19 +87,10 @@ fn listed_ahead<C: CountySet>(
     ensures limit { steps.new.limit ≡ steps.old.limit }
     ensures stopped { IsErrOf result Stop.StepLimit → steps.new.used ≡ steps.new.limit }
 {
-    let SearchInput {
-        alloc,
-        ordered,
-        near,
-        round,
-    } = input;
-    let _places = ordered.places();
     let mut position = position;
     match all_groups_of_size(
-        *alloc,
-        ordered,
-        near,
-        round,
+        input.graph,
+        input.round,
         &position.state,
         position.size + 1,
         steps,
@@ -134,22 +119,8 @@ fn tested_ahead<C: CountySet>(
     ensures limit { steps.new.limit ≡ steps.old.limit }
     ensures stopped { IsErrOf result Stop.StepLimit → steps.new.used ≡ steps.new.limit }
 {
-    let SearchInput {
-        alloc,
-        ordered,
-        near,
-        ..
-    } = input;
-    let _places = ordered.places();
     let mut position = position;
-    match live_groups(
-        *alloc,
-        ordered,
-        near,
-        &position.state,
-        &position.larger,
-        steps,
-    ) {
+    match live_groups(input.graph, &position.state, &position.larger, steps) {
         Ok(larger) => {
             position.larger = larger;
             position.larger_tested = true;
@@ -174,8 +145,12 @@ pub(crate) fn with_larger<C: CountySet>(
     ensures limit { steps.new.limit ≡ steps.old.limit }
     ensures stopped { IsErrOf result Stop.StepLimit → steps.new.used ≡ steps.new.limit }
 {
-    let Some(wanted) = wanted_more(input.ordered, input.round, &position.state, position.size)
-    else {
+    let Some(wanted) = wanted_more(
+        input.graph.ordered,
+        input.round,
+        &position.state,
+        position.size,
+    ) else {
         return Ok(position);
     };
     if position.has_larger {

@@ -1,6 +1,6 @@
 //! The positions of a search: the first one, and those where a group is closed or a county is raised.
 
-ghost use Rattle.std.specs.Prelude.{◌≡◌, ℕ, ◌≤◌, ◌<◌, true, length, IfOk, IsErrOf};
+ghost use Rattle.std.specs.Prelude.{◌≡◌, ℕ, ◌≤◌, ◌<◌, true, IfOk, IsErrOf};
 ghost use Rattle.county_problem.specs.OrderedValue.{code_at};
 ghost use Rattle.connected_laws.specs.Listing.{AreBelow};
 ghost use Rattle.certificate_laws.specs.State.{empty_state, close, raise};
@@ -9,6 +9,7 @@ ghost use Rattle.certificate_laws.specs.Proving.{CanBranch};
 ghost use Rattle.connected_sets.specs.declared.stop.Stop.{Stop};
 ghost use Rattle.state_groups.specs.Placed.{codes_of_set, codes_of_sets};
 ghost use Rattle.branch_bound.specs.Searching.{search_problem, search_round, search_state, IsSearchInput, IsPositionAt};
+ghost use Rattle.connected_sets.specs.Graphs.{graph_order, graph_places};
 
 use crate::input::SearchInput;
 use crate::position::Position;
@@ -16,7 +17,7 @@ use connected_sets::Stop;
 use county_problem::Steps;
 use place_sets::CountySet;
 use search_groups::{groups_apart, groups_having, groups_lacking, live_groups};
-use state_judge::{closed_state, first_state, raise_place};
+use state_groups::{closed_state, first_state, raise_place};
 use std::alloc::AllocError;
 
 /// The position at which a round begins: no group is closed and nothing is known of any.
@@ -26,13 +27,12 @@ pub(crate) fn first_position<C: CountySet>(
     requires { IsSearchInput C.PLACES C.test input.now }
     ensures { IfOk result (λ at. IsPositionAt C.test input.now (empty_state (search_problem input.now)) at) }
 {
-    let _places = input.ordered.places();
     Ok(Position {
-        state: first_state(input.alloc, input.ordered)?,
+        state: first_state(input.graph.alloc, input.graph.ordered)?,
         size: 0,
-        groups: Vec::new(input.alloc),
+        groups: Vec::new(input.graph.alloc),
         tested: true,
-        larger: Vec::new(input.alloc),
+        larger: Vec::new(input.graph.alloc),
         has_larger: false,
         larger_tested: false,
     })
@@ -48,30 +48,28 @@ pub(crate) fn groups_to_take<C: CountySet>(
 ) -> Result<Vec<C>, Stop>
     requires input { IsSearchInput C.PLACES C.test input.now }
     requires at { IsPositionAt C.test input.now (search_state input.now C.test position.now.state) position.now }
-    requires place { place < length input.now.ordered.now.order }
+    requires place { place < graph_places input.now.graph.now }
     ensures groups { IfOk
         result
         (λ v. AreGroupsAt
         (search_problem input.now)
         (search_round input.now)
         (search_state input.now C.test position.now.state)
-        (code_at input.now.ordered.now.order place)
+        (code_at (graph_order input.now.graph.now) place)
         position.now.size
-        (codes_of_sets input.now.ordered.now.order C.test v.items)) }
-    ensures below { IfOk result (λ v. AreBelow (length input.now.ordered.now.order) C.test v.items) }
+        (codes_of_sets (graph_order input.now.graph.now) C.test v.items)) }
+    ensures below { IfOk result (λ v. AreBelow (graph_places input.now.graph.now) C.test v.items) }
     ensures more { steps.old.used ≤ steps.new.used }
     ensures limit { steps.new.limit ≡ steps.old.limit }
     ensures stopped { IsErrOf result Stop.StepLimit → steps.new.used ≡ steps.new.limit }
 {
-    let having = groups_having(input.alloc, input.ordered, &position.groups, place)?;
-    match live_groups(
-        input.alloc,
-        input.ordered,
-        input.near,
-        &position.state,
-        &having,
-        steps,
-    ) {
+    let having = groups_having(
+        input.graph.alloc,
+        input.graph.ordered,
+        &position.groups,
+        place,
+    )?;
+    match live_groups(input.graph, &position.state, &having, steps) {
         Ok(groups) => Ok(groups),
         Err(stop) => Err(stop),
     }
@@ -84,7 +82,7 @@ pub(crate) fn closed_position<C: CountySet>(
     group: &C,
 ) -> Result<Position<C>, AllocError>
     requires input { IsSearchInput C.PLACES C.test input.now }
-    requires below { (x : ℕ) → C.test group.now x ≡ true → x < length input.now.ordered.now.order }
+    requires below { (x : ℕ) → C.test group.now x ≡ true → x < graph_places input.now.graph.now }
     requires at { IsPositionAt C.test input.now (search_state input.now C.test position.now.state) position.now }
     requires group { (c : ℕ)
         × IsGroupAt
@@ -93,19 +91,33 @@ pub(crate) fn closed_position<C: CountySet>(
         (search_state input.now C.test position.now.state)
         c
         position.now.size
-        (codes_of_set input.now.ordered.now.order C.test group.now) }
+        (codes_of_set (graph_order input.now.graph.now) C.test group.now) }
     ensures { IfOk
         result
         (IsPositionAt
         C.test
         input.now
-        (close (codes_of_set input.now.ordered.now.order C.test group.now) (search_state input.now C.test position.now.state))) }
+        (close (codes_of_set (graph_order input.now.graph.now) C.test group.now) (search_state input.now C.test position.now.state))) }
 {
-    let _places = input.ordered.places();
-    let _problem = input.ordered.problem();
-    let state = closed_state(input.alloc, input.ordered, &position.state, group)?;
-    let groups = groups_apart(input.alloc, input.ordered, &position.groups, group)?;
-    let larger = groups_apart(input.alloc, input.ordered, &position.larger, group)?;
+    let _problem = input.graph.ordered.problem();
+    let state = closed_state(
+        input.graph.alloc,
+        input.graph.ordered,
+        &position.state,
+        group,
+    )?;
+    let groups = groups_apart(
+        input.graph.alloc,
+        input.graph.ordered,
+        &position.groups,
+        group,
+    )?;
+    let larger = groups_apart(
+        input.graph.alloc,
+        input.graph.ordered,
+        &position.larger,
+        group,
+    )?;
     Ok(Position {
         state,
         size: position.size,
@@ -125,15 +137,15 @@ pub(crate) fn raised_position<C: CountySet>(
     place: u16,
 ) -> Result<Position<C>, AllocError>
     requires input { IsSearchInput C.PLACES C.test input.now }
-    requires place { place < length input.now.ordered.now.order }
+    requires place { place < graph_places input.now.graph.now }
     requires at { IsPositionAt C.test input.now (search_state input.now C.test position.state) position }
-    requires can { CanBranch (search_round input.now) (search_state input.now C.test position.state) (code_at input.now.ordered.now.order place) position.size }
+    requires can { CanBranch (search_round input.now) (search_state input.now C.test position.state) (code_at (graph_order input.now.graph.now) place) position.size }
     ensures { IfOk
         result
         (IsPositionAt
         C.test
         input.now
-        (raise (code_at input.now.ordered.now.order place) position.size (search_state input.now C.test position.state))) }
+        (raise (code_at (graph_order input.now.graph.now) place) position.size (search_state input.now C.test position.state))) }
 {
     let Position {
         mut state,
@@ -144,8 +156,8 @@ pub(crate) fn raised_position<C: CountySet>(
         has_larger,
         larger_tested,
     } = position;
-    let groups = groups_lacking(input.alloc, input.ordered, &groups, place)?;
-    raise_place(input.ordered, &mut state, place, size);
+    let groups = groups_lacking(input.graph.alloc, input.graph.ordered, &groups, place)?;
+    raise_place(input.graph.ordered, &mut state, place, size);
     Ok(Position {
         state,
         size,

@@ -8,13 +8,13 @@ ghost use Rattle.certificate_laws.specs.State.{State as StateValue};
 ghost use Rattle.grouping_laws.specs.Problem.{Problem as ProblemLaw};
 ghost use Rattle.grouping_laws.specs.GroupsFrom.{IsOrder};
 ghost use Rattle.county_problem.specs.ProblemValue.{problem_of};
-ghost use Rattle.county_problem.specs.OrderedValue.{problem_at};
 ghost use Rattle.search_groups.specs.PartLists.{AreListsOf};
 ghost use Rattle.state_groups.specs.Placed.{state_at, IsPlaced};
 ghost use Rattle.branch_bound.specs.PlainRounds.{IsPlainGround, IsStateOf};
 ghost use Rattle.branch_bound.specs.Searching.{search_problem, search_round, search_state, IsSearchInput, IsPositionAt};
 ghost use Rattle.branch_bound.specs.Searching.{IsBetter, IsChoice, IsOutcome};
 ghost use Rattle.branch_bound.specs.Pieces.{IsWithin, IsPiece, IsOpen};
+ghost use Rattle.connected_sets.specs.Graphs.{graph_order, graph_places, place_problem};
 
 use crate::input::SearchInput;
 use crate::judging::next_move;
@@ -25,13 +25,12 @@ use crate::position::Position;
 use crate::search::prove;
 use crate::watcher::NoWatcher;
 use certificate_data::{Language, Round, Tree};
-use connected_sets::Stop;
+use connected_sets::{CountyGraph, Stop};
 use county_codes::Grouping;
 use county_problem::{OrderFault, Ordered, Problem, Steps};
 use place_sets::CountySet;
 use search_groups::PartLists;
-use state_groups::State;
-use state_judge::copied_state;
+use state_groups::{State, copied_state};
 use std::alloc::{AllocError, Global};
 
 /// Whether no group has more counties than the limit.
@@ -74,17 +73,16 @@ fn piece_of(round: &Round, outcome: SearchOutcome) -> Piece
 /// The position at which the search of a piece begins: nothing is known of any group.
 fn begun<C: CountySet>(input: &SearchInput<C>, state: &State<C>) -> Result<Position<C>, AllocError>
     requires input { IsSearchInput C.PLACES C.test input.now }
-    requires placed { IsPlaced (length input.now.ordered.now.order) C.test state.now }
+    requires placed { IsPlaced (graph_places input.now.graph.now) C.test state.now }
     requires state { IsState (search_problem input.now) (search_round input.now) (search_state input.now C.test state.now) }
     ensures at { IfOk result (IsPositionAt C.test input.now (search_state input.now C.test state.now)) }
 {
-    let _places = input.ordered.places();
     Ok(Position {
-        state: copied_state(input.alloc, input.ordered, state)?,
+        state: copied_state(input.graph.alloc, input.graph.ordered, state)?,
         size: 0,
-        groups: Vec::new(input.alloc),
+        groups: Vec::new(input.graph.alloc),
         tested: true,
-        larger: Vec::new(input.alloc),
+        larger: Vec::new(input.graph.alloc),
         has_larger: false,
         larger_tested: false,
     })
@@ -100,15 +98,15 @@ fn branched_piece<C: CountySet>(
 ) -> Result<Piece, AllocError>
     requires input { IsSearchInput C.PLACES C.test input.now }
     requires at { IsPositionAt C.test input.now (search_state input.now C.test at.state) at }
-    requires choice { IsChoice C.test input.now.ordered.now.order at.groups.items place }
-    requires lists { AreListsOf C.test (problem_at input.now.ordered.now) (length input.now.ordered.now.order) lists.old }
+    requires choice { IsChoice C.test (graph_order input.now.graph.now) at.groups.items place }
+    requires lists { AreListsOf C.test (place_problem input.now.graph.now) (graph_places input.now.graph.now) lists.old }
     ensures piece { IfOk result (IsPiece (search_problem input.now) (search_round input.now) (search_state input.now C.test at.state)) }
     ensures limit { steps.new.limit ≡ steps.old.limit }
     ensures more { steps.old.used ≤ steps.new.used }
     ensures open { IfOk result (λ piece. IsOpen piece → steps.new.used ≡ steps.new.limit) }
 {
     let split = Split {
-        county: input.ordered.code(place),
+        county: input.graph.ordered.code(place),
         limit: at.size,
     };
     match prove(input, at, lists, &mut NoWatcher, steps) {
@@ -125,7 +123,7 @@ fn wide_piece<C: CountySet>(
     steps: &mut Steps,
 ) -> Result<Piece, AllocError>
     requires input { IsSearchInput C.PLACES C.test input.now }
-    requires placed { IsPlaced (length input.now.ordered.now.order) C.test state.now }
+    requires placed { IsPlaced (graph_places input.now.graph.now) C.test state.now }
     requires state { IsState (search_problem input.now) (search_round input.now) (search_state input.now C.test state.now) }
     ensures piece { IfOk result (IsPiece (search_problem input.now) (search_round input.now) (search_state input.now C.test state.now)) }
     ensures limit { steps.new.limit ≡ steps.old.limit }
@@ -133,10 +131,10 @@ fn wide_piece<C: CountySet>(
     ensures open { IfOk result (λ piece. IsOpen piece → steps.new.used ≡ steps.new.limit) }
 {
     let position = begun(input, state)?;
-    let mut lists = PartLists::new(input.alloc);
+    let mut lists = PartLists::new(input.graph.alloc);
     match next_move(input, position, &mut lists, steps) {
         Ok(Move::Leaf(leaf)) => {
-            let branches = Vec::new(input.alloc);
+            let branches = Vec::new(input.graph.alloc);
             Ok(Piece::Proved(Tree { branches, leaf }))
         }
         Ok(Move::Better(found)) => Ok(found_piece(input.round, found)),
@@ -159,7 +157,7 @@ fn plain_piece<C: CountySet>(
     ensures more { steps.old.used ≤ steps.new.used }
     ensures open { IfOk result (λ piece. IsOpen piece → steps.new.used ≡ steps.new.limit) }
 {
-    let copy = copied_state(input.alloc, input.ordered, state)?;
+    let copy = copied_state(input.graph.alloc, input.graph.ordered, state)?;
     match prove_plain(input, copy, steps) {
         Ok(outcome) => Ok(piece_of(input.round, outcome)),
         Err(Stop::StepLimit) => Ok(Piece::Open(None)),
@@ -185,11 +183,9 @@ fn ordered_piece<C: CountySet>(
     ensures more { steps.old.used ≤ steps.new.used }
     ensures open { IfOk result (λ piece. IsOpen piece → steps.new.used ≡ steps.new.limit) }
 {
-    let near: Vec<C> = neighbour_rows(alloc, ordered)?;
+    let graph = CountyGraph::build(alloc, ordered)?;
     let input = SearchInput {
-        alloc,
-        ordered,
-        near: &near,
+        graph: &graph,
         round,
     };
     match round.language {

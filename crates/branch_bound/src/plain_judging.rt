@@ -1,6 +1,6 @@
 //! How a state of a plain round ends, or at which county a search branches there: the first that is open to the limit.
 
-ghost use Rattle.std.specs.Prelude.{◌≡◌, ℕ, ◌≤◌, ◌<◌, length, IfOk, OnOk, IsErrOf, MatchOption, ⊤};
+ghost use Rattle.std.specs.Prelude.{◌≡◌, ℕ, ◌≤◌, ◌<◌, IfOk, OnOk, IsErrOf, MatchOption, ⊤};
 ghost use Rattle.county_problem.specs.OrderedValue.{code_at};
 ghost use Rattle.certificate_laws.specs.Fitting.{NoGroupFits};
 ghost use Rattle.certificate_laws.specs.Leaves.{IsStuck, IsOffSeats};
@@ -8,6 +8,7 @@ ghost use Rattle.certificate_laws.specs.Proving.{CanBranch};
 ghost use Rattle.connected_sets.specs.declared.stop.Stop.{Stop};
 ghost use Rattle.branch_bound.specs.Searching.{search_problem, search_round, search_state, IsEnd};
 ghost use Rattle.branch_bound.specs.PlainRounds.{IsPlainGround, IsStateOf, IsNextPlainMove};
+ghost use Rattle.connected_sets.specs.Graphs.{graph_order, graph_places};
 
 use crate::input::SearchInput;
 use crate::outcome::PlainMove;
@@ -31,11 +32,10 @@ fn first_open<C: CountySet>(
         (λ found. MatchOption
         found
         (NoGroupFits (search_problem input.now) (search_round input.now) (search_state input.now C.test state.now))
-        (λ place. (place < length input.now.ordered.now.order)
-        × CanBranch (search_round input.now) (search_state input.now C.test state.now) (code_at input.now.ordered.now.order place) input.now.round.now.limit)) }
+        (λ place. (place < graph_places input.now.graph.now)
+        × CanBranch (search_round input.now) (search_state input.now C.test state.now) (code_at (graph_order input.now.graph.now) place) input.now.round.now.limit)) }
 {
-    let _places = input.ordered.places();
-    let open = open_places(input.alloc, state, input.round.limit)?;
+    let open = open_places(input.graph.alloc, state, input.round.limit)?;
     match open.next(0) {
         Some(place) => Ok(Some(place)),
         None => Ok(None),
@@ -57,19 +57,19 @@ fn first_leaf<C: CountySet>(
         × ¬ IsOffSeats (search_problem input.now) (search_state input.now C.test state.now))
         (IsEnd (search_problem input.now) (search_round input.now) (search_state input.now C.test state.now))) }
 {
-    let SearchInput {
-        alloc,
-        ordered,
-        near,
-        round,
-    } = input;
-    if let Some(leaf) = whole_leaf(*alloc, ordered, near, round, state)? {
+    if let Some(leaf) = whole_leaf(input.graph, input.round, state)? {
         return Ok(Some(leaf));
     }
-    if round.limit == 0 {
+    if input.round.limit == 0 {
         return Ok(None);
     }
-    room_leaf(*alloc, ordered, round, state, 1)
+    room_leaf(
+        input.graph.alloc,
+        input.graph.ordered,
+        input.round,
+        state,
+        1,
+    )
 }
 
 /// What a state ends with at which no group of at most the limit fits.
@@ -81,18 +81,17 @@ fn last_end<C: CountySet>(input: &SearchInput<C>, state: &State<C>) -> Result<Pl
     requires no_seats { ¬ IsOffSeats (search_problem input.now) (search_state input.now C.test state.now) }
     ensures { IfOk result (IsNextPlainMove C.test input.now (search_state input.now C.test state.now)) }
 {
-    let SearchInput {
-        alloc,
-        ordered,
-        near,
-        round,
-    } = input;
-    let _places = ordered.places();
-    let _problem = ordered.problem();
-    if let Some(leaf) = empty_leaf(*alloc, ordered, round, state, round.limit)? {
+    let _problem = input.graph.ordered.problem();
+    if let Some(leaf) = empty_leaf(
+        input.graph.alloc,
+        input.graph.ordered,
+        input.round,
+        state,
+        input.round.limit,
+    )? {
         return Ok(PlainMove::Leaf(leaf));
     }
-    let found = finished_grouping(*alloc, ordered, near, round, state)?;
+    let found = finished_grouping(input.graph, input.round, state)?;
     Ok(PlainMove::Better(found))
 }
 

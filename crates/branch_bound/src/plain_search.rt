@@ -1,7 +1,7 @@
 //! The search of a piece of a plain round: one recursion over the groups that are closed. A branch stands at the first
 //! county that is open to the limit, and its takes are all groups up to the limit.
 
-ghost use Rattle.std.specs.Prelude.{◌≡◌, ℕ, ◌≤◌, ◌<◌, ◌∷◌, [], ◌++◌, None, All, length, IfOk, OnOk, IsErrOf};
+ghost use Rattle.std.specs.Prelude.{◌≡◌, ℕ, ◌≤◌, ◌<◌, ◌∷◌, [], ◌++◌, None, All, IfOk, OnOk, IsErrOf};
 ghost use Rattle.certificate_data.specs.declared.tree.Branch.{roll-Branch};
 ghost use Rattle.county_problem.specs.OrderedValue.{code_at};
 ghost use Rattle.certificate_laws.specs.Groups.{IsGroupAt, AreGroupsAt};
@@ -11,6 +11,7 @@ ghost use Rattle.state_groups.specs.Placed.{codes_of_set, codes_of_sets, IsClosa
 ghost use Rattle.branch_bound.specs.Searching.{search_problem, search_round, search_state, IsOutcome, IsTakenGroup};
 ghost use Rattle.branch_bound.specs.Searching.{AreTakesAt};
 ghost use Rattle.branch_bound.specs.PlainRounds.{IsPlainGround, IsStateOf};
+ghost use Rattle.connected_sets.specs.Graphs.{graph_order, graph_places};
 
 use crate::input::SearchInput;
 use crate::outcome::{PlainMove, SearchOutcome, Taken, Takes};
@@ -20,8 +21,7 @@ use certificate_data::{Branch, Take, Tree};
 use connected_sets::Stop;
 use county_problem::Steps;
 use place_sets::CountySet;
-use state_groups::{State, groups_at};
-use state_judge::{closed_state, raise_place};
+use state_groups::{State, closed_state, groups_at, raise_place};
 use std::alloc::AllocError;
 
 /// The groups of the takes of a branch at the county at the place: all up to the limit.
@@ -33,40 +33,31 @@ fn plain_groups<C: CountySet>(
 ) -> Result<Vec<C>, Stop>
     requires input { IsPlainGround C.PLACES C.test input.now }
     requires at { IsStateOf C.test input.now state.now }
-    requires place { place < length input.now.ordered.now.order }
-    requires can { CanBranch (search_round input.now) (search_state input.now C.test state.now) (code_at input.now.ordered.now.order place) input.now.round.now.limit }
+    requires place { place < graph_places input.now.graph.now }
+    requires can { CanBranch (search_round input.now) (search_state input.now C.test state.now) (code_at (graph_order input.now.graph.now) place) input.now.round.now.limit }
     ensures groups { IfOk
         result
         (λ v. AreGroupsAt
         (search_problem input.now)
         (search_round input.now)
         (search_state input.now C.test state.now)
-        (code_at input.now.ordered.now.order place)
+        (code_at (graph_order input.now.graph.now) place)
         input.now.round.now.limit
-        (codes_of_sets input.now.ordered.now.order C.test v.items)) }
+        (codes_of_sets (graph_order input.now.graph.now) C.test v.items)) }
     ensures closable { IfOk result (λ v. All (IsClosable C.test state.now) v.items) }
     ensures more { steps.old.used ≤ steps.new.used }
     ensures limit { steps.new.limit ≡ steps.old.limit }
     ensures stopped { IsErrOf result Stop.StepLimit → steps.new.used ≡ steps.new.limit }
 {
-    let SearchInput {
-        alloc,
-        ordered,
-        near,
-        round,
-    } = input;
-    let _places = ordered.places();
-    if round.limit == 0 {
-        return Ok(Vec::new(*alloc));
+    if input.round.limit == 0 {
+        return Ok(Vec::new(input.graph.alloc));
     }
     match groups_at(
-        *alloc,
-        ordered,
-        near,
-        round.language,
+        input.graph,
+        input.round.language,
         state,
         place,
-        round.limit,
+        input.round.limit,
         steps,
     ) {
         Ok(groups) => Ok(groups),
@@ -81,13 +72,13 @@ fn push_branch<C: CountySet>(
     takes: Vec<Take>,
     branches: &mut Vec<Branch>,
 ) -> Result<(), AllocError>
-    requires place { place < length input.now.ordered.now.order }
+    requires place { place < graph_places input.now.graph.now }
     ensures pushed { OnOk
         result
-        (branches.new.items ≡ branches.old.items ++ roll-Branch (record { county = code_at input.now.ordered.now.order place; limit = None; takes = takes }) ∷ []) }
-    ensures county { code_at input.now.ordered.now.order place ≤ 99999 }
+        (branches.new.items ≡ branches.old.items ++ roll-Branch (record { county = code_at (graph_order input.now.graph.now) place; limit = None; takes = takes }) ∷ []) }
+    ensures county { code_at (graph_order input.now.graph.now) place ≤ 99999 }
 {
-    let county = input.ordered.code(place);
+    let county = input.graph.ordered.code(place);
     let _small = county.get();
     branches.push(Branch {
         county,
@@ -115,15 +106,14 @@ fn prove_plain_take<C: CountySet>(
         (search_state input.now C.test state.now)
         c
         input.now.round.now.limit
-        (codes_of_set input.now.ordered.now.order C.test group.now) }
-    ensures taken { IfOk result (IsTakenGroup (search_problem input.now) (search_round input.now) (search_state input.now C.test state.now) (codes_of_set input.now.ordered.now.order C.test group.now)) }
+        (codes_of_set (graph_order input.now.graph.now) C.test group.now) }
+    ensures taken { IfOk result (IsTakenGroup (search_problem input.now) (search_round input.now) (search_state input.now C.test state.now) (codes_of_set (graph_order input.now.graph.now) C.test group.now)) }
     ensures more { steps.old.used ≤ steps.new.used }
     ensures limit { steps.new.limit ≡ steps.old.limit }
     ensures stopped { IsErrOf result Stop.StepLimit → steps.new.used ≡ steps.new.limit }
 {
-    let _places = input.ordered.places();
-    let _problem = input.ordered.problem();
-    let closed = closed_state(input.alloc, input.ordered, state, group)?;
+    let _problem = input.graph.ordered.problem();
+    let closed = closed_state(input.graph.alloc, input.graph.ordered, state, group)?;
     let outcome = prove_plain(input, closed, steps);
     taken_of(input, group, outcome)
 }
@@ -138,22 +128,22 @@ fn prove_plain_takes<C: CountySet>(
 ) -> Result<Takes, Stop>
     requires input { IsPlainGround C.PLACES C.test input.now }
     requires at { IsStateOf C.test input.now state.now }
-    requires place { place < length input.now.ordered.now.order }
-    requires can { CanBranch (search_round input.now) (search_state input.now C.test state.now) (code_at input.now.ordered.now.order place) input.now.round.now.limit }
+    requires place { place < graph_places input.now.graph.now }
+    requires can { CanBranch (search_round input.now) (search_state input.now C.test state.now) (code_at (graph_order input.now.graph.now) place) input.now.round.now.limit }
     ensures takes { IfOk
         result
         (AreTakesAt
         (search_problem input.now)
         (search_round input.now)
         (search_state input.now C.test state.now)
-        (code_at input.now.ordered.now.order place)
+        (code_at (graph_order input.now.graph.now) place)
         input.now.round.now.limit) }
     ensures more { steps.old.used ≤ steps.new.used }
     ensures limit { steps.new.limit ≡ steps.old.limit }
     ensures stopped { IsErrOf result Stop.StepLimit → steps.new.used ≡ steps.new.limit }
 {
     let groups = plain_groups(input, state, place, steps)?;
-    let mut takes = Vec::new(input.alloc);
+    let mut takes = Vec::new(input.graph.alloc);
     'taking: for group in &groups {
         let taken = prove_plain_take(input, state, group, steps);
         match with_take(takes, taken) {
@@ -185,7 +175,7 @@ pub(crate) fn prove_plain<C: CountySet>(
     ensures stopped { IsErrOf result Stop.StepLimit → steps.new.used ≡ steps.new.limit }
 {
     let mut state = state;
-    let mut branches = Vec::new(input.alloc);
+    let mut branches = Vec::new(input.graph.alloc);
     'branching: loop {
         match next_plain_move(input, &state, steps) {
             Ok(PlainMove::Leaf(leaf)) => return Ok(SearchOutcome::Proved(Tree { branches, leaf })),
@@ -194,7 +184,7 @@ pub(crate) fn prove_plain<C: CountySet>(
                 match prove_plain_takes(input, &state, place, steps) {
                     Ok(Takes::Proved(takes)) => {
                         push_branch(input, place, takes, &mut branches)?;
-                        raise_place(input.ordered, &mut state, place, input.round.limit);
+                        raise_place(input.graph.ordered, &mut state, place, input.round.limit);
                     }
                     Ok(Takes::Better(found)) => return Ok(SearchOutcome::Better(found)),
                     Err(stop) => return Err(stop),

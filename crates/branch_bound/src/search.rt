@@ -5,7 +5,7 @@ ghost use Rattle.county_codes.specs.Limits.{most_counties};
 ghost use Rattle.certificate_data.specs.declared.tree.Branch.{roll-Branch};
 ghost use Rattle.certificate_data.specs.declared.tree.Take.{Take as TakeHeld};
 ghost use Rattle.county_codes.specs.declared.group.Grouping.{Grouping as GroupingHeld};
-ghost use Rattle.county_problem.specs.OrderedValue.{problem_at, code_at};
+ghost use Rattle.county_problem.specs.OrderedValue.{code_at};
 ghost use Rattle.search_groups.specs.PartLists.{AreListsOf};
 ghost use Rattle.certificate_laws.specs.Fitting.{Fits};
 ghost use Rattle.certificate_laws.specs.Groups.{IsGroupAt};
@@ -17,6 +17,7 @@ ghost use Rattle.branch_bound.specs.declared.outcome.Taken.TheVariants as one;
 ghost use Rattle.branch_bound.specs.declared.outcome.Takes.TheVariants as all;
 ghost use Rattle.branch_bound.specs.Searching.{search_problem, search_round, search_state, IsSearchInput, IsPositionAt};
 ghost use Rattle.branch_bound.specs.Searching.{IsBetter, IsOutcome, IsTakenGroup, AreTakesAt, IsChoice};
+ghost use Rattle.connected_sets.specs.Graphs.{graph_order, graph_places, place_problem};
 
 use crate::input::SearchInput;
 use crate::judging::next_move;
@@ -37,17 +38,17 @@ pub(crate) fn taken_of<C: CountySet>(
     group: &C,
     outcome: Result<SearchOutcome, Stop>,
 ) -> Result<Taken, Stop>
-    requires fits { length input.now.ordered.now.order ≤ C.PLACES }
+    requires fits { graph_places input.now.graph.now ≤ C.PLACES }
     ensures taken { (s : StateValue)
-        → Fits input.now.round.now.language (search_problem input.now) s (codes_of_set input.now.ordered.now.order C.test group.now)
-        → length (codes_of_set input.now.ordered.now.order C.test group.now) ≤ most_counties
-        → IfOk outcome (IsOutcome (search_problem input.now) (search_round input.now) (close (codes_of_set input.now.ordered.now.order C.test group.now) s))
-        → IfOk result (IsTakenGroup (search_problem input.now) (search_round input.now) s (codes_of_set input.now.ordered.now.order C.test group.now)) }
+        → Fits input.now.round.now.language (search_problem input.now) s (codes_of_set (graph_order input.now.graph.now) C.test group.now)
+        → length (codes_of_set (graph_order input.now.graph.now) C.test group.now) ≤ most_counties
+        → IfOk outcome (IsOutcome (search_problem input.now) (search_round input.now) (close (codes_of_set (graph_order input.now.graph.now) C.test group.now) s))
+        → IfOk result (IsTakenGroup (search_problem input.now) (search_round input.now) s (codes_of_set (graph_order input.now.graph.now) C.test group.now)) }
     ensures stopped { IsErrOf result Stop.StepLimit → IsErrOf outcome Stop.StepLimit }
 {
     match outcome {
         Ok(SearchOutcome::Proved(tree)) => {
-            let codes = input.ordered.codes_of(input.alloc, group)?;
+            let codes = input.graph.ordered.codes_of(input.graph.alloc, group)?;
             Ok(Taken::Proved(Take { codes, tree }))
         }
         Ok(SearchOutcome::Better(found)) => Ok(Taken::Better(found)),
@@ -86,36 +87,36 @@ fn raised_behind<C: CountySet>(
 ) -> Result<Raised<C>, Stop>
     requires input { IsSearchInput C.PLACES C.test input.now }
     requires at { IsPositionAt C.test input.now (search_state input.now C.test at.state) at }
-    requires choice { IsChoice C.test input.now.ordered.now.order at.groups.items place }
+    requires choice { IsChoice C.test (graph_order input.now.graph.now) at.groups.items place }
     requires takes { IfOk
         takes
         (AreTakesAt
         (search_problem input.now)
         (search_round input.now)
         (search_state input.now C.test at.state)
-        (code_at input.now.ordered.now.order place)
+        (code_at (graph_order input.now.graph.now) place)
         at.size) }
     ensures raised { (next : _)
         → result ≡ Ok (end.At next)
-        → IsPositionAt C.test input.now (raise (code_at input.now.ordered.now.order place) at.size (search_state input.now C.test at.state)) next
+        → IsPositionAt C.test input.now (raise (code_at (graph_order input.now.graph.now) place) at.size (search_state input.now C.test at.state)) next
         × ((list : _)
         × AreTakesAt
         (search_problem input.now)
         (search_round input.now)
         (search_state input.now C.test at.state)
-        (code_at input.now.ordered.now.order place)
+        (code_at (graph_order input.now.graph.now) place)
         at.size
         (all.Proved list)
         × (branches.new.items
         ≡ branches.old.items
-        ++ roll-Branch (record { county = code_at input.now.ordered.now.order place; limit = Some at.size; takes = list }) ∷ [])) }
-    ensures county { OnOk result (code_at input.now.ordered.now.order place ≤ 99999) }
+        ++ roll-Branch (record { county = code_at (graph_order input.now.graph.now) place; limit = Some at.size; takes = list }) ∷ [])) }
+    ensures county { OnOk result (code_at (graph_order input.now.graph.now) place ≤ 99999) }
     ensures better { (found : GroupingHeld)
         → result ≡ Ok (end.Better found)
         → IsBetter (search_problem input.now) (search_round input.now) (search_state input.now C.test at.state) found }
     ensures stopped { IsErrOf result Stop.StepLimit → IsErrOf takes Stop.StepLimit }
 {
-    let county = input.ordered.code(place);
+    let county = input.graph.ordered.code(place);
     let _small = county.get();
     match takes {
         Ok(Takes::Proved(takes)) => {
@@ -146,12 +147,12 @@ fn prove_take<C: CountySet, W: Watcher>(
 ) -> Result<Taken, Stop>
     requires input { IsSearchInput C.PLACES C.test input.now }
     requires at { IsPositionAt C.test input.now (search_state input.now C.test position.now.state) position.now }
-    requires below { (x : ℕ) → C.test group.now x ≡ true → x < length input.now.ordered.now.order }
+    requires below { (x : ℕ) → C.test group.now x ≡ true → x < graph_places input.now.graph.now }
     requires group { (c : ℕ)
-        × IsGroupAt (search_problem input.now) (search_round input.now) (search_state input.now C.test position.now.state) c position.now.size (codes_of_set input.now.ordered.now.order C.test group.now) }
-    requires lists { AreListsOf C.test (problem_at input.now.ordered.now) (length input.now.ordered.now.order) lists.old }
-    ensures taken { IfOk result (IsTakenGroup (search_problem input.now) (search_round input.now) (search_state input.now C.test position.now.state) (codes_of_set input.now.ordered.now.order C.test group.now)) }
-    ensures lists { AreListsOf C.test (problem_at input.now.ordered.now) (length input.now.ordered.now.order) lists.new }
+        × IsGroupAt (search_problem input.now) (search_round input.now) (search_state input.now C.test position.now.state) c position.now.size (codes_of_set (graph_order input.now.graph.now) C.test group.now) }
+    requires lists { AreListsOf C.test (place_problem input.now.graph.now) (graph_places input.now.graph.now) lists.old }
+    ensures taken { IfOk result (IsTakenGroup (search_problem input.now) (search_round input.now) (search_state input.now C.test position.now.state) (codes_of_set (graph_order input.now.graph.now) C.test group.now)) }
+    ensures lists { AreListsOf C.test (place_problem input.now.graph.now) (graph_places input.now.graph.now) lists.new }
     ensures more { steps.old.used ≤ steps.new.used }
     ensures limit { steps.new.limit ≡ steps.old.limit }
     ensures stopped { IsErrOf result Stop.StepLimit → steps.new.used ≡ steps.new.limit }
@@ -173,23 +174,23 @@ fn prove_takes<C: CountySet, W: Watcher>(
 ) -> Result<Takes, Stop>
     requires input { IsSearchInput C.PLACES C.test input.now }
     requires at { IsPositionAt C.test input.now (search_state input.now C.test position.now.state) position.now }
-    requires place { place < length input.now.ordered.now.order }
-    requires lists { AreListsOf C.test (problem_at input.now.ordered.now) (length input.now.ordered.now.order) lists.old }
+    requires place { place < graph_places input.now.graph.now }
+    requires lists { AreListsOf C.test (place_problem input.now.graph.now) (graph_places input.now.graph.now) lists.old }
     ensures takes { IfOk
         result
         (AreTakesAt
         (search_problem input.now)
         (search_round input.now)
         (search_state input.now C.test position.now.state)
-        (code_at input.now.ordered.now.order place)
+        (code_at (graph_order input.now.graph.now) place)
         position.now.size) }
-    ensures lists { AreListsOf C.test (problem_at input.now.ordered.now) (length input.now.ordered.now.order) lists.new }
+    ensures lists { AreListsOf C.test (place_problem input.now.graph.now) (graph_places input.now.graph.now) lists.new }
     ensures more { steps.old.used ≤ steps.new.used }
     ensures limit { steps.new.limit ≡ steps.old.limit }
     ensures stopped { IsErrOf result Stop.StepLimit → steps.new.used ≡ steps.new.limit }
 {
     let groups = groups_to_take(input, position, place, steps)?;
-    let mut takes = Vec::new(input.alloc);
+    let mut takes = Vec::new(input.graph.alloc);
     'taking: for group in &groups {
         let taken = prove_take(input, position, group, lists, watcher, steps);
         match with_take(takes, taken) {
@@ -217,16 +218,16 @@ pub(crate) fn prove<C: CountySet, W: Watcher>(
 ) -> Result<SearchOutcome, Stop>
     requires input { IsSearchInput C.PLACES C.test input.now }
     requires at { IsPositionAt C.test input.now (search_state input.now C.test position.state) position }
-    requires lists { AreListsOf C.test (problem_at input.now.ordered.now) (length input.now.ordered.now.order) lists.old }
+    requires lists { AreListsOf C.test (place_problem input.now.graph.now) (graph_places input.now.graph.now) lists.old }
     ensures outcome { IfOk result (IsOutcome (search_problem input.now) (search_round input.now) (search_state input.now C.test position.state)) }
     ensures counted { OnOk result (steps.old.used < steps.new.used) }
-    ensures lists { AreListsOf C.test (problem_at input.now.ordered.now) (length input.now.ordered.now.order) lists.new }
+    ensures lists { AreListsOf C.test (place_problem input.now.graph.now) (graph_places input.now.graph.now) lists.new }
     ensures more { steps.old.used ≤ steps.new.used }
     ensures limit { steps.new.limit ≡ steps.old.limit }
     ensures stopped { IsErrOf result Stop.StepLimit → steps.new.used ≡ steps.new.limit }
 {
     let mut position = position;
-    let mut branches = Vec::new(input.alloc);
+    let mut branches = Vec::new(input.graph.alloc);
     'branching: loop {
         watcher.step(steps);
         match next_move(input, position, lists, steps) {

@@ -32,8 +32,7 @@ use county_problem::{OrderFault, Ordered, Problem, Steps};
 use place_sets::{CountySet, MaskSet, Places, fits_mask};
 use search_ends::{finished_grouping, whole_leaf};
 use search_groups::PartLists;
-use state_groups::State;
-use state_judge::first_state;
+use state_groups::{State, first_state};
 use std::alloc::{AllocError, Global};
 
 /// The limit of the first round, in counties.
@@ -61,20 +60,6 @@ fn largest_size(grouping: &Grouping) -> u16
     largest
 }
 
-/// The codes of an order, for a round.
-fn order_of(alloc: Global, ordered: &Ordered) -> Result<Codes, AllocError>
-    ensures value { IfOk result (λ codes. codes ≡ ordered.now.order) }
-    ensures small { IfOk result AreCodes }
-{
-    let mut codes = Vec::new(alloc);
-    for place in 0..ordered.places() {
-        let code = ordered.code(place);
-        let _small = code.get();
-        codes.push(code)?;
-    }
-    Ok(Codes::new(codes))
-}
-
 /// A round of the search, up to groups of so many counties. It names the problem's allowance.
 ///
 /// If it has no target, it looks for any lawful grouping.
@@ -91,7 +76,7 @@ fn round_for(
     ensures range { IfOk result (λ round. FitsRange round.window) }
 {
     Ok(Round {
-        order: order_of(alloc, ordered)?,
+        order: ordered.codes(alloc)?,
         limit,
         target,
         language,
@@ -118,12 +103,7 @@ fn prove_first<C: CountySet, W: Watcher>(
     ensures limit { steps.new.limit ≡ steps.old.limit }
     ensures stopped { IsErrOf result Stop.StepLimit → steps.new.used ≡ steps.new.limit }
 {
-    let input = SearchInput {
-        graph.alloc,
-        graph.ordered,
-        near,
-        round,
-    };
+    let input = SearchInput { graph, round };
     let first = first_position(&input)?;
     prove(&input, first, lists, watcher, steps)
 }
@@ -152,7 +132,13 @@ fn prove_round<C: CountySet, W: Watcher>(
     ensures limit { steps.new.limit ≡ steps.old.limit }
     ensures stopped { IsErrOf result Stop.StepLimit → steps.new.used ≡ steps.new.limit }
 {
-    let round = round_for(graph.alloc, graph.ordered, limit, Some(target.copy()?), Language::Wide)?;
+    let round = round_for(
+        graph.alloc,
+        graph.ordered,
+        limit,
+        Some(target.copy()?),
+        Language::Wide,
+    )?;
     let outcome = prove_first(graph, &round, lists, watcher, steps);
     let _used = steps.used();
     outcome
@@ -206,10 +192,7 @@ fn improve<C: CountySet, W: Watcher>(
         let largest = largest_size(&target);
         let limit = cap.min(largest);
         watcher.round(limit, &target);
-        match prove_round(
-            graph,
-            &target, limit, &mut lists, watcher, steps,
-        ) {
+        match prove_round(graph, &target, limit, &mut lists, watcher, steps) {
             Ok(SearchOutcome::Proved(tree)) => {
                 if limit == largest {
                     return best(graph.alloc, graph.ordered, target, limit, tree);
@@ -263,10 +246,7 @@ fn parts_found<C: CountySet>(
 
 /// The first lawful grouping, or a certificate that none is lawful, by a state at which nothing is closed. The round is
 /// one without a target, in which groups of no size are closed.
-fn first_at<C: CountySet>(
-    graph: &CountyGraph<C>,
-    state: &State<C>,
-) -> Result<First, AllocError>
+fn first_at<C: CountySet>(graph: &CountyGraph<C>, state: &State<C>) -> Result<First, AllocError>
     requires graph { IsGraph C.test C.PLACES graph.now }
     requires placed { IsPlaced (graph_places graph.now) C.test state.now }
     requires empty { state_at (graph_order graph.now) C.test state.now ≡ empty_state (graph_problem graph.now) }
@@ -274,16 +254,19 @@ fn first_at<C: CountySet>(
 {
     let round = round_for(graph.alloc, graph.ordered, 0, None, Language::Plain)?;
     match whole_leaf(graph, &round, state) {
-        Ok(Some(leaf)) => Ok(First::Impossible(impossible(graph.alloc, graph.ordered, round, leaf))),
+        Ok(Some(leaf)) => Ok(First::Impossible(impossible(
+            graph.alloc,
+            graph.ordered,
+            round,
+            leaf,
+        ))),
         Ok(None) => parts_found(graph, &round, state),
         Err(refused) => Err(refused),
     }
 }
 
 /// The first lawful grouping, that of the connected parts, or a certificate that none is lawful.
-fn first_found<C: CountySet>(
-    graph: &CountyGraph<C>,
-) -> Result<First, AllocError>
+fn first_found<C: CountySet>(graph: &CountyGraph<C>) -> Result<First, AllocError>
     requires graph { IsGraph C.test C.PLACES graph.now }
     ensures { IfOk result (IsFirst (graph_problem graph.now) (graph_order graph.now)) }
 {
@@ -304,10 +287,10 @@ fn solve_ordered<C: CountySet, W: Watcher>(
     ensures answer { IfOk result (IsSolveAnswer (problem_of ordered.now.problem) steps.old.limit) }
     ensures complete { IfOk result (HasCompleteTree (problem_of ordered.now.problem)) }
 {
-    let near: Vec<C> = neighbour_rows(alloc, ordered)?;
-    match first_found(alloc, ordered, &near)? {
+    let graph: CountyGraph<C> = CountyGraph::build(alloc, ordered)?;
+    match first_found(&graph)? {
         First::Impossible(certificate) => Ok(Answer::Impossible(certificate)),
-        First::Found(found) => improve(alloc, ordered, &near, found, watcher, steps),
+        First::Found(found) => improve(&graph, found, watcher, steps),
     }
 }
 

@@ -8,7 +8,7 @@ ghost use Rattle.connected_sets.specs.Growths.{places_in, size_in};
 use connected_sets::{Growth, GrowthInput, GrowthTest};
 use county_problem::Ordered;
 use place_sets::CountySet;
-use std::alloc::{AllocError, Global};
+use std::alloc::AllocError;
 
 /// The test of seats: the fewest people that suit a seat, and at least as many people as any place has that may join a
 /// set.
@@ -54,7 +54,6 @@ impl<C: CountySet> GrowthTest<C> for SeatTest {
 
     fn is_passed_over(
         &self,
-        alloc: Global,
         input: &GrowthInput<C>,
         growth: &Growth<C>,
     ) -> Result<bool, AllocError> {
@@ -65,13 +64,8 @@ impl<C: CountySet> GrowthTest<C> for SeatTest {
         front.next(0)
     }
 
-    fn is_kept(
-        &self,
-        alloc: Global,
-        input: &GrowthInput<C>,
-        growth: &Growth<C>,
-    ) -> Result<bool, AllocError> {
-        Ok(suits(input.ordered, growth.people))
+    fn is_kept(&self, input: &GrowthInput<C>, growth: &Growth<C>) -> Result<bool, AllocError> {
+        Ok(suits(input.graph.ordered, growth.people))
     }
 
     ghost shrinks = { λ t p n limit free less lower k. (k.0, λ c e. k.1 c (lower c e)) };

@@ -18,8 +18,8 @@ use crate::groups::seated_groups;
 use crate::seats::seats_for;
 use crate::sets::finished_sets;
 use certificate_data::Round;
-use county_codes::Grouping;
 use connected_sets::CountyGraph;
+use county_codes::Grouping;
 use place_sets::CountySet;
 use state_groups::State;
 use std::alloc::AllocError;
@@ -30,9 +30,8 @@ use std::alloc::AllocError;
 /// grouping of a search is that of a round with the limit 0 and no target, at the state where nothing is closed.
 ///
 /// The groups stand by size, in counties, and then by the places of their counties; a group names its counties in the
-/// order of their places. All numbers are in the ranges of a certificate's target. `near` are the rows of the order
-/// (`neighbour_rows`). `_round` is the round of the search, and nothing of it is read. An error comes where memory was
-/// refused.
+/// order of their places. All numbers are in the ranges of a certificate's target. `_round` is the round of the search,
+/// and nothing of it is read. An error comes where memory was refused.
 pub fn finished_grouping<C: CountySet>(
     graph: &CountyGraph<C>,
     _round: &Round,

@@ -6,8 +6,8 @@ ghost use Rattle.certificate_laws.specs.Leaves.{IsStuck};
 ghost use Rattle.state_groups.specs.Placed.{state_at, IsPlaced};
 ghost use Rattle.connected_sets.specs.Graphs.{graph_problem, graph_order, graph_places, place_problem, IsGraph};
 
-use county_codes::CountyCode;
 use connected_sets::CountyGraph;
+use county_codes::CountyCode;
 use place_sets::CountySet;
 use state_groups::{State, has_stuck_part, is_stuck_at};
 use std::alloc::AllocError;

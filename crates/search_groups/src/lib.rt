@@ -29,4 +29,4 @@ pub use kept_groups::{groups_apart, groups_having, groups_lacking, live_groups};
 pub use laws::{known_serves, parts_serve};
 pub use part_lists::PartLists;
 pub use rounds::weigh;
-pub use size_groups::{all_groups_of_size, groups_of_size};
+pub use size_groups::groups_of_size;

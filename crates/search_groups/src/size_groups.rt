@@ -20,7 +20,7 @@ use certificate_data::Round;
 use connected_sets::{CountyGraph, Stop, parts_of};
 use county_problem::Steps;
 use place_sets::{CountySet, sorted};
-use state_groups::{State, groups_of, open_places};
+use state_groups::{State, all_groups_of_size, open_places};
 use std::alloc::{AllocError, Global};
 
 /// Whether a part of so many counties may have a group of the size. The group is the part, or leaves at least as many

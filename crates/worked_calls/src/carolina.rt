@@ -7,6 +7,7 @@ use crate::room::room_for;
 use adjacency_reader::read_pairs;
 use anyhow::{Error, Result};
 use connected_groups::{GroupList, groups_over};
+use connected_sets::CountyGraph;
 use county_codes::{County, CountyCode, listed_codes};
 use county_problem::{Ordered, Problem, Steps};
 use pl94_counties::read_counties;
@@ -79,11 +80,11 @@ fn count_over<C: CountySet>(alloc: Global, ordered: &Ordered, limit: u16) -> Res
 {
     room_for::<C>(ordered)?;
     let places = ordered.places();
-    let near: Vec<C> = neighbour_rows(alloc, ordered)?;
+    let graph: CountyGraph<C> = CountyGraph::build(alloc, ordered)?;
     let mut steps = Steps::new(u64::MAX);
     let mut groups = 0_usize;
     for place in 0..places {
-        let list: GroupList<C> = groups_over(alloc, ordered, &near, place, limit, &mut steps)?;
+        let list: GroupList<C> = groups_over(&graph, place, limit, &mut steps)?;
         groups = groups.saturating_add(list.groups.len());
     }
     Ok((groups, steps.used()))

@@ -6,7 +6,7 @@ use crate::groups::show_places;
 use crate::room::room_for;
 use crate::sketch::RING_OF_FOUR;
 use anyhow::Result;
-use connected_sets::part_around;
+use connected_sets::{CountyGraph, part_around};
 use county_codes::listed_codes;
 use county_problem::{Ordered, Problem};
 use place_sets::CountySet;
@@ -28,7 +28,7 @@ fn show_part<C: CountySet>(rt: &HostRuntime, ordered: &Ordered, out: &[u16]) -> 
     let alloc = rt.alloc();
     room_for::<C>(ordered)?;
     let places = ordered.places();
-    let near: Vec<C> = neighbour_rows(alloc, ordered)?;
+    let graph: CountyGraph<C> = CountyGraph::build(alloc, ordered)?;
     let mut region = C::empty(alloc)?;
     for place in 0..places {
         if !out.contains(&place) {
@@ -36,7 +36,7 @@ fn show_part<C: CountySet>(rt: &HostRuntime, ordered: &Ordered, out: &[u16]) -> 
         }
     }
     if places > 0 && region.has(0) {
-        let (part, rest) = part_around(alloc, ordered, &near, &region, 0)?;
+        let (part, rest) = part_around(&graph, &region, 0)?;
         show_cut(rt, &part, &rest)?;
     }
     Ok(())

@@ -1,7 +1,7 @@
 //! States of proof trees, and rounds.
 
 ghost use Rattle.std.specs.Prelude.{◌≤◌, length};
-ghost use Rattle.county_codes.specs.Limits.{most_counties};
+ghost use Rattle.state_groups.specs.Placed.{IsPlaced};
 
 use crate::groups::show_places;
 use crate::room::room_for;
@@ -11,7 +11,7 @@ use certificate_data::{Language, Round};
 use county_codes::{Codes, Grouping, listed_codes};
 use county_problem::{Ordered, Problem};
 use place_sets::CountySet;
-use state_groups::State;
+use state_groups::{State, closed_state, copied_state, first_state, raise_place};
 use std::alloc::Global;
 
 /// Prints closed groups.
@@ -36,30 +36,39 @@ fn show_state<C: CountySet>(rt: &HostRuntime, state: &State<C>) -> Result<()>
 }
 
 /// Prints a state with its first county closed alone.
-fn show_closed<C: CountySet>(rt: &HostRuntime, state: State<C>) -> Result<()>
+fn show_closed<C: CountySet>(rt: &HostRuntime, ordered: &Ordered, state: &State<C>) -> Result<()>
     requires fits { 128 ≤ C.PLACES }
-    requires room { length state.least.items ≤ C.PLACES }
-    requires few { length state.least.items ≤ most_counties }
+    requires room { length ordered.now.order ≤ C.PLACES }
+    requires placed { IsPlaced (length ordered.now.order) C.test state.now }
 {
-    if state.least.len() > 0 {
+    if state.rest.has(0) {
         let group = C::empty(rt.alloc())?.with(rt.alloc(), 0)?;
-        show_state(rt, &state.close(group)?)?;
+        show_state(rt, &closed_state(rt.alloc(), ordered, state, &group)?)?;
     }
     Ok(())
 }
 
-/// Prints a state with its second county raised past 1.
-fn show_raised<C: CountySet>(rt: &HostRuntime, state: State<C>) -> Result<()>
-    requires fits { 128 ≤ C.PLACES }
-    requires room { length state.least.items ≤ C.PLACES }
-    requires few { length state.least.items ≤ most_counties }
+/// The state with its second county raised past 1.
+fn raised<C: CountySet>(ordered: &Ordered, state: State<C>) -> State<C>
+    requires { IsPlaced (length ordered.now.order) C.test state }
+    ensures { IsPlaced (length ordered.now.order) C.test result }
 {
     let mut state = state;
-    if state.least.len() > 1 {
-        state.raise(1, 1);
+    if ordered.places() > 1 {
+        raise_place(ordered, &mut state, 1, 1);
     }
-    show_state(rt, &state.copy(rt.alloc())?)?;
-    show_closed(rt, state)
+    state
+}
+
+/// Prints a state with its second county raised past 1.
+fn show_raised<C: CountySet>(rt: &HostRuntime, ordered: &Ordered, state: State<C>) -> Result<()>
+    requires fits { 128 ≤ C.PLACES }
+    requires room { length ordered.now.order ≤ C.PLACES }
+    requires placed { IsPlaced (length ordered.now.order) C.test state }
+{
+    let state = raised(ordered, state);
+    show_state(rt, &copied_state(rt.alloc(), ordered, &state)?)?;
+    show_closed(rt, ordered, &state)
 }
 
 /// Prints the first state of an order, and those that come of it.
@@ -67,10 +76,9 @@ fn show_states<C: CountySet>(rt: &HostRuntime, ordered: &Ordered) -> Result<()>
     requires { 128 ≤ C.PLACES }
 {
     room_for::<C>(ordered)?;
-    let _places = ordered.places();
-    let state: State<C> = State::empty(rt.alloc(), ordered)?;
+    let state: State<C> = first_state(rt.alloc(), ordered)?;
     show_state(rt, &state)?;
-    show_raised(rt, state)
+    show_raised(rt, ordered, state)
 }
 
 /// Prints states of a problem, its counties in their order.

@@ -15,14 +15,12 @@ use anyhow::{Error, Result};
 use bound_proofs::find_leaf;
 use certificate_checker::{TreeVerdict, check_tree};
 use certificate_data::{Language, Leaf, Round, Tree};
-use county_codes::{Codes, Grouping, MAX_COUNTIES, listed_codes};
 use connected_sets::CountyGraph;
+use county_codes::{Codes, Grouping, MAX_COUNTIES, listed_codes};
 use county_problem::{Ordered, Problem, Steps, judge};
 use grouping_reader::read_grouping;
 use place_sets::{CountySet, MaskSet, fits_mask};
-use search_groups::all_groups_of_size;
-use state_groups::State;
-use state_judge::first_state;
+use state_groups::{State, all_groups_of_size, first_state};
 use std::alloc::Global;
 
 /// More steps than the groups of a worked problem take.
@@ -69,9 +67,9 @@ fn leaf_at<C: CountySet>(
     requires order { ordered.now.order ≡ round.now.order }
     requires placed { IsPlaced (length ordered.now.order) C.test state.now }
 {
-    let near: Vec<C> = neighbour_rows(alloc, ordered)?;
-    let lists = groups_by_size(alloc, ordered, &near, round, state)?;
-    Ok(find_leaf(alloc, ordered, &near, round, state, &lists)?)
+    let graph: CountyGraph<C> = CountyGraph::build(alloc, ordered)?;
+    let lists = groups_by_size(&graph, round, state)?;
+    Ok(find_leaf(&graph, round, state, &lists)?)
 }
 
 /// The lawful target that a grouping text tells; none where it is empty.

@@ -4,7 +4,9 @@ ghost use Rattle.std.specs.Prelude.{◌≤◌};
 ghost use Rattle.county_codes.specs.Limits.{most_counties};
 
 use anyhow::{Context, Error, Result};
-use certificate_data::{Allowance, Branch, Certificate, Language, Leaf, Take, Tree, Weight, Weights};
+use certificate_data::{
+    Allowance, Branch, Certificate, Language, Leaf, Take, Tree, Weight, Weights,
+};
 use certificate_lines::WriteFault;
 use certificate_text::{read, write, write_tree};
 use county_codes::{Codes, CountyCode, Group, Window};

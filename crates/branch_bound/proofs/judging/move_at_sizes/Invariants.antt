@@ -12,7 +12,7 @@ abbrev pub invariant-loop-position : goal.invariant-loop-position
 invariant-loop-position g l = record {
   at : IsPositionAt g.C.CountySet.test l.input (search_state l.input g.C.CountySet.test l.fn.position.state) l.position;
   state : l.position.state ≡ l.fn.position.state;
-  lists : AreListsOf g.C.CountySet.test (problem_at l.input.ordered.now) (length l.input.ordered.now.order) l.lists;
+  lists : AreListsOf g.C.CountySet.test (problem_at l.input.graph.now.ordered.now) (length l.input.graph.now.ordered.now.order) l.lists;
   more : l.fn.steps.used ≤ l.steps.used;
   limit : l.steps.limit ≡ l.fn.steps.limit;
 }

@@ -7,22 +7,22 @@ use Rattle.branch_bound.proofs.judging.next_size.Goals as goal
 
 pub empty_leaf-requires-clause-none : goal.empty_leaf-requires-clause-none
 empty_leaf-requires-clause-none g c =
-    none_at g.row.C.Denot g.C.CountySet.test g.C.CountySet.PLACES c.args.input.now c.requires.input c.places-places.ensures.order (search_state c.args.input.now g.C.CountySet.test c.args.position.now.state) c.args.position.now c.requires.at c.requires.none
+    none_at g.row.C.Denot g.C.CountySet.test g.C.CountySet.PLACES c.args.input.now c.requires.input c.requires.input.graph.order (search_state c.args.input.now g.C.CountySet.test c.args.position.now.state) c.args.position.now c.requires.at c.requires.none
 
 pub finished_grouping-requires-clause-none : goal.finished_grouping-requires-clause-none
 finished_grouping-requires-clause-none g c = λ group fits small.
-    none_at g.row.C.Denot g.C.CountySet.test g.C.CountySet.PLACES c.args.input.now c.requires.input c.places-places.ensures.order (search_state c.args.input.now g.C.CountySet.test c.args.position.now.state) c.args.position.now c.requires.at c.requires.none group fits (omega (arith, small, c.if-size-round.true))
+    none_at g.row.C.Denot g.C.CountySet.test g.C.CountySet.PLACES c.args.input.now c.requires.input c.requires.input.graph.order (search_state c.args.input.now g.C.CountySet.test c.args.position.now.state) c.args.position.now c.requires.at c.requires.none group fits (omega (arith, small, c.if-size-round.true))
 
 pub returns-then-size-round-clause-next : goal.returns-then-size-round-clause-next
 returns-then-size-round-clause-next g c = record {
   found = c.in_ok-found.ensures.found;
-  sorted = sorted_as c.args.input.now.ordered.now.order c.args.input.now.round.now.order c.in_ok-found.found.groups.items c.requires.input.order c.in_ok-found.ensures.in_turn c.in_ok-found.ensures.in_order;
+  sorted = sorted_as c.args.input.now.graph.now.ordered.now.order c.args.input.now.round.now.order c.in_ok-found.found.groups.items c.requires.input.order c.in_ok-found.ensures.in_turn c.in_ok-found.ensures.in_order;
   lines = c.in_ok-found.ensures.lines;
 }
 
 pub room_leaf-requires-clause-none : goal.room_leaf-requires-clause-none
 room_leaf-requires-clause-none g c = λ group fits small.
-    none_at g.row.C.Denot g.C.CountySet.test g.C.CountySet.PLACES c.args.input.now c.requires.input c.places-places.ensures.order (search_state c.args.input.now g.C.CountySet.test c.args.position.now.state) c.args.position.now c.requires.at c.requires.none group fits (omega (arith, small))
+    none_at g.row.C.Denot g.C.CountySet.test g.C.CountySet.PLACES c.args.input.now c.requires.input c.requires.input.graph.order (search_state c.args.input.now g.C.CountySet.test c.args.position.now.state) c.args.position.now c.requires.at c.requires.none group fits (omega (arith, small))
 
 pub returns-in-Some-clause-next : goal.returns-in-Some-clause-next
 returns-in-Some-clause-next g c = (

@@ -8,13 +8,13 @@ use Rattle.branch_bound.proofs.larger.next_groups.Goals as goal
 
 pub groups_of_size-requires-clause-none : goal.groups_of_size-requires-clause-none
 groups_of_size-requires-clause-none g c = λ group fits small.
-    none_at g.row.C.Denot g.C.CountySet.test g.C.CountySet.PLACES c.args.input.now c.requires.input c.places-places.ensures.order (search_state c.args.input.now g.C.CountySet.test c.args.position.now.state) c.args.position.now c.requires.at c.requires.none group fits (omega (arith, small))
+    none_at g.row.C.Denot g.C.CountySet.test g.C.CountySet.PLACES c.args.input.now c.requires.input c.requires.input.graph.order (search_state c.args.input.now g.C.CountySet.test c.args.position.now.state) c.args.position.now c.requires.at c.requires.none group fits (omega (arith, small))
 
 pub returns-in-Ok-clause-groups : goal.returns-in-Ok-clause-groups
 returns-in-Ok-clause-groups g c =
     let test = g.C.CountySet.test in
     let input = c.args.input.now in
-    let order = input.ordered.now.order in
+    let order = input.graph.now.ordered.now.order in
     let at = c.args.position.now in
-    larger_fit g.row.C.Denot test g.C.CountySet.PLACES input c.requires.input c.places-places.ensures.order (search_state input test at.state) at c.requires.at (codes_of_sets order test c.in-Ok.groups.items) c.if-not-position.false
+    larger_fit g.row.C.Denot test g.C.CountySet.PLACES input c.requires.input c.requires.input.graph.order (search_state input test at.state) at c.requires.at (codes_of_sets order test c.in-Ok.groups.items) c.if-not-position.false
     (subst (λ z. AreThose order (IsLive (search_problem input) (search_state input test at.state)) (codes_of_sets order test z) (codes_of_sets order test c.in-Ok.groups.items)) c.deref.ensures.value c.in-Ok.ensures.those)

@@ -10,8 +10,8 @@ pub returns-in-Ok-clause-at : goal.returns-in-Ok-clause-at
 returns-in-Ok-clause-at g c =
     let test = g.C.CountySet.test in
     let input = c.args.input.now in
-    let order = input.ordered.now.order in (
-      tested_at g.row.C.Denot test g.C.CountySet.PLACES input c.requires.input c.places-places.ensures.order (search_state input test c.args.position.state) c.args.position c.requires.at _ refl refl refl refl c.in-Ok.ensures.below
+    let order = input.graph.now.ordered.now.order in (
+      tested_at g.row.C.Denot test g.C.CountySet.PLACES input c.requires.input c.requires.input.graph.order (search_state input test c.args.position.state) c.args.position c.requires.at _ refl refl refl refl c.in-Ok.ensures.below
           (subst (λ z. AreThose order (IsLive (search_problem input) (search_state input test c.args.position.state)) (codes_of_sets order test z) (codes_of_sets order test c.in-Ok.larger.items)) c.deref.ensures.value c.in-Ok.ensures.those),
       refl,
     )

@@ -18,9 +18,9 @@ returns g c =
         is = c.in_ok-copied_state.ensures.value;
         state = c.requires.state;
         small = omega arith;
-        below = subst (AreBelow (length input.ordered.now.order) test) (sym c.new.ensures.items) (λ k d l. absurd (omega (arith, l)));
-        known = subst (λ z. IsKnown (search_problem input) (search_round input) s 0 (codes_of_sets input.ordered.now.order test z)) (sym c.new.ensures.items) (known_serves.first (search_problem input) (search_round input) s);
-        larger_below = subst (AreBelow (length input.ordered.now.order) test) (sym c.new-2.ensures.items) (λ k d l. absurd (omega (arith, l)));
+        below = subst (AreBelow (length input.graph.now.ordered.now.order) test) (sym c.new.ensures.items) (λ k d l. absurd (omega (arith, l)));
+        known = subst (λ z. IsKnown (search_problem input) (search_round input) s 0 (codes_of_sets input.graph.now.ordered.now.order test z)) (sym c.new.ensures.items) (known_serves.first (search_problem input) (search_round input) s);
+        larger_below = subst (AreBelow (length input.graph.now.ordered.now.order) test) (sym c.new-2.ensures.items) (λ k d l. absurd (omega (arith, l)));
         larger = λ e. absurd (false≢true e);
       };
     }

@@ -34,4 +34,4 @@ returns-in-Ok-Better-clause-piece g c =
     (c.found_piece.ensures.piece (search_problem input) s (subst (λ z. IsNextMove test input s z) c.in-Ok-Better.field-0-is c.in-Ok-Better.ensures.next_move))
 
 pub next_move-requires-clause-lists : goal.next_move-requires-clause-lists
-next_move-requires-clause-lists g c = c.new-lists.ensures.lists (problem_at c.args.input.now.ordered.now) (length c.args.input.now.ordered.now.order)
+next_move-requires-clause-lists g c = c.new-lists.ensures.lists (problem_at c.args.input.now.graph.now.ordered.now) (length c.args.input.now.graph.now.ordered.now.order)

@@ -12,9 +12,9 @@ pub returns-in-Some : goal.returns-in-Some
 returns-in-Some g c =
     let test = g.C.CountySet.test in
     let input = c.args.input.now in
-    let p = problem_of input.ordered.now.problem in
-    let order = input.ordered.now.order in
-    let whole = c.places-places.ensures.order in
+    let p = problem_of input.graph.now.ordered.now.problem in
+    let order = input.graph.now.ordered.now.order in
+    let whole = c.requires.input.graph.order in
     let t = state_of test c.args.state.now in
     let limit = input.round.now.limit in
     let shown = test c.in_ok-open.open in
@@ -29,4 +29,4 @@ returns g c =
     let test = g.C.CountySet.test in
     let input = c.args.input.now in
     none_fits (search_problem input) (search_round input) (search_state input test c.args.state.now)
-    (none_open (search_problem input) input.ordered.now.order c.places-places.ensures.order (state_of test c.args.state.now) c.requires.at.placed.rest input.round.now.limit (test c.in_ok-open.open) c.in_ok-open.ensures c.in-None.ensures.least)
+    (none_open (search_problem input) input.graph.now.ordered.now.order c.requires.input.graph.order (state_of test c.args.state.now) c.requires.at.placed.rest input.round.now.limit (test c.in_ok-open.open) c.in_ok-open.ensures c.in-None.ensures.least)

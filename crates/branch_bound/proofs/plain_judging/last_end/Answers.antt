@@ -12,6 +12,6 @@ returns-in-Some g c = (
 pub returns : goal.returns
 returns g c = record {
   found = c.in_ok-found.ensures.found;
-  sorted = sorted_as c.args.input.now.ordered.now.order c.args.input.now.round.now.order c.in_ok-found.found.groups.items c.requires.input.order c.in_ok-found.ensures.in_turn c.in_ok-found.ensures.in_order;
+  sorted = sorted_as c.args.input.now.graph.now.ordered.now.order c.args.input.now.round.now.order c.in_ok-found.found.groups.items c.requires.input.order c.in_ok-found.ensures.in_turn c.in_ok-found.ensures.in_order;
   lines = c.in_ok-found.ensures.lines;
 }

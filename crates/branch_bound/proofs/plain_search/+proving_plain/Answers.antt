@@ -36,7 +36,7 @@ prove_plain-branching-preserved g t c =
     let round = search_round input in
     let s = search_state input test c.branching.state in
     let first = search_state input test c.args.state in
-    let county = code_at input.ordered.now.order c.in-Ok-Branch.place in
+    let county = code_at input.graph.now.ordered.now.order c.in-Ok-Branch.place in
     let limit = input.round.now.limit in
     let v = subst (λ z. IsNextPlainMove test input s z) c.in-Ok-Branch.field-0-is c.in-Ok-Branch.ensures.next_move in
     let inv = c.branching.invariant in
@@ -66,7 +66,7 @@ prove_plain-returns-in-Ok-Better-prove_plain_takes-clause-outcome g t c =
     let test = g.C.CountySet.test in
     let input = c.args.input.now in
     let s = search_state input test c.branching.state in
-    let county = code_at input.ordered.now.order c.in-Ok-Branch.place in
+    let county = code_at input.graph.now.ordered.now.order c.in-Ok-Branch.place in
     let better = c.in-Ok-Better-prove_plain_takes in
     better_as (search_problem input) (search_round input) (search_state input test c.args.state) s better.found c.branching.invariant.agrees
     (subst (λ z. AreTakesAt (search_problem input) (search_round input) s county input.round.now.limit z) better.field-0-is better.ensures.takes)
@@ -78,7 +78,7 @@ prove_plain_take-prove_plain-outcome-requires g t c κs within =
     let p = search_problem input in
     let round = search_round input in
     let s = search_state input test c.args.state.now in
-    let codes = codes_of_set input.ordered.now.order test c.args.group.now in
+    let codes = codes_of_set input.graph.now.ordered.now.order test c.args.group.now in
     let is = c.requires.group.1 in (
       omega arith,
       (
@@ -104,7 +104,7 @@ pub prove_plain_takes-prove_plain_take-taken-requires : goal.prove_plain_takes-p
 prove_plain_takes-prove_plain_take-taken-requires g t c κs within =
     let test = g.C.CountySet.test in
     let input = c.args.input.now in
-    let order = input.ordered.now.order in
+    let order = input.graph.now.ordered.now.order in
     let p = search_problem input in
     let round = search_round input in
     let s = search_state input test c.args.state.now in
@@ -124,7 +124,7 @@ pub prove_plain_takes-taking-preserved : goal.prove_plain_takes-taking-preserved
 prove_plain_takes-taking-preserved g t c =
     let test = g.C.CountySet.test in
     let input = c.args.input.now in
-    let order = input.ordered.now.order in
+    let order = input.graph.now.ordered.now.order in
     let p = search_problem input in
     let round = search_round input in
     let s = search_state input test c.args.state.now in
@@ -145,4 +145,4 @@ prove_plain_takes-returns-in-Ok-Better-clause-takes g t c =
     let test = g.C.CountySet.test in
     let input = c.args.input.now in
     let better = c.in-Ok-Better in
-    subst (λ z. IfOk z (IsTakenGroup (search_problem input) (search_round input) (search_state input test c.args.state.now) (codes_of_set input.ordered.now.order test c.group-item.result))) (better.ensures.better better.found (ap Ok better.field-0-is)) c.prove_plain_take-taken.ensures.taken
+    subst (λ z. IfOk z (IsTakenGroup (search_problem input) (search_round input) (search_state input test c.args.state.now) (codes_of_set input.graph.now.ordered.now.order test c.group-item.result))) (better.ensures.better better.found (ap Ok better.field-0-is)) c.prove_plain_take-taken.ensures.taken

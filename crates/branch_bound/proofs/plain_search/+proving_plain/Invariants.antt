@@ -25,7 +25,7 @@ decreases-prove_plain_take g l = 3 * (l.steps.now.limit - l.steps.now.used) + 1
 
 abbrev pub invariant-prove_plain_takes-taking : goal.invariant-prove_plain_takes-taking
 invariant-prove_plain_takes-taking g l = record {
-  takes : AreTakesOf (search_problem l.input) (search_round l.input) (search_state l.input g.C.CountySet.test l.state) (codes_of_sets l.input.ordered.now.order g.C.CountySet.test (take l.group-index l.group-items)) l.takes.items;
+  takes : AreTakesOf (search_problem l.input) (search_round l.input) (search_state l.input g.C.CountySet.test l.state) (codes_of_sets l.input.graph.now.ordered.now.order g.C.CountySet.test (take l.group-index l.group-items)) l.takes.items;
   more : l.fn.steps.used ≤ l.steps.used;
   limit : l.steps.limit ≡ l.fn.steps.limit;
 }

@@ -68,7 +68,7 @@ prove-branching-preserved g t c =
     let s = search_state input test c.branching.position.state in
     let at = c.in-Ok-Branch.at in
     let here = search_state input test at.state in
-    let county = code_at input.ordered.now.order c.in-Ok-Branch.place in
+    let county = code_at input.graph.now.ordered.now.order c.in-Ok-Branch.place in
     let v = subst (λ z. IsNextMove test input s z) c.in-Ok-Branch.field-0-is c.in-Ok-Branch.ensures.next_move in
     let inv = c.branching.invariant in
     let e = c.in-Ok-Branch.ensures in
@@ -115,7 +115,7 @@ pub prove_takes-prove_take-taken-requires : goal.prove_takes-prove_take-taken-re
 prove_takes-prove_take-taken-requires g t c κs within =
     let test = g.C.CountySet.test in
     let input = c.args.input.now in
-    let order = input.ordered.now.order in
+    let order = input.graph.now.ordered.now.order in
     let s = search_state input test c.args.position.now.state in
     let county = code_at order c.args.place in
     let list = c.deref-group-items.result.now in
@@ -133,7 +133,7 @@ pub prove_takes-taking-preserved : goal.prove_takes-taking-preserved
 prove_takes-taking-preserved g t c =
     let test = g.C.CountySet.test in
     let input = c.args.input.now in
-    let order = input.ordered.now.order in
+    let order = input.graph.now.ordered.now.order in
     let p = search_problem input in
     let round = search_round input in
     let s = search_state input test c.args.position.now.state in
@@ -155,4 +155,4 @@ prove_takes-returns-in-Ok-Better-clause-takes g t c =
     let test = g.C.CountySet.test in
     let input = c.args.input.now in
     let better = c.in-Ok-Better in
-    subst (λ z. IfOk z (IsTakenGroup (search_problem input) (search_round input) (search_state input test c.args.position.now.state) (codes_of_set input.ordered.now.order test c.group-item.result))) (better.ensures.better better.found (ap Ok better.field-0-is)) c.prove_take-taken.ensures.taken
+    subst (λ z. IfOk z (IsTakenGroup (search_problem input) (search_round input) (search_state input test c.args.position.now.state) (codes_of_set input.graph.now.ordered.now.order test c.group-item.result))) (better.ensures.better better.found (ap Ok better.field-0-is)) c.prove_take-taken.ensures.taken

@@ -27,8 +27,8 @@ decreases-prove_take g l = 3 * (l.steps.now.limit - l.steps.now.used) + 1
 
 abbrev pub invariant-prove_takes-taking : goal.invariant-prove_takes-taking
 invariant-prove_takes-taking g l = record {
-  takes : AreTakesOf (search_problem l.input) (search_round l.input) (search_state l.input g.C.CountySet.test l.position.state) (codes_of_sets l.input.ordered.now.order g.C.CountySet.test (take l.group-index l.group-items)) l.takes.items;
-  lists : AreListsOf g.C.CountySet.test (problem_at l.input.ordered.now) (length l.input.ordered.now.order) l.lists;
+  takes : AreTakesOf (search_problem l.input) (search_round l.input) (search_state l.input g.C.CountySet.test l.position.state) (codes_of_sets l.input.graph.now.ordered.now.order g.C.CountySet.test (take l.group-index l.group-items)) l.takes.items;
+  lists : AreListsOf g.C.CountySet.test (problem_at l.input.graph.now.ordered.now) (length l.input.graph.now.ordered.now.order) l.lists;
   more : l.fn.steps.used ≤ l.steps.used;
   limit : l.steps.limit ≡ l.fn.steps.limit;
 }
@@ -47,7 +47,7 @@ invariant-prove-branching g l = record {
       → IsComplete (list_onto l.branches.items tree) (search_problem l.input) (search_round l.input) (search_state l.input g.C.CountySet.test l.fn.position.state);
   agrees : (grouping : Grouping) → Agrees (search_state l.input g.C.CountySet.test l.position.state) grouping → Agrees (search_state l.input g.C.CountySet.test l.fn.position.state) grouping;
   lines : AllByRecursion (FitsInTree l.input.round.now.language) (items_of_branches l.branches.items);
-  lists : AreListsOf g.C.CountySet.test (problem_at l.input.ordered.now) (length l.input.ordered.now.order) l.lists;
+  lists : AreListsOf g.C.CountySet.test (problem_at l.input.graph.now.ordered.now) (length l.input.graph.now.ordered.now.order) l.lists;
   more : l.fn.steps.used ≤ l.steps.used;
   limit : l.steps.limit ≡ l.fn.steps.limit;
 }

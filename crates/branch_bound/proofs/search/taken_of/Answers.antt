@@ -10,7 +10,7 @@ use Rattle.branch_bound.proofs.search.taken_of.Goals as goal
 pub returns-in_ok-codes-in-Ok-Proved-clause-taken : goal.returns-in_ok-codes-in-Ok-Proved-clause-taken
 returns-in_ok-codes-in-Ok-Proved-clause-taken g c s fits few proved =
     let input = c.args.input.now in
-    let group = codes_of_set input.ordered.now.order g.C.CountySet.test c.args.group.now in
+    let group = codes_of_set input.graph.now.ordered.now.order g.C.CountySet.test c.args.group.now in
     let outcome = IsOutcome (search_problem input) (search_round input) (close group s) in
     let codes = c.in_ok-codes-in-Ok-Proved.ensures in
     take_made (search_problem input) (search_round input) s (close group s) group c.in_ok-codes-in-Ok-Proved.codes c.in-Ok-Proved.tree refl codes.value
@@ -19,6 +19,6 @@ returns-in_ok-codes-in-Ok-Proved-clause-taken g c s fits few proved =
 pub returns-in-Ok-Better-clause-taken : goal.returns-in-Ok-Better-clause-taken
 returns-in-Ok-Better-clause-taken g c s fits few proved =
     let input = c.args.input.now in
-    let group = codes_of_set input.ordered.now.order g.C.CountySet.test c.args.group.now in
+    let group = codes_of_set input.graph.now.ordered.now.order g.C.CountySet.test c.args.group.now in
     let outcome = IsOutcome (search_problem input) (search_round input) (close group s) in
     better_closed (search_problem input) (search_round input) s (close group s) group c.in-Ok-Better.found refl fits (subst outcome c.in-Ok-Better.field-0-is (subst (λ z. IfOk z outcome) c.in-Ok-Better.is proved))

@@ -54,5 +54,5 @@ returns g c =
       found = groups_found test p r s order whole end sets are seats groups suit e c.in_ok-seats.ensures.sum;
       in_turn = groups_in_turn test p r s order whole end sets are seats groups suit e (c.in_ok-sets.ensures.in_turn (sets_differ test p r s order whole end sets are));
       in_order = groups_in_order test p r s order whole end sets are seats groups suit e;
-      lines = groups_lines test p r s order whole end sets are seats groups suit e (omega (arith, c.requires.graph.few, c.places-places.ensures.value)) c.in_ok-seated_groups.ensures.numbers;
+      lines = groups_lines test p r s order whole end sets are seats groups suit e c.requires.graph.few c.in_ok-seated_groups.ensures.numbers;
     }

@@ -28,15 +28,15 @@ loop-group-preserved g c =
     let olds = c.loop-group.live.items in
     let news = c.if-branch.live.items in
     let inv = c.loop-group.invariant in
-    let laws = c.places-places.ensures in
+    let laws = c.requires.graph in
     let low : (x : ℕ) → member set x ≡ true → x < length order = λ x m. placed_below (length order) x (test item) m in
     elim c.if-branch.branch [
       | then-branch+in_ok-copy+in_default w ↦
-          let is = live_codes p order laws.order t c.requires.placed.rest laws.problem set low (c.in_ok-is_live.ensures.0 w.if-branch.true) in
+          let is = live_codes p order laws.order t c.requires.placed.rest laws.rows.problem set low (c.in_ok-is_live.ensures.0 w.if-branch.true) in
           let r = kept_in C test order Is groups c.requires.below i item w.in_ok-copy.copy olds w.push.new.self.items news c.loop-group-test.true c.group-item.is w.in_default.ensures.items (ap (λ z. z.items) w.live-is) w.in_ok-copy.ensures.places is inv.those inv.below in
           record { those = r.0; below = r.1; steps = omega (arith, c.if-not-tick.ensures.used, inv.steps); more = omega (arith, c.if-not-tick.ensures.used, inv.more); limit = c.if-not-tick.ensures.limit ∙ inv.limit }
       | else-branch w ↦
-          let isnt : Is (codes_of_set order test item) → ⊥ = λ l. false≢true (sym w.if-branch.false ∙ c.in_ok-is_live.ensures.1 (live_places p order laws.order t c.requires.placed.rest laws.problem set low l)) in
+          let isnt : Is (codes_of_set order test item) → ⊥ = λ l. false≢true (sym w.if-branch.false ∙ c.in_ok-is_live.ensures.1 (live_places p order laws.order t c.requires.placed.rest laws.rows.problem set low l)) in
           let r = kept_out C test order Is groups i item olds news c.loop-group-test.true c.group-item.is (ap (λ z. z.items) w.live-is) isnt inv.those inv.below in
           record { those = r.0; below = r.1; steps = omega (arith, c.if-not-tick.ensures.used, inv.steps); more = omega (arith, c.if-not-tick.ensures.used, inv.more); limit = c.if-not-tick.ensures.limit ∙ inv.limit }
     ]

@@ -6,13 +6,13 @@ use Rattle.connected_groups.proofs.seat_test.SeatTestGrowthTest.is_kept.Goals as
 
 pub suits-requires : goal.suits-requires
 suits-requires g c =
-    let all = total_all (problem_at c.args.input.now.ordered.now).people (length c.args.input.now.ordered.now.order) (g.C.CountySet.test c.args.growth.now.set) in
-    omega (arith, all, c.requires.growth.people, c.requires.sound.total)
+    let all = total_all (problem_at c.args.input.now.graph.now.ordered.now).people (length c.args.input.now.graph.now.ordered.now.order) (g.C.CountySet.test c.args.growth.now.set) in
+    omega (arith, all, c.requires.growth.people, c.requires.graph.people)
 
 pub returns : goal.returns
 returns g c =
     let test = g.C.CountySet.test in
-    let p = problem_at c.args.input.now.ordered.now in
-    let n = length c.args.input.now.ordered.now.order in
+    let p = problem_at c.args.input.now.graph.now.ordered.now in
+    let n = length c.args.input.now.graph.now.ordered.now.order in
     let growth = c.args.growth.now in
     record { kept = λ keep d. kept_by_people p n keep (test growth.set) growth.people d c.requires.growth.people ∙ sym c.suits.ensures }
