@@ -1,17 +1,21 @@
 -- First gaps: a complete tree has none, there is at most one, and a tree without one is complete.
-use Rattle.std.proofs.Common.{◌≡◌, ℕ, ◌+◌, Bool, true, false, refl, sym, ◌∙◌, inl, inr}
+use Rattle.std.proofs.Common.{◌≡◌, ℕ, ◌+◌, Bool, true, false, List, [], ◌∷◌, refl, sym, ◌∙◌, ◌⊎◌, inl, inr}
 use Rattle.std.proofs.lemmas.Bool.{false≢true}
 use Rattle.grouping_laws.specs.Problem.{Problem}
 use Rattle.certificate_data.specs.Round.{Round}
 use Rattle.certificate_laws.specs.State.{State, close, raise}
-use Rattle.certificate_data.specs.Tree.{Leaf, stuck, seats, bound, Tree, leaf, branch, Takes, no_take, take}
+use Rattle.certificate_data.specs.Tree.{Leaf, Tree, leaf, branch, Takes, no_take, take}
 use Rattle.certificate_laws.specs.Proving.{limit_of}
 use Rattle.checker_laws.specs.Lines.{tree_lines, takes_lines}
-use Rattle.list_laws.specs.Ends.{wanted, falls_short}
+use Rattle.list_laws.specs.Ends.{leaf_ends}
 use Rattle.list_laws.specs.Complete.{IsFilled, IsCompleteLeaf, IsComplete, EachIsComplete}
+use Rattle.list_laws.proofs.LeafEnds.{complete_filled, filled_complete, end_or_none}
 use Rattle.list_groupings.specs.declared.gap.Gap.{Gap}
 use Rattle.list_groupings.specs.declared.gap.Gap.TheVariants.{CountiesLeft, SeatsOff}
 use Rattle.list_groupings.specs.Gaps.{IsGap, IsLeafGap, IsFirstGap, IsFirstGapIn}
+
+two_ends : (x : List (List ℕ)) → [] ≡ x ∷ [] → ⊥
+two_ends x e = cc
 
 module _ (p : Problem) (round : Round) where
   filled_none : (s : State) (gap : Gap) → IsFilled p s → IsGap p s gap → ⊥
@@ -19,9 +23,7 @@ module _ (p : Problem) (round : Round) where
   filled_none s SeatsOff f g = g.1 f.seats_of_closed f.suit f.add_up
 
   leaf_none : (l : Leaf) (s : State) (gap : Gap) → IsCompleteLeaf l p round s → IsLeafGap l p round s gap → ⊥
-  leaf_none (stuck county) s gap c g = absurd g
-  leaf_none seats s gap c g = absurd g
-  leaf_none (bound lines) s gap c g = filled_none s gap (c g.0) g.1
+  leaf_none l s gap c g = filled_none s gap (complete_filled p round s l c g.0) g.1
 
   mutual
     pub tree_none : (tree : Tree) (s : State) (line : ℕ) (gap : Gap) (at : ℕ) → IsComplete tree p round s → IsFirstGap tree p round s line gap at → ⊥
@@ -41,9 +43,7 @@ module _ (p : Problem) (round : Round) where
   one_gap s SeatsOff SeatsOff f g = refl
 
   leaf_one : (l : Leaf) (s : State) (a b : Gap) → IsLeafGap l p round s a → IsLeafGap l p round s b → a ≡ b
-  leaf_one (stuck county) s a b f g = absurd f
-  leaf_one seats s a b f g = absurd f
-  leaf_one (bound lines) s a b f g = one_gap s a b f.1 g.1
+  leaf_one l s a b f g = one_gap s a b f.1 g.1
 
   mutual
     pub tree_one : (tree : Tree) (s : State) (line : ℕ) (a b : Gap) (m n : ℕ) → IsFirstGap tree p round s line a m → IsFirstGap tree p round s line b n → (a ≡ b) × (m ≡ n)
@@ -62,20 +62,18 @@ module _ (p : Problem) (round : Round) where
 
   -- it can't be that a state is neither filled nor has a gap
   leaf_some : (l : Leaf) (s : State) → ((gap : Gap) → IsLeafGap l p round s gap → ⊥) → (IsCompleteLeaf l p round s → ⊥) → ⊥
-  leaf_some (stuck county) s none refuse = refuse tt
-  leaf_some seats s none refuse = refuse tt
-  leaf_some (bound lines) s none refuse = go (falls_short p s (wanted round.target) 1 0 lines) refl
+  leaf_some l s none refuse = go (end_or_none p round s l)
     where
-      no_rest : falls_short p s (wanted round.target) 1 0 lines ≡ false → (c : ℕ) → s.rest c ≡ false
+      no_rest : leaf_ends l p round s ≡ s.closed ∷ [] → (c : ℕ) → s.rest c ≡ false
       no_rest e c = each (s.rest c) refl
         where
           each : (b : Bool) → s.rest c ≡ b → s.rest c ≡ false
           each false f = f
           each true f = absurd (none CountiesLeft (e, (c, f)))
 
-      go : (b : Bool) → falls_short p s (wanted round.target) 1 0 lines ≡ b → ⊥
-      go true e = refuse (λ f. absurd (false≢true (sym f ∙ e)))
-      go false e = none SeatsOff (e, (no_rest e, λ ks suit sum. refuse (λ f. record { none_left = no_rest e; seats_of_closed = ks; suit = suit; add_up = sum })))
+      go : (leaf_ends l p round s ≡ s.closed ∷ []) ⊎ (leaf_ends l p round s ≡ []) → ⊥
+      go (inl e) = none SeatsOff (e, (no_rest e, λ ks suit sum. refuse (filled_complete p round s l (λ _. record { none_left = no_rest e; seats_of_closed = ks; suit = suit; add_up = sum }))))
+      go (inr e) = refuse (filled_complete p round s l (λ end. absurd (two_ends s.closed (sym e ∙ end))))
 
   mutual
     pub tree_some : (tree : Tree) (s : State) (line : ℕ) → ((gap : Gap) (at : ℕ) → IsFirstGap tree p round s line gap at → ⊥) → (IsComplete tree p round s → ⊥) → ⊥

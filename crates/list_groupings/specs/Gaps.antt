@@ -1,15 +1,15 @@
 -- Where a tree isn't complete: its first bound leaf that comes to the target's counts at a state that isn't filled, and
 -- the leaf's line.
-use Rattle.std.specs.Prelude.{ℕ, ◌+◌, ◌≡◌, ◌≢◌, true, false, List, ◌⊎◌}
+use Rattle.std.specs.Prelude.{ℕ, ◌+◌, ◌≡◌, ◌≢◌, true, false, List, [], ◌∷◌, ◌⊎◌}
 use Rattle.grouping_laws.specs.Sets.{total}
 use Rattle.grouping_laws.specs.Problem.{Problem}
 use Rattle.grouping_laws.specs.Ranges.{SuitAll}
 use Rattle.certificate_data.specs.Round.{Round}
 use Rattle.certificate_laws.specs.State.{State, close, raise}
-use Rattle.certificate_data.specs.Tree.{Leaf, stuck, seats, bound, Tree, leaf, branch, Takes, no_take, take}
+use Rattle.certificate_data.specs.Tree.{Leaf, Tree, leaf, branch, Takes, no_take, take}
 use Rattle.certificate_laws.specs.Proving.{limit_of}
 use Rattle.checker_laws.specs.Lines.{window_line, tree_lines, takes_lines, target_lines}
-use Rattle.list_laws.specs.Ends.{wanted, falls_short}
+use Rattle.list_laws.specs.Ends.{leaf_ends}
 use Rattle.list_laws.specs.Complete.{IsComplete, EachIsComplete}
 use Rattle.list_groupings.specs.declared.gap.Gap.{Gap}
 use Rattle.list_groupings.specs.declared.gap.Gap.TheVariants.{CountiesLeft, SeatsOff}
@@ -21,11 +21,9 @@ IsGap p s CountiesLeft = (c : ℕ) × (s.rest c ≡ true)
 IsGap p s SeatsOff =
     ((c : ℕ) → s.rest c ≡ false) × ((ks : List ℕ) → SuitAll p s.closed ks → total (λ k. k) ks ≢ p.seats_left)
 
--- bound lines that don't fall short, at a state that isn't filled
+-- a leaf that has the closed groups as an end, at a state that isn't filled
 abbrev pub IsLeafGap : Leaf → Problem → Round → State → Gap → Type 0
-IsLeafGap (stuck county) p round s gap = ⊥
-IsLeafGap seats p round s gap = ⊥
-IsLeafGap (bound lines) p round s gap = (falls_short p s (wanted round.target) 1 0 lines ≡ false) × IsGap p s gap
+IsLeafGap l p round s gap = (leaf_ends l p round s ≡ s.closed ∷ []) × IsGap p s gap
 
 -- The first gap of a tree whose lines begin at this one: the first bound leaf that comes to the target's counts where
 -- the state isn't filled, and the leaf's first line. What stands before the leaf is complete.

@@ -104,7 +104,7 @@ fn put_leaf(
 {
     match leaf {
         Leaf::Bound(lines) => add_end(input, position, lines, found),
-        Leaf::Stuck(_) | Leaf::Seats => {
+        _ => {
             found.line += 1;
             Ok(())
         }

@@ -14,6 +14,7 @@ use Rattle.grouping_laws.specs.Grouping.{Lawful, sets_of}
 use Rattle.grouping_laws.specs.Ranges.{SuitAll}
 use Rattle.search_ends.specs.Finished.{CanSeat}
 use Rattle.list_laws.specs.AllBest.{SameSets}
+use Rattle.list_laws.proofs.LeafEnds.{bound_end}
 use Rattle.list_groupings.specs.InOrder.{IsInOrder}
 use Rattle.list_groupings.proofs.WalkLemmas.{none_given, few_waiting, none_left, some_left, covered, bounds_of, short_of, walked_short, walked_end}
 use Rattle.list_groupings.proofs.walk.add_end.Goals as goal
@@ -47,7 +48,7 @@ returns-then-not-is_empty c = record {
       let short : falls_short p s (wanted r.target) 1 0 lines ≡ false =
       sym (short_of p r s f lines c.requires.input.wanted_is) ∙ (sym (c.falls_short.ensures.value r.language p s h.0 (bounds_of p r s f lines c.requires.input.wanted_is h.1.proves)) ∙ c.if-falls_short.false) in
       let some : 1 ≤ length c.args.position.now.rest.items = grind (arith, nat_tests) in
-      ((short, some_left p s c.args.position.now h.0 some), refl);
+      ((bound_end p r s lines short, some_left p s c.args.position.now h.0 some), refl);
 }
 
 pub seated_grouping-requires-clause-once : goal.seated_grouping-requires-clause-once
@@ -69,7 +70,7 @@ returns-in_default-seated c = record {
       sym (short_of p r s f lines c.requires.input.wanted_is) ∙ (sym (c.falls_short.ensures.value r.language p s h.0 (bounds_of p r s f lines c.requires.input.wanted_is h.1.proves)) ∙ c.if-falls_short.false) in
       let none : length c.args.position.now.rest.items ≡ 0 = grind (arith, nat_tests) in
       let off : (ks : List ℕ) → SuitAll p c.deref.result.now ks → total (λ k. k) ks ≡ p.seats_left → ⊥ = none_given _ c.in-Ok.seated c.in_default-seated.not-Some c.in-Ok.ensures.lawful in
-      ((short, (none_left p r s c.args.position.now h.1.state h.0 none, subst (λ (z : List (List ℕ)). (ks : List ℕ) → SuitAll p z ks → total (λ k. k) ks ≡ p.seats_left → ⊥) (c.deref.ensures.value ∙ h.0.closed) off)), refl);
+      ((bound_end p r s lines short, (none_left p r s c.args.position.now h.1.state h.0 none, subst (λ (z : List (List ℕ)). (ks : List ℕ) → SuitAll p z ks → total (λ k. k) ks ≡ p.seats_left → ⊥) (c.deref.ensures.value ∙ h.0.closed) off)), refl);
 }
 
 pub returns : goal.returns
