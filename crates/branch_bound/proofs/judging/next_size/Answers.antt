@@ -11,10 +11,10 @@ empty_leaf-requires-clause-none g c =
 
 pub finished_grouping-requires-clause-none : goal.finished_grouping-requires-clause-none
 finished_grouping-requires-clause-none g c = λ group fits small.
-    none_at g.row.C.Denot g.C.CountySet.test g.C.CountySet.PLACES c.args.input.now c.requires.input c.requires.input.graph.order (search_state c.args.input.now g.C.CountySet.test c.args.position.now.state) c.args.position.now c.requires.at c.requires.none group fits (omega (arith, small, c.if-size-round.true))
+    none_at g.row.C.Denot g.C.CountySet.test g.C.CountySet.PLACES c.args.input.now c.requires.input c.requires.input.graph.order (search_state c.args.input.now g.C.CountySet.test c.args.position.now.state) c.args.position.now c.requires.at c.requires.none group fits (omega (arith, small, c.if-size-input.true))
 
-pub returns-then-size-round-clause-next : goal.returns-then-size-round-clause-next
-returns-then-size-round-clause-next g c = record {
+pub returns-then-size-input-clause-next : goal.returns-then-size-input-clause-next
+returns-then-size-input-clause-next g c = record {
   found = c.in_ok-found.ensures.found;
   sorted = sorted_as c.args.input.now.graph.now.ordered.now.order c.args.input.now.round.now.order c.in_ok-found.found.groups.items c.requires.input.order c.in_ok-found.ensures.in_turn c.in_ok-found.ensures.in_order;
   lines = c.in_ok-found.ensures.lines;
@@ -34,4 +34,4 @@ pub returns-in-Some-2-clause-next : goal.returns-in-Some-2-clause-next
 returns-in-Some-2-clause-next g c = (rw c.in-Some-2.is at c.in_ok-leaf-2.ensures.leaf, λ fits. rw c.in-Some-2.is at c.in_ok-leaf-2.ensures.complete)
 
 pub returns-in-Ok-clause-next : goal.returns-in-Ok-clause-next
-returns-in-Ok-clause-next g c = (omega (arith, c.requires.at.small, c.if-size-round.false), c.in-Ok.ensures.below, c.in-Ok.ensures.groups)
+returns-in-Ok-clause-next g c = (omega (arith, c.requires.at.small, c.if-size-input.false), c.in-Ok.ensures.below, c.in-Ok.ensures.groups)
