@@ -37,8 +37,8 @@ seated_more {C = C} f sets ks olds news whole i set k group l m at there push sa
     seats_here = drop_more ks i 0 m ∙ ap (λ z. z ∷ drop (i + 1) ks) (sym there)
 
 -- groups whose numbers are in their ranges, and that have each county once, have the lines of a target
-pub target_lines : (p : Problem) (order : List ℕ) (groups : Grouping) → IsOrder p order → length order ≤ most_counties → CoverOnce p (sets_of groups) → ((g : List ℕ) → Has (sets_of groups) g → 1 ≤ length g) → All HasNumbers groups → HasTargetLines groups
-target_lines p order groups whole small once some numbers = record {
+pub lines_of_groups : (p : Problem) (order : List ℕ) (groups : Grouping) → IsOrder p order → length order ≤ most_counties → CoverOnce p (sets_of groups) → ((g : List ℕ) → Has (sets_of groups) g → 1 ≤ length g) → All HasNumbers groups → HasTargetLines groups
+lines_of_groups p order groups whole small once some numbers = record {
   few = omega (arith, few_sets (sets_of groups) some, size, small, length-map groups (λ (m : Group). m.codes));
   each = recursion_from_All (λ m. IsWanted (want.Groups 1) (Grouped m)) groups (all_from_has (λ m. IsWanted (want.Groups 1) (Grouped m)) groups fits);
 }

@@ -20,7 +20,7 @@ use Rattle.search_ends.specs.Finished.{AreFinished, CoverOnce, HasNumbers}
 use Rattle.search_ends.proofs.Covering.{all_differ}
 use Rattle.search_ends.proofs.Finishing.{IsEnd, cover_once, found, some_county}
 use Rattle.search_ends.proofs.SetLemmas.{codes_ordered}
-use Rattle.search_ends.proofs.GroupLemmas.{target_lines}
+use Rattle.search_ends.proofs.GroupLemmas.{lines_of_groups}
 
 module _ {C : Type 0} (test : C → ℕ → Bool) (p : Problem) (round : Round) (s : State) (order : List ℕ) (whole : IsOrder p order) (end : IsEnd p round s) (sets : List C) (are : AreFinished p s (codes_of_sets order test sets)) where
   abbrev codes : List (List ℕ)
@@ -50,5 +50,5 @@ module _ {C : Type 0} (test : C → ℕ → Bool) (p : Problem) (round : Round) 
 
     pub groups_lines : length order ≤ most_counties → All HasNumbers groups → HasTargetLines groups
     groups_lines small numbers =
-        target_lines p order groups whole small (subst (CoverOnce p) (sym same_sets) (cover_once p round s codes end are))
+        lines_of_groups p order groups whole small (subst (CoverOnce p) (sym same_sets) (cover_once p round s codes end are))
         (λ g h. some_county p round s codes end are g (subst (λ z. Has z g) same_sets h)) numbers
