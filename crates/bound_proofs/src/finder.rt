@@ -2,13 +2,13 @@
 
 ghost use Rattle.std.specs.Prelude.{◌≡◌, ◌≤◌, map, length, IfOk, MatchOption};
 ghost use Rattle.std.specs.Vec.{vec_items};
+ghost use Rattle.connected_sets.specs.Graphs.{graph_problem, graph_order, graph_places, IsGraph};
 ghost use Rattle.certificate_data.specs.RoundValue.{round_of};
 ghost use Rattle.certificate_laws.specs.Leaves.{IsValidLeaf};
 ghost use Rattle.certificate_laws.specs.Search.{HasNoLeaf};
 ghost use Rattle.certificate_data.specs.TreeValue.{leaf_of};
 ghost use Rattle.state_groups.specs.Placed.{state_at, IsPlaced};
 ghost use Rattle.bound_proofs.specs.CountLeaves.{AreListsFrom};
-ghost use Rattle.connected_sets.specs.Graphs.{graph_problem, graph_order, graph_places, IsGraph};
 
 use crate::bound::bounding_lines;
 use certificate_data::{Leaf, Round};

@@ -158,7 +158,9 @@ fn with_place<C: CountySet>(
     let people = growth.people + u64::from(input.graph.ordered.people(place));
     let set = growth.set.with(input.graph.alloc, place)?;
     let free = growth.free.copy(input.graph.alloc)?.without(place);
-    let both = growth.front.union(input.graph.alloc, &input.graph.near[usize::from(place)])?;
+    let both = growth
+        .front
+        .union(input.graph.alloc, &input.graph.near[usize::from(place)])?;
     let front = both.intersection(&free);
     Ok(Growth {
         set,

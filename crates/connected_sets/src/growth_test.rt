@@ -25,11 +25,7 @@ pub trait GrowthTest<C: CountySet> {
     ghost knows: { Self → Problem → ℕ → ℕ → (ℕ → Bool) → Type 0 };
 
     /// Whether a growth is passed over. No kept set comes of one that is.
-    fn is_passed_over(
-        &self,
-        input: &GrowthInput<C>,
-        growth: &Growth<C>,
-    ) -> Result<bool, AllocError>
+    fn is_passed_over(&self, input: &GrowthInput<C>, growth: &Growth<C>) -> Result<bool, AllocError>
         requires graph { IsGraph C.test C.PLACES input.now.graph.now }
         requires growth { IsSoundGrowth C C.test input.now growth.now }
         requires knows { knows self.now (problem_in input.now) (places_in input.now) input.now.limit (C.test growth.now.free) }
@@ -46,11 +42,7 @@ pub trait GrowthTest<C: CountySet> {
         ensures place { MatchOption result ((x : ℕ) → C.test front.now x ≡ false) (λ c. C.test front.now c ≡ true) };
 
     /// Whether the set of a growth that grows no further is kept.
-    fn is_kept(
-        &self,
-        input: &GrowthInput<C>,
-        growth: &Growth<C>,
-    ) -> Result<bool, AllocError>
+    fn is_kept(&self, input: &GrowthInput<C>, growth: &Growth<C>) -> Result<bool, AllocError>
         requires graph { IsGraph C.test C.PLACES input.now.graph.now }
         requires growth { IsSoundGrowth C C.test input.now growth.now }
         requires knows { knows self.now (problem_in input.now) (places_in input.now) input.now.limit (C.test growth.now.free) }

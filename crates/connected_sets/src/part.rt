@@ -26,7 +26,9 @@ pub fn part_around<C: CountySet>(
 {
     let mut part = C::empty(graph.alloc)?.with(graph.alloc, place)?;
     let mut rest = region.copy(graph.alloc)?.without(place);
-    let mut front = graph.near[usize::from(place)].copy(graph.alloc)?.intersection(&rest);
+    let mut front = graph.near[usize::from(place)]
+        .copy(graph.alloc)?
+        .intersection(&rest);
     while let Some(next) = front.next(0) {
         part = part.with(graph.alloc, next)?;
         rest = rest.without(next);

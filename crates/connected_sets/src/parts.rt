@@ -12,10 +12,7 @@ use std::alloc::AllocError;
 
 /// The connected parts of a region, in the order of their first places. Each place of the region is in one
 /// of them.
-pub fn parts_of<C: CountySet>(
-    graph: &CountyGraph<C>,
-    region: &C,
-) -> Result<Vec<C>, AllocError>
+pub fn parts_of<C: CountySet>(graph: &CountyGraph<C>, region: &C) -> Result<Vec<C>, AllocError>
     requires graph { IsGraph C.test C.PLACES graph.now }
     requires below { (x : ℕ) → C.test region.now x ≡ true → x < graph_places graph.now }
     ensures parts { IfOk

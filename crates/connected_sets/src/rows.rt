@@ -24,7 +24,10 @@ fn row<C: CountySet>(alloc: Global, ordered: &Ordered, place: u16) -> Result<C, 
 }
 
 /// The row of each place: the set of the places adjacent to it.
-pub(crate) fn neighbour_rows<C: CountySet>(alloc: Global, ordered: &Ordered) -> Result<Vec<C>, AllocError>
+pub(crate) fn neighbour_rows<C: CountySet>(
+    alloc: Global,
+    ordered: &Ordered,
+) -> Result<Vec<C>, AllocError>
     requires fits { length ordered.now.order ≤ C.PLACES }
     ensures { IfOk result (λ v. AreRows C C.test (problem_at ordered.now) (length ordered.now.order) v.items) }
 {

@@ -4,6 +4,7 @@ ghost use Rattle.std.specs.Prelude.{◌≡◌, ℕ, filter, All, AllPairs, IfOk}
 ghost use Rattle.grouping_laws.specs.Sets.{member};
 ghost use Rattle.grouping_laws.specs.Grouping.{sets_of};
 ghost use Rattle.grouping_laws.specs.GroupsFrom.{IsBefore};
+ghost use Rattle.connected_sets.specs.Graphs.{graph_problem, graph_order, graph_places, IsGraph};
 ghost use Rattle.certificate_data.specs.RoundValue.{round_of};
 ghost use Rattle.certificate_laws.specs.State.{IsState};
 ghost use Rattle.certificate_laws.specs.Fitting.{NoGroupFits};
@@ -12,7 +13,6 @@ ghost use Rattle.certificate_laws.specs.Search.{IsFound};
 ghost use Rattle.certificate_text.specs.TreeItems.{HasTargetLines};
 ghost use Rattle.state_groups.specs.Placed.{state_at, IsPlaced};
 ghost use Rattle.search_groups.specs.Standing.{StandsAhead};
-ghost use Rattle.connected_sets.specs.Graphs.{graph_problem, graph_order, graph_places, IsGraph};
 
 use crate::groups::seated_groups;
 use crate::seats::seats_for;

@@ -1,10 +1,10 @@
 //! The county of a stuck leaf: one in a connected part of the rest that can't be filled.
 
 ghost use Rattle.std.specs.Prelude.{◌≡◌, ℕ, true, IfOk, MatchOption};
+ghost use Rattle.connected_sets.specs.Graphs.{graph_problem, graph_order, graph_places, place_problem, IsGraph};
 ghost use Rattle.state_groups.specs.StateValue.{state_of};
 ghost use Rattle.certificate_laws.specs.Leaves.{IsStuck};
 ghost use Rattle.state_groups.specs.Placed.{state_at, IsPlaced};
-ghost use Rattle.connected_sets.specs.Graphs.{graph_problem, graph_order, graph_places, place_problem, IsGraph};
 
 use connected_sets::CountyGraph;
 use county_codes::CountyCode;

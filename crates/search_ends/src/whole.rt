@@ -2,13 +2,13 @@
 
 ghost use Rattle.std.specs.Prelude.{◌≡◌, ℕ, ◌≤◌, ⊤, IfOk, MatchOption};
 ghost use Rattle.county_codes.specs.Limits.{most_counties};
+ghost use Rattle.connected_sets.specs.Graphs.{graph_problem, graph_order, graph_places, IsGraph};
 ghost use Rattle.certificate_data.specs.RoundValue.{round_of};
 ghost use Rattle.certificate_laws.specs.Leaves.{IsStuck, IsOffSeats};
 ghost use Rattle.certificate_data.specs.TreeValue.{leaf_of};
 ghost use Rattle.state_groups.specs.Placed.{state_at, IsPlaced};
 ghost use Rattle.list_laws.specs.Complete.{IsCompleteLeaf};
 ghost use Rattle.search_ends.specs.GivenLeaf.{IsGivenLeaf};
-ghost use Rattle.connected_sets.specs.Graphs.{graph_problem, graph_order, graph_places, IsGraph};
 
 use crate::stuck::stuck_county;
 use certificate_data::{Leaf, Round};

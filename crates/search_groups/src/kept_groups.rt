@@ -4,12 +4,12 @@ ghost use Rattle.std.specs.Prelude.{◌≡◌, ℕ, ◌+◌, ◌≤◌, ◌<◌,
 ghost use Rattle.std.specs.Fn.{FnReturnsAt};
 ghost use Rattle.place_laws.specs.PlaceSets.{Meets};
 ghost use Rattle.county_problem.specs.OrderedValue.{code_at};
+ghost use Rattle.connected_sets.specs.Graphs.{graph_problem, graph_order, graph_places, IsGraph};
 ghost use Rattle.connected_laws.specs.Listing.{AreBelow};
 ghost use Rattle.certificate_laws.specs.Fitting.{IsLive};
 ghost use Rattle.connected_sets.specs.declared.stop.Stop.{Stop};
 ghost use Rattle.state_groups.specs.Placed.{state_at, codes_of_set, codes_of_sets, IsPlaced};
 ghost use Rattle.search_groups.specs.Known.{AreThose, IsApart, Lacks, Has, Tells};
-ghost use Rattle.connected_sets.specs.Graphs.{graph_problem, graph_order, graph_places, IsGraph};
 
 use connected_sets::{CountyGraph, Stop};
 use county_problem::{Ordered, Steps};
@@ -126,8 +126,8 @@ pub fn groups_lacking<C: CountySet>(
 
 /// The live ones of the groups, in turn: those that leave no part of the rest behind that is stuck.
 ///
-/// A step is taken for each group that is tested. `StepLimit`
-/// comes only where all steps are used, `Memory` only where a growth was refused.
+/// A step is taken for each group that is tested. `StepLimit` comes only where all steps are used, `Memory` only where
+/// a growth was refused.
 pub fn live_groups<C: CountySet>(
     graph: &CountyGraph<C>,
     state: &State<C>,

@@ -3,12 +3,12 @@
 ghost use Rattle.std.specs.Prelude.{◌≡◌, ℕ, ◌+◌, ◌≤◌, ◌<◌, ◌++◌, true, cond, get_or, length, All, IfOk, OnOk, IfSome};
 ghost use Rattle.std.specs.Prelude.{IsErrOf, IsTrue};
 ghost use Rattle.grouping_laws.specs.Problem.{Problem};
+ghost use Rattle.connected_sets.specs.Graphs.{graph_places, place_problem, IsGraph};
 ghost use Rattle.connected_laws.specs.Listing.{AreBelow, lists_of};
 ghost use Rattle.state_groups.specs.StateValue.{state_of};
 ghost use Rattle.connected_sets.specs.declared.stop.Stop.{Stop};
 ghost use Rattle.search_groups.specs.Alone.{alone};
 ghost use Rattle.search_groups.specs.PartLists.{IsPartList, IsListFor, ArePut, AreListsOf};
-ghost use Rattle.connected_sets.specs.Graphs.{graph_places, place_problem, IsGraph};
 
 use certificate_data::Language;
 use connected_sets::{CountyGraph, Stop};

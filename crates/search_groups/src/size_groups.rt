@@ -2,6 +2,7 @@
 
 ghost use Rattle.std.specs.Prelude.{◌≡◌, ℕ, ◌*◌, ◌≤◌, ◌<◌, true, List, length, IfOk, IsErrOf, IsTrue, ◌⊎◌, ◌↔◌};
 ghost use Rattle.grouping_laws.specs.Sets.{stands};
+ghost use Rattle.connected_sets.specs.Graphs.{graph_problem, graph_order, graph_places, place_problem, IsGraph};
 ghost use Rattle.connected_laws.specs.Listing.{AreBelow, lists_of};
 ghost use Rattle.certificate_data.specs.declared.language.Language.TheVariants.{Wide};
 ghost use Rattle.certificate_data.specs.RoundValue.{round_of};
@@ -13,7 +14,6 @@ ghost use Rattle.certificate_laws.specs.Groups.{AreGroupsOf};
 ghost use Rattle.connected_sets.specs.declared.stop.Stop.{Stop};
 ghost use Rattle.state_groups.specs.Placed.{state_at, codes_of_sets, IsPlaced};
 ghost use Rattle.search_groups.specs.PartLists.{ArePartGroups, AreNextGroups, AreListsOf};
-ghost use Rattle.connected_sets.specs.Graphs.{graph_problem, graph_order, graph_places, place_problem, IsGraph};
 
 use crate::part_lists::PartLists;
 use certificate_data::Round;
@@ -98,10 +98,10 @@ fn rest_groups<C: CountySet>(
 /// The groups of a size, in counties, that fit the state, each once, by their lists of places: what a search knows of
 /// the next size where no smaller group fits.
 ///
-/// `lists` are kept from call to call, for all calls with one
-/// order. Where each county of the rest may lie in a group of the size, a step is taken for each part that may have
-/// one. Where a list is made, of a part or of the state, steps are taken as by `groups_of`. `StepLimit` comes only
-/// where all steps are used, `Memory` only where a growth was refused.
+/// `lists` are kept from call to call, for all calls with one order. Where each county of the rest may lie in a group
+/// of the size, a step is taken for each part that may have one. Where a list is made, of a part or of the state, steps
+/// are taken as by `groups_of`. `StepLimit` comes only where all steps are used, `Memory` only where a growth was
+/// refused.
 pub fn groups_of_size<C: CountySet>(
     graph: &CountyGraph<C>,
     round: &Round,

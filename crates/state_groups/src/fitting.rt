@@ -4,10 +4,10 @@ ghost use Rattle.std.specs.Prelude.{◌≡◌, ℕ, true, ◌<◌, ◌≤◌, le
 ghost use Rattle.grouping_laws.specs.Sets.{Inside};
 ghost use Rattle.grouping_laws.specs.Problem.{Connected, people_of};
 ghost use Rattle.place_laws.specs.PlaceSets.{places_of};
+ghost use Rattle.connected_sets.specs.Graphs.{graph_places, place_problem, IsGraph};
 ghost use Rattle.certificate_laws.specs.State.{open_to};
 ghost use Rattle.state_groups.specs.StateValue.{state_of};
 ghost use Rattle.certificate_laws.specs.Fitting.{Fits};
-ghost use Rattle.connected_sets.specs.Graphs.{graph_places, place_problem, IsGraph};
 
 use crate::state::State;
 use crate::stuck::{asks_more, is_live};

@@ -3,11 +3,11 @@
 ghost use Rattle.std.specs.Prelude.{◌≡◌, ℕ, true, false, ◌<◌, ◌≤◌, MatchOption, IfOk, IsTrue, ◌↔◌, length};
 ghost use Rattle.grouping_laws.specs.Problem.{Connected, people_of};
 ghost use Rattle.place_laws.specs.PlaceSets.{places_of};
+ghost use Rattle.connected_sets.specs.Growths.{problem_in, places_in};
+ghost use Rattle.connected_sets.specs.Graphs.{IsGraph};
 ghost use Rattle.state_groups.specs.StateValue.{state_of};
 ghost use Rattle.certificate_laws.specs.Fitting.{Fits};
 ghost use Rattle.state_groups.specs.Keeping.{IsAsked};
-ghost use Rattle.connected_sets.specs.Graphs.{IsGraph};
-ghost use Rattle.connected_sets.specs.Growths.{problem_in, places_in};
 
 use crate::fitting::fits;
 use crate::passing::is_passed_over;

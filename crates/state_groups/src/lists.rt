@@ -2,6 +2,7 @@
 
 ghost use Rattle.std.specs.Prelude.{◌≡◌, ℕ, ◌+◌, true, false, ◌<◌, ◌≤◌, Bool, List, OnOk, IfOk, IsErrOf, length};
 ghost use Rattle.grouping_laws.specs.Places.{places_below};
+ghost use Rattle.connected_sets.specs.Graphs.{graph_places, place_problem, IsGraph};
 ghost use Rattle.connected_laws.specs.Growing.{only};
 ghost use Rattle.connected_laws.specs.Listing.{lists_of, AreBelow, IsListed, HasStepped, OneStepEach};
 ghost use Rattle.certificate_data.specs.Round.{Round};
@@ -11,7 +12,6 @@ ghost use Rattle.certificate_laws.specs.Groups.{IsSetAt, AreGroupsAt, IsSetWithi
 ghost use Rattle.state_groups.specs.Keeping.{Decides, others};
 ghost use Rattle.state_groups.specs.People.{AreTables};
 ghost use Rattle.connected_sets.specs.declared.stop.Stop.{Stop};
-ghost use Rattle.connected_sets.specs.Graphs.{graph_places, place_problem, IsGraph};
 
 use crate::fitting::open_places;
 use crate::kept_sets::most_populous;
@@ -71,13 +71,12 @@ fn search<C: CountySet>(
 /// The groups that fit the state, have the county at the place and have at most `limit` counties, each once, by
 /// size, and groups of one size by their lists of places: what the takes of a branch have to be.
 ///
-/// A step is taken for each connected set of open counties that
-/// is met, each with the place and at most `limit` counties. Of the open counties at most so many moves away from a
-/// set as may join it, some have to give it people that suit some number of seats; if none do, the search passes over
-/// the set. In a wide language it also passes over a set that leaves people of the rest that suit no number of seats.
-/// The same goes for a set that leaves a part behind that can't be filled. So there are at least as many steps as
-/// groups, and at most as many as such sets. `StepLimit` comes only where all steps are used, `Memory` only where a
-/// growth was refused; the steps that were taken stay taken.
+/// A step is taken for each connected set of open counties that is met, each with the place and at most `limit`
+/// counties. Of the open counties at most so many moves away from a set as may join it, some have to give it people
+/// that suit some number of seats; if none do, the search passes over the set. In a wide language it also passes over a
+/// set that leaves people of the rest that suit no number of seats. The same goes for a set that leaves a part behind
+/// that can't be filled. So there are at least as many steps as groups, and at most as many as such sets. `StepLimit`
+/// comes only where all steps are used, `Memory` only where a growth was refused; the steps that were taken stay taken.
 pub fn groups_at<C: CountySet>(
     graph: &CountyGraph<C>,
     language: Language,

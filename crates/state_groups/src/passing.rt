@@ -6,13 +6,13 @@ ghost use Rattle.grouping_laws.specs.Sets.{member};
 ghost use Rattle.grouping_laws.specs.Problem.{people_of};
 ghost use Rattle.place_laws.specs.PlaceSets.{places_of};
 ghost use Rattle.grouping_laws.specs.Places.{places_below};
+ghost use Rattle.connected_sets.specs.Growths.{problem_in, places_in};
+ghost use Rattle.connected_sets.specs.Graphs.{IsGraph};
 ghost use Rattle.connected_laws.specs.Growing.{IsGrowth, IsFront, IsExtension, AreKept};
 ghost use Rattle.state_groups.specs.StateValue.{state_of};
 ghost use Rattle.certificate_laws.specs.Fitting.{Fits};
 ghost use Rattle.state_groups.specs.Keeping.{Decides, IsAsked};
 ghost use Rattle.state_groups.specs.People.{AreByPeople, AreWindows, IsDivided, AreTables};
-ghost use Rattle.connected_sets.specs.Graphs.{IsGraph};
-ghost use Rattle.connected_sets.specs.Growths.{problem_in, places_in};
 
 use crate::people::first_people;
 use crate::reach::reached;

@@ -2,9 +2,9 @@
 
 ghost use Rattle.std.specs.Prelude.{◌≡◌, ℕ, ◌+◌, ◌||◌, true, List, ◌<◌, ◌≤◌, IfOk, length};
 ghost use Rattle.place_laws.specs.PlaceSets.{places_of};
-ghost use Rattle.connected_laws.specs.Growing.{IsGrowth, IsFront, IsExtension};
-ghost use Rattle.connected_sets.specs.Graphs.{graph_places, place_problem, IsGraph};
 ghost use Rattle.connected_sets.specs.Growths.{problem_in, places_in};
+ghost use Rattle.connected_sets.specs.Graphs.{graph_places, place_problem, IsGraph};
+ghost use Rattle.connected_laws.specs.Growing.{IsGrowth, IsFront, IsExtension};
 
 use connected_sets::{CountyGraph, Growth, GrowthInput};
 use place_sets::CountySet;

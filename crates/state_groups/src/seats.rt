@@ -5,10 +5,10 @@ ghost use Rattle.grouping_laws.specs.Problem.{Suits, people_of};
 ghost use Rattle.grouping_laws.specs.SeatWindow.{IsRun};
 ghost use Rattle.place_laws.specs.PlaceSets.{places_of};
 ghost use Rattle.county_problem.specs.OrderedValue.{problem_at};
+ghost use Rattle.connected_sets.specs.Graphs.{graph_places, place_problem, IsGraph};
 ghost use Rattle.state_groups.specs.StateValue.{state_of};
 ghost use Rattle.certificate_laws.specs.Leaves.{IsOffSeats};
 ghost use Rattle.state_groups.specs.Sums.{IsSums};
-ghost use Rattle.connected_sets.specs.Graphs.{graph_places, place_problem, IsGraph};
 
 use crate::state::State;
 use crate::sums::people_in;

@@ -5,13 +5,13 @@ ghost use Rattle.grouping_laws.specs.Sets.{member};
 ghost use Rattle.grouping_laws.specs.Parts.{IsPart};
 ghost use Rattle.place_laws.specs.PlaceSets.{places_of};
 ghost use Rattle.county_problem.specs.OrderedValue.{problem_at};
+ghost use Rattle.connected_sets.specs.Graphs.{graph_places, place_problem, IsGraph};
 ghost use Rattle.state_groups.specs.StateValue.{state_of};
 ghost use Rattle.certificate_laws.specs.Stuck.{CannotFill};
 ghost use Rattle.certificate_laws.specs.Fitting.{IsLive};
 ghost use Rattle.certificate_laws.specs.Leaves.{IsStuck};
 ghost use Rattle.state_groups.specs.Cut.{CutOff};
 ghost use Rattle.state_groups.specs.Stranding.{NoneFits, IsTooSmall, IsStranded, StrandedPart};
-ghost use Rattle.connected_sets.specs.Graphs.{graph_places, place_problem, IsGraph};
 
 use crate::state::State;
 use crate::sums::people_in;

@@ -4,6 +4,7 @@ ghost use Rattle.std.specs.Prelude.{◌≡◌, ℕ, ◌+◌, ◌-◌, ◌*◌, �
 ghost use Rattle.county_codes.specs.Limits.{most_counties};
 ghost use Rattle.grouping_laws.specs.Grouping.{counts};
 ghost use Rattle.county_problem.specs.ProblemValue.{problem_of};
+ghost use Rattle.connected_sets.specs.Graphs.{graph_problem, graph_order, graph_places, IsGraph};
 ghost use Rattle.certificate_data.specs.RoundValue.{round_of};
 ghost use Rattle.certificate_laws.specs.BoundLines.{room_at, allowance, IsFair};
 ghost use Rattle.certificate_data.specs.TreeValue.{allowance_of};
@@ -14,7 +15,6 @@ ghost use Rattle.state_judge.specs.LineStops.{StopsAt};
 ghost use Rattle.state_judge.specs.declared.fault.LineStop.{LineStop};
 ghost use Rattle.state_judge.specs.Weights.{IsUnfair};
 ghost use Rattle.state_judge.specs.Allowed.{AllowanceIsSpelled, IsAllowed};
-ghost use Rattle.connected_sets.specs.Graphs.{graph_problem, graph_order, graph_places, IsGraph};
 
 use crate::fault::{CheckFault, LineStop};
 use crate::judging::judge_weights;

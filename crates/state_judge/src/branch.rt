@@ -3,6 +3,7 @@
 ghost use Rattle.std.specs.Prelude.{◌≡◌, ℕ, ◌+◌, ◌*◌, ◌<◌, ◌≤◌, true, length, All, Contains, IfOk, IsErrOf, IsTrue};
 ghost use Rattle.std.specs.Prelude.{MatchOption, MatchResult, ◌↔◌};
 ghost use Rattle.county_problem.specs.OrderedValue.{code_at};
+ghost use Rattle.connected_sets.specs.Graphs.{graph_problem, graph_order, graph_places, IsGraph};
 ghost use Rattle.connected_laws.specs.Listing.{AreBelow};
 ghost use Rattle.certificate_data.specs.declared.language.Language.TheVariants.{Plain};
 ghost use Rattle.certificate_data.specs.RoundValue.{round_of};
@@ -14,7 +15,6 @@ ghost use Rattle.state_groups.specs.Placed.{state_at, codes_of_set, codes_of_set
 ghost use Rattle.state_judge.specs.CheckFaults.{NamesFault};
 ghost use Rattle.state_judge.specs.LineStops.{StopsAt};
 ghost use Rattle.state_judge.specs.declared.fault.LineStop.{LineStop};
-ghost use Rattle.connected_sets.specs.Graphs.{graph_problem, graph_order, graph_places, IsGraph};
 
 use crate::fault::{CheckFault, LineStop};
 use certificate_data::{Language, Round};

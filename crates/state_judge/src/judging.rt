@@ -3,6 +3,7 @@
 ghost use Rattle.std.specs.Prelude.{◌≡◌, ℕ, ◌+◌, ◌<◌, ◌≤◌, true, map, length, IfOk, IsErrOf, MatchResult};
 ghost use Rattle.grouping_laws.specs.Sets.{total};
 ghost use Rattle.county_problem.specs.ProblemValue.{problem_of};
+ghost use Rattle.connected_sets.specs.Graphs.{graph_problem, graph_order, graph_places, IsGraph};
 ghost use Rattle.certificate_laws.specs.Regions.{listed};
 ghost use Rattle.certificate_data.specs.RoundValue.{round_of};
 ghost use Rattle.certificate_laws.specs.State.{open_to};
@@ -15,7 +16,6 @@ ghost use Rattle.state_groups.specs.Placed.{state_at, IsPlaced};
 ghost use Rattle.state_judge.specs.LineStops.{StopsAt};
 ghost use Rattle.state_judge.specs.declared.fault.LineStop.{LineStop};
 ghost use Rattle.state_judge.specs.Weights.{weights_of, county_weight, IsUnfair};
-ghost use Rattle.connected_sets.specs.Graphs.{graph_problem, graph_order, graph_places, IsGraph};
 
 use crate::fault::{CheckFault, LineStop};
 use crate::weights::{are_known, is_spelled, weights_at};
