@@ -4,8 +4,7 @@ use Rattle.std.specs.Prelude.{None, Result, Ok, Err, ⊤}
 use Rattle.grouping_laws.specs.Problem.{Problem}
 use Rattle.grouping_laws.specs.Grouping.{Grouping, counts, sets_of}
 use Rattle.county_problem.specs.CountList.{count_at}
-use Rattle.county_problem.specs.OrderedValue.{problem_at}
-use Rattle.connected_sets.specs.Rows.{AreRows}
+use Rattle.connected_sets.specs.Graphs.{graph_order, IsGraph}
 use Rattle.certificate_data.specs.Round.{Round}
 use Rattle.certificate_data.specs.RoundValue.{target_of}
 use Rattle.certificate_laws.specs.State.{State, raise}
@@ -44,12 +43,10 @@ AreWanted None (Some list) = ⊥
 AreWanted (Some target) None = ⊥
 AreWanted (Some target) (Some list) = (i : ℕ) → count_at list.now i ≡ counts (sets_of target) i
 
--- the rows are those of the order, which is the round's, the sets have room for its places, and the counts are the
--- target's
+-- the county graph is by the round's order, and the counts are the target's
 pub record IsCheckInput {C : Type 0} (places : ℕ) (test : C → ℕ → Bool) (g : CheckInput C) : Type 0 where
-  pub fits : length g.ordered.now.order ≤ places
-  pub rows : AreRows C test (problem_at g.ordered.now) (length g.ordered.now.order) g.near.now
-  pub order : g.ordered.now.order ≡ g.round.now.order
+  pub graph : IsGraph test places g.graph.now
+  pub order : graph_order g.graph.now ≡ g.round.now.order
   pub small : g.round.now.limit ≤ most_counties
   pub wanted : AreWanted (target_of g.round.now.target) g.wanted
 

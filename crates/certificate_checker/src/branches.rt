@@ -1,14 +1,14 @@
 //! The judging of the lines of branches and of takes.
 
-ghost use Rattle.std.specs.Prelude.{◌≡◌, ℕ, ◌≤◌, ◌<◌, ◌∷◌, List, All, length, IfOk, MatchResult};
+ghost use Rattle.std.specs.Prelude.{◌≡◌, ◌≤◌, ◌<◌, ◌∷◌, List, All, IfOk, MatchResult};
 ghost use Rattle.county_codes.specs.Limits.{most_counties};
-ghost use Rattle.county_problem.specs.ProblemValue.{problem_of};
 ghost use Rattle.county_problem.specs.OrderedValue.{code_at};
 ghost use Rattle.certificate_data.specs.RoundValue.{round_of};
 ghost use Rattle.certificate_laws.specs.State.{close};
 ghost use Rattle.certificate_laws.specs.Proving.{limit_of};
 ghost use Rattle.checker_laws.specs.Branches.{IsNextTake};
 ghost use Rattle.state_groups.specs.Placed.{state_at, codes_of_sets, IsPlaced, IsClosable};
+ghost use Rattle.connected_sets.specs.Graphs.{graph_problem, graph_order, graph_places};
 ghost use Rattle.certificate_lines.specs.Courses.{Unread};
 ghost use Rattle.certificate_checker.specs.Feeding.{feed_at, CountsSteps, IsFed};
 ghost use Rattle.certificate_checker.specs.Judging.{IsCheckInput, AreTakesListed, IsBranchRefused, IsTakeStop};
@@ -18,8 +18,8 @@ use crate::forms::judged_at;
 use crate::input::CheckInput;
 use county_codes::CountyCode;
 use place_sets::CountySet;
-use state_groups::State;
-use state_judge::{Branching, closed_state, judge_branch, judge_take};
+use state_groups::{State, closed_state};
+use state_judge::{Branching, judge_branch, judge_take};
 
 /// Judges the line of a branch, which was read last: the groups that its takes have to be.
 pub(crate) fn listed_groups<C: CountySet, S>(
@@ -30,39 +30,37 @@ pub(crate) fn listed_groups<C: CountySet, S>(
     feed: &mut Feed<S>,
 ) -> Result<Branching<C>, Halt>
     requires input { IsCheckInput C.PLACES C.test input.now }
-    requires placed { IsPlaced (length input.now.ordered.now.order) C.test state.now }
+    requires placed { IsPlaced (graph_places input.now.graph.now) C.test state.now }
     ensures counts { CountsSteps feed.old feed.new }
     ensures fed { (course : Unread) → IsFed (feed_at course feed.old) result (feed_at course feed.new) }
     ensures same { feed.new.source ≡ feed.old.source }
-    ensures place { IfOk result (λ b. (b.place < length input.now.ordered.now.order)
-        × (code_at input.now.ordered.now.order b.place ≡ county)) }
+    ensures place { IfOk result (λ b. (b.place < graph_places input.now.graph.now)
+        × (code_at (graph_order input.now.graph.now) b.place ≡ county)) }
     ensures size { IfOk result (λ b. (b.limit ≡ limit_of (round_of input.now.round.now) limit)
         × (b.limit ≤ most_counties)) }
     ensures groups { IfOk result (λ b. All (IsClosable C.test state.now) b.groups.items) }
     ensures judged { (course : Unread) → MatchResult
         result
         (λ b. AreTakesListed
-        (problem_of input.now.ordered.now.problem)
+        (graph_problem input.now.graph.now)
         (round_of input.now.round.now)
-        (state_at input.now.ordered.now.order C.test state.now)
+        (state_at (graph_order input.now.graph.now) C.test state.now)
         county
         limit
-        (codes_of_sets input.now.ordered.now.order C.test b.groups.items)
+        (codes_of_sets (graph_order input.now.graph.now) C.test b.groups.items)
         (feed_at course feed.old)
         (feed_at course feed.new))
         (λ found. IsBranchRefused
-        (problem_of input.now.ordered.now.problem)
+        (graph_problem input.now.graph.now)
         (round_of input.now.round.now)
-        (state_at input.now.ordered.now.order C.test state.now)
+        (state_at (graph_order input.now.graph.now) C.test state.now)
         county
         limit
         (feed_at course feed.old)
         found) }
 {
     let judged = judge_branch(
-        input.alloc,
-        input.ordered,
-        input.near,
+        input.graph,
         input.round,
         state,
         county,
@@ -81,19 +79,24 @@ pub(crate) fn taken_state<C: CountySet>(
     line: u64,
 ) -> Result<State<C>, Halt>
     requires input { IsCheckInput C.PLACES C.test input.now }
-    requires placed { IsPlaced (length input.now.ordered.now.order) C.test state.now }
+    requires placed { IsPlaced (graph_places input.now.graph.now) C.test state.now }
     requires groups { All (IsClosable C.test state.now) left.now }
-    ensures placed { IfOk result (λ s. IsPlaced (length input.now.ordered.now.order) C.test s) }
+    ensures placed { IfOk result (λ s. IsPlaced (graph_places input.now.graph.now) C.test s) }
     ensures taken { MatchResult
         result
-        (λ s. IsNextTake (codes_of_sets input.now.ordered.now.order C.test left.now) codes.now
-        × (state_at input.now.ordered.now.order C.test s
-        ≡ close codes.now (state_at input.now.ordered.now.order C.test state.now)))
-        (λ found. IsTakeStop (codes_of_sets input.now.ordered.now.order C.test left.now) codes.now line found) }
+        (λ s. IsNextTake (codes_of_sets (graph_order input.now.graph.now) C.test left.now) codes.now
+        × (state_at (graph_order input.now.graph.now) C.test s
+        ≡ close codes.now (state_at (graph_order input.now.graph.now) C.test state.now)))
+        (λ found. IsTakeStop (codes_of_sets (graph_order input.now.graph.now) C.test left.now) codes.now line found) }
 {
-    match judge_take(input.ordered, left, codes) {
+    match judge_take(input.graph.ordered, left, codes) {
         Ok(()) => match left.split_first() {
-            Some((group, _)) => match closed_state(input.alloc, input.ordered, state, group) {
+            Some((group, _)) => match closed_state(
+                input.graph.alloc,
+                input.graph.ordered,
+                state,
+                group,
+            ) {
                 Ok(closed) => Ok(closed),
                 Err(_) => Err(Halt::Refused),
             },

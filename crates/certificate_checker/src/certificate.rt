@@ -1,6 +1,6 @@
 //! The judging of a whole certificate: its order, its limit, its target, and its tree.
 
-ghost use Rattle.std.specs.Prelude.{◌≡◌, ℕ, ◌≤◌, ◌<◌, ◌+◌, ◌∷◌, [], ◌++◌, List, length, nat_lt, IfOk, IfErr};
+ghost use Rattle.std.specs.Prelude.{◌≡◌, ◌≤◌, ◌<◌, ◌+◌, ◌∷◌, [], ◌++◌, List, length, nat_lt, IfOk};
 ghost use Rattle.std.specs.Prelude.{MatchResult};
 ghost use Rattle.std.specs.List.{list_any};
 ghost use Rattle.county_codes.specs.Limits.{most_counties};
@@ -33,11 +33,12 @@ use crate::rounds::read_round;
 use crate::tree::judge_tree;
 use certificate_data::Round;
 use certificate_lines::{ItemSource, MOST};
+use connected_sets::CountyGraph;
 use county_codes::{Group, Grouping, Window};
 use county_problem::{Counts, GroupingFault, OrderFault, Ordered, Problem, judge};
 use place_sets::CountySet;
-use state_groups::State;
-use state_judge::{CheckFault, first_state};
+use state_groups::{State, first_state};
+use state_judge::CheckFault;
 use std::alloc::Global;
 
 /// The line of the allowance: the second, or the head's where none is named.
@@ -166,11 +167,9 @@ pub(crate) fn judge_placed<C: CountySet, F, S: ItemSource<F>>(
         result
         b) }
 {
-    let near = neighbour_rows::<C>(alloc, ordered)?;
+    let graph = CountyGraph::<C>::build(alloc, ordered)?;
     let input = CheckInput {
-        alloc,
-        ordered,
-        near: &near,
+        graph: &graph,
         round,
         wanted,
     };

@@ -2,7 +2,6 @@
 
 ghost use Rattle.std.specs.Prelude.{◌≡◌, ℕ, ◌≤◌, false, List, None, length, IfOk};
 ghost use Rattle.grouping_laws.specs.Problem.{Problem as ProblemOf};
-ghost use Rattle.grouping_laws.specs.Grouping.{IsBest, IsImpossible};
 ghost use Rattle.county_problem.specs.ProblemValue.{problem_of};
 ghost use Rattle.certificate_lines.specs.Courses.{certificate_course};
 ghost use Rattle.certificate_checker.specs.Feeding.{FeedValue, Fed, stream_of, FeedsThrough};

@@ -1,6 +1,6 @@
 //! Each form of line, taken where a certificate must have it.
 
-ghost use Rattle.std.specs.Prelude.{◌≡◌, ◌≤◌, option_map};
+ghost use Rattle.std.specs.Prelude.{◌≤◌};
 ghost use Rattle.certificate_lines.specs.Items.{taken};
 ghost use Rattle.certificate_lines.specs.declared.item.Item.TheVariants as item;
 ghost use Rattle.certificate_checker.specs.Feeding.{stream_of, CountsSteps, TakesStep, IsFed, FeedsThrough, ForEach};

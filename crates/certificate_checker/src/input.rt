@@ -1,16 +1,16 @@
-//! What the lines of a tree are judged by: the problem, the round, and the counts of its target.
+//! What the lines of a tree are judged by: the county graph, the round, and the counts of its target.
 
 use certificate_data::Round;
-use county_problem::{Counts, Ordered};
-use std::alloc::Global;
+use connected_sets::CountyGraph;
+use county_problem::Counts;
 
-/// What the lines of a tree are judged by: the problem by places of the round's order, for each place the places
-/// adjacent to it, the round, and how many groups of each size its target has.
+/// What the lines of a tree are judged by: the county graph, the round, and the counts of its target.
 #[derive(Drop)]
-pub(crate) struct CheckInput<'a, 'b, C> {
-    pub(crate) alloc: Global,
-    pub(crate) ordered: &'a Ordered<'b>,
-    pub(crate) near: &'a [C],
-    pub(crate) round: &'a Round,
-    pub(crate) wanted: Option<&'a Counts>,
+pub(crate) struct CheckInput<'g, 'a, 'b, C> {
+    /// The county graph by the round's order.
+    pub(crate) graph: &'g CountyGraph<'a, 'b, C>,
+    /// The round.
+    pub(crate) round: &'g Round,
+    /// How many groups of each size the round's target has, if there is a target.
+    pub(crate) wanted: Option<&'g Counts>,
 }

@@ -2,7 +2,7 @@
 
 ghost use Rattle.std.specs.Prelude.{◌≡◌, ℕ, ◌≤◌, ◌++◌, List, length, IfOk};
 ghost use Rattle.county_codes.specs.Limits.{most_counties};
-ghost use Rattle.county_problem.specs.ProblemValue.{problem_of};
+ghost use Rattle.connected_sets.specs.Graphs.{graph_problem, graph_order, graph_places};
 ghost use Rattle.certificate_data.specs.RoundValue.{round_of};
 ghost use Rattle.certificate_data.specs.Tree.{Allowance as AllowanceValue, stuck, seats, bound};
 ghost use Rattle.certificate_lines.specs.declared.item.Item.{Item as ItemValue};
@@ -39,12 +39,12 @@ pub(crate) fn judge_stuck_leaf<C: CountySet>(
     line: u64,
 ) -> Result<(), Halt>
     requires input { IsCheckInput C.PLACES C.test input.now }
-    requires placed { IsPlaced (length input.now.ordered.now.order) C.test state.now }
+    requires placed { IsPlaced (graph_places input.now.graph.now) C.test state.now }
     ensures { (feed : FeedValue)
         → feed.line ≡ line
-        → IsLeafJudged (problem_of input.now.ordered.now.problem) (round_of input.now.round.now) (state_at input.now.ordered.now.order C.test state.now) (stuck county) feed.course.items feed result feed }
+        → IsLeafJudged (graph_problem input.now.graph.now) (round_of input.now.round.now) (state_at (graph_order input.now.graph.now) C.test state.now) (stuck county) feed.course.items feed result feed }
 {
-    let fault = judge_stuck(input.alloc, input.ordered, input.near, state, county)?;
+    let fault = judge_stuck(input.graph, state, county)?;
     found_at(fault, line)
 }
 
@@ -55,12 +55,12 @@ pub(crate) fn judge_seats_leaf<C: CountySet>(
     line: u64,
 ) -> Result<(), Halt>
     requires input { IsCheckInput C.PLACES C.test input.now }
-    requires placed { IsPlaced (length input.now.ordered.now.order) C.test state.now }
+    requires placed { IsPlaced (graph_places input.now.graph.now) C.test state.now }
     ensures { (feed : FeedValue)
         → feed.line ≡ line
-        → IsLeafJudged (problem_of input.now.ordered.now.problem) (round_of input.now.round.now) (state_at input.now.ordered.now.order C.test state.now) seats feed.course.items feed result feed }
+        → IsLeafJudged (graph_problem input.now.graph.now) (round_of input.now.round.now) (state_at (graph_order input.now.graph.now) C.test state.now) seats feed.course.items feed result feed }
 {
-    let fault = judge_seats(input.alloc, input.ordered, input.near, state)?;
+    let fault = judge_seats(input.graph, state)?;
     found_at(fault, line)
 }
 
@@ -88,7 +88,7 @@ fn judge_line<C: CountySet, F, S: ItemSource<F>>(
     from: &mut F,
 ) -> Result<Allowed, Halt>
     requires input { IsCheckInput C.PLACES C.test input.now }
-    requires placed { IsPlaced (length input.now.ordered.now.order) C.test state.now }
+    requires placed { IsPlaced (graph_places input.now.graph.now) C.test state.now }
     requires counted { feed.old.line ≤ feed.old.steps.used }
     requires size { 1 ≤ size }
     requires used { used ≤ most_counties }
@@ -100,9 +100,9 @@ fn judge_line<C: CountySet, F, S: ItemSource<F>>(
         → AllowancesAreSpelled lines
         → a.course.items ≡ line_items lines ++ rest
         → IsLineJudged
-        (problem_of input.now.ordered.now.problem)
+        (graph_problem input.now.graph.now)
         (round_of input.now.round.now)
-        (state_at input.now.ordered.now.order C.test state.now)
+        (state_at (graph_order input.now.graph.now) C.test state.now)
         counts
         size
         used
@@ -114,9 +114,7 @@ fn judge_line<C: CountySet, F, S: ItemSource<F>>(
 {
     let line = next_allowance(feed, from)?;
     let judged = judge_allowance(
-        input.alloc,
-        input.ordered,
-        input.near,
+        input.graph,
         input.round,
         state,
         size,
@@ -137,7 +135,7 @@ pub(crate) fn judge_bound_leaf<C: CountySet, F, S: ItemSource<F>>(
     from: &mut F,
 ) -> Result<(), Halt>
     requires input { IsCheckInput C.PLACES C.test input.now }
-    requires placed { IsPlaced (length input.now.ordered.now.order) C.test state.now }
+    requires placed { IsPlaced (graph_places input.now.graph.now) C.test state.now }
     requires counted { feed.old.line ≤ feed.old.steps.used }
     ensures counts { CountsSteps feed.old feed.new }
     ensures fed { FeedsThrough (stream_of S.left S.given feed.old from.old) (stream_of S.left S.given feed.new from.new) (λ a b. IsFed a result b) }
@@ -146,9 +144,9 @@ pub(crate) fn judge_bound_leaf<C: CountySet, F, S: ItemSource<F>>(
         → length lines ≡ count
         → a.course.items ≡ line_items lines ++ rest
         → IsLeafJudged
-        (problem_of input.now.ordered.now.problem)
+        (graph_problem input.now.graph.now)
         (round_of input.now.round.now)
-        (state_at input.now.ordered.now.order C.test state.now)
+        (state_at (graph_order input.now.graph.now) C.test state.now)
         (bound lines)
         rest
         a

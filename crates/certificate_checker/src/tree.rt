@@ -1,7 +1,7 @@
 //! The judging of a tree, line by line and from state to state.
 
-ghost use Rattle.std.specs.Prelude.{◌≡◌, ℕ, ◌≤◌, ◌∷◌, ◌++◌, List, All, length};
-ghost use Rattle.county_problem.specs.ProblemValue.{problem_of};
+ghost use Rattle.std.specs.Prelude.{◌≡◌, ◌≤◌, ◌∷◌, ◌++◌, List, All};
+ghost use Rattle.connected_sets.specs.Graphs.{graph_problem, graph_order, graph_places};
 ghost use Rattle.certificate_data.specs.RoundValue.{round_of};
 ghost use Rattle.certificate_data.specs.Tree.{Tree, Takes};
 ghost use Rattle.certificate_text.specs.Trees.{items_of_tree};
@@ -20,8 +20,8 @@ use crate::input::CheckInput;
 use crate::leaves::{judge_bound_leaf, judge_seats_leaf, judge_stuck_leaf};
 use certificate_lines::{ItemSource, Opening};
 use place_sets::CountySet;
-use state_groups::State;
-use state_judge::{CheckFault, raise_place};
+use state_groups::{State, raise_place};
+use state_judge::CheckFault;
 
 /// Judges the takes of a branch, up to its mark, against these groups.
 #[cycle(tree_judging)]
@@ -33,7 +33,7 @@ fn judge_takes<C: CountySet, F, S: ItemSource<F>>(
     from: &mut F,
 ) -> Result<(), Halt>
     requires input { IsCheckInput C.PLACES C.test input.now }
-    requires placed { IsPlaced (length input.now.ordered.now.order) C.test state.now }
+    requires placed { IsPlaced (graph_places input.now.graph.now) C.test state.now }
     requires groups { All (IsClosable C.test state.now) groups.now }
     requires counted { feed.old.line ≤ feed.old.steps.used }
     ensures counts { CountsSteps feed.old feed.new }
@@ -42,9 +42,9 @@ fn judge_takes<C: CountySet, F, S: ItemSource<F>>(
         → AreReadable input.now.round.now.language takes
         → a.course.items ≡ items_to_mark takes ++ rest
         → IsJudged
-        (problem_of input.now.ordered.now.problem)
+        (graph_problem input.now.graph.now)
         (round_of input.now.round.now)
-        (some_takes takes (state_at input.now.ordered.now.order C.test state.now) (codes_of_sets input.now.ordered.now.order C.test groups.now) ∷ more)
+        (some_takes takes (state_at (graph_order input.now.graph.now) C.test state.now) (codes_of_sets (graph_order input.now.graph.now) C.test groups.now) ∷ more)
         more
         rest
         a
@@ -82,7 +82,7 @@ pub(crate) fn judge_tree<C: CountySet, F, S: ItemSource<F>>(
     from: &mut F,
 ) -> Result<(), Halt>
     requires input { IsCheckInput C.PLACES C.test input.now }
-    requires placed { IsPlaced (length input.now.ordered.now.order) C.test state.old }
+    requires placed { IsPlaced (graph_places input.now.graph.now) C.test state.old }
     requires counted { feed.old.line ≤ feed.old.steps.used }
     ensures counts { CountsSteps feed.old feed.new }
     ensures fed { FeedsThrough (stream_of S.left S.given feed.old from.old) (stream_of S.left S.given feed.new from.new) (λ a b. IsFed a result b) }
@@ -90,9 +90,9 @@ pub(crate) fn judge_tree<C: CountySet, F, S: ItemSource<F>>(
         → IsReadable input.now.round.now.language tree
         → a.course.items ≡ items_of_tree tree ++ rest
         → IsJudged
-        (problem_of input.now.ordered.now.problem)
+        (graph_problem input.now.graph.now)
         (round_of input.now.round.now)
-        (a_tree tree (state_at input.now.ordered.now.order C.test state.old) ∷ more)
+        (a_tree tree (state_at (graph_order input.now.graph.now) C.test state.old) ∷ more)
         more
         rest
         a
@@ -113,7 +113,7 @@ pub(crate) fn judge_tree<C: CountySet, F, S: ItemSource<F>>(
                         from,
                     ) {
                         Ok(()) => raise_place(
-                            input.ordered,
+                            input.graph.ordered,
                             state,
                             branching.place,
                             branching.limit,

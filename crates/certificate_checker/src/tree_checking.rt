@@ -24,8 +24,8 @@ use certificate_lines::{Items, TextFault};
 use certificate_text::tree_lines;
 use county_problem::{Counts, Ordered, Problem, Steps};
 use place_sets::CountySet;
-use state_groups::State;
-use state_judge::{CheckFault, copied_state};
+use state_groups::{State, copied_state};
+use state_judge::CheckFault;
 use std::alloc::{AllocError, Global};
 
 /// What is said of a tree whose lines have no fault. The stops that a fault of the text gives never come here.

@@ -11,6 +11,6 @@ returns-clause-groups g c = kept_ok _ (λ b. All (IsClosable g.C.CountySet.test 
 
 pub returns-clause-judged : goal.returns-clause-judged
 returns-clause-judged g c course =
-    branch_judged _ (λ b. codes_of_sets c.args.input.now.ordered.now.order g.C.CountySet.test b.groups.items) (problem_of c.args.input.now.ordered.now.problem) (round_of c.args.input.now.round.now)
-    (state_at c.args.input.now.ordered.now.order g.C.CountySet.test c.args.state.now) c.args.county c.args.limit c.args.input.now.ordered.now.order (feed_at course c.args.feed.now) _ _ c.judge_branch-judged.result c.judged_at.result
+    branch_judged _ (λ b. codes_of_sets c.args.input.now.graph.now.ordered.now.order g.C.CountySet.test b.groups.items) (problem_of c.args.input.now.graph.now.ordered.now.problem) (round_of c.args.input.now.round.now)
+    (state_at c.args.input.now.graph.now.ordered.now.order g.C.CountySet.test c.args.state.now) c.args.county c.args.limit c.args.input.now.graph.now.ordered.now.order (feed_at course c.args.feed.now) _ _ c.judge_branch-judged.result c.judged_at.result
     c.requires.input.order c.judge_branch-judged.ensures.branch c.judge_branch-judged.ensures.steps c.judge_branch-judged.ensures.stopped c.judged_at.ensures

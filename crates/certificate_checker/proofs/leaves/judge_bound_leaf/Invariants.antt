@@ -22,5 +22,5 @@ invariant-judging g l = record {
       → length lines ≡ l.count
       → a.course.items ≡ line_items lines ++ rest
       → target_of l.input.round.now.target ≡ Some target
-      → LinesLeft (problem_of l.input.ordered.now.problem) (round_of l.input.round.now) (state_at l.input.ordered.now.order g.C.CountySet.test l.state) target a b lines rest l.before l.used);
+      → LinesLeft (problem_of l.input.graph.now.ordered.now.problem) (round_of l.input.round.now) (state_at l.input.graph.now.ordered.now.order g.C.CountySet.test l.state) target a b lines rest l.before l.used);
 }

@@ -29,7 +29,7 @@ returns-clause-small g c =
 
 pub returns-clause-judged : goal.returns-clause-judged
 returns-clause-judged g c all sees counts lines rest e spelled items =
-    line_judged (problem_of c.args.input.now.ordered.now.problem) (round_of c.args.input.now.round.now) (state_at c.args.input.now.ordered.now.order g.C.CountySet.test c.args.state.now)
+    line_judged (problem_of c.args.input.now.graph.now.ordered.now.problem) (round_of c.args.input.now.round.now) (state_at c.args.input.now.graph.now.ordered.now.order g.C.CountySet.test c.args.state.now)
     counts c.args.size c.args.used lines rest
     (fed_by (stream_of g.S.ItemSource.left g.S.ItemSource.given c.args.feed.now c.args.from.now) all) (fed_by (stream_of g.S.ItemSource.left g.S.ItemSource.given c.next_allowance.new.feed c.next_allowance.new.from) all) _ c.in_ok-line.line c.judge_allowance-judged.result c.judged_at.result
     (c.in_ok-line.ensures.took all sees) (c.in_ok-line.ensures.fed all sees).1.limit items refl refl spelled (c.judge_allowance-judged.ensures.line counts e) c.judge_allowance-judged.ensures.steps c.judge_allowance-judged.ensures.stopped c.judged_at.ensures

@@ -28,12 +28,12 @@ invariant-judge_takes-taking g l = record {
       × AreReadable l.input.round.now.language others
       × (b.course.items ≡ items_to_mark others ++ rest)
       × Reaches
-      (problem_of l.input.ordered.now.problem)
+      (problem_of l.input.graph.now.ordered.now.problem)
       (round_of l.input.round.now)
       a
       b
-      (some_takes takes (state_at l.input.ordered.now.order g.C.CountySet.test l.state) (codes_of_sets l.input.ordered.now.order g.C.CountySet.test l.fn.groups) ∷ more)
-      (some_takes others (state_at l.input.ordered.now.order g.C.CountySet.test l.state) (codes_of_sets l.input.ordered.now.order g.C.CountySet.test l.left) ∷ more));
+      (some_takes takes (state_at l.input.graph.now.ordered.now.order g.C.CountySet.test l.state) (codes_of_sets l.input.graph.now.ordered.now.order g.C.CountySet.test l.fn.groups) ∷ more)
+      (some_takes others (state_at l.input.graph.now.ordered.now.order g.C.CountySet.test l.state) (codes_of_sets l.input.graph.now.ordered.now.order g.C.CountySet.test l.left) ∷ more));
 }
 
 abbrev pub decreases-judge_takes-taking : goal.decreases-judge_takes-taking
@@ -43,7 +43,7 @@ abbrev pub invariant-judge_tree-branching : goal.invariant-judge_tree-branching
 invariant-judge_tree-branching g l = record {
   counts : CountsSteps l.fn.feed l.feed;
   fed : FeedsThrough (stream_of g.S.ItemSource.left g.S.ItemSource.given l.fn.feed l.fn.from) (stream_of g.S.ItemSource.left g.S.ItemSource.given l.feed l.from) Fed;
-  placed : IsPlaced (length l.input.ordered.now.order) g.C.CountySet.test l.state;
+  placed : IsPlaced (length l.input.graph.now.ordered.now.order) g.C.CountySet.test l.state;
   left : ForEach (stream_of g.S.ItemSource.left g.S.ItemSource.given l.fn.feed l.fn.from) (stream_of g.S.ItemSource.left g.S.ItemSource.given l.feed l.from) (λ a b. (tree : Tree) (rest : List ItemValue) (more : List Open)
       → IsReadable l.input.round.now.language tree
       → a.course.items ≡ items_of_tree tree ++ rest
@@ -51,12 +51,12 @@ invariant-judge_tree-branching g l = record {
       × IsReadable l.input.round.now.language raised
       × (b.course.items ≡ items_of_tree raised ++ rest)
       × Reaches
-      (problem_of l.input.ordered.now.problem)
+      (problem_of l.input.graph.now.ordered.now.problem)
       (round_of l.input.round.now)
       a
       b
-      (a_tree tree (state_at l.input.ordered.now.order g.C.CountySet.test l.fn.state) ∷ more)
-      (a_tree raised (state_at l.input.ordered.now.order g.C.CountySet.test l.state) ∷ more));
+      (a_tree tree (state_at l.input.graph.now.ordered.now.order g.C.CountySet.test l.fn.state) ∷ more)
+      (a_tree raised (state_at l.input.graph.now.ordered.now.order g.C.CountySet.test l.state) ∷ more));
 }
 
 abbrev pub decreases-judge_tree-branching : goal.decreases-judge_tree-branching
