@@ -4,8 +4,7 @@ use certificate_data::Round;
 use connected_sets::CountyGraph;
 use county_problem::Counts;
 
-/// What the lines of a tree are judged by: the county graph by the round's order, the round, and how many groups of
-/// each size its target has.
+/// What the lines of a tree are judged by: the county graph, the round, and the counts of its target.
 #[derive(Drop)]
 pub(crate) struct CheckInput<'g, 'a, 'b, C> {
     /// The county graph by the round's order.

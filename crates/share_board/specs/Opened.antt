@@ -1,10 +1,9 @@
 -- The branches above the pieces with which a round begins, and the states at which these pieces stand.
-use Rattle.std.specs.Prelude.{ℕ, ◌+◌, ◌*◌, ◌≡◌, ◌≢◌, ◌≤◌, ◌<◌, Bool, true, List, length, All, ⊤}
+use Rattle.std.specs.Prelude.{ℕ, ◌+◌, ◌*◌, ◌≡◌, ◌≢◌, ◌≤◌, ◌<◌, Bool, true, List, All, ⊤}
 use Rattle.county_codes.specs.Limits.{most_counties}
 use Rattle.grouping_laws.specs.Problem.{Problem}
-use Rattle.county_problem.specs.ProblemValue.{problem_of}
-use Rattle.county_problem.specs.OrderedValue.{problem_at, code_at}
-use Rattle.connected_sets.specs.Rows.{AreRows}
+use Rattle.county_problem.specs.OrderedValue.{code_at}
+use Rattle.connected_sets.specs.Graphs.{graph_problem, graph_order, graph_places, IsGraph}
 use Rattle.certificate_data.specs.Round.{Round}
 use Rattle.certificate_data.specs.RoundValue.{round_of}
 use Rattle.certificate_laws.specs.State.{State, empty_state, open_to}
@@ -65,19 +64,18 @@ StatesAreKept order test states news =
 
 -- what the opening of a round goes by, and a state of it
 abbrev pub board_problem : {C : Type 0} → OpeningInput C → Problem
-board_problem g = problem_of g.ordered.now.problem
+board_problem g = graph_problem g.graph.now
 
 abbrev pub board_round : {C : Type 0} → OpeningInput C → Round
 board_round g = round_of g.round.now
 
 abbrev pub board_state : {C : Type 0} → OpeningInput C → (C → ℕ → Bool) → StateHeld C → State
-board_state g test s = state_at g.ordered.now.order test s
+board_state g test s = state_at (graph_order g.graph.now) test s
 
--- the rows are those of the order, which is the round's, and the sets have room for its places
+-- the county graph is by the round's order
 pub record IsOpeningInput {C : Type 0} (places : ℕ) (test : C → ℕ → Bool) (g : OpeningInput C) : Type 0 where
-  pub fits : length g.ordered.now.order ≤ places
-  pub rows : AreRows C test (problem_at g.ordered.now) (length g.ordered.now.order) g.near.now
-  pub order : g.ordered.now.order ≡ g.round.now.order
+  pub graph : IsGraph test places g.graph.now
+  pub order : graph_order g.graph.now ≡ g.round.now.order
   pub small : g.round.now.limit ≤ most_counties
 
 -- no county is open, so that a piece stands here
@@ -87,9 +85,9 @@ NoneIsOpen round s = (c : ℕ) → open_to s round.limit c ≢ true
 -- the branch of a plain round at a state
 pub record IsBranching {C : Type 0} (test : C → ℕ → Bool) (g : OpeningInput C) (state : StateHeld C)
     (branching : Branching C) : Type 0 where
-  pub place : branching.place < length g.ordered.now.order
-  pub can : CanBranch (board_round g) (board_state g test state) (code_at g.ordered.now.order branching.place) g.round.now.limit
-  pub groups : AreGroupsAt (board_problem g) (board_round g) (board_state g test state) (code_at g.ordered.now.order branching.place) g.round.now.limit (codes_of_sets g.ordered.now.order test branching.groups.items)
+  pub place : branching.place < graph_places g.graph.now
+  pub can : CanBranch (board_round g) (board_state g test state) (code_at (graph_order g.graph.now) branching.place) g.round.now.limit
+  pub groups : AreGroupsAt (board_problem g) (board_round g) (board_state g test state) (code_at (graph_order g.graph.now) branching.place) g.round.now.limit (codes_of_sets (graph_order g.graph.now) test branching.groups.items)
   pub closable : All (IsClosable test state) branching.groups.items
 
 -- the share of a branch is below the cost of a line

@@ -1,9 +1,10 @@
 //! How a round begins: the branches above its pieces, and the states at which these stand.
 
-ghost use Rattle.std.specs.Prelude.{◌≡◌, ℕ, ◌-◌, ◌≤◌, All, length, IfOk, IfErr};
+ghost use Rattle.std.specs.Prelude.{◌≡◌, ◌-◌, ◌≤◌, All, length, IfOk, IfErr};
 ghost use Rattle.county_codes.specs.Limits.{most_counties};
 ghost use Rattle.certificate_data.specs.TreeValue.{tree_of, list_of_takes};
 ghost use Rattle.county_problem.specs.ProblemValue.{problem_of};
+ghost use Rattle.connected_sets.specs.Graphs.{graph_order, graph_places};
 ghost use Rattle.state_groups.specs.Placed.{codes_of_sets, IsPlaced, IsClosable};
 ghost use Rattle.certificate_data.specs.declared.language.Language.TheVariants.{Plain};
 ghost use Rattle.certificate_data.specs.RoundValue.{round_of};
@@ -19,10 +20,11 @@ use crate::piece::Fate;
 use crate::steps::{branched, next_branch, place_piece, put_take, share_of};
 use crate::stop::OpeningStop;
 use certificate_data::{Round, Take, Tree};
+use connected_sets::CountyGraph;
 use county_problem::Ordered;
 use place_sets::CountySet;
-use state_groups::State;
-use state_judge::{Branching, closed_state, first_state, raise_place};
+use state_groups::{State, closed_state, first_state, raise_place};
+use state_judge::Branching;
 use std::alloc::Global;
 
 /// What a round begins with: the branches above its pieces, which all wait, and the states at which the pieces stand.
@@ -44,21 +46,21 @@ fn open_takes<C: CountySet>(
 ) -> Result<Vec<Take>, OpeningStop>
     requires input { IsOpeningInput C.PLACES C.test input.now }
     requires plain { input.now.round.now.language ≡ Plain }
-    requires placed { IsPlaced (length input.now.ordered.now.order) C.test state.now }
+    requires placed { IsPlaced (graph_places input.now.graph.now) C.test state.now }
     requires groups { All (IsClosable C.test state.now) groups.now }
     requires few { length states.old.items ≤ most_opening }
     ensures opened { IfOk
         result
-        (λ takes. AreOpened C.test (board_problem input.now) (board_round input.now) depth (board_state input.now C.test state.now) (codes_of_sets input.now.ordered.now.order C.test groups.now) (list_of_takes takes.items) (length states.old.items) (length states.new.items) states.new.items) }
+        (λ takes. AreOpened C.test (board_problem input.now) (board_round input.now) depth (board_state input.now C.test state.now) (codes_of_sets (graph_order input.now.graph.now) C.test groups.now) (list_of_takes takes.items) (length states.old.items) (length states.new.items) states.new.items) }
     ensures kept { IfOk result (λ _. StatesAreKept input.now.round.now.order C.test states.old.items states.new.items) }
     ensures few { IfOk result (λ _. length states.new.items ≤ most_opening) }
     ensures stopped { IfErr
         result
-        (AreHalted (board_problem input.now) (board_round input.now) input.now.share depth (board_state input.now C.test state.now) (codes_of_sets input.now.ordered.now.order C.test groups.now) (length states.old.items)) }
+        (AreHalted (board_problem input.now) (board_round input.now) input.now.share depth (board_state input.now C.test state.now) (codes_of_sets (graph_order input.now.graph.now) C.test groups.now) (length states.old.items)) }
 {
-    let mut takes = Vec::new(input.alloc);
+    let mut takes = Vec::new(input.graph.alloc);
     'taking: for group in groups {
-        let closed = closed_state(input.alloc, input.ordered, state, group)?;
+        let closed = closed_state(input.graph.alloc, input.graph.ordered, state, group)?;
         let tree = match open_tree(input, depth, closed, states) {
             Ok(tree) => tree,
             Err(stop) => return Err(stop),
@@ -80,7 +82,7 @@ fn open_branch<C: CountySet>(
     requires input { IsOpeningInput C.PLACES C.test input.now }
     requires plain { input.now.round.now.language ≡ Plain }
     requires some { 1 ≤ depth }
-    requires placed { IsPlaced (length input.now.ordered.now.order) C.test state }
+    requires placed { IsPlaced (graph_places input.now.graph.now) C.test state }
     requires branching { IsBranching C.test input.now state branching.now }
     requires few { length states.old.items ≤ most_opening }
     ensures opened { IfOk
@@ -98,7 +100,7 @@ fn open_branch<C: CountySet>(
     };
     let mut state = state;
     raise_place(
-        input.ordered,
+        input.graph.ordered,
         &mut state,
         branching.place,
         input.round.limit,
@@ -123,7 +125,7 @@ fn open_tree<C: CountySet>(
 ) -> Result<Tree, OpeningStop>
     requires input { IsOpeningInput C.PLACES C.test input.now }
     requires plain { 1 ≤ depth → input.now.round.now.language ≡ Plain }
-    requires placed { IsPlaced (length input.now.ordered.now.order) C.test state }
+    requires placed { IsPlaced (graph_places input.now.graph.now) C.test state }
     requires few { length states.old.items ≤ most_opening }
     ensures opened { IfOk
         result
@@ -170,12 +172,10 @@ pub(crate) fn opened<C: CountySet>(
     ensures wait { IfOk result (λ opening. AllWait opening.fates.items 0 (length opening.states.items)) }
     ensures stopped { IfErr result (IsOpeningStop (problem_of ordered.now.problem) depth budget (round_of round.now)) }
 {
-    let near = neighbour_rows(alloc, ordered)?;
+    let graph = CountyGraph::build(alloc, ordered)?;
     let state = first_state(alloc, ordered)?;
     let input = OpeningInput {
-        alloc,
-        ordered,
-        near: &near,
+        graph: &graph,
         round,
         share: share_of(budget, depth),
     };

@@ -5,6 +5,7 @@ ghost use Rattle.std.specs.Prelude.{IsErrOf, MatchOption};
 ghost use Rattle.certificate_data.specs.TreeValue.{tree_of, list_of_takes};
 ghost use Rattle.certificate_data.specs.declared.tree.Take.{roll-Take};
 ghost use Rattle.connected_sets.specs.declared.stop.Stop.{Stop};
+ghost use Rattle.connected_sets.specs.Graphs.{graph_order, graph_places};
 ghost use Rattle.state_groups.specs.Placed.{codes_of_set, IsPlaced};
 ghost use Rattle.county_problem.specs.OrderedValue.{code_at};
 ghost use Rattle.certificate_data.specs.declared.language.Language.TheVariants.{Plain};
@@ -57,7 +58,7 @@ pub(crate) fn place_piece<C: CountySet>(
     states: &mut Vec<State<C>>,
 ) -> Result<Tree, OpeningStop>
     requires input { IsOpeningInput C.PLACES C.test input.now }
-    requires placed { IsPlaced (length input.now.ordered.now.order) C.test state }
+    requires placed { IsPlaced (graph_places input.now.graph.now) C.test state }
     requires ends { (depth ≡ 0) ⊎ NoneIsOpen (board_round input.now) (board_state input.now C.test state) }
     ensures opened { IfOk
         result
@@ -72,7 +73,7 @@ pub(crate) fn place_piece<C: CountySet>(
         return Err(OpeningStop::TooManyPieces);
     }
     keep_state(state, states)?;
-    Ok(one_place(input.alloc))
+    Ok(one_place(input.graph.alloc))
 }
 
 /// The branch of a plain round at the state, or none where no county is open.
@@ -88,15 +89,14 @@ pub(crate) fn next_branch<C: CountySet>(
 ) -> Result<Option<Branching<C>>, Stop>
     requires input { IsOpeningInput C.PLACES C.test input.now }
     requires plain { input.now.round.now.language ≡ Plain }
-    requires placed { IsPlaced (length input.now.ordered.now.order) C.test state.now }
+    requires placed { IsPlaced (graph_places input.now.graph.now) C.test state.now }
     ensures branch { IfOk
         result
         (λ found. MatchOption found (NoneIsOpen (board_round input.now) (board_state input.now C.test state.now)) (IsBranching C.test input.now state.now)) }
     ensures stopped { IsErrOf result Stop.StepLimit
         → IsBelowLine (board_problem input.now) (board_round input.now) input.now.share }
 {
-    let _places = input.ordered.places();
-    let Ok(open) = open_places(input.alloc, state, input.round.limit) else {
+    let Ok(open) = open_places(input.graph.alloc, state, input.round.limit) else {
         return Err(Stop::Memory);
     };
     let Some(first) = open.next(0) else {
@@ -104,12 +104,10 @@ pub(crate) fn next_branch<C: CountySet>(
     };
     let mut steps = Steps::new(input.share);
     match judge_branch(
-        input.alloc,
-        input.ordered,
-        input.near,
+        input.graph,
         input.round,
         state,
-        input.ordered.code(first),
+        input.graph.ordered.code(first),
         None,
         &mut steps,
     ) {
@@ -126,12 +124,12 @@ pub(crate) fn put_take<C: CountySet>(
     tree: Tree,
     takes: &mut Vec<Take>,
 ) -> Result<(), AllocError>
-    requires fits { length input.now.ordered.now.order ≤ C.PLACES }
+    requires fits { graph_places input.now.graph.now ≤ C.PLACES }
     ensures { OnOk
         result
-        (takes.new.items ≡ takes.old.items ++ roll-Take (record { codes = codes_of_set input.now.ordered.now.order C.test group.now; tree = tree }) ∷ []) }
+        (takes.new.items ≡ takes.old.items ++ roll-Take (record { codes = codes_of_set (graph_order input.now.graph.now) C.test group.now; tree = tree }) ∷ []) }
 {
-    let codes = input.ordered.codes_of(input.alloc, group)?;
+    let codes = input.graph.ordered.codes_of(input.graph.alloc, group)?;
     takes.push(Take { codes, tree })?;
     Ok(())
 }
@@ -143,13 +141,13 @@ pub(crate) fn branched<C: CountySet>(
     takes: Vec<Take>,
     raised: Tree,
 ) -> Result<Tree, AllocError>
-    requires place { place < length input.now.ordered.now.order }
+    requires place { place < graph_places input.now.graph.now }
     ensures { IfOk result (λ tree. tree_of tree
-        ≡ branch (code_at input.now.ordered.now.order place) None (list_of_takes takes.items) (tree_of raised)) }
+        ≡ branch (code_at (graph_order input.now.graph.now) place) None (list_of_takes takes.items) (tree_of raised)) }
 {
-    let mut branches = Vec::new(input.alloc);
+    let mut branches = Vec::new(input.graph.alloc);
     branches.push(Branch {
-        county: input.ordered.code(place),
+        county: input.graph.ordered.code(place),
         limit: None,
         takes,
     })?;

@@ -1,4 +1,4 @@
-use Rattle.std.proofs.Common.{ℕ, ◌<◌, true, refl, sym, subst, length, IfOk}
+use Rattle.std.proofs.Common.{◌<◌, true, refl, sym, subst, length, IfOk}
 use Rattle.std.proofs.lemmas.Result.{IfOk-from_err}
 use Rattle.grouping_laws.specs.GroupsFrom.{AreGroupsFrom}
 use Rattle.county_problem.specs.ProblemValue.{problem_of}

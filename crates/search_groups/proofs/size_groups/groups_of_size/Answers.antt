@@ -1,13 +1,12 @@
-use Rattle.std.proofs.Common.{◌≡◌, length, refl, ◌∙◌, subst}
+use Rattle.std.proofs.Common.{length, refl, ◌∙◌, subst}
 use Rattle.std.proofs.lemmas.Result.{IfOk-weaker}
-use Rattle.grouping_laws.specs.Places.{places_below, codes_at}
+use Rattle.grouping_laws.specs.Places.{codes_at}
 use Rattle.grouping_laws.proofs.PlaceProblem.{order_once}
 use Rattle.place_laws.specs.PlaceSets.{places_of}
 use Rattle.connected_laws.specs.Listing.{lists_of}
 use Rattle.connected_laws.proofs.Keys.{map_twice}
 use Rattle.county_problem.specs.ProblemValue.{problem_of}
 use Rattle.county_problem.specs.OrderedValue.{problem_at}
-use Rattle.certificate_data.specs.Round.{Round}
 use Rattle.certificate_data.specs.RoundValue.{round_of}
 use Rattle.state_groups.specs.StateValue.{state_of}
 use Rattle.certificate_laws.specs.Groups.{AreGroupsOf}

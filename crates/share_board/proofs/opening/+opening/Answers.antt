@@ -13,7 +13,7 @@ pub open_branch-returns-in-Err-clause-stopped : goal.open_branch-returns-in-Err-
 open_branch-returns-in-Err-clause-stopped g t c =
     let test = g.C.CountySet.test in
     let input = c.args.input.now in
-    let order = input.ordered.now.order in
+    let order = input.graph.now.ordered.now.order in
     let p = board_problem input in
     let round = board_round input in
     let s = board_state input test c.args.state in
@@ -27,7 +27,7 @@ pub open_branch-returns-in-Err-open_tree-clause-stopped : goal.open_branch-retur
 open_branch-returns-in-Err-open_tree-clause-stopped g t c =
     let test = g.C.CountySet.test in
     let input = c.args.input.now in
-    let order = input.ordered.now.order in
+    let order = input.graph.now.ordered.now.order in
     let p = board_problem input in
     let round = board_round input in
     let s = board_state input test c.args.state in
@@ -45,7 +45,7 @@ pub open_branch-returns-clause-opened : goal.open_branch-returns-clause-opened
 open_branch-returns-clause-opened g t c =
     let test = g.C.CountySet.test in
     let input = c.args.input.now in
-    let order = input.ordered.now.order in
+    let order = input.graph.now.ordered.now.order in
     let p = board_problem input in
     let round = board_round input in
     let depth = c.args.depth in
@@ -75,7 +75,7 @@ pub open_takes-returns-in-Err-clause-stopped : goal.open_takes-returns-in-Err-cl
 open_takes-returns-in-Err-clause-stopped g t c =
     let test = g.C.CountySet.test in
     let input = c.args.input.now in
-    let order = input.ordered.now.order in
+    let order = input.graph.now.ordered.now.order in
     let p = board_problem input in
     let round = board_round input in
     let s = board_state input test c.args.state.now in
@@ -94,7 +94,7 @@ pub open_takes-taking-preserved : goal.open_takes-taking-preserved
 open_takes-taking-preserved g t c =
     let test = g.C.CountySet.test in
     let input = c.args.input.now in
-    let order = input.ordered.now.order in
+    let order = input.graph.now.ordered.now.order in
     let p = board_problem input in
     let round = board_round input in
     let depth = c.args.depth in
@@ -125,7 +125,7 @@ pub open_takes-returns-clause-opened : goal.open_takes-returns-clause-opened
 open_takes-returns-clause-opened g t c =
     let test = g.C.CountySet.test in
     let input = c.args.input.now in
-    let order = input.ordered.now.order in
+    let order = input.graph.now.ordered.now.order in
     let groups = c.args.groups.now in
     let i = c.taking.group-index in
     open_end test (board_problem input) (board_round input) c.args.depth (board_state input test c.args.state.now) (length c.args.states.now.items) (codes_of_sets order test groups) c.taking.takes.items c.taking.states.items (codes_of_sets order test (drop i groups))

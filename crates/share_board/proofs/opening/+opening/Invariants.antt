@@ -18,8 +18,8 @@ abbrev pub invariant-open_takes-taking : goal.invariant-open_takes-taking
 invariant-open_takes-taking g l = record {
   kept : StatesAreKept l.input.round.now.order g.C.CountySet.test l.fn.states.items l.states.items;
   few : length l.states.items ≤ most_opening;
-  opened : OpenOn g.C.CountySet.test (board_problem l.input) (board_round l.input) l.depth (board_state l.input g.C.CountySet.test l.state) (length l.fn.states.items) (codes_of_sets l.input.ordered.now.order g.C.CountySet.test l.groups)
-      (codes_of_sets l.input.ordered.now.order g.C.CountySet.test (drop l.group-index l.groups)) l.takes.items l.states.items;
-  more : MoreOn (board_problem l.input) (board_round l.input) l.depth (board_state l.input g.C.CountySet.test l.state) (length l.fn.states.items) (codes_of_sets l.input.ordered.now.order g.C.CountySet.test l.groups)
-      (codes_of_sets l.input.ordered.now.order g.C.CountySet.test (drop l.group-index l.groups)) (length l.states.items);
+  opened : OpenOn g.C.CountySet.test (board_problem l.input) (board_round l.input) l.depth (board_state l.input g.C.CountySet.test l.state) (length l.fn.states.items) (codes_of_sets l.input.graph.now.ordered.now.order g.C.CountySet.test l.groups)
+      (codes_of_sets l.input.graph.now.ordered.now.order g.C.CountySet.test (drop l.group-index l.groups)) l.takes.items l.states.items;
+  more : MoreOn (board_problem l.input) (board_round l.input) l.depth (board_state l.input g.C.CountySet.test l.state) (length l.fn.states.items) (codes_of_sets l.input.graph.now.ordered.now.order g.C.CountySet.test l.groups)
+      (codes_of_sets l.input.graph.now.ordered.now.order g.C.CountySet.test (drop l.group-index l.groups)) (length l.states.items);
 }

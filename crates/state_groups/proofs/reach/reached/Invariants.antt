@@ -1,4 +1,4 @@
-use Rattle.std.proofs.Common.{◌-◌, ◌≤◌, length}
+use Rattle.std.proofs.Common.{◌-◌, length}
 use Rattle.county_problem.specs.OrderedValue.{problem_at}
 use Rattle.state_groups.proofs.Moves.{IsReached}
 use Rattle.state_groups.proofs.reach.reached.Given as goal
