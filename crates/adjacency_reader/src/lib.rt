@@ -8,14 +8,14 @@
 //! ```
 #![tactic(auto)]
 
-mod apply;
+mod linked_pairs;
 mod links;
 mod pairs;
 mod rows;
 mod sets;
 
-pub use apply::apply_links;
 pub use grouping_reader::{CodeLineFault, CodeLineKind};
+pub use linked_pairs::apply_links;
 pub use links::{Link, Sign, read_links};
 pub use pairs::read_pairs;
 pub use sets::read_withdrawn;

@@ -24,7 +24,7 @@ use Rattle.baf_auditor.specs.Listing.{listing}
 use Rattle.baf_auditor.specs.Giving.{by_label, giving}
 use Rattle.baf_auditor.specs.Districts.{GivenBlock, district_people, size_finding, name_at, crossings, districts_at, numbers_from}
 use Rattle.baf_auditor.specs.Kinds.{code_finding, AreOfDistricts, IsClean}
-use Rattle.baf_auditor.specs.declared.codes.CodeKind.TheVariants as kinds
+use Rattle.baf_auditor.specs.declared.block_findings.CodeKind.TheVariants as kinds
 use Rattle.baf_auditor.specs.declared.finding.Set.{Set}
 use Rattle.baf_auditor.specs.declared.finding.Set.TheVariants as sets
 use Rattle.baf_auditor.specs.declared.finding.Finding.{Finding}

@@ -20,7 +20,7 @@ use Rattle.baf_auditor.specs.Findings.{DrawnSet, Plan, county_of_block, IsListed
 use Rattle.baf_auditor.specs.Naming.{is_assigned, named_times, naming, has_district}
 use Rattle.baf_auditor.specs.Listing.{kept, place_of, people_in_set, after_block, after_blocks, listing}
 use Rattle.baf_auditor.specs.declared.assignments.Assignment.{Assignment}
-use Rattle.baf_auditor.specs.declared.named.Named.{Named}
+use Rattle.baf_auditor.specs.declared.line_counts.Named.{Named}
 
 -- ---- codes kept of entries
 module _ {V : Type 0} (test : ℕ × V → Bool) where

@@ -7,7 +7,7 @@ use Rattle.baf_auditor.specs.Labels.{assigns}
 use Rattle.baf_auditor.specs.Findings.{times_named}
 use Rattle.baf_auditor.specs.Naming.{is_assigned, named_times, naming, named_again, after_line}
 use Rattle.baf_auditor.specs.declared.assignments.Assignment.{Assignment}
-use Rattle.baf_auditor.specs.declared.named.Named.{Named}
+use Rattle.baf_auditor.specs.declared.line_counts.Named.{Named}
 
 -- what is said of a block after further lines
 abbrev pub after_lines : ℕ → Option Named → List Assignment → Option Named

@@ -13,8 +13,8 @@ use Rattle.county_problem.specs.ProblemValue.{ProblemValue, problem_of}
 use Rattle.baf_auditor.specs.Findings.{DrawnSet, Plan, IsFinding}
 use Rattle.baf_auditor.specs.Giving.{by_label}
 use Rattle.baf_auditor.specs.Districts.{GivenBlock, district_people, size_finding, standing, crossings, numbers_from}
-use Rattle.baf_auditor.specs.declared.codes.CodeKind.{CodeKind}
-use Rattle.baf_auditor.specs.declared.codes.CodeKind.TheVariants.{Unknown, Twice, Unassigned}
+use Rattle.baf_auditor.specs.declared.block_findings.CodeKind.{CodeKind}
+use Rattle.baf_auditor.specs.declared.block_findings.CodeKind.TheVariants.{Unknown, Twice, Unassigned}
 use Rattle.baf_auditor.specs.declared.finding.Finding.{Finding}
 use Rattle.baf_auditor.specs.declared.finding.Finding.TheVariants as findings
 

@@ -4,7 +4,7 @@ use Rattle.std.specs.List.{list_any}
 use Rattle.baf_auditor.specs.Labels.{assigns}
 use Rattle.baf_auditor.specs.Findings.{times_named}
 use Rattle.baf_auditor.specs.declared.assignments.Assignment.{Assignment}
-use Rattle.baf_auditor.specs.declared.named.Named.{Named}
+use Rattle.baf_auditor.specs.declared.line_counts.Named.{Named}
 
 -- whether some line gives the block to a district
 abbrev pub is_assigned : List Assignment → ℕ → Bool

@@ -13,15 +13,15 @@ ghost use Rattle.baf_auditor.specs.Kinds.{AddsOfDistricts, IsClean};
 ghost use Rattle.baf_auditor.specs.declared.finding.Finding.TheVariants as findings;
 
 use crate::assignments::Assignment;
+use crate::block_findings::{CodeKind, add_codes};
 use crate::block_kinds::block_kinds;
-use crate::codes::{CodeKind, add_codes};
 use crate::crossings::add_crossings;
+use crate::district_blocks::given_blocks;
+use crate::district_sets::{listed_places, standing_places};
 use crate::finding::{Finding, Findings};
-use crate::given::given_blocks;
 use crate::label::Label;
 use crate::numbers::{add_group_numbers, add_withdrawn_numbers};
 use crate::sizes::{add_sizes, people_by_label};
-use crate::standing::{listed_places, standing_places};
 use county_codes::Grouping;
 use county_problem::{GroupingFault, Problem, judge};
 use pl94_counties::Block;

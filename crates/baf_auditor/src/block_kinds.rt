@@ -10,8 +10,8 @@ ghost use Rattle.baf_auditor.specs.Naming.{has_district};
 ghost use Rattle.baf_auditor.specs.Listing.{kept, listing};
 
 use crate::assignments::Assignment;
-use crate::listed::listed_blocks;
-use crate::named::{Named, named_blocks};
+use crate::block_list::listed_blocks;
+use crate::line_counts::{Named, named_blocks};
 use county_codes::Grouping;
 use county_problem::Problem;
 use pl94_counties::Block;

@@ -8,18 +8,18 @@
 
 mod assignments;
 mod auditing;
+mod block_findings;
 mod block_kinds;
-mod codes;
+mod block_list;
 mod crossings;
+mod district_blocks;
+mod district_sets;
 mod fault;
 mod finding;
-mod given;
 mod label;
-mod listed;
-mod named;
+mod line_counts;
 mod numbers;
 mod sizes;
-mod standing;
 
 pub use assignments::{Assignment, read_assignments};
 pub use auditing::audit;

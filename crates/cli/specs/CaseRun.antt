@@ -2,8 +2,8 @@
 use Rattle.std.specs.Prelude.{◌≡◌, ◌⊎◌, ◌<◌, ◌≤◌, ◌++◌, ℕ, Bool, true, false, List, [], Option, Some, None, Result, Ok}
 use Rattle.std.specs.Prelude.{Err, IfSome, length, reverse, codes}
 use Rattle.std.specs.List.{flat_map}
-use Rattle.cli_shelves.specs.declared.whole.WholeFault.{WholeFault}
-use Rattle.cli_shelves.specs.declared.whole.WholeFault.TheVariants.{TooLarge, Failed, Memory}
+use Rattle.cli_shelves.specs.declared.whole_source.WholeFault.{WholeFault}
+use Rattle.cli_shelves.specs.declared.whole_source.WholeFault.TheVariants.{TooLarge, Failed, Memory}
 use Rattle.cli_answers.specs.Answer.{Answered, memory_answer}
 use Rattle.cli_shelves.specs.Files.{NamedFile, held, with_files}
 use Rattle.cli_shelves.specs.History.{ShelfEvent, no_history}

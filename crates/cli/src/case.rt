@@ -11,7 +11,7 @@ ghost use Rattle.cli_shelves.specs.Files.{NamedFile};
 ghost use Rattle.cli_shelves.specs.Memory.{files_of};
 ghost use Rattle.cli.specs.Case.{whole_line, file_name, first_case_line, case_files, is_case, are_named, with_open};
 ghost use Rattle.cli.specs.Case.{parts_of};
-ghost use Rattle.cli_shelves.specs.declared.whole.WholeFault.{WholeFault};
+ghost use Rattle.cli_shelves.specs.declared.whole_source.WholeFault.{WholeFault};
 ghost use Rattle.cli_answers.specs.Answer.{Answered};
 ghost use Rattle.cli_answers.specs.Answers.{answer_of};
 ghost use Rattle.cli.specs.Delivery.{texts};

@@ -2,7 +2,7 @@
 
 ghost use Rattle.std.specs.Prelude.{◌≡◌, ◌≢◌, ◌⊎◌, ℕ, false, List, [], Option, Result};
 ghost use Rattle.cli_shelves.specs.Files.{NamedFile};
-ghost use Rattle.cli_shelves.specs.declared.whole.WholeFault.{WholeFault};
+ghost use Rattle.cli_shelves.specs.declared.whole_source.WholeFault.{WholeFault};
 ghost use Rattle.cli_answers.specs.Answer.{Answered};
 ghost use Rattle.cli_runs.specs.Storing.{HasStored};
 ghost use Rattle.cli_runs.specs.Run.{IsRunAnswer};

@@ -7,8 +7,8 @@ use Rattle.pl94_counties.specs.declared.fault.File.TheVariants as files
 use Rattle.pl94_counties.specs.declared.fault.Pl94Kind.{Pl94Kind}
 use Rattle.pl94_counties.specs.declared.fault.Pl94Kind.TheVariants as kinds
 use Rattle.pl94_counties.specs.declared.fault.Pl94Fault.{Pl94Fault}
-use Rattle.pl94_counties.specs.declared.named.NamedFault.{NamedFault}
-use Rattle.pl94_counties.specs.declared.named.NamedFault.TheVariants as names
+use Rattle.pl94_counties.specs.declared.county_names.NamedFault.{NamedFault}
+use Rattle.pl94_counties.specs.declared.county_names.NamedFault.TheVariants as names
 use Rattle.grouping_reader.specs.declared.fault.CodeLineKind.{CodeLineKind}
 use Rattle.grouping_reader.specs.declared.fault.CodeLineKind.TheVariants as lines_of_codes
 use Rattle.grouping_reader.specs.declared.fault.CodeLineFault.{CodeLineFault}

@@ -3,7 +3,7 @@
 use crate::grouping_fault::explain_chamber;
 use crate::line_of::whole_line;
 use crate::options::{NamedFile, Options};
-use crate::shown::start_of;
+use crate::shown_bytes::start_of;
 use certificate_lines::TextKind;
 use cli::FileOption;
 use county_codes::Window;

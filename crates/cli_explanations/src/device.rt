@@ -1,7 +1,7 @@
 //! Why a file could not be had or stored.
 
-use crate::again::words_of_reason;
-use crate::shown::name_of;
+use crate::machine_files::words_of_reason;
+use crate::shown_bytes::name_of;
 use cli::FileOption;
 use cli_shelves::ShelfFault;
 use std::alloc::AllocError;

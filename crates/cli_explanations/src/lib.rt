@@ -2,20 +2,20 @@
 //! what helps. It is no part of an answer, and no promise but that it is composed safely and returns speaks of it.
 #![tactic(auto)]
 
-mod again;
 mod board;
 mod certificate_fault;
 mod device;
-mod ended;
+mod endings;
 mod findings;
 mod grouping_fault;
 mod line_of;
+mod machine_files;
 mod options;
 mod outputs;
-mod refused;
-mod shown;
+mod refusals;
+mod shown_bytes;
 mod state_line;
-mod unshown;
+mod unshown_best;
 mod usage;
 
-pub use ended::{Ended, explain, explain_before};
+pub use endings::{Ended, explain, explain_before};

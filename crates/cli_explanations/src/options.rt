@@ -1,6 +1,6 @@
 //! The files that the words of a command give.
 
-use crate::shown::name_of;
+use crate::shown_bytes::name_of;
 use cli::FileOption;
 use cli_words::{CommandWords, CommonWords, ProblemWords};
 use std::fmt;

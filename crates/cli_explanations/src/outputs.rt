@@ -1,8 +1,8 @@
 //! The files that commands store: what is amiss with their names before the run, and what stays under them after it.
 
-use crate::again::{closed_reason, is_plain};
+use crate::machine_files::{closed_reason, is_plain};
 use crate::options::path_in;
-use crate::shown::name_of;
+use crate::shown_bytes::name_of;
 use cli::{End, FileOption};
 use cli_words::CommandWords;
 use std::alloc::AllocError;

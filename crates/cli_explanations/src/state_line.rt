@@ -1,9 +1,9 @@
 //! Whether the counties that were read are all of the state's: the geographic header has a line of the state itself,
 //! and segment 1 its people.
 
-use crate::again::is_plain;
+use crate::machine_files::is_plain;
 use crate::options::common_of;
-use crate::shown::name_of;
+use crate::shown_bytes::name_of;
 use cli_words::{CommandWords, CommonWords};
 use field_lines::{field_at, number_in, two_digits};
 use std::alloc::AllocError;

@@ -1,6 +1,6 @@
 //! Words that are no command: what `clap` says of them.
 
-use crate::shown::whole;
+use crate::shown_bytes::whole;
 use std::alloc::AllocError;
 use std::fmt::Write;
 

@@ -6,8 +6,8 @@
 
 mod reads;
 mod report;
-mod since;
+mod run_record;
 mod stores;
 
 pub use report::{record_file, record_of_run};
-pub use since::record_since;
+pub use run_record::record_since;

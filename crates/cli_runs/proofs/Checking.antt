@@ -11,7 +11,7 @@ use Rattle.certificate_checker.specs.Answered.{IsCheckAnswer}
 use Rattle.certificate_checker.specs.declared.verdict.Verdict.{Verdict}
 use Rattle.certificate_checker.specs.declared.verdict.Verdict.TheVariants.{Best, Impossible, No, Budget}
 use Rattle.certificate_checker.specs.Says.{SaysBest, SaysImpossible}
-use Rattle.pl94_counties.specs.declared.named.NamedFault.TheVariants.{BadName}
+use Rattle.pl94_counties.specs.declared.county_names.NamedFault.TheVariants.{BadName}
 use Rattle.cli_words.specs.declared.words.CheckWords.{CheckWords}
 use Rattle.cli_shelves.specs.Files.{NamedFile, Files}
 use Rattle.cli_shelves.specs.History.{History}

@@ -4,8 +4,8 @@ use Rattle.std.specs.Prelude.{Result, Ok, Err}
 use Rattle.county_codes.specs.declared.county.County.{County}
 use Rattle.field_lines.specs.Cut.{Line, cut}
 use Rattle.pl94_counties.specs.declared.fault.Pl94Fault.{Pl94Fault}
-use Rattle.pl94_counties.specs.declared.named.NamedFault.{NamedFault}
-use Rattle.pl94_counties.specs.declared.named.NamedFault.TheVariants.{BadName}
+use Rattle.pl94_counties.specs.declared.county_names.NamedFault.{NamedFault}
+use Rattle.pl94_counties.specs.declared.county_names.NamedFault.TheVariants.{BadName}
 use Rattle.pl94_counties.specs.CodeNames.{CodeName}
 use Rattle.pl94_counties.specs.Counties.{county_list}
 use Rattle.pl94_counties.specs.Named.{CountyName, names_on, bad_name, with_names, unless_bad, named_by_lines, named_list}

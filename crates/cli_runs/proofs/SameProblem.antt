@@ -10,8 +10,8 @@ use Rattle.county_problem.specs.declared.fault.ProblemFault.{ProblemFault}
 use Rattle.county_problem.specs.ProblemValue.{ProblemValue, codes_of}
 use Rattle.county_problem.specs.Building.{IsProblemOf, problem_fault, is_left, joins, seats_in}
 use Rattle.pl94_counties.specs.declared.fault.Pl94Fault.{Pl94Fault}
-use Rattle.pl94_counties.specs.declared.named.NamedFault.{NamedFault}
-use Rattle.pl94_counties.specs.declared.named.NamedFault.TheVariants.{BadName}
+use Rattle.pl94_counties.specs.declared.county_names.NamedFault.{NamedFault}
+use Rattle.pl94_counties.specs.declared.county_names.NamedFault.TheVariants.{BadName}
 use Rattle.pl94_counties.specs.Counties.{county_list}
 use Rattle.pl94_counties.specs.Named.{CountyName, named_list}
 use Rattle.adjacency_reader.specs.declared.links.Link.{Link}

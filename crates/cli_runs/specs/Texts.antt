@@ -7,8 +7,8 @@ use Rattle.cli_runs.specs.TableCourse as tables
 use Rattle.pl94_counties.specs.Named.{county_name}
 use Rattle.cli_runs.specs.declared.desk_report.Solved.{Solved}
 use Rattle.cli_runs.specs.declared.listing_report.Listed.{Listed}
-use Rattle.cli_runs.specs.declared.tabled.Tabled.{Tabled}
-use Rattle.cli_runs.specs.declared.tabled.Reported.{Reported}
+use Rattle.cli_runs.specs.declared.table_runs.Tabled.{Tabled}
+use Rattle.cli_runs.specs.declared.table_runs.Reported.{Reported}
 
 -- a problem with the names of its counties, if they have names
 abbrev pub tabled_of : Tabled → tables.Tabled

@@ -8,7 +8,7 @@ ghost use Rattle.cli_answers.specs.Answers.{answer_of};
 ghost use Rattle.cli_runs.specs.CheckCourse.{IsChecked, ChecksGiven, verdict_said, verdict_table};
 ghost use Rattle.cli_runs.specs.Texts.{reported_of, tabled_of};
 
-use crate::tabled::{Reported, Tabled, table_of};
+use crate::table_runs::{Reported, Tabled, table_of};
 use certificate_checker::{CheckStop, Verdict, check, check_from};
 use cli_answers::{RunAnswer, budget_answer, no_answer};
 use county_codes::Grouping;

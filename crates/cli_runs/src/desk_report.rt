@@ -15,7 +15,7 @@ ghost use Rattle.cli_runs.specs.SolveCourse.{SaysSolved, IsSolved};
 ghost use Rattle.cli_runs.specs.TableCourse.{table_of as table_text_of};
 ghost use Rattle.cli_runs.specs.Texts.{solved_of, tabled_of};
 
-use crate::tabled::{Tabled, table_of};
+use crate::table_runs::{Tabled, table_of};
 use branch_bound::{Answer as DeskAnswer, Watcher, solve_watched};
 use certificate_data::Certificate;
 use certificate_lines::WriteFault;

@@ -11,7 +11,7 @@ ghost use Rattle.cli_runs.specs.JudgeWithCertificate.{lawful_answer};
 ghost use Rattle.cli_runs.specs.JudgeCourse.{HasTable};
 ghost use Rattle.cli_runs.specs.Texts.{reported_of, tabled_of};
 
-use crate::tabled::{Reported, Tabled, table_of};
+use crate::table_runs::{Reported, Tabled, table_of};
 use certificate_checker::{Verdict, check};
 use cli_answers::RunAnswer;
 use county_codes::Grouping;

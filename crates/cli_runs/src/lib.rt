@@ -14,7 +14,7 @@ mod desk_report;
 mod judge_report;
 mod laws;
 mod listing_report;
-mod tabled;
+mod table_runs;
 
 pub use board_reports::{PieceEnd, PieceSaid, language_for, piece_and_say, share_events};
 pub use checker_report::{Checked, check_and_say, check_from_and_say};
@@ -22,4 +22,4 @@ pub use desk_report::{Solved, solve_and_say};
 pub use judge_report::{Judged, Unshown, judge_and_say};
 pub use laws::{runs_agree, runs_are_of_their_loads, runs_judge, runs_list, runs_share};
 pub use listing_report::{ListEnd, Listed, list_and_say};
-pub use tabled::{Reported, Tabled};
+pub use table_runs::{Reported, Tabled};

@@ -9,7 +9,7 @@ use crate::file_reader::FileReader;
 use crate::replace::replace_file;
 use crate::shelf::{MAX_FILE, ReadEnd, Shelf, ShelfFault};
 use crate::sums::{EventSum, EventSums};
-use crate::whole::{WholeFault, read_whole};
+use crate::whole_source::{WholeFault, read_whole};
 use field_lines::Reading;
 use std::alloc::Global;
 use std::fs::OpenFile;

@@ -5,7 +5,7 @@ ghost use Rattle.std.specs.Option.{is_some};
 ghost use Rattle.cli_record_text.specs.Sums.{sum_of as sum_of_bytes};
 ghost use Rattle.cli_shelves.specs.declared.shelf.ReadEnd.TheVariants.{Whole, Part};
 
-use crate::given::GivenBytes;
+use crate::given_bytes::GivenBytes;
 use crate::given_sum::GivenSum;
 use crate::shelf::ReadEnd;
 use cli_record_text::ByteSum;

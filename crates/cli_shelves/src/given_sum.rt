@@ -3,7 +3,7 @@
 ghost use Rattle.std.specs.Prelude.{◌≡◌, ◌++◌, [], IfSome};
 ghost use Rattle.cli_record_text.specs.Sums.{sum_of as sum_of_bytes};
 
-use crate::given::GivenBytes;
+use crate::given_bytes::GivenBytes;
 use cli_record_text::{ByteSum, RunningSum};
 use std::marker::Model;
 

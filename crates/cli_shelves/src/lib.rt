@@ -4,7 +4,7 @@
 
 mod device;
 mod file_reader;
-mod given;
+mod given_bytes;
 mod given_sum;
 mod log;
 mod memory;
@@ -13,11 +13,11 @@ mod replace;
 mod shelf;
 mod sink;
 mod sums;
-mod whole;
+mod whole_source;
 
 pub use device::FileShelf;
 pub use file_reader::FileReader;
-pub use given::GivenBytes;
+pub use given_bytes::GivenBytes;
 pub use given_sum::GivenSum;
 pub use log::EventLog;
 pub use memory::{MemoryFile, MemoryShelf};
@@ -25,4 +25,4 @@ pub use memory_reader::MemoryReader;
 pub use shelf::{MAX_FILE, ReadEnd, Shelf, ShelfFault};
 pub use sink::{Sink, SinkFault, Writing};
 pub use sums::{EventKind, EventSum, EventSums};
-pub use whole::{WholeFault, read_whole};
+pub use whole_source::{WholeFault, read_whole};

@@ -4,7 +4,7 @@ ghost use Rattle.std.specs.Prelude.{◌≡◌, List, []};
 ghost use Rattle.std.specs.Borrow.{ftrue};
 ghost use Rattle.cli_shelves.specs.History.{ShelfEvent, with_load, with_read, with_store};
 
-use crate::given::GivenBytes;
+use crate::given_bytes::GivenBytes;
 use crate::shelf::{ReadEnd, ShelfFault};
 use std::marker::Model;
 

@@ -3,7 +3,7 @@
 ghost use Rattle.std.specs.Prelude.{◌≡◌, ◌<◌, ◌≤◌, [], Some, IfSome, false, length, take, drop};
 ghost use Rattle.cli_record_text.specs.Sums.{sum_of as sum_of_bytes};
 
-use crate::given::GivenBytes;
+use crate::given_bytes::GivenBytes;
 use cli_record_text::{ByteSum, sum_of};
 use field_lines::{Source, SourceFault};
 use std::io::Read;

@@ -8,7 +8,7 @@ ghost use Rattle.cli_shelves.specs.History.ShelfEvent.{Loaded, Read, Stored};
 ghost use Rattle.cli_shelves.specs.History.{bytes_of_answer, is_taken};
 ghost use Rattle.cli_shelves.specs.Sums.{AreOfLast, SumOfEvent, sum_of_event, sum_value};
 
-use crate::given::GivenBytes;
+use crate::given_bytes::GivenBytes;
 use crate::log::EventLog;
 use crate::shelf::{ReadEnd, ShelfFault};
 use cli_record_text::{ByteSum, sum_of};

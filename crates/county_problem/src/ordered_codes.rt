@@ -6,7 +6,7 @@ ghost use Rattle.grouping_laws.specs.Sets.{member};
 ghost use Rattle.county_problem.specs.OrderedValue.{code_at};
 ghost use Rattle.county_problem.specs.OrderCodes.{codes_of_set};
 
-use crate::ordered::Ordered;
+use crate::ordered_counties::Ordered;
 use county_codes::{Codes, CountyCode};
 use place_sets::CountySet;
 use std::alloc::{AllocError, Global};

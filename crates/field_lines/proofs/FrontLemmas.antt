@@ -10,7 +10,7 @@ use Rattle.field_lines.specs.Fault.{most_lines, most_bytes}
 use Rattle.field_lines.specs.Cut.{Cut, cut_of, fault_at, fault_in}
 use Rattle.field_lines.specs.Held.{Pulled, MayCome}
 use Rattle.field_lines.specs.Taken.{taken_bytes, TakesFirst}
-use Rattle.field_lines.specs.declared.taken.TakenPiece.{TakenPiece}
+use Rattle.field_lines.specs.declared.taken_pieces.TakenPiece.{TakenPiece}
 use Rattle.field_lines.specs.Front.{HasNoLf, HasLfAt, IsAllOf, IsFrontPiece}
 use Rattle.field_lines.specs.LinesFrom.{no_line}
 use Rattle.field_lines.specs.declared.fault.LineFault.{LineFault}

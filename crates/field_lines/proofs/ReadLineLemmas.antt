@@ -13,8 +13,8 @@ use Rattle.field_lines.specs.LinesFrom.{no_line, AnswersCut, FailsOnly, LinesHel
 use Rattle.field_lines.specs.ReadLine.{pieces_held, AnswersPiece, TakesPiece, TakesLine}
 use Rattle.field_lines.specs.declared.fault.LineFault.{LineFault}
 use Rattle.field_lines.specs.declared.fault.LineFault.TheVariants.{LineTooLong, TooManyLines, ReadFault, Memory}
-use Rattle.field_lines.specs.declared.taken.TakenPiece.{TakenPiece}
-use Rattle.field_lines.specs.declared.taken.TakenLine.{TakenLine}
+use Rattle.field_lines.specs.declared.taken_pieces.TakenPiece.{TakenPiece}
+use Rattle.field_lines.specs.declared.taken_pieces.TakenLine.{TakenLine}
 use Rattle.field_lines.proofs.FrontLemmas.{front_faulty}
 use Rattle.field_lines.proofs.CutLemmas.{cut_of-line_next, cut_of-blank_next}
 

@@ -15,7 +15,7 @@ use Rattle.field_lines.specs.ReadPiece.{raw_fault_at, TakesRaw}
 use Rattle.field_lines.specs.declared.fault.LineFault.{LineFault}
 use Rattle.field_lines.specs.declared.fault.LineFault.TheVariants.{LineTooLong, Memory}
 use Rattle.field_lines.specs.declared.raw.Piece.{Piece}
-use Rattle.field_lines.specs.declared.taken.TakenPiece.{TakenPiece}
+use Rattle.field_lines.specs.declared.taken_pieces.TakenPiece.{TakenPiece}
 use Rattle.field_lines.proofs.FrontLemmas.{lf_first, begins_with}
 
 -- the piece at the front is too long, whatever comes later

@@ -9,8 +9,8 @@ use Rattle.field_lines.specs.Taken.{IsPlace, taken_bytes, piece_at, line_taken}
 use Rattle.field_lines.specs.LinesFrom.{no_line, AnswersCut, FailsOnly, IsAtLine}
 use Rattle.field_lines.specs.declared.fault.LineFault.{LineFault}
 use Rattle.field_lines.specs.declared.fault.LineFault.TheVariants.{LineTooLong, TooManyLines, ReadFault, Memory}
-use Rattle.field_lines.specs.declared.taken.TakenPiece.{TakenPiece}
-use Rattle.field_lines.specs.declared.taken.TakenLine.{TakenLine}
+use Rattle.field_lines.specs.declared.taken_pieces.TakenPiece.{TakenPiece}
+use Rattle.field_lines.specs.declared.taken_pieces.TakenLine.{TakenLine}
 
 -- where what is held is a part of a text, the pieces of that text from a number on
 abbrev pub pieces_held : ℕ → Pulled → List ℕ → List RawLine

@@ -9,7 +9,7 @@ use Rattle.field_lines.specs.ReadLine.{pieces_held}
 use Rattle.field_lines.specs.PiecesFrom.{BeginsTooLong}
 use Rattle.field_lines.specs.declared.fault.LineFault.{LineFault}
 use Rattle.field_lines.specs.declared.fault.LineFault.TheVariants.{LineTooLong, TooManyLines, ReadFault, Memory}
-use Rattle.field_lines.specs.declared.taken.TakenPiece.{TakenPiece}
+use Rattle.field_lines.specs.declared.taken_pieces.TakenPiece.{TakenPiece}
 
 -- what is wrong with a piece: it is too long, or its number is the last that there is
 abbrev pub raw_fault_at : ℕ → ℕ → Option LineFault

@@ -5,8 +5,8 @@ use Rattle.field_lines.specs.Raw.{RawLine, raw_lines_from}
 use Rattle.field_lines.specs.Cut.{Line, line_bytes}
 use Rattle.field_lines.specs.Held.{Pulled, MayCome}
 use Rattle.field_lines.specs.declared.fault.LineFault.{LineFault}
-use Rattle.field_lines.specs.declared.taken.TakenPiece.{TakenPiece}
-use Rattle.field_lines.specs.declared.taken.TakenLine.{TakenLine}
+use Rattle.field_lines.specs.declared.taken_pieces.TakenPiece.{TakenPiece}
+use Rattle.field_lines.specs.declared.taken_pieces.TakenLine.{TakenLine}
 
 -- the place of what was taken
 abbrev pub IsPlace : Pulled → ℕ → ℕ → Type 0

@@ -6,9 +6,9 @@ ghost use Rattle.field_lines.specs.ReadLine.{TakesPiece, TakesLine};
 
 use crate::fault::LineFault;
 use crate::lines::{fault_at, line_in};
-use crate::pulled::PulledBytes;
+use crate::pulled_bytes::PulledBytes;
 use crate::source::Source;
-use crate::taken::{TakenLine, TakenPiece};
+use crate::taken_pieces::{TakenLine, TakenPiece};
 use std::alloc::Global;
 use std::marker::Model;
 

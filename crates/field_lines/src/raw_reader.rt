@@ -5,10 +5,10 @@ ghost use Rattle.field_lines.specs.ReadPiece.{raw_fault_at, TakesRaw};
 
 use crate::fault::LineFault;
 use crate::lines::MAX_LINE;
-use crate::pulled::PulledBytes;
+use crate::pulled_bytes::PulledBytes;
 use crate::raw::Piece;
 use crate::source::Source;
-use crate::taken::TakenPiece;
+use crate::taken_pieces::TakenPiece;
 use std::alloc::Global;
 use std::marker::Model;
 

@@ -11,7 +11,7 @@ mod laws;
 mod listings;
 mod regions;
 mod sets;
-mod shared;
+mod shared_sets;
 mod texts;
 
 pub use laws::{people_are_of_groups, regions_are_joined};

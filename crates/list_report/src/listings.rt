@@ -8,7 +8,7 @@ ghost use Rattle.list_report.specs.Listing.{body_text, listing_text, regions_fou
 use crate::alternatives::{Region, regions_with};
 use crate::regions::regions_between;
 use crate::sets::{Sets, listed_sets};
-use crate::shared::{not_shared, shared_by_all};
+use crate::shared_sets::{not_shared, shared_by_all};
 use crate::texts::{push_choices, push_regions, push_shared};
 use county_codes::{Codes, County, Grouping};
 use county_problem::Problem;

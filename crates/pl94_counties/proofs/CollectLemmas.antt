@@ -14,7 +14,7 @@ use Rattle.pl94_counties.specs.declared.fault.Pl94Kind.{Pl94Kind}
 use Rattle.pl94_counties.specs.declared.fault.Pl94Kind.TheVariants.{TooMany}
 use Rattle.pl94_counties.specs.declared.fault.File.{File}
 use Rattle.pl94_counties.specs.declared.fault.Pl94Fault.{Pl94Fault}
-use Rattle.pl94_counties.specs.Numbered.{people_at_number, LineEntry, Rule, people_of_numbers, people_by_number, has_number, by_number, entries_on, entry_of, pl94_line_fault, first_entry_fault, unless_entry_fault, with_given, pl94_cut_fault}
+use Rattle.pl94_counties.specs.PeopleByCode.{people_at_number, LineEntry, Rule, people_of_numbers, people_by_number, has_number, by_number, entries_on, entry_of, pl94_line_fault, first_entry_fault, unless_entry_fault, with_given, pl94_cut_fault}
 use Rattle.std.proofs.lemmas.List.{append-nil}
 use Rattle.std.proofs.lemmas.List.Elements.{filter_map-append}
 use Rattle.std.proofs.lemmas.List.Sums.{fold-append}

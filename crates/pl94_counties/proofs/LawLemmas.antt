@@ -16,7 +16,7 @@ use Rattle.pl94_counties.specs.declared.fault.File.TheVariants.{Geo, Segment1}
 use Rattle.pl94_counties.specs.declared.geo.Area.{Area}
 use Rattle.field_lines.specs.Chain.{◌>>=◌}
 use Rattle.pl94_counties.specs.Fields.{field, small_number, GeoFields, geo_fields}
-use Rattle.pl94_counties.specs.Numbered.{LineEntry, people_at_number}
+use Rattle.pl94_counties.specs.PeopleByCode.{LineEntry, people_at_number}
 use Rattle.pl94_counties.specs.Segment.{record_on, record_rule, record_list}
 use Rattle.pl94_counties.specs.Geo.{state_digits, level_of, area_code, rule_of, is_line_of, joined, area_on}
 use Rattle.pl94_counties.specs.Areas.{found_list}

@@ -19,9 +19,9 @@ use Rattle.pl94_counties.specs.declared.fault.Pl94Fault.{Pl94Fault}
 use Rattle.pl94_counties.specs.declared.fault.Pl94Kind.{Pl94Kind}
 use Rattle.pl94_counties.specs.declared.geo.Area.{Area}
 use Rattle.pl94_counties.specs.declared.geo.Area.TheVariants as areas
-use Rattle.pl94_counties.specs.Numbered.{by_number, unless_entry_fault}
+use Rattle.pl94_counties.specs.PeopleByCode.{by_number, unless_entry_fault}
 use Rattle.pl94_counties.specs.Geo.{area_on}
-use Rattle.pl94_counties.specs.Numbered.{entries_on}
+use Rattle.pl94_counties.specs.PeopleByCode.{entries_on}
 use Rattle.pl94_counties.specs.Areas.{area_list, found_list}
 use Rattle.pl94_counties.specs.Counties.{county_of, block_of, county_list, block_list}
 use Rattle.pl94_counties.specs.Joined.{IsJoined}

@@ -16,7 +16,7 @@ use Rattle.pl94_counties.specs.declared.fault.Pl94Fault.{Pl94Fault}
 use Rattle.pl94_counties.specs.declared.geo.Area.{Area}
 use Rattle.pl94_counties.specs.declared.geo.Area.TheVariants as areas
 use Rattle.pl94_counties.specs.Fields.{field, small_number, GeoFields, geo_fields}
-use Rattle.pl94_counties.specs.Numbered.{LineEntry, Rule, people_at_number, has_number, is_full, by_number, pl94_line_fault, entries_on, first_entry_fault, pl94_cut_fault, unless_entry_fault, people_by_number}
+use Rattle.pl94_counties.specs.PeopleByCode.{LineEntry, Rule, people_at_number, has_number, is_full, by_number, pl94_line_fault, entries_on, first_entry_fault, pl94_cut_fault, unless_entry_fault, people_by_number}
 use Rattle.pl94_counties.specs.Segment.{record_on, record_rule, record_list, record_list_in}
 use Rattle.pl94_counties.specs.Geo.{area_code, rule_of, is_line_of, joined, area_on}
 use Rattle.pl94_counties.specs.Areas.{found_list, found_list_in, no_areas, some_areas, area_list_in, area_list}

@@ -7,7 +7,7 @@ use Rattle.field_lines.specs.declared.fault.LineFault.{LineFault}
 use Rattle.pl94_counties.specs.declared.fault.Pl94Kind.TheVariants.{TooMany}
 use Rattle.pl94_counties.specs.declared.fault.File.{File}
 use Rattle.pl94_counties.specs.declared.fault.Pl94Fault.{Pl94Fault}
-use Rattle.pl94_counties.specs.Numbered.{people_at_number, LineEntry, Rule, is_full, with_given}
+use Rattle.pl94_counties.specs.PeopleByCode.{people_at_number, LineEntry, Rule, is_full, with_given}
 use Rattle.pl94_counties.proofs.CollectLemmas.{collect_from, people_of-insert_entry, tied_same, tied_is}
 
 -- ---- members of a list

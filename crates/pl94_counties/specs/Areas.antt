@@ -8,7 +8,7 @@ use Rattle.pl94_counties.specs.declared.geo.Area.{Area}
 use Rattle.pl94_counties.specs.declared.geo.Area.TheVariants.{County, Block}
 use Rattle.field_lines.specs.Cut.{Cut, cut}
 use Rattle.field_lines.specs.Chain.{◌>>=◌}
-use Rattle.pl94_counties.specs.Numbered.{people_of_numbers}
+use Rattle.pl94_counties.specs.PeopleByCode.{people_of_numbers}
 use Rattle.pl94_counties.specs.Segment.{record_list_in}
 use Rattle.pl94_counties.specs.Geo.{rule_of, area_on}
 

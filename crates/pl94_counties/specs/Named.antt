@@ -12,9 +12,9 @@ use Rattle.pl94_counties.specs.declared.fault.File.TheVariants.{Geo, Segment1}
 use Rattle.pl94_counties.specs.declared.fault.Pl94Fault.{Pl94Fault}
 use Rattle.pl94_counties.specs.declared.fault.Pl94Kind.TheVariants.{Memory}
 use Rattle.pl94_counties.specs.declared.geo.Area.TheVariants as areas
-use Rattle.pl94_counties.specs.declared.named.NamedCounty.{NamedCounty}
-use Rattle.pl94_counties.specs.declared.named.NamedFault.{NamedFault}
-use Rattle.pl94_counties.specs.declared.named.NamedFault.TheVariants.{Files, BadName}
+use Rattle.pl94_counties.specs.declared.county_names.NamedCounty.{NamedCounty}
+use Rattle.pl94_counties.specs.declared.county_names.NamedFault.{NamedFault}
+use Rattle.pl94_counties.specs.declared.county_names.NamedFault.TheVariants.{Files, BadName}
 pub use Rattle.pl94_counties.specs.CodeNames.{CodeName, code_name}
 use Rattle.pl94_counties.specs.Counties.{county_list}
 use Rattle.pl94_counties.specs.Fields.{GeoFields, field, geo_fields}

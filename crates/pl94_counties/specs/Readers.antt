@@ -2,7 +2,7 @@
 use Rattle.std.specs.Prelude.{◌≡◌, ◌⊎◌, ◌&&◌, ◌++◌, ℕ, Bool, true, false, List, Result, Ok, Err}
 use Rattle.field_lines.specs.Values.{GivesUnless}
 use Rattle.field_lines.specs.declared.fault.LineFault.TheVariants.{ReadFault}
-use Rattle.pl94_counties.specs.Numbered.{IsPl94Memory}
+use Rattle.pl94_counties.specs.PeopleByCode.{IsPl94Memory}
 use Rattle.pl94_counties.specs.declared.fault.Pl94Kind.{Pl94Kind}
 use Rattle.pl94_counties.specs.declared.fault.Pl94Kind.TheVariants.{Lower}
 use Rattle.pl94_counties.specs.declared.fault.File.{File}

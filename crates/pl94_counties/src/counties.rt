@@ -5,14 +5,14 @@ ghost use Rattle.std.specs.List.{filter_map};
 ghost use Rattle.std.specs.List.Sorted.{IsStrictlyIncreasing};
 ghost use Rattle.field_lines.specs.Values.{GivesUnless};
 ghost use Rattle.field_lines.specs.Cut.{cut};
-ghost use Rattle.pl94_counties.specs.Numbered.{IsPl94Memory};
+ghost use Rattle.pl94_counties.specs.PeopleByCode.{IsPl94Memory};
 ghost use Rattle.pl94_counties.specs.Joined.{IsJoined, IsListedArea};
 ghost use Rattle.pl94_counties.specs.OfText.{IsPl94OfText};
 ghost use Rattle.pl94_counties.specs.Readers.{ReadsBoth, read_failed};
 ghost use Rattle.pl94_counties.specs.Counties.{county_of, county_in, county_list};
 ghost use Rattle.pl94_counties.specs.declared.geo.Area.TheVariants as areas;
 
-use crate::areas::{no_memory, read_areas, read_areas_from};
+use crate::area_list::{no_memory, read_areas, read_areas_from};
 use crate::fault::{File, Pl94Fault, Pl94Kind};
 use crate::geo::Area;
 use county_codes::{County, CountyCode};

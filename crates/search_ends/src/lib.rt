@@ -10,21 +10,21 @@
 //! form of sets of places serves. `specs/` has the definitions: `GivenLeaf`, `EmptyLines`, `Missing` and `Finished`.
 #![tactic(auto)]
 
-mod empty;
-mod finished;
+mod empty_leaves;
+mod finished_groupings;
 mod groups;
 mod room;
 mod seats;
 mod sets;
 mod standing;
-mod stuck;
-mod weighed;
-mod whole;
+mod stuck_counties;
+mod weighed_leaves;
+mod whole_leaves;
 
-pub use empty::empty_leaf;
-pub use finished::finished_grouping;
+pub use empty_leaves::empty_leaf;
+pub use finished_groupings::finished_grouping;
 pub use room::room_leaf;
 pub use standing::{groups_of_size, wanted_more};
-pub use stuck::stuck_county;
-pub use weighed::weighed_leaf;
-pub use whole::whole_leaf;
+pub use stuck_counties::stuck_county;
+pub use weighed_leaves::weighed_leaf;
+pub use whole_leaves::whole_leaf;

@@ -10,7 +10,7 @@ ghost use Rattle.state_groups.specs.Placed.{state_at, IsPlaced};
 ghost use Rattle.list_laws.specs.Complete.{IsCompleteLeaf};
 ghost use Rattle.search_ends.specs.GivenLeaf.{IsGivenLeaf};
 
-use crate::empty::ending_leaf;
+use crate::empty_leaves::ending_leaf;
 use crate::standing::wanted_more;
 use certificate_data::{Allowance, Leaf, Round};
 use county_problem::Ordered;

@@ -10,7 +10,7 @@ ghost use Rattle.state_groups.specs.StateValue.{state_of};
 ghost use Rattle.certificate_laws.specs.Fitting.{Fits};
 
 use crate::state::State;
-use crate::stuck::{asks_more, is_live};
+use crate::stuck_parts::{asks_more, is_live};
 use certificate_data::Language;
 use connected_sets::CountyGraph;
 use place_sets::CountySet;

@@ -17,7 +17,7 @@ ghost use Rattle.state_groups.specs.People.{AreByPeople, AreWindows, IsDivided, 
 use crate::people::first_people;
 use crate::reach::reached;
 use crate::state_test::StateTest;
-use crate::stuck::strands;
+use crate::stuck_parts::strands;
 use crate::sums::people_in;
 use crate::windows::{may_divide, may_suit};
 use connected_sets::{Growth, GrowthInput};

@@ -9,8 +9,8 @@
 ghost use Rattle.std.specs.Prelude.{◌≤◌};
 
 mod carolina;
+mod compared_counts;
 mod groups;
-mod judged;
 mod lines;
 mod links;
 mod numbers;

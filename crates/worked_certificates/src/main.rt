@@ -10,21 +10,21 @@
 #![tactic(auto)]
 
 mod cases;
-mod generated;
+mod generated_trees;
 mod leaves;
 mod problems;
-mod pulled;
+mod pulled_texts;
 mod readings;
 mod script;
-mod unspelled;
+mod unspelled_values;
 
 use crate::cases::{Case, cases_of};
-use crate::generated::round_trips;
+use crate::generated_trees::round_trips;
 use crate::leaves::leaf_said;
 use crate::problems::problem_in;
-use crate::pulled::show_check;
+use crate::pulled_texts::show_check;
 use crate::readings::reading;
-use crate::unspelled::without_spelling;
+use crate::unspelled_values::without_spelling;
 use anyhow::{Context, Result};
 use county_problem::Problem;
 use std::fs;

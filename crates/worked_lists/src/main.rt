@@ -4,7 +4,7 @@
 #![tactic(auto)]
 
 mod carolina;
-mod small;
+mod small_problems;
 
 use anyhow::Result;
 use branch_bound::{Answer, solve};

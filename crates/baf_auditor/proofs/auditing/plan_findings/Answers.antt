@@ -5,7 +5,7 @@ use Rattle.std.proofs.lemmas.Map.Keys.{sorted_from_strictly_increasing}
 use Rattle.baf_auditor.specs.Findings.{plan_of, IsFinding, AreAll}
 use Rattle.baf_auditor.specs.Districts.{GivenBlock}
 use Rattle.baf_auditor.specs.Kinds.{code_finding}
-use Rattle.baf_auditor.specs.declared.codes.CodeKind.TheVariants as kinds
+use Rattle.baf_auditor.specs.declared.block_findings.CodeKind.TheVariants as kinds
 use Rattle.baf_auditor.specs.declared.finding.Finding.{Finding}
 use Rattle.baf_auditor.proofs.ListLemmas.{mapped_from}
 use Rattle.baf_auditor.proofs.AuditLemmas.{all_of, kinds_added, given_fit, are_all}

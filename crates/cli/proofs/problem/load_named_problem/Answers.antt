@@ -1,7 +1,7 @@
 use Rattle.std.proofs.Common.{◌≡◌, List, Option, Some, map, subst, ◌∙◌, refl}
 use Rattle.std.specs.Prelude.{Ok, Err}
 use Rattle.county_codes.specs.declared.county.County.{County}
-use Rattle.pl94_counties.specs.declared.named.NamedCounty.{NamedCounty}
+use Rattle.pl94_counties.specs.declared.county_names.NamedCounty.{NamedCounty}
 use Rattle.pl94_counties.specs.Named.{county_name}
 use Rattle.grouping_table.specs.Table.{unnamed_counties as bare_of}
 use Rattle.cli_shelves.specs.Files.{Files}
@@ -9,7 +9,7 @@ use Rattle.cli_answers.specs.Answers.{AnswerMeets}
 use Rattle.cli_runs.specs.Course.{value_step}
 use Rattle.cli_runs.specs.ProblemCourse.{problem_over}
 use Rattle.cli_runs.specs.TableCourse.{tabled_by, named_counties_of, named_problem_over}
-use Rattle.cli_runs.specs.declared.tabled.Tabled.{Tabled}
+use Rattle.cli_runs.specs.declared.table_runs.Tabled.{Tabled}
 use Rattle.cli_runs.specs.Texts.{tabled_of}
 use Rattle.cli_runs.proofs.RunLemmas.{handed_on, went_on}
 use Rattle.cli.proofs.TableLemmas.{bare}

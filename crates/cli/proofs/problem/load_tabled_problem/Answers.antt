@@ -4,7 +4,7 @@ use Rattle.cli_answers.specs.Answers.{Comes}
 use Rattle.cli_runs.specs.Course.{value_step}
 use Rattle.cli_runs.specs.ProblemCourse.{problem_course}
 use Rattle.cli_runs.specs.TableCourse.{untabled, tabled_problem_in}
-use Rattle.cli_runs.specs.declared.tabled.Tabled.{Tabled}
+use Rattle.cli_runs.specs.declared.table_runs.Tabled.{Tabled}
 use Rattle.cli_runs.specs.Texts.{tabled_of}
 use Rattle.cli_runs.proofs.RunLemmas.{went_on}
 use Rattle.cli.proofs.problem.load_tabled_problem.Goals as goal

@@ -2,7 +2,7 @@ use Rattle.std.proofs.Common.{◌≡◌, ℕ, rules, true, List, Option, Some, N
 use Rattle.pl94_counties.specs.declared.fault.Pl94Kind.TheVariants.{TooFewFields, NoRecord}
 use Rattle.pl94_counties.specs.declared.geo.Area.{Area}
 use Rattle.pl94_counties.specs.Fields.{small_number, GeoFields, geo_fields, fields_shown}
-use Rattle.pl94_counties.specs.Numbered.{LineEntry, people_at_number}
+use Rattle.pl94_counties.specs.PeopleByCode.{LineEntry, people_at_number}
 use Rattle.pl94_counties.specs.Geo.{area_code, is_line_of, joined, area_on}
 use Rattle.pl94_counties.proofs.LawLemmas.{joined_of, with_people}
 use Rattle.pl94_counties.proofs.geo.area_in.Goals as goal

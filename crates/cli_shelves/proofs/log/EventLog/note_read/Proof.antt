@@ -30,8 +30,8 @@ use Rattle.cli_shelves.specs.History.{with_read}
 use Rattle.std.specs.contracts.result.Result
 use Rattle.cli_shelves.specs.contracts.shelf.ReadEnd
 use Rattle.cli_shelves.specs.contracts.shelf.ShelfFault
-use Rattle.cli_shelves.specs.declared.given.GivenBytes.{GivenBytes}
-use Rattle.cli_shelves.specs.contracts.given.GivenBytes as G
+use Rattle.cli_shelves.specs.declared.given_bytes.GivenBytes.{GivenBytes}
+use Rattle.cli_shelves.specs.contracts.given_bytes.GivenBytes as G
 use Rattle.cli_shelves.specs.contracts.log.EventLog as T
 use Rattle.cli_shelves.specs.contracts.log.EventLog.note_read.Key.{name as #it}
 use Rattle.cli_shelves.specs.contracts.log.EventLog.note_read as it

@@ -1,0 +1,212 @@
+//! Why an input file or the problem is refused.
+
+use crate::line_of::{county_state, cut_line, looks_like};
+use crate::machine_files::is_plain;
+use crate::options::{NamedFile, Options};
+use crate::shown_bytes::start_of;
+use cli::{FileFault, FileOption};
+use cli_words::CommandWords;
+use county_problem::ProblemFault;
+use field_lines::field_at;
+use pl94_counties::Pl94Kind;
+use std::alloc::AllocError;
+use std::fmt::Write;
+use std::rt::Files;
+
+/// What a file has to be.
+fn remedy(option: FileOption) -> &'static str {
+    match option {
+        FileOption::Geo => {
+            "give --geo a state's geographic header of the Census Bureau's PL 94-171 files of 2020, unzipped, as nc2020geo.pl"
+        }
+        FileOption::Segment => {
+            "give --segment the same state's segment 1 of the Census Bureau's PL 94-171 files of 2020, unzipped, as nc000012020.pl"
+        }
+        FileOption::Adjacency => {
+            "give --adjacency the Census Bureau's county adjacency file with pipes between its fields, as county_adjacency2023.txt"
+        }
+        FileOption::Links => "a line of --links is + or - and two county codes, as -|37055|37095",
+        FileOption::Withdrawn => {
+            "a line of --withdrawn is seats and the codes of the set's counties, as 1|37119"
+        }
+        FileOption::Assignments => {
+            "a line of --assignments is a block's fifteen digits and its district, as 370010201001000,1"
+        }
+        FileOption::Events => {
+            "give --events what `countygroups piece` prints: each event begins with a line of hand, result, split, better or wider"
+        }
+        _ =>
+            "a line of --grouping is seats and the codes of the group's counties, as 2|37063|37183",
+    }
+}
+
+/// Says what is wrong and where, and shows the line.
+fn explain_line(
+    out: &mut String,
+    file: NamedFile<'_>,
+    fault: &FileFault,
+    text: &[u8],
+) -> Result<(), AllocError> {
+    let number = fault.line();
+    match cut_line(text, number) {
+        Some(line) => {
+            let line = start_of(line);
+            writeln!(
+                out,
+                "countygroups: {file}, line {number}: {fault}\ncountygroups: line {number} is: {line}"
+            )
+        }
+        None => writeln!(out, "countygroups: {file}: {fault}"),
+    }
+}
+
+/// Says of which state a geographic header is, where another one was asked for.
+fn explain_state(out: &mut String, text: &[u8]) -> Result<(), AllocError> {
+    match county_state(text) {
+        Some(other) => {
+            let other = start_of(other);
+            writeln!(
+                out,
+                "countygroups: its first county line has STATE {other}: --state names the state, and is 37 where it is left out"
+            )
+        }
+        None => {
+            let words = remedy(FileOption::Geo);
+            writeln!(out, "countygroups: {words}")
+        }
+    }
+}
+
+/// The census file that an `audit` could not read a second time, because it is a pipe.
+fn spent_file<'a>(
+    rt: &impl Files,
+    options: Options<'a>,
+    (kind, text): (Pl94Kind, &[u8]),
+) -> Option<NamedFile<'a>> {
+    let file = match kind {
+        Pl94Kind::NoBlocks if text.is_empty() => options.file(FileOption::Geo),
+        Pl94Kind::NoRecord => options.file(FileOption::Segment),
+        _ => return None,
+    };
+    match (options.command, file.path) {
+        (Some(CommandWords::Audit(_)), Some(path)) if !is_plain(rt, path) => Some(file),
+        _ => None,
+    }
+}
+
+/// Says what helps against a fault of geographic header or segment 1.
+fn explain_census(
+    rt: &impl Files,
+    out: &mut String,
+    options: Options<'_>,
+    option: FileOption,
+    (kind, text): (Pl94Kind, &[u8]),
+) -> Result<(), AllocError> {
+    if let Some(file) = spent_file(rt, options, (kind, text)) {
+        return writeln!(
+            out,
+            "countygroups: `audit` reads {file} twice, and a pipe can be read once: give it a plain file"
+        );
+    }
+    let (file, segment) = (options.file(option), options.file(FileOption::Segment));
+    match (kind, option, looks_like(text)) {
+        (_, FileOption::Geo, Some(FileOption::Segment)) => writeln!(
+            out,
+            "countygroups: {file} looks like a segment 1: see whether --geo and --segment are swapped"
+        ),
+        (_, FileOption::Segment, Some(FileOption::Geo)) => writeln!(
+            out,
+            "countygroups: {file} looks like a geographic header: see whether --geo and --segment are swapped"
+        ),
+        (Pl94Kind::NoCounties, _, _) => explain_state(out, text),
+        (Pl94Kind::NoBlocks, _, _) => out.push_str(
+            "countygroups: give --geo the state's whole geographic header, which has its blocks; that in data/nc2020 has none\n",
+        ),
+        (Pl94Kind::NoRecord, _, _) => writeln!(
+            out,
+            "countygroups: see that {segment} is whole, and of the same state as --geo"
+        ),
+        _ => {
+            let words = remedy(option);
+            writeln!(out, "countygroups: {words}")
+        }
+    }
+}
+
+/// The NAME of a county line.
+fn name_on(line: Option<&[u8]>) -> &[u8] {
+    match line {
+        Some(line) => field_at(line, b'|', 87).unwrap_or(b""),
+        None => b"",
+    }
+}
+
+/// Says what helps against a NAME that isn't UTF-8.
+fn explain_name(out: &mut String, line: Option<&[u8]>) -> Result<(), AllocError> {
+    let name = start_of(name_on(line));
+    writeln!(
+        out,
+        "countygroups: its field 88, the NAME of a county, is: {name}\ncountygroups: store the file as UTF-8, or leave out --table"
+    )
+}
+
+/// Says what helps against a fault.
+fn explain_help(
+    rt: &impl Files,
+    out: &mut String,
+    options: Options<'_>,
+    option: FileOption,
+    (fault, text): (&FileFault, &[u8]),
+) -> Result<(), AllocError> {
+    if let [0xff, 0xfe, ..] | [0xfe, 0xff, ..] = text {
+        return out.push_str("countygroups: the file is UTF-16: store it as UTF-8\n");
+    }
+    match fault {
+        FileFault::Census(fault) => explain_census(rt, out, options, option, (fault.kind, text)),
+        FileFault::BadName(line) => explain_name(out, cut_line(text, u64::from(*line))),
+        _ => {
+            let words = remedy(option);
+            writeln!(out, "countygroups: {words}")
+        }
+    }
+}
+
+/// Explains why a file is refused: what is wrong, the line at fault, and what to do.
+///
+/// # Errors
+///
+/// `AllocError` where memory was refused.
+pub(crate) fn explain_refused(
+    rt: &impl Files,
+    out: &mut String,
+    options: Options<'_>,
+    option: FileOption,
+    (fault, text): (&FileFault, &[u8]),
+) -> Result<(), AllocError> {
+    explain_line(out, options.file(option), fault, text)?;
+    explain_help(rt, out, options, option, (fault, text))
+}
+
+/// Explains why the problem is refused.
+///
+/// # Errors
+///
+/// `AllocError` where memory was refused.
+pub(crate) fn explain_problem(
+    out: &mut String,
+    options: Options<'_>,
+    fault: &ProblemFault,
+) -> Result<(), AllocError> {
+    let file = options.file(match fault {
+        ProblemFault::BadWindow => {
+            return writeln!(out, "countygroups: --part and --of: {fault}");
+        }
+        ProblemFault::EmptyWithdrawn(_)
+        | ProblemFault::UnknownWithdrawn(_)
+        | ProblemFault::WithdrawnTwice(_)
+        | ProblemFault::WithdrawnSeats => FileOption::Withdrawn,
+        ProblemFault::UnknownPair(_, _) => FileOption::Links,
+        _ => FileOption::Geo,
+    });
+    writeln!(out, "countygroups: {file}: {fault}")
+}

@@ -1,0 +1,209 @@
+//! Bytes that were pulled from a source and aren't taken yet.
+
+ghost use Rattle.std.specs.Prelude.{◌≡◌, ◌==◌, ◌+◌, ◌<◌, ◌≤◌, ◌++◌, false, None, Some, take, length, IfOk, OnErr};
+ghost use Rattle.std.specs.Prelude.{slice_range, if◌then◌else◌};
+ghost use Rattle.std.specs.Result.{is_err};
+
+use crate::front::{FrontPiece, lf_after};
+use crate::lines::MAX_LINE;
+use crate::source::{Source, SourceFault};
+use crate::taken_pieces::TakenPiece;
+use std::alloc::{AllocError, Global};
+use std::marker::Model;
+
+/// How many bytes are held at most: as many as a line may have, and as many again for a pull.
+const MAX_HELD: usize = 131_072;
+
+/// The bytes that were pulled and aren't taken yet, and before them bytes that were taken since the last pull.
+#[derive(Drop)]
+pub(crate) struct PulledBytes {
+    buffer: Vec<u8>,
+    start: usize,
+    end: usize,
+    ended: bool,
+}
+
+impl Model for PulledBytes {
+    ghost use Rattle.std.specs.Prelude.{◌≡◌, ◌≤◌, vec_len, take, slice_range};
+    ghost use Rattle.field_lines.specs.Held.{Pulled};
+
+    /// The bytes that were taken since the last pull, those that are held, and whether the source has ended.
+    ghost Value = { Pulled };
+
+    ghost view = { λ p. record { taken = take p.start p.buffer.items; bytes = slice_range p.buffer.items p.start p.end; ended = p.ended } };
+
+    ghost invariant = { λ p. (p.start ≤ p.end) × (p.end ≤ 131072) × (vec_len p.buffer ≡ 131072) };
+}
+
+/// Pulls bytes behind the first `end` of a buffer.
+fn pull_behind<S: Source>(
+    source: &mut S,
+    buffer: &mut [u8],
+    end: usize,
+) -> Result<usize, SourceFault>
+    requires { end < length buffer.old }
+    ensures same { take end buffer.new ≡ take end buffer.old }
+    ensures bound { IfOk result (λ n. end + n ≤ length buffer.new) }
+    ensures given { IfOk result (λ n. S.given source.new ≡ S.given source.old ++ slice_range buffer.new end (end + n)) }
+    ensures none { OnErr result (S.given source.new ≡ S.given source.old) }
+    ensures failed { S.is_failed source.new ≡ is_err result }
+{
+    source.pull(&mut buffer[end..])
+}
+
+/// All bytes as a piece, unless there is none.
+fn rest_of(count: usize) -> Option<FrontPiece>
+    ensures { result ≡ (if count == 0 then None else Some (record { length = count; ended = false })) }
+{
+    if count == 0 {
+        return None;
+    }
+    Some(FrontPiece {
+        length: count,
+        ended: false,
+    })
+}
+
+impl PulledBytes {
+    ghost use Rattle.std.specs.Prelude.{◌≡◌, ◌+◌, ◌<◌, ◌≤◌, Bool, true, false, List, [], ◌++◌, ◌==◌, take, drop};
+    ghost use Rattle.std.specs.Prelude.{length, IfOk, OnOk, OnErr, MatchOption, slice_range, vec_len};
+    ghost use Rattle.std.specs.Result.{is_err};
+    ghost use Rattle.field_lines.specs.Held.{no_bytes, Pulls};
+    ghost use Rattle.field_lines.specs.Front.{IsFrontPiece, HasFront};
+    ghost use Rattle.field_lines.specs.Taken.{IsPlace, taken_bytes, TakesFirst};
+
+    /// No byte so far.
+    pub(crate) fn new(alloc: Global) -> Result<Self, AllocError>
+        ensures { IfOk result (λ p. p ≡ no_bytes) }
+    {
+        let mut buffer = Vec::with_capacity(alloc, MAX_HELD)?;
+        buffer.resize(MAX_HELD, 0)?;
+        Ok(PulledBytes {
+            buffer,
+            start: 0,
+            end: 0,
+            ended: false,
+        })
+    }
+
+    /// The bytes that are held.
+    pub(crate) fn held(&self) -> &[u8]
+        ensures value { result.now ≡ self.now.bytes }
+        ensures few { length result.now ≤ 131072 }
+    {
+        let (start, end) = (self.start, self.end);
+        let all = self.buffer.as_slice();
+        &all[start..end]
+    }
+
+    /// Bytes that were taken, from a place to another.
+    pub(crate) fn taken(&self, from: usize, to: usize) -> &[u8]
+        requires ordered { from ≤ to }
+        requires within { to ≤ length self.now.taken }
+        ensures { result.now ≡ slice_range self.now.taken from to }
+    {
+        let _start = self.start;
+        let all = self.buffer.as_slice();
+        &all[from..to]
+    }
+
+    /// Takes bytes from the front, and says at which place of those taken they begin.
+    pub(crate) fn take(&mut self, count: usize) -> usize
+        requires { count ≤ length self.old.bytes }
+        ensures place { result ≡ length self.old.taken }
+        ensures small { result ≤ 131072 }
+        ensures taken { self.new.taken ≡ self.old.taken ++ take count self.old.bytes }
+        ensures bytes { self.new.bytes ≡ drop count self.old.bytes }
+        ensures ended { self.new.ended ≡ self.old.ended }
+    {
+        let start = self.start;
+        self.start = start + count;
+        start
+    }
+
+    /// Moves the bytes that are held to the front of the buffer.
+    fn move_to_front(&mut self)
+        ensures taken { self.new.taken ≡ [] }
+        ensures bytes { self.new.bytes ≡ self.old.bytes }
+        ensures ended { self.new.ended ≡ self.old.ended }
+    {
+        if self.start > 0 {
+            self.buffer.copy_within(self.start..self.end, 0);
+            self.end -= self.start;
+            self.start = 0;
+        }
+    }
+
+    /// Pulls further bytes, 65,536 or more if there are so many. The source has ended where it gives none.
+    fn pull<S: Source>(&mut self, source: &mut S) -> Result<usize, SourceFault>
+        requires few { length self.old.bytes ≤ 65536 }
+        requires open { self.old.ended ≡ false }
+        ensures pulls { Pulls (S.given source.old) (S.given source.new) self.old self.new }
+        ensures count { IfOk result (λ n. length self.new.bytes ≡ length self.old.bytes + n) }
+        ensures ended { IfOk result (λ n. self.new.ended ≡ (n == 0)) }
+        ensures still { OnErr result (self.new.ended ≡ self.old.ended) }
+        ensures few { length self.new.bytes ≤ 131072 }
+        ensures failed { S.is_failed source.new ≡ is_err result }
+    {
+        self.move_to_front();
+        let end = self.end;
+        let count = pull_behind(source, &mut self.buffer, end)?;
+        self.end = end + count;
+        self.ended = count == 0;
+        Ok(count)
+    }
+
+    /// The piece at the front, after as many pulls as it takes to tell; `None` at the end. A piece that is longer than
+    /// a line may be is cut short.
+    pub(crate) fn front<S: Source>(
+        &mut self,
+        source: &mut S,
+    ) -> Result<Option<FrontPiece>, SourceFault>
+        ensures pulls { Pulls (S.given source.old) (S.given source.new) self.old self.new }
+        ensures front { IfOk result (HasFront self.new.bytes self.new.ended) }
+        ensures failed { OnErr result (S.is_failed source.new ≡ true) }
+        ensures sound { OnOk result (S.is_failed source.old ≡ false → S.is_failed source.new ≡ false) }
+    {
+        let mut searched = 0;
+        loop {
+            let held = self.held();
+            if let Some(length) = lf_after(held, searched) {
+                return Ok(Some(FrontPiece {
+                    length,
+                    ended: true,
+                }));
+            }
+            searched = held.len();
+            if searched > MAX_LINE || self.ended {
+                return Ok(rest_of(searched));
+            }
+            self.pull(source)?;
+        }
+    }
+    /// The bytes of the piece at the front.
+    pub(crate) fn piece(&self, front: FrontPiece) -> &[u8]
+        requires { IsFrontPiece self.now.bytes self.now.ended front.length front.ended }
+        ensures value { result.now ≡ take front.length self.now.bytes }
+        ensures length { length result.now ≡ front.length }
+    {
+        &self.held()[..front.length]
+    }
+
+    /// Takes the piece at the front, and says where it lies.
+    pub(crate) fn take_piece(&mut self, front: FrontPiece) -> TakenPiece
+        requires front { IsFrontPiece self.old.bytes self.old.ended front.length front.ended }
+        requires short { front.length ≤ 65536 }
+        ensures place { IsPlace self.new result.from result.to }
+        ensures bytes { taken_bytes self.new result ≡ take front.length self.old.bytes }
+        ensures ended { self.new.ended ≡ self.old.ended }
+        ensures first { TakesFirst self.old.bytes self.new result }
+    {
+        let length = front.length;
+        let from = self.take(if front.ended { length + 1 } else { length });
+        TakenPiece {
+            from,
+            to: from + length,
+            ended: front.ended,
+        }
+    }
+}

@@ -1,0 +1,208 @@
+//! Bound leaves that end with `weigh`: the weights of the open counties allow too few groups.
+
+ghost use Rattle.std.specs.Prelude.{◌≡◌, ℕ, true, cond, ◌<◌, ◌≤◌, List, length, get_or, All, ⊤, IfOk, MatchOption};
+ghost use Rattle.county_codes.specs.Limits.{most_counties};
+ghost use Rattle.grouping_laws.specs.Sets.{total};
+ghost use Rattle.place_laws.specs.PlaceSets.{places_of};
+ghost use Rattle.county_problem.specs.ProblemValue.{problem_of};
+ghost use Rattle.connected_laws.specs.Listing.{AreBelow};
+ghost use Rattle.certificate_data.specs.RoundValue.{round_of};
+ghost use Rattle.certificate_data.specs.TreeValue.{leaf_of};
+ghost use Rattle.state_groups.specs.Placed.{state_at, codes_of_sets, IsPlaced};
+ghost use Rattle.search_groups.specs.Known.{IsKnown};
+ghost use Rattle.list_laws.specs.Complete.{IsCompleteLeaf};
+ghost use Rattle.search_ends.specs.GivenLeaf.{IsGivenLeaf};
+ghost use Rattle.search_ends.specs.Missing.{AllowsFewer};
+ghost use Rattle.search_ends.specs.PlacedWeights.{placed_weight, AreTableWeights};
+
+use crate::empty_leaves::ending_leaf;
+use crate::standing::wanted_more;
+use certificate_data::{Allowance, Leaf, Round, Weight, Weights};
+use county_codes::CountyCode;
+use county_problem::Ordered;
+use place_sets::CountySet;
+use state_groups::{State, open_places, weight_in};
+use std::alloc::{AllocError, Global};
+
+/// The greatest quota of a line.
+const MOST_QUOTA: u64 = 256_000_000;
+
+/// The weights of the places of a region, 0 for each other place.
+fn weights_within<C: CountySet>(
+    alloc: Global,
+    region: &C,
+    weights: &[u32],
+) -> Result<Vec<u32>, AllocError>
+    requires fits { length weights.now ≤ C.PLACES }
+    requires few { length weights.now ≤ most_counties }
+    requires range { All (λ w. w ≤ 1000000) weights.now }
+    ensures count { IfOk result (λ v. length v.items ≡ length weights.now) }
+    ensures range { IfOk result (λ v. All (λ w. w ≤ 1000000) v.items) }
+    ensures each { IfOk
+        result
+        (λ v. (i : ℕ) → i < length weights.now
+        → get_or v.items i 0 ≡ cond (C.test region.now i) (get_or weights.now i 0) 0) }
+{
+    let mut table = Vec::new(alloc);
+    for place in 0..weights.len() {
+        let weight = if region.has(place as u16) {
+            weights[place]
+        } else {
+            0
+        };
+        table.push(weight)?;
+    }
+    Ok(table)
+}
+
+/// What the lightest of the groups weighs by the table; the greatest quota where that is less.
+fn least_weight<C: CountySet>(groups: &[C], table: &[u32]) -> u32
+    requires few { length table.now ≤ most_counties }
+    requires below { AreBelow (length table.now) C.test groups.now }
+    ensures each { All (λ g. result
+        ≤ total (λ i. get_or table.now i 0) (places_of (length table.now) (C.test g))) groups.now }
+    ensures small { result ≤ 256000000 }
+{
+    let mut least = MOST_QUOTA;
+    for group in groups {
+        least = least.min(weight_in(table, group));
+    }
+    least as u32
+}
+
+/// The weight of the county with the code by the table of places, 0 where the order has no such county.
+fn weight_at(ordered: &Ordered, table: &[u32], code: CountyCode) -> u32
+    requires count { length table.now ≡ length ordered.now.order }
+    requires range { All (λ w. w ≤ 1000000) table.now }
+    ensures value { result ≡ placed_weight ordered.now.order table.now code }
+    ensures small { result ≤ 1000000 }
+{
+    let _places = ordered.places();
+    match ordered.place_of(code) {
+        Some(place) => table[usize::from(place)],
+        None => 0,
+    }
+}
+
+/// The weights above 0 of the table, by ascending codes.
+fn listed_weights(alloc: Global, ordered: &Ordered, table: &[u32]) -> Result<Weights, AllocError>
+    requires count { length table.now ≡ length ordered.now.order }
+    requires range { All (λ w. w ≤ 1000000) table.now }
+    ensures { IfOk
+        result
+        (λ weights. AreTableWeights ordered.now.order (problem_of ordered.now.problem).counties table.now weights) }
+{
+    let _places = ordered.places();
+    let counties = ordered.problem().counties();
+    let mut weights = Vec::new(alloc);
+    for county in counties {
+        let _small = county.code.get();
+        let weight = weight_at(ordered, table, county.code);
+        if weight > 0 {
+            weights.push(Weight {
+                county: county.code,
+                weight,
+            })?;
+        }
+    }
+    Ok(Weights::new(weights))
+}
+
+/// A line for a size, in counties, of the weights of the counties open to it. Its quota is what the lightest of the
+/// groups weighs. `None` where that is 0, and where the line allows as many groups as are wanted.
+fn weighed_line<C: CountySet>(
+    alloc: Global,
+    ordered: &Ordered,
+    round: &Round,
+    state: &State<C>,
+    size: u16,
+    wanted: u32,
+    groups: &[C],
+    weights: &[u32],
+) -> Result<Option<Allowance>, AllocError>
+    requires fits { length ordered.now.order ≤ C.PLACES }
+    requires placed { IsPlaced (length ordered.now.order) C.test state.now }
+    requires order { ordered.now.order ≡ round.now.order }
+    requires known { IsKnown
+        (problem_of ordered.now.problem)
+        (round_of round.now)
+        (state_at ordered.now.order C.test state.now)
+        size
+        (codes_of_sets ordered.now.order C.test groups.now) }
+    requires below { AreBelow (length ordered.now.order) C.test groups.now }
+    requires count { length weights.now ≡ length ordered.now.order }
+    requires range { All (λ w. w ≤ 1000000) weights.now }
+    ensures { IfOk
+        result
+        (λ found. MatchOption
+        found
+        ⊤
+        (λ line. AllowsFewer round.now.language (problem_of ordered.now.problem) (state_at ordered.now.order C.test state.now) size wanted line)) }
+{
+    let _places = ordered.places();
+    let _problem = ordered.problem();
+    let region = open_places(alloc, state, size)?;
+    let table = weights_within(alloc, &region, weights)?;
+    let quota = least_weight(groups, &table);
+    if quota == 0 {
+        return Ok(None);
+    }
+    if weight_in(&table, &region) / u64::from(quota) >= u64::from(wanted) {
+        return Ok(None);
+    }
+    let weights = listed_weights(alloc, ordered, &table)?;
+    Ok(Some(Allowance::Weigh { quota, weights }))
+}
+
+/// A bound leaf that ends with `weigh` at a size, in counties, below which no group fits: by the weights of the
+/// counties that are open to it, with what the lightest of the groups weighs as quota, fewer groups share them than
+/// are wanted. `None` where as many may, where a group weighs nothing, and where `wanted_more` says none. The leaf
+/// falls short, so it is complete.
+///
+/// The groups are candidates of the size, among them all that fit. There is a weight for each place of the order, at
+/// most 1,000,000. An error comes where memory was refused.
+pub fn weighed_leaf<C: CountySet>(
+    alloc: Global,
+    ordered: &Ordered,
+    round: &Round,
+    state: &State<C>,
+    size: u16,
+    groups: &[C],
+    weights: &[u32],
+) -> Result<Option<Leaf>, AllocError>
+    requires fits { length ordered.now.order ≤ C.PLACES }
+    requires placed { IsPlaced (length ordered.now.order) C.test state.now }
+    requires order { ordered.now.order ≡ round.now.order }
+    requires limit { round.now.limit ≤ most_counties }
+    requires size { 1 ≤ size }
+    requires small { size ≤ round.now.limit }
+    requires known { IsKnown
+        (problem_of ordered.now.problem)
+        (round_of round.now)
+        (state_at ordered.now.order C.test state.now)
+        size
+        (codes_of_sets ordered.now.order C.test groups.now) }
+    requires below { AreBelow (length ordered.now.order) C.test groups.now }
+    requires count { length weights.now ≡ length ordered.now.order }
+    requires range { All (λ w. w ≤ 1000000) weights.now }
+    ensures leaf { IfOk
+        result
+        (λ found. MatchOption
+        found
+        ⊤
+        (λ leaf. IsGivenLeaf (problem_of ordered.now.problem) (round_of round.now) (state_at ordered.now.order C.test state.now) leaf)) }
+    ensures complete { IfOk
+        result
+        (λ found. MatchOption
+        found
+        ⊤
+        (λ leaf. IsCompleteLeaf (leaf_of leaf) (problem_of ordered.now.problem) (round_of round.now) (state_at ordered.now.order C.test state.now))) }
+{
+    let Some(wanted) = wanted_more(ordered, round, state, size) else {
+        return Ok(None);
+    };
+    match weighed_line(alloc, ordered, round, state, size, wanted, groups, weights)? {
+        Some(line) => Ok(Some(ending_leaf(alloc, ordered, state, size, line)?)),
+        None => Ok(None),
+    }
+}
