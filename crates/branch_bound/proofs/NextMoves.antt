@@ -1,5 +1,6 @@
 -- What the judging of a state rests on.
-use Rattle.std.proofs.Common.{◌≡◌, ℕ, ◌+◌, ◌≤◌, ◌<◌, Bool, true, false, List, [], ◌∷◌, length, map, Vec, Global, refl, sym, ap, ◌∙◌, subst, arith, All, Contains, inl, inr}
+use Rattle.std.proofs.Common.{◌≡◌, ℕ, ◌+◌, ◌≤◌, ◌<◌, Bool, true, false, List, [], ◌∷◌, length, map, refl, sym, ap, ◌∙◌, subst, arith, All, Contains, None, MatchOption, inl}
+use Rattle.std.specs.Prelude.{⊤}
 use Rattle.grouping_laws.proofs.PlaceCodes.{mapped_has}
 use Rattle.std.proofs.lemmas.Bool.{false≢true}
 use Rattle.grouping_laws.specs.GroupsFrom.{IsOrder, place}
@@ -11,12 +12,12 @@ use Rattle.certificate_laws.specs.State.{State}
 use Rattle.certificate_laws.specs.Fitting.{Fits, IsLive}
 use Rattle.certificate_laws.specs.Groups.{AreGroupsOf}
 use Rattle.state_groups.specs.Placed.{codes_of_set, codes_of_sets, IsPlaced}
-use Rattle.search_groups.specs.Known.{IsKnown, IsCandidateGroup, AreCandidates, AreThose}
+use Rattle.search_groups.specs.Known.{IsKnown, IsCandidateGroup, AreThose}
 use Rattle.search_groups.proofs.KnownGroups.{known_serves, none_left, candidates_fit, candidates_listed}
 use Rattle.search_groups.proofs.KeptSteps.{code_in, place_in}
-use Rattle.search_groups.proofs.PartSteps.{none_held}
-use Rattle.branch_bound.specs.Searching.{search_problem, search_round, search_state, IsSearchInput, IsPositionAt, IsChoice}
+use Rattle.branch_bound.specs.Searching.{search_problem, search_round, search_state, IsSearchInput, IsLargerAt, IsPositionAt, IsChoice}
 use Rattle.branch_bound.specs.declared.input.SearchInput.{SearchInput}
+use Rattle.branch_bound.specs.declared.position.Larger.{Larger}
 use Rattle.branch_bound.specs.declared.position.Position.{Position}
 
 -- an element of a list, mapped
@@ -44,8 +45,8 @@ module _ (C : Type 0) (test : C → ℕ → Bool) (places : ℕ) (g : SearchInpu
 
   pub live_at : (next : Position C) → next.state ≡ at.state → next.size ≡ at.size → AreBelow (length g.graph.now.ordered.now.order) test next.groups.items
       → AreThose g.graph.now.ordered.now.order (IsLive (search_problem g) (search_state g test at.state)) (codes_of_sets g.graph.now.ordered.now.order test at.groups.items) (codes_of_sets g.graph.now.ordered.now.order test next.groups.items)
-      → next.has_larger ≡ at.has_larger → next.larger ≡ at.larger → IsPositionAt test g s next
-  live_at next same size below those has kept = record {
+      → next.larger ≡ at.larger → IsPositionAt test g s next
+  live_at next same size below those kept = record {
     placed = subst (λ z. IsPlaced (length g.graph.now.ordered.now.order) test z) (sym same) is.placed;
     is = ap (search_state g test) same ∙ is.is;
     state = is.state;
@@ -55,14 +56,12 @@ module _ (C : Type 0) (test : C → ℕ → Bool) (places : ℕ) (g : SearchInpu
         (known_serves.live (search_problem g) (search_round g) s at.size (sets at.groups.items) (sets next.groups.items) input.wide is.known
         (subst (λ z. AreThose g.round.now.order (IsLive (search_problem g) z) (sets at.groups.items) (sets next.groups.items)) is.is
         (subst (λ o. AreThose o (IsLive (search_problem g) (search_state g test at.state)) (sets at.groups.items) (sets next.groups.items)) input.order those))).1;
-    larger_below = subst (λ (z : Vec C Global). AreBelow (length g.graph.now.ordered.now.order) test z.items) (sym kept) is.larger_below;
-    larger = λ e. subst (λ (z : Vec C Global). AreCandidates (search_problem g) (search_round g) s (next.size + 1) (sets z.items)) (sym kept)
-        (subst (λ n. AreCandidates (search_problem g) (search_round g) s (n + 1) (sets at.larger.items)) (sym size) (is.larger (sym has ∙ e)));
+    larger = subst (λ o. MatchOption o ⊤ (IsLargerAt test g s next.size)) (sym kept) (subst (λ n. MatchOption at.larger ⊤ (IsLargerAt test g s n)) (sym size) is.larger);
   }
 
   pub sized_at : (next : Position C) → at.groups.items ≡ [] → next.state ≡ at.state → next.size ≡ at.size + 1 → at.size < g.round.now.limit → AreBelow (length g.graph.now.ordered.now.order) test next.groups.items
-      → AreGroupsOf (search_problem g) (search_round g) s (at.size + 1) (codes_of_sets g.graph.now.ordered.now.order test next.groups.items) → next.has_larger ≡ false → next.larger.items ≡ [] → IsPositionAt test g s next
-  sized_at next empty same size less below groups has none = record {
+      → AreGroupsOf (search_problem g) (search_round g) s (at.size + 1) (codes_of_sets g.graph.now.ordered.now.order test next.groups.items) → next.larger ≡ None → IsPositionAt test g s next
+  sized_at next empty same size less below groups none = record {
     placed = subst (λ z. IsPlaced (length g.graph.now.ordered.now.order) test z) (sym same) is.placed;
     is = ap (search_state g test) same ∙ is.is;
     state = is.state;
@@ -71,46 +70,21 @@ module _ (C : Type 0) (test : C → ℕ → Bool) (places : ℕ) (g : SearchInpu
     known = subst (λ n. IsKnown (search_problem g) (search_round g) s n (sets next.groups.items)) (sym size)
         (known_serves.next (search_problem g) (search_round g) s at.size (sets next.groups.items) (subst (IsOrder (search_problem g)) input.order order)
         (subst (λ z. IsKnown (search_problem g) (search_round g) s at.size (codes_of_sets g.graph.now.ordered.now.order test z)) empty is.known) groups);
-    larger_below = subst (AreBelow (length g.graph.now.ordered.now.order) test) (sym none) (none_held (λ set. (x : ℕ) → test set x ≡ true → x < length g.graph.now.ordered.now.order));
-    larger = λ e. absurd (false≢true (sym has ∙ e));
+    larger = subst (λ o. MatchOption o ⊤ (IsLargerAt test g s next.size)) (sym none) tt;
   }
 
   -- the live ones of the candidates of one county more are the groups that fit
-  pub larger_fit : (those : List (List ℕ)) → at.has_larger ≡ true
-      → AreThose g.graph.now.ordered.now.order (IsLive (search_problem g) (search_state g test at.state)) (codes_of_sets g.graph.now.ordered.now.order test at.larger.items) those → AreGroupsOf (search_problem g) (search_round g) s (at.size + 1) those
-  larger_fit those has lives =
-      candidates_fit (search_problem g) (search_round g) s (at.size + 1) (sets at.larger.items) those input.wide (is.larger has)
-      (subst (λ z. AreThose g.round.now.order (IsLive (search_problem g) z) (sets at.larger.items) those) is.is
-      (subst (λ o. AreThose o (IsLive (search_problem g) (search_state g test at.state)) (sets at.larger.items) those) input.order lives))
+  pub larger_fit : (l : Larger C) (those : List (List ℕ)) → IsLargerAt test g s at.size l
+      → AreThose g.graph.now.ordered.now.order (IsLive (search_problem g) (search_state g test at.state)) (codes_of_sets g.graph.now.ordered.now.order test l.groups.items) those → AreGroupsOf (search_problem g) (search_round g) s (at.size + 1) those
+  larger_fit l those larger lives =
+      candidates_fit (search_problem g) (search_round g) s (at.size + 1) (sets l.groups.items) those input.wide larger.known
+      (subst (λ z. AreThose g.round.now.order (IsLive (search_problem g) z) (sets l.groups.items) those) is.is
+      (subst (λ o. AreThose o (IsLive (search_problem g) (search_state g test at.state)) (sets l.groups.items) those) input.order lives))
 
-  -- a position with other candidates of one county more
-  pub larger_at : (next : Position C) → next.state ≡ at.state → next.size ≡ at.size → next.groups ≡ at.groups → AreBelow (length g.graph.now.ordered.now.order) test next.larger.items
-      → AreGroupsOf (search_problem g) (search_round g) s (at.size + 1) (codes_of_sets g.graph.now.ordered.now.order test next.larger.items) → IsPositionAt test g s next
-  larger_at next same size kept below groups = record {
-    placed = subst (λ z. IsPlaced (length g.graph.now.ordered.now.order) test z) (sym same) is.placed;
-    is = ap (search_state g test) same ∙ is.is;
-    state = is.state;
-    small = omega (arith, size, is.small);
-    below = subst (λ (z : Vec C Global). AreBelow (length g.graph.now.ordered.now.order) test z.items) (sym kept) is.below;
-    known = subst (λ (z : Vec C Global). IsKnown (search_problem g) (search_round g) s next.size (sets z.items)) (sym kept) (subst (λ n. IsKnown (search_problem g) (search_round g) s n (sets at.groups.items)) (sym size) is.known);
-    larger_below = below;
-    larger = λ e. subst (λ n. AreCandidates (search_problem g) (search_round g) s (n + 1) (sets next.larger.items)) (sym size) (candidates_listed (search_problem g) (search_round g) s (at.size + 1) (sets next.larger.items) groups);
-  }
-
-  -- and a position with the live ones of them
-  pub tested_at : (next : Position C) → next.state ≡ at.state → next.size ≡ at.size → next.groups ≡ at.groups → next.has_larger ≡ at.has_larger → AreBelow (length g.graph.now.ordered.now.order) test next.larger.items
-      → AreThose g.graph.now.ordered.now.order (IsLive (search_problem g) (search_state g test at.state)) (codes_of_sets g.graph.now.ordered.now.order test at.larger.items) (codes_of_sets g.graph.now.ordered.now.order test next.larger.items) → IsPositionAt test g s next
-  tested_at next same size kept has below lives = record {
-    placed = subst (λ z. IsPlaced (length g.graph.now.ordered.now.order) test z) (sym same) is.placed;
-    is = ap (search_state g test) same ∙ is.is;
-    state = is.state;
-    small = omega (arith, size, is.small);
-    below = subst (λ (z : Vec C Global). AreBelow (length g.graph.now.ordered.now.order) test z.items) (sym kept) is.below;
-    known = subst (λ (z : Vec C Global). IsKnown (search_problem g) (search_round g) s next.size (sets z.items)) (sym kept) (subst (λ n. IsKnown (search_problem g) (search_round g) s n (sets at.groups.items)) (sym size) is.known);
-    larger_below = below;
-    larger = λ e. subst (λ n. AreCandidates (search_problem g) (search_round g) s (n + 1) (sets next.larger.items)) (sym size)
-        (candidates_listed (search_problem g) (search_round g) s (at.size + 1) (sets next.larger.items) (larger_fit (sets next.larger.items) (sym has ∙ e) lives));
-  }
+  -- all groups of one county more that fit are candidates
+  pub listed_at : (l : Larger C) → AreBelow (length g.graph.now.ordered.now.order) test l.groups.items
+      → AreGroupsOf (search_problem g) (search_round g) s (at.size + 1) (codes_of_sets g.graph.now.ordered.now.order test l.groups.items) → IsLargerAt test g s at.size l
+  listed_at l below groups = record { below = below; known = candidates_listed (search_problem g) (search_round g) s (at.size + 1) (sets l.groups.items) groups }
 
   -- groups that are known have a county at least
   pub some_size : 1 ≤ length at.groups.items → 1 ≤ at.size

@@ -1,5 +1,6 @@
 -- The positions of a search: what is known at one goes with it.
-use Rattle.std.proofs.Common.{◌≡◌, ℕ, ◌+◌, ◌<◌, ◌≤◌, Bool, true, List, Vec, Global, length, refl, sym, ap, ◌∙◌, subst, arith}
+use Rattle.std.proofs.Common.{◌≡◌, ℕ, ◌+◌, ◌<◌, ◌≤◌, Bool, true, List, length, Option, Some, None, MatchOption, refl, sym, ap, ◌∙◌, subst, arith}
+use Rattle.std.specs.Prelude.{⊤}
 use Rattle.grouping_laws.specs.Problem.{IsProblem}
 use Rattle.grouping_laws.specs.GroupsFrom.{IsOrder}
 use Rattle.connected_laws.specs.Listing.{AreBelow}
@@ -11,11 +12,12 @@ use Rattle.certificate_laws.specs.Proving.{CanBranch}
 use Rattle.certificate_laws.proofs.Branches.{branch_keeps_state}
 use Rattle.certificate_laws.proofs.Completion.{open_least}
 use Rattle.state_groups.specs.Placed.{codes_of_set, codes_of_sets, IsPlaced, IsClosable}
-use Rattle.search_groups.specs.Known.{IsCandidateGroup, AreCandidates, IsKnown, AreThose, IsApart, Lacks, Has}
+use Rattle.search_groups.specs.Known.{IsCandidateGroup, IsKnown, AreThose, IsApart, Lacks, Has}
 use Rattle.search_groups.proofs.KnownGroups.{known_serves, candidates_closed, candidates_raised}
 use Rattle.search_groups.proofs.Closing.{candidate_closable}
-use Rattle.branch_bound.specs.Searching.{search_problem, search_round, search_state, IsSearchInput, IsPositionAt, IsChoice}
+use Rattle.branch_bound.specs.Searching.{search_problem, search_round, search_state, IsSearchInput, IsLargerAt, IsPositionAt, IsChoice}
 use Rattle.branch_bound.specs.declared.input.SearchInput.{SearchInput}
+use Rattle.branch_bound.specs.declared.position.Larger.{Larger}
 use Rattle.branch_bound.specs.declared.position.Position.{Position}
 
 module _ (C : Type 0) (test : C → ℕ → Bool) (places : ℕ) (g : SearchInput C) (input : IsSearchInput places test g) where
@@ -36,13 +38,33 @@ module _ (C : Type 0) (test : C → ℕ → Bool) (places : ℕ) (g : SearchInpu
       subst (λ z. IsCandidateGroup (search_problem g) (search_round g) z (length codes) codes) (sym is.is) (record { lawful = fits.fits.lawful; inside = fits.fits.inside; in_order = fits.in_order; size = refl }) in
       candidate_closable C test g.graph.now.ordered.now.order (search_problem g) order (search_round g) at.state is.placed (length codes) group below here
 
+  -- what is known of the groups of one county more, where a group is closed
+  pub closed_larger : (s : State) (at : Position C) (c : ℕ) (group : C) (l next : Larger C) → IsProblem (search_problem g) → IsPositionAt test g s at → IsGroupAt (search_problem g) (search_round g) s c at.size (codes_of_set g.graph.now.ordered.now.order test group)
+      → IsLargerAt test g s at.size l → AreBelow (length g.graph.now.ordered.now.order) test next.groups.items
+      → AreThose g.graph.now.ordered.now.order (IsApart (codes_of_set g.graph.now.ordered.now.order test group)) (codes_of_sets g.graph.now.ordered.now.order test l.groups.items) (codes_of_sets g.graph.now.ordered.now.order test next.groups.items)
+      → IsLargerAt test g (close (codes_of_set g.graph.now.ordered.now.order test group) s) at.size next
+  closed_larger s at c group l next problem is fits known below those =
+      let codes = codes_of_set g.graph.now.ordered.now.order test group in
+      record {
+        below = below;
+        known = candidates_closed (search_problem g) (search_round g) s (at.size + 1) codes (sets l.groups.items) (sets next.groups.items) problem is.state fits.fits known.known
+            (subst (λ o. AreThose o (IsApart codes) (sets l.groups.items) (sets next.groups.items)) input.order those);
+      }
+
+  -- and where a county is raised past the size
+  raised_larger : (s : State) (size c : ℕ) → CanBranch (search_round g) s c size → (o : Option (Larger C)) → MatchOption o ⊤ (IsLargerAt test g s size) → MatchOption o ⊤ (IsLargerAt test g (raise c size s) size)
+  raised_larger s size c can None known = tt
+  raised_larger s size c can (Some l) known = record {
+    below = known.below;
+    known = candidates_raised (search_problem g) (search_round g) s size c (sets l.groups.items) (omega (arith, open_least s size c can.is_open)) known.known;
+  }
+
   pub closed_at : (s : State) (at next : Position C) (c : ℕ) (group : C) → IsProblem (search_problem g) → IsPositionAt test g s at → IsGroupAt (search_problem g) (search_round g) s c at.size (codes_of_set g.graph.now.ordered.now.order test group)
       → IsPlaced (length g.graph.now.ordered.now.order) test next.state → search_state g test next.state ≡ close (codes_of_set g.graph.now.ordered.now.order test group) (search_state g test at.state) → next.size ≡ at.size → AreBelow (length g.graph.now.ordered.now.order) test next.groups.items
       → AreThose g.graph.now.ordered.now.order (IsApart (codes_of_set g.graph.now.ordered.now.order test group)) (codes_of_sets g.graph.now.ordered.now.order test at.groups.items) (codes_of_sets g.graph.now.ordered.now.order test next.groups.items)
-      → next.has_larger ≡ at.has_larger → AreBelow (length g.graph.now.ordered.now.order) test next.larger.items
-      → AreThose g.graph.now.ordered.now.order (IsApart (codes_of_set g.graph.now.ordered.now.order test group)) (codes_of_sets g.graph.now.ordered.now.order test at.larger.items) (codes_of_sets g.graph.now.ordered.now.order test next.larger.items)
+      → MatchOption next.larger ⊤ (IsLargerAt test g (close (codes_of_set g.graph.now.ordered.now.order test group) s) at.size)
       → IsPositionAt test g (close (codes_of_set g.graph.now.ordered.now.order test group) s) next
-  closed_at s at next c group problem is fits placed value size below those same larger_below larger_those =
+  closed_at s at next c group problem is fits placed value size below those larger =
       let codes = codes_of_set g.graph.now.ordered.now.order test group in
       record {
         placed = placed;
@@ -53,16 +75,13 @@ module _ (C : Type 0) (test : C → ℕ → Bool) (places : ℕ) (g : SearchInpu
         known = subst (λ n. IsKnown (search_problem g) (search_round g) (close codes s) n (sets next.groups.items)) (sym size)
             (known_serves.closed (search_problem g) (search_round g) s at.size codes (sets at.groups.items) (sets next.groups.items) problem is.state fits.fits is.known
             (subst (λ o. AreThose o (IsApart codes) (sets at.groups.items) (sets next.groups.items)) input.order those));
-        larger_below = larger_below;
-        larger = λ e. subst (λ n. AreCandidates (search_problem g) (search_round g) (close codes s) (n + 1) (sets next.larger.items)) (sym size)
-            (candidates_closed (search_problem g) (search_round g) s (at.size + 1) codes (sets at.larger.items) (sets next.larger.items) problem is.state fits.fits (is.larger (sym same ∙ e))
-            (subst (λ o. AreThose o (IsApart codes) (sets at.larger.items) (sets next.larger.items)) input.order larger_those));
+        larger = subst (λ n. MatchOption next.larger ⊤ (IsLargerAt test g (close codes s) n)) (sym size) larger;
       }
 
   pub raised_at : (s : State) (at next : Position C) (c : ℕ) → IsPositionAt test g s at → CanBranch (search_round g) s c at.size → IsPlaced (length g.graph.now.ordered.now.order) test next.state → search_state g test next.state ≡ raise c at.size (search_state g test at.state) → next.size ≡ at.size
       → AreBelow (length g.graph.now.ordered.now.order) test next.groups.items → AreThose g.graph.now.ordered.now.order (Lacks c) (codes_of_sets g.graph.now.ordered.now.order test at.groups.items) (codes_of_sets g.graph.now.ordered.now.order test next.groups.items)
-      → next.has_larger ≡ at.has_larger → next.larger ≡ at.larger → IsPositionAt test g (raise c at.size s) next
-  raised_at s at next c is can placed value size below those same kept = record {
+      → next.larger ≡ at.larger → IsPositionAt test g (raise c at.size s) next
+  raised_at s at next c is can placed value size below those kept = record {
     placed = placed;
     is = value ∙ ap (raise c at.size) is.is;
     state = (branch_keeps_state).raised_state (search_problem g) (search_round g) s c at.size is.state can;
@@ -71,10 +90,8 @@ module _ (C : Type 0) (test : C → ℕ → Bool) (places : ℕ) (g : SearchInpu
     known = subst (λ n. IsKnown (search_problem g) (search_round g) (raise c at.size s) n (sets next.groups.items)) (sym size)
         (known_serves.raised (search_problem g) (search_round g) s at.size c (sets at.groups.items) (sets next.groups.items) (omega (arith, open_least s at.size c can.is_open)) is.known
         (subst (λ o. AreThose o (Lacks c) (sets at.groups.items) (sets next.groups.items)) input.order those));
-    larger_below = subst (λ (z : Vec C Global). AreBelow (length g.graph.now.ordered.now.order) test z.items) (sym kept) is.larger_below;
-    larger = λ e. subst (λ (z : Vec C Global). AreCandidates (search_problem g) (search_round g) (raise c at.size s) (next.size + 1) (sets z.items)) (sym kept)
-        (subst (λ n. AreCandidates (search_problem g) (search_round g) (raise c at.size s) (n + 1) (sets at.larger.items)) (sym size)
-        (candidates_raised (search_problem g) (search_round g) s at.size c (sets at.larger.items) (omega (arith, open_least s at.size c can.is_open)) (is.larger (sym same ∙ e))));
+    larger = subst (λ o. MatchOption o ⊤ (IsLargerAt test g (raise c at.size s) next.size)) (sym kept)
+        (subst (λ n. MatchOption at.larger ⊤ (IsLargerAt test g (raise c at.size s) n)) (sym size) (raised_larger s at.size c can at.larger is.larger));
   }
 
   -- one may branch at a county of a group that is known

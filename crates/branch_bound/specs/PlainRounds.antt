@@ -1,7 +1,7 @@
 -- The search of a piece of a plain round.
 use Rattle.std.specs.Prelude.{ℕ, ◌≡◌, ◌≤◌, ◌<◌, Bool, length}
 use Rattle.county_codes.specs.Limits.{most_counties}
-use Rattle.county_problem.specs.OrderedValue.{problem_at, code_at}
+use Rattle.county_problem.specs.OrderedValue.{code_at}
 use Rattle.connected_sets.specs.Graphs.{IsGraph}
 use Rattle.certificate_data.specs.declared.language.Language.TheVariants.{Plain}
 use Rattle.certificate_laws.specs.State.{State, IsState}

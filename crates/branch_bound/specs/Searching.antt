@@ -1,5 +1,5 @@
 -- What a search by branch and bound keeps at a state, and what it answers.
-use Rattle.std.specs.Prelude.{ℕ, ◌+◌, ◌≡◌, ◌≤◌, ◌<◌, Bool, true, List, ◌∷◌, filter, length, All, AllPairs, Contains}
+use Rattle.std.specs.Prelude.{ℕ, ◌+◌, ◌≡◌, ◌≤◌, ◌<◌, Bool, true, List, ◌∷◌, filter, length, All, AllPairs, Contains, MatchOption, ⊤}
 use Rattle.std.specs.List.{AllByRecursion}
 use Rattle.county_codes.specs.Limits.{most_counties}
 use Rattle.county_codes.specs.declared.group.Grouping.{Grouping as GroupingHeld}
@@ -8,7 +8,7 @@ use Rattle.grouping_laws.specs.Problem.{Problem}
 use Rattle.grouping_laws.specs.Grouping.{Grouping, sets_of}
 use Rattle.grouping_laws.specs.GroupsFrom.{IsBefore}
 use Rattle.county_problem.specs.ProblemValue.{problem_of}
-use Rattle.county_problem.specs.OrderedValue.{problem_at, code_at}
+use Rattle.county_problem.specs.OrderedValue.{code_at}
 use Rattle.connected_sets.specs.Graphs.{IsGraph}
 use Rattle.connected_laws.specs.Listing.{AreBelow}
 use Rattle.certificate_data.specs.Round.{Round}
@@ -33,6 +33,7 @@ use Rattle.certificate_text.specs.TreeItems.{FitsInTree, HasLines, HasTargetLine
 use Rattle.search_groups.specs.Known.{AreCandidates, IsKnown}
 use Rattle.search_ends.specs.GivenLeaf.{IsGivenLeaf}
 use Rattle.branch_bound.specs.declared.input.SearchInput.{SearchInput}
+use Rattle.branch_bound.specs.declared.position.Larger.{Larger}
 use Rattle.branch_bound.specs.declared.position.Position.{Position}
 use Rattle.branch_bound.specs.declared.outcome.SearchOutcome.{SearchOutcome}
 use Rattle.branch_bound.specs.declared.outcome.SearchOutcome.TheVariants as outcome
@@ -62,6 +63,12 @@ pub record IsSearchInput {C : Type 0} (places : ℕ) (test : C → ℕ → Bool)
   pub small : g.round.now.limit ≤ most_counties
   pub wide : g.round.now.language ≡ Wide
 
+-- these are groups of one county more than the size, among them all that fit the state
+pub record IsLargerAt {C : Type 0} (test : C → ℕ → Bool) (g : SearchInput C) (s : State) (size : ℕ)
+    (l : Larger C) : Type 0 where
+  pub below : AreBelow (length g.graph.now.ordered.now.order) test l.groups.items
+  pub known : AreCandidates (search_problem g) (search_round g) s (size + 1) (codes_of_sets g.graph.now.ordered.now.order test l.groups.items)
+
 -- A position is at a state of the round, of which the groups of so many counties, at most the limit, are known, and
 -- maybe those of one county more.
 pub record IsPositionAt {C : Type 0} (test : C → ℕ → Bool) (g : SearchInput C) (s : State)
@@ -72,10 +79,7 @@ pub record IsPositionAt {C : Type 0} (test : C → ℕ → Bool) (g : SearchInpu
   pub small : at.size ≤ g.round.now.limit
   pub below : AreBelow (length g.graph.now.ordered.now.order) test at.groups.items
   pub known : IsKnown (search_problem g) (search_round g) s at.size (codes_of_sets g.graph.now.ordered.now.order test at.groups.items)
-  pub larger_below : AreBelow (length g.graph.now.ordered.now.order) test at.larger.items
-  pub larger : at.has_larger ≡ true
-      → AreCandidates (search_problem g) (search_round g) s (at.size
-      + 1) (codes_of_sets g.graph.now.ordered.now.order test at.larger.items)
+  pub larger : MatchOption at.larger ⊤ (IsLargerAt test g s at.size)
 
 -- the groups stand by size and then by places, and the codes of each in the order of places
 pub record IsSorted (order : List ℕ) (g : Grouping) : Type 0 where

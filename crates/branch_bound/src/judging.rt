@@ -179,11 +179,10 @@ fn move_at_sizes<C: CountySet>(
             Ok(Next::Leaf(leaf)) => return Ok(Move::Leaf(leaf)),
             Ok(Next::Better(found)) => return Ok(Move::Better(found)),
             Ok(Next::Groups(groups)) => {
+                position.larger = None;
                 position.size += 1;
                 position.groups = groups;
                 position.tested = true;
-                position.larger = Vec::new(input.graph.alloc);
-                position.has_larger = false;
             }
             Err(stop) => return Err(stop),
         }
@@ -221,8 +220,6 @@ fn without_dead<C: CountySet>(
         size,
         groups,
         larger,
-        has_larger,
-        larger_tested,
         ..
     } = position;
     match live_groups(input.graph, &state, &groups, steps) {
@@ -232,8 +229,6 @@ fn without_dead<C: CountySet>(
             groups,
             tested: true,
             larger,
-            has_larger,
-            larger_tested,
         }),
         Err(stop) => Err(stop),
     }

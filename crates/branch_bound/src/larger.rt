@@ -10,11 +10,12 @@ ghost use Rattle.certificate_laws.specs.Leaves.{IsStuck};
 ghost use Rattle.state_groups.specs.Placed.{codes_of_sets};
 ghost use Rattle.search_groups.specs.PartLists.{AreListsOf};
 ghost use Rattle.connected_sets.specs.declared.stop.Stop.{Stop};
-ghost use Rattle.branch_bound.specs.Searching.{search_problem, search_round, search_state, IsSearchInput, IsPositionAt};
+ghost use Rattle.branch_bound.specs.Searching.{search_problem, search_round, search_state};
+ghost use Rattle.branch_bound.specs.Searching.{IsSearchInput, IsLargerAt, IsPositionAt};
 ghost use Rattle.connected_sets.specs.Graphs.{graph_order, graph_places, place_problem};
 
 use crate::input::SearchInput;
-use crate::position::Position;
+use crate::position::{Larger, Position};
 use connected_sets::Stop;
 use county_problem::Steps;
 use place_sets::CountySet;
@@ -64,30 +65,28 @@ pub(crate) fn next_groups<C: CountySet>(
         larger,
         ..
     } = position;
-    if !position.has_larger {
+    let Some(larger) = larger else {
         return groups_of_size(input.graph, input.round, state, *size + 1, lists, steps);
-    }
-    match live_groups(input.graph, state, larger, steps) {
+    };
+    match live_groups(input.graph, state, &larger.groups, steps) {
         Ok(groups) => Ok(groups),
         Err(stop) => Err(stop),
     }
 }
 
-/// The position, with the groups of one county more listed.
-fn listed_ahead<C: CountySet>(
+/// The groups of one county more, listed.
+fn listed_larger<C: CountySet>(
     input: &SearchInput<C>,
-    position: Position<C>,
+    position: &Position<C>,
     steps: &mut Steps,
-) -> Result<Position<C>, Stop>
+) -> Result<Larger<C>, Stop>
     requires input { IsSearchInput C.PLACES C.test input.now }
-    requires at { IsPositionAt C.test input.now (search_state input.now C.test position.state) position }
-    ensures at { IfOk result (λ at. IsPositionAt C.test input.now (search_state input.now C.test position.state) at
-        × (at.groups ≡ position.groups)) }
+    requires at { IsPositionAt C.test input.now (search_state input.now C.test position.now.state) position.now }
+    ensures larger { IfOk result (IsLargerAt C.test input.now (search_state input.now C.test position.now.state) position.now.size) }
     ensures more { steps.old.used ≤ steps.new.used }
     ensures limit { steps.new.limit ≡ steps.old.limit }
     ensures stopped { IsErrOf result Stop.StepLimit → steps.new.used ≡ steps.new.limit }
 {
-    let mut position = position;
     match all_groups_of_size(
         input.graph,
         input.round,
@@ -95,37 +94,34 @@ fn listed_ahead<C: CountySet>(
         position.size + 1,
         steps,
     ) {
-        Ok(larger) => {
-            position.larger = larger;
-            position.has_larger = true;
-            position.larger_tested = true;
-            Ok(position)
-        }
+        Ok(groups) => Ok(Larger {
+            groups,
+            tested: true,
+        }),
         Err(stop) => Err(stop),
     }
 }
 
-/// The position, without dead ones of the groups of one county more that are listed. A step is taken for each.
-fn tested_ahead<C: CountySet>(
+/// The groups of one county more, without dead ones. A step is taken for each that is listed.
+fn tested_larger<C: CountySet>(
     input: &SearchInput<C>,
-    position: Position<C>,
+    position: &Position<C>,
+    larger: &Larger<C>,
     steps: &mut Steps,
-) -> Result<Position<C>, Stop>
+) -> Result<Larger<C>, Stop>
     requires input { IsSearchInput C.PLACES C.test input.now }
-    requires at { IsPositionAt C.test input.now (search_state input.now C.test position.state) position }
-    ensures at { IfOk result (λ at. IsPositionAt C.test input.now (search_state input.now C.test position.state) at
-        × (at.groups ≡ position.groups)) }
+    requires at { IsPositionAt C.test input.now (search_state input.now C.test position.now.state) position.now }
+    requires larger { IsLargerAt C.test input.now (search_state input.now C.test position.now.state) position.now.size larger.now }
+    ensures larger { IfOk result (IsLargerAt C.test input.now (search_state input.now C.test position.now.state) position.now.size) }
     ensures more { steps.old.used ≤ steps.new.used }
     ensures limit { steps.new.limit ≡ steps.old.limit }
     ensures stopped { IsErrOf result Stop.StepLimit → steps.new.used ≡ steps.new.limit }
 {
-    let mut position = position;
-    match live_groups(input.graph, &position.state, &position.larger, steps) {
-        Ok(larger) => {
-            position.larger = larger;
-            position.larger_tested = true;
-            Ok(position)
-        }
+    match live_groups(input.graph, &position.state, &larger.groups, steps) {
+        Ok(groups) => Ok(Larger {
+            groups,
+            tested: true,
+        }),
         Err(stop) => Err(stop),
     }
 }
@@ -153,14 +149,26 @@ pub(crate) fn with_larger<C: CountySet>(
     ) else {
         return Ok(position);
     };
-    if position.has_larger {
-        if wanted == TEST_WANTED && !position.larger_tested {
-            return tested_ahead(input, position, steps);
+    if let Some(larger) = &position.larger {
+        if wanted == TEST_WANTED && !larger.tested {
+            return match tested_larger(input, &position, larger, steps) {
+                Ok(larger) => Ok(Position {
+                    larger: Some(larger),
+                    ..position
+                }),
+                Err(stop) => Err(stop),
+            };
         }
         return Ok(position);
     }
     if wanted >= LEAST_WANTED && position.size < input.round.limit && steps.used() >= FIRST_STEPS {
-        return listed_ahead(input, position, steps);
+        return match listed_larger(input, &position, steps) {
+            Ok(larger) => Ok(Position {
+                larger: Some(larger),
+                ..position
+            }),
+            Err(stop) => Err(stop),
+        };
     }
     Ok(position)
 }

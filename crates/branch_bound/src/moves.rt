@@ -1,6 +1,6 @@
 //! The positions of a search: the first one, and those where a group is closed or a county is raised.
 
-ghost use Rattle.std.specs.Prelude.{◌≡◌, ℕ, ◌≤◌, ◌<◌, true, IfOk, IsErrOf};
+ghost use Rattle.std.specs.Prelude.{◌≡◌, ℕ, ◌≤◌, ◌<◌, true, IfOk, IsErrOf, MatchOption, ⊤};
 ghost use Rattle.county_problem.specs.OrderedValue.{code_at};
 ghost use Rattle.connected_laws.specs.Listing.{AreBelow};
 ghost use Rattle.certificate_laws.specs.State.{empty_state, close, raise};
@@ -8,11 +8,12 @@ ghost use Rattle.certificate_laws.specs.Groups.{IsGroupAt, AreGroupsAt};
 ghost use Rattle.certificate_laws.specs.Proving.{CanBranch};
 ghost use Rattle.connected_sets.specs.declared.stop.Stop.{Stop};
 ghost use Rattle.state_groups.specs.Placed.{codes_of_set, codes_of_sets};
-ghost use Rattle.branch_bound.specs.Searching.{search_problem, search_round, search_state, IsSearchInput, IsPositionAt};
+ghost use Rattle.branch_bound.specs.Searching.{search_problem, search_round, search_state};
+ghost use Rattle.branch_bound.specs.Searching.{IsSearchInput, IsLargerAt, IsPositionAt};
 ghost use Rattle.connected_sets.specs.Graphs.{graph_order, graph_places};
 
 use crate::input::SearchInput;
-use crate::position::Position;
+use crate::position::{Larger, Position};
 use connected_sets::Stop;
 use county_problem::Steps;
 use place_sets::CountySet;
@@ -32,9 +33,7 @@ pub(crate) fn first_position<C: CountySet>(
         size: 0,
         groups: Vec::new(input.graph.alloc),
         tested: true,
-        larger: Vec::new(input.graph.alloc),
-        has_larger: false,
-        larger_tested: false,
+        larger: None,
     })
 }
 
@@ -75,6 +74,49 @@ pub(crate) fn groups_to_take<C: CountySet>(
     }
 }
 
+/// The groups of one county more that are apart from a group that is closed, if they are listed.
+fn larger_apart<C: CountySet>(
+    input: &SearchInput<C>,
+    position: &Position<C>,
+    group: &C,
+) -> Result<Option<Larger<C>>, AllocError>
+    requires input { IsSearchInput C.PLACES C.test input.now }
+    requires at { IsPositionAt C.test input.now (search_state input.now C.test position.now.state) position.now }
+    requires group { (c : ℕ)
+        × IsGroupAt
+        (search_problem input.now)
+        (search_round input.now)
+        (search_state input.now C.test position.now.state)
+        c
+        position.now.size
+        (codes_of_set (graph_order input.now.graph.now) C.test group.now) }
+    ensures { IfOk
+        result
+        (λ found. MatchOption
+        found
+        ⊤
+        (IsLargerAt
+        C.test
+        input.now
+        (close (codes_of_set (graph_order input.now.graph.now) C.test group.now) (search_state input.now C.test position.now.state))
+        position.now.size)) }
+{
+    let _problem = input.graph.ordered.problem();
+    let Some(larger) = &position.larger else {
+        return Ok(None);
+    };
+    let groups = groups_apart(
+        input.graph.alloc,
+        input.graph.ordered,
+        &larger.groups,
+        group,
+    )?;
+    Ok(Some(Larger {
+        groups,
+        tested: false,
+    }))
+}
+
 /// The position where a group is closed: of the groups that are known those apart from it are left.
 pub(crate) fn closed_position<C: CountySet>(
     input: &SearchInput<C>,
@@ -112,20 +154,13 @@ pub(crate) fn closed_position<C: CountySet>(
         &position.groups,
         group,
     )?;
-    let larger = groups_apart(
-        input.graph.alloc,
-        input.graph.ordered,
-        &position.larger,
-        group,
-    )?;
+    let larger = larger_apart(input, position, group)?;
     Ok(Position {
         state,
         size: position.size,
         groups,
         tested: false,
         larger,
-        has_larger: position.has_larger,
-        larger_tested: false,
     })
 }
 
@@ -153,8 +188,6 @@ pub(crate) fn raised_position<C: CountySet>(
         groups,
         tested,
         larger,
-        has_larger,
-        larger_tested,
     } = position;
     let groups = groups_lacking(input.graph.alloc, input.graph.ordered, &groups, place)?;
     raise_place(input.graph.ordered, &mut state, place, size);
@@ -164,7 +197,5 @@ pub(crate) fn raised_position<C: CountySet>(
         groups,
         tested,
         larger,
-        has_larger,
-        larger_tested,
     })
 }

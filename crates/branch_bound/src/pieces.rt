@@ -82,9 +82,7 @@ fn begun<C: CountySet>(input: &SearchInput<C>, state: &State<C>) -> Result<Posit
         size: 0,
         groups: Vec::new(input.graph.alloc),
         tested: true,
-        larger: Vec::new(input.graph.alloc),
-        has_larger: false,
-        larger_tested: false,
+        larger: None,
     })
 }
 

@@ -18,7 +18,7 @@ loop-position-preserved g c =
     let size = c.loop-position.position.size in
     let found = subst (λ z. IsNextSize test input (search_state input test c.loop-position.position.state) size z) c.in-Ok-Groups.field-0-is c.in-Ok-Groups.ensures.next in
     record {
-      at = sized_at g.row.C.Denot test g.C.CountySet.PLACES input c.requires.input c.requires.input.graph.order (search_state input test c.args.position.state) c.loop-position.position inv.at _ c.in-Ok-Groups.ensures.none refl refl found.0 found.1 (subst (λ z. AreGroupsOf (search_problem input) (search_round input) (search_state input test z) (size + 1) (codes_of_sets input.graph.now.ordered.now.order test c.in-Ok-Groups.groups.items)) inv.state found.2) refl c.new.ensures.items;
+      at = sized_at g.row.C.Denot test g.C.CountySet.PLACES input c.requires.input c.requires.input.graph.order (search_state input test c.args.position.state) c.loop-position.position inv.at _ c.in-Ok-Groups.ensures.none refl refl found.0 found.1 (subst (λ z. AreGroupsOf (search_problem input) (search_round input) (search_state input test z) (size + 1) (codes_of_sets input.graph.now.ordered.now.order test c.in-Ok-Groups.groups.items)) inv.state found.2) refl;
       state = inv.state;
       lists = c.next_size.ensures.lists;
       more = omega (arith, inv.more, c.next_size.ensures.more);

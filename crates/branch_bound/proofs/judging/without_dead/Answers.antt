@@ -13,6 +13,6 @@ returns-in-Ok-clause-at g c =
     let order = input.graph.now.ordered.now.order in (
       live_at g.row.C.Denot test g.C.CountySet.PLACES input c.requires.input c.requires.input.graph.order (search_state input test c.args.position.state) c.args.position c.requires.at _ refl refl c.in-Ok.ensures.below
           (subst (λ z. AreThose order (IsLive (search_problem input) (search_state input test c.args.position.state)) (codes_of_sets order test z) (codes_of_sets order test c.in-Ok.groups.items)) c.deref.ensures.value c.in-Ok.ensures.those)
-          refl refl,
+          refl,
       refl,
     )

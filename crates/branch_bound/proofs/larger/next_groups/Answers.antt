@@ -16,5 +16,5 @@ returns-in-Ok-clause-groups g c =
     let input = c.args.input.now in
     let order = input.graph.now.ordered.now.order in
     let at = c.args.position.now in
-    larger_fit g.row.C.Denot test g.C.CountySet.PLACES input c.requires.input c.requires.input.graph.order (search_state input test at.state) at c.requires.at (codes_of_sets order test c.in-Ok.groups.items) c.if-not-position.false
+    larger_fit g.row.C.Denot test g.C.CountySet.PLACES input c.requires.input c.requires.input.graph.order (search_state input test at.state) at c.requires.at c.in-Some.larger (codes_of_sets order test c.in-Ok.groups.items) (rw c.in-Some.is at c.requires.at.larger)
     (subst (λ z. AreThose order (IsLive (search_problem input) (search_state input test at.state)) (codes_of_sets order test z) (codes_of_sets order test c.in-Ok.groups.items)) c.deref.ensures.value c.in-Ok.ensures.those)

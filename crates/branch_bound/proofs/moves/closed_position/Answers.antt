@@ -17,5 +17,4 @@ returns g c =
     let fits = c.requires.group in
     closed_at g.row.C.Denot g.C.CountySet.test g.C.CountySet.PLACES c.args.input.now c.requires.input s c.args.position.now _ fits.0 c.args.group.now c.problem-problem.ensures.law c.requires.at fits.1 c.in_ok-state.ensures.placed c.in_ok-state.ensures.value refl c.in_ok-groups.ensures.below
     (subst (λ z. AreThose c.args.input.now.graph.now.ordered.now.order (IsApart (codes_of_set c.args.input.now.graph.now.ordered.now.order g.C.CountySet.test c.args.group.now)) (codes_of_sets c.args.input.now.graph.now.ordered.now.order g.C.CountySet.test z) (codes_of_sets c.args.input.now.graph.now.ordered.now.order g.C.CountySet.test c.in_ok-groups.groups.items)) c.deref.ensures.value c.in_ok-groups.ensures.those)
-    refl c.in_ok-larger.ensures.below
-    (subst (λ z. AreThose c.args.input.now.graph.now.ordered.now.order (IsApart (codes_of_set c.args.input.now.graph.now.ordered.now.order g.C.CountySet.test c.args.group.now)) (codes_of_sets c.args.input.now.graph.now.ordered.now.order g.C.CountySet.test z) (codes_of_sets c.args.input.now.graph.now.ordered.now.order g.C.CountySet.test c.in_ok-larger.larger.items)) c.deref-2.ensures.value c.in_ok-larger.ensures.those)
+    c.in_ok-larger.ensures

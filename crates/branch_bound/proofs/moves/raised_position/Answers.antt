@@ -11,4 +11,4 @@ returns g c =
     let s = search_state c.args.input.now g.C.CountySet.test c.args.position.state in
     raised_at g.row.C.Denot g.C.CountySet.test g.C.CountySet.PLACES c.args.input.now c.requires.input s c.args.position _ (code_at c.args.input.now.graph.now.ordered.now.order c.args.place) c.requires.at c.requires.can c.raise_place.ensures.placed c.raise_place.ensures.value refl c.in_ok-groups.ensures.below
     (subst (λ z. AreThose c.args.input.now.graph.now.ordered.now.order (Lacks (code_at c.args.input.now.graph.now.ordered.now.order c.args.place)) (codes_of_sets c.args.input.now.graph.now.ordered.now.order g.C.CountySet.test z) (codes_of_sets c.args.input.now.graph.now.ordered.now.order g.C.CountySet.test c.in_ok-groups.groups.items)) c.deref.ensures.value c.in_ok-groups.ensures.those)
-    refl refl
+    refl

@@ -1,7 +1,6 @@
 use Rattle.branch_bound.proofs.pieces.begun.Goals as goal
 use Rattle.search_groups.proofs.KnownGroups.{known_serves}
 use Rattle.std.proofs.Common.{length, subst, sym, arith}
-use Rattle.std.proofs.lemmas.Bool.{false≢true}
 use Rattle.branch_bound.specs.Searching.{search_problem, search_round, search_state}
 use Rattle.state_groups.specs.Placed.{codes_of_sets}
 use Rattle.search_groups.specs.Known.{IsKnown}
@@ -20,7 +19,6 @@ returns g c =
         small = omega arith;
         below = subst (AreBelow (length input.graph.now.ordered.now.order) test) (sym c.new.ensures.items) (λ k d l. absurd (omega (arith, l)));
         known = subst (λ z. IsKnown (search_problem input) (search_round input) s 0 (codes_of_sets input.graph.now.ordered.now.order test z)) (sym c.new.ensures.items) (known_serves.first (search_problem input) (search_round input) s);
-        larger_below = subst (AreBelow (length input.graph.now.ordered.now.order) test) (sym c.new-2.ensures.items) (λ k d l. absurd (omega (arith, l)));
-        larger = λ e. absurd (false≢true e);
+        larger = tt;
       };
     }
