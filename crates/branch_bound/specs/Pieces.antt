@@ -14,8 +14,8 @@ use Rattle.branch_bound.specs.declared.piece.Piece.TheVariants.{Proved, Better, 
 use Rattle.branch_bound.specs.declared.piece.Split.{Split}
 
 -- no group has more counties than the limit
-abbrev pub IsWithin : ℕ → Grouping → Type 0
-IsWithin limit g = All (λ m. length m.codes ≤ limit) g
+abbrev pub GroupsAreWithin : ℕ → Grouping → Type 0
+GroupsAreWithin limit g = All (λ m. length m.codes ≤ limit) g
 
 -- in a wide round one may branch there, by groups of one county at least
 abbrev pub IsSplit : Round → State → Option Split → Type 0
@@ -27,8 +27,8 @@ IsSplit round s (Some split) = (round.language ≡ Wide) × (1 ≤ split.limit) 
 abbrev pub IsPiece : Problem → Round → State → Piece → Type 0
 IsPiece p round s (Proved tree) = Proves (tree_of tree) p round s × HasLines round.language (tree_of tree)
 IsPiece p round s (Better g) =
-    IsFound p round s g.groups.items × IsWithin round.limit g.groups.items × HasTargetLines g.groups.items
-IsPiece p round s (Wider g) = IsFound p round s g.groups.items × ¬ IsWithin round.limit g.groups.items
+    IsFound p round s g.groups.items × GroupsAreWithin round.limit g.groups.items × HasTargetLines g.groups.items
+IsPiece p round s (Wider g) = IsFound p round s g.groups.items × ¬ GroupsAreWithin round.limit g.groups.items
 IsPiece p round s (Open split) = IsSplit round s split
 
 -- the steps ran out

@@ -1,15 +1,15 @@
 //! How a state ends, or at which county a search branches there.
 
 ghost use Rattle.std.specs.Prelude.{◌≡◌, ℕ, ◌+◌, ◌≤◌, ◌<◌, List, [], length, All, IfOk, OnOk, IsErrOf, MatchOption, ⊤};
+ghost use Rattle.connected_sets.specs.Graphs.{graph_places, place_problem};
 ghost use Rattle.certificate_laws.specs.Leaves.{IsStuck, IsOffSeats};
 ghost use Rattle.connected_sets.specs.declared.stop.Stop.{Stop};
 ghost use Rattle.search_groups.specs.PartLists.{AreListsOf};
 ghost use Rattle.branch_bound.specs.Searching.{search_problem, search_round, search_state, IsSearchInput, IsPositionAt};
 ghost use Rattle.branch_bound.specs.Searching.{IsEnd, IsNextMove, IsNextSize};
-ghost use Rattle.connected_sets.specs.Graphs.{graph_places, place_problem};
 
 use crate::input::SearchInput;
-use crate::larger::{next_groups, with_larger};
+use crate::larger_groups::{next_groups, with_larger};
 use crate::outcome::{Move, Next};
 use crate::position::Position;
 use certificate_data::Leaf;

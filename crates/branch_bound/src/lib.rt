@@ -19,7 +19,7 @@
 mod answer;
 mod input;
 mod judging;
-mod larger;
+mod larger_groups;
 mod moves;
 mod outcome;
 mod piece;

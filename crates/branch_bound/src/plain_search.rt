@@ -2,6 +2,7 @@
 //! county that is open to the limit, and its takes are all groups up to the limit.
 
 ghost use Rattle.std.specs.Prelude.{◌≡◌, ℕ, ◌≤◌, ◌<◌, ◌∷◌, [], ◌++◌, None, All, IfOk, OnOk, IsErrOf};
+ghost use Rattle.connected_sets.specs.Graphs.{graph_order, graph_places};
 ghost use Rattle.certificate_data.specs.declared.tree.Branch.{roll-Branch};
 ghost use Rattle.county_problem.specs.OrderedValue.{code_at};
 ghost use Rattle.certificate_laws.specs.Groups.{IsGroupAt, AreGroupsAt};
@@ -11,7 +12,6 @@ ghost use Rattle.state_groups.specs.Placed.{codes_of_set, codes_of_sets, IsClosa
 ghost use Rattle.branch_bound.specs.Searching.{search_problem, search_round, search_state, IsOutcome, IsTakenGroup};
 ghost use Rattle.branch_bound.specs.Searching.{AreTakesAt};
 ghost use Rattle.branch_bound.specs.PlainRounds.{IsPlainGround, IsStateOf};
-ghost use Rattle.connected_sets.specs.Graphs.{graph_order, graph_places};
 
 use crate::input::SearchInput;
 use crate::outcome::{PlainMove, SearchOutcome, Taken, Takes};

@@ -2,6 +2,7 @@
 
 ghost use Rattle.std.specs.Prelude.{◌≡◌, ℕ, ◌≤◌, ◌<◌, ◌∷◌, [], ◌++◌, Ok, Some, true, length, IfOk, OnOk, IsErrOf};
 ghost use Rattle.county_codes.specs.Limits.{most_counties};
+ghost use Rattle.connected_sets.specs.Graphs.{graph_order, graph_places, place_problem};
 ghost use Rattle.certificate_data.specs.declared.tree.Branch.{roll-Branch};
 ghost use Rattle.certificate_data.specs.declared.tree.Take.{Take as TakeHeld};
 ghost use Rattle.county_codes.specs.declared.group.Grouping.{Grouping as GroupingHeld};
@@ -17,7 +18,6 @@ ghost use Rattle.branch_bound.specs.declared.outcome.Taken.TheVariants as one;
 ghost use Rattle.branch_bound.specs.declared.outcome.Takes.TheVariants as all;
 ghost use Rattle.branch_bound.specs.Searching.{search_problem, search_round, search_state, IsSearchInput, IsPositionAt};
 ghost use Rattle.branch_bound.specs.Searching.{IsBetter, IsOutcome, IsTakenGroup, AreTakesAt, IsChoice};
-ghost use Rattle.connected_sets.specs.Graphs.{graph_order, graph_places, place_problem};
 
 use crate::input::SearchInput;
 use crate::judging::next_move;

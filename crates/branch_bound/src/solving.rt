@@ -4,6 +4,7 @@ ghost use Rattle.std.specs.Prelude.{◌≡◌, ℕ, ◌≤◌, ◌<◌, Some, No
 ghost use Rattle.std.specs.List.Sorted.{IsStrictlyIncreasing};
 ghost use Rattle.county_codes.specs.Limits.{most_counties};
 ghost use Rattle.county_codes.specs.Windows.{FitsRange};
+ghost use Rattle.connected_sets.specs.Graphs.{graph_problem, graph_order, graph_places, place_problem, IsGraph};
 ghost use Rattle.certificate_lines.specs.Fits.{AreCodes};
 ghost use Rattle.county_problem.specs.ProblemValue.{problem_of};
 ghost use Rattle.certificate_data.specs.declared.language.Language.TheVariants.{Plain, Wide};
@@ -17,7 +18,6 @@ ghost use Rattle.branch_bound.specs.Searching.{IsOutcome, IsProof};
 ghost use Rattle.branch_bound.specs.Solving.{round_over, IsTarget, IsFirst};
 ghost use Rattle.search_ends.specs.GivenLeaf.{IsGivenLeaf};
 ghost use Rattle.branch_bound.specs.Answered.{IsSolveAnswer, Certifies, SolveIsRight, HasCompleteTree, SaysWhether};
-ghost use Rattle.connected_sets.specs.Graphs.{graph_problem, graph_order, graph_places, place_problem, IsGraph};
 
 use crate::answer::Answer;
 use crate::input::SearchInput;

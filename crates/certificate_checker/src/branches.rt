@@ -3,12 +3,12 @@
 ghost use Rattle.std.specs.Prelude.{◌≡◌, ◌≤◌, ◌<◌, ◌∷◌, List, All, IfOk, MatchResult};
 ghost use Rattle.county_codes.specs.Limits.{most_counties};
 ghost use Rattle.county_problem.specs.OrderedValue.{code_at};
+ghost use Rattle.connected_sets.specs.Graphs.{graph_problem, graph_order, graph_places};
 ghost use Rattle.certificate_data.specs.RoundValue.{round_of};
 ghost use Rattle.certificate_laws.specs.State.{close};
 ghost use Rattle.certificate_laws.specs.Proving.{limit_of};
 ghost use Rattle.checker_laws.specs.Branches.{IsNextTake};
 ghost use Rattle.state_groups.specs.Placed.{state_at, codes_of_sets, IsPlaced, IsClosable};
-ghost use Rattle.connected_sets.specs.Graphs.{graph_problem, graph_order, graph_places};
 ghost use Rattle.certificate_lines.specs.Courses.{Unread};
 ghost use Rattle.certificate_checker.specs.Feeding.{feed_at, CountsSteps, IsFed};
 ghost use Rattle.certificate_checker.specs.Judging.{IsCheckInput, AreTakesListed, IsBranchRefused, IsTakeStop};

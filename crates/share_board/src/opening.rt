@@ -2,9 +2,9 @@
 
 ghost use Rattle.std.specs.Prelude.{◌≡◌, ◌-◌, ◌≤◌, All, length, IfOk, IfErr};
 ghost use Rattle.county_codes.specs.Limits.{most_counties};
+ghost use Rattle.connected_sets.specs.Graphs.{graph_order, graph_places};
 ghost use Rattle.certificate_data.specs.TreeValue.{tree_of, list_of_takes};
 ghost use Rattle.county_problem.specs.ProblemValue.{problem_of};
-ghost use Rattle.connected_sets.specs.Graphs.{graph_order, graph_places};
 ghost use Rattle.state_groups.specs.Placed.{codes_of_sets, IsPlaced, IsClosable};
 ghost use Rattle.certificate_data.specs.declared.language.Language.TheVariants.{Plain};
 ghost use Rattle.certificate_data.specs.RoundValue.{round_of};

@@ -1,6 +1,6 @@
 use Rattle.branch_bound.specs.Searching.{search_state}
 use Rattle.branch_bound.proofs.NextMoves.{listed_at}
-use Rattle.branch_bound.proofs.larger.listed_larger.Goals as goal
+use Rattle.branch_bound.proofs.larger_groups.listed_larger.Goals as goal
 
 pub returns-in-Ok-clause-larger : goal.returns-in-Ok-clause-larger
 returns-in-Ok-clause-larger g c =

@@ -4,7 +4,7 @@ use Rattle.certificate_laws.specs.Fitting.{IsLive}
 use Rattle.search_groups.specs.Known.{AreThose}
 use Rattle.branch_bound.specs.Searching.{search_problem, search_state}
 use Rattle.branch_bound.proofs.NextMoves.{none_at, larger_fit}
-use Rattle.branch_bound.proofs.larger.next_groups.Goals as goal
+use Rattle.branch_bound.proofs.larger_groups.next_groups.Goals as goal
 
 pub groups_of_size-requires-clause-none : goal.groups_of_size-requires-clause-none
 groups_of_size-requires-clause-none g c = λ group fits small.

@@ -4,7 +4,7 @@ use Rattle.certificate_laws.specs.Fitting.{IsLive}
 use Rattle.search_groups.specs.Known.{AreThose}
 use Rattle.branch_bound.specs.Searching.{search_problem, search_state}
 use Rattle.branch_bound.proofs.NextMoves.{larger_fit, listed_at}
-use Rattle.branch_bound.proofs.larger.tested_larger.Goals as goal
+use Rattle.branch_bound.proofs.larger_groups.tested_larger.Goals as goal
 
 pub returns-in-Ok-clause-larger : goal.returns-in-Ok-clause-larger
 returns-in-Ok-clause-larger g c =

@@ -4,6 +4,7 @@
 //! left there are tested. That spares steps where many groups of the present size are still wanted.
 
 ghost use Rattle.std.specs.Prelude.{◌≡◌, ℕ, ◌+◌, ◌≤◌, [], IfOk, IsErrOf};
+ghost use Rattle.connected_sets.specs.Graphs.{graph_order, graph_places, place_problem};
 ghost use Rattle.connected_laws.specs.Listing.{AreBelow};
 ghost use Rattle.certificate_laws.specs.Groups.{AreGroupsOf};
 ghost use Rattle.certificate_laws.specs.Leaves.{IsStuck};
@@ -12,7 +13,6 @@ ghost use Rattle.search_groups.specs.PartLists.{AreListsOf};
 ghost use Rattle.connected_sets.specs.declared.stop.Stop.{Stop};
 ghost use Rattle.branch_bound.specs.Searching.{search_problem, search_round, search_state};
 ghost use Rattle.branch_bound.specs.Searching.{IsSearchInput, IsLargerAt, IsPositionAt};
-ghost use Rattle.connected_sets.specs.Graphs.{graph_order, graph_places, place_problem};
 
 use crate::input::SearchInput;
 use crate::position::{Larger, Position};
