@@ -24,8 +24,8 @@ use std::alloc::AllocError;
 /// lines as there are lists is valid.
 ///
 /// The lists are those of the groups of 1 county, of 2 and so on that fit the state. A count line is for a size: its
-/// quota is the size, and its weights are 1 for each county of a group of the size that fits. An error comes where memory
-/// was refused.
+/// quota is the size, and its weights are 1 for each county of a group of the size that fits. An error comes where
+/// memory was refused.
 pub fn find_leaf<C: CountySet>(
     graph: &CountyGraph<C>,
     round: &Round,
