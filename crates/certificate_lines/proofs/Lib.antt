@@ -10,3 +10,4 @@ pub mod StackLaws
 pub mod EachLaws
 pub mod WordsWritten
 pub mod FittingLaws
+pub mod LineKinds

@@ -24,3 +24,4 @@ pub mod Spelling
 pub mod ShortLines
 pub mod ItemsFit
 pub mod Texts
+pub mod LinesFit

@@ -61,7 +61,7 @@ fn show_files(rt: &HostRuntime) -> Result<()> {
 fn show_all(rt: &HostRuntime) -> Result<()> {
     show_files(rt)?;
     problems::show(rt)?;
-    judged::show(rt)?;
+    compared_counts::show(rt)?;
     orders::show(rt)?;
     show_forms(rt)?;
     sets::show_ends(rt)?;

@@ -15,6 +15,7 @@ use anyhow::{Error, Result};
 use bound_proofs::find_leaf;
 use certificate_checker::{TreeVerdict, check_tree};
 use certificate_data::{Language, Leaf, Round, Tree};
+use certificate_text::tree_lines;
 use connected_sets::CountyGraph;
 use county_codes::{Codes, Grouping, MAX_COUNTIES, listed_codes};
 use county_problem::{Ordered, Problem, Steps, judge};
@@ -84,16 +85,13 @@ fn target_in(alloc: Global, problem: &Problem, text: &[u8]) -> Result<Option<Gro
     Ok(Some(target))
 }
 
-/// A leaf in words.
-fn kind_of(leaf: &Leaf) -> &'static str {
-    match leaf {
-        Leaf::Stuck(_) => "a stuck leaf",
-        Leaf::Seats => "a seats leaf",
-        Leaf::Bound(_) => "a bound leaf",
-    }
+/// The first word of the lines of a tree.
+fn first_word(lines: &[u8]) -> Result<&str> {
+    let text = str::from_utf8(lines)?;
+    Ok(text.split_whitespace().next().unwrap_or(""))
 }
 
-/// A leaf in words, and what the checker says of it as a tree at the state.
+/// A leaf by the first word of its lines, and what the checker says of it as a tree at the state.
 fn checked<C: CountySet>(
     alloc: Global,
     problem: &Problem,
@@ -107,15 +105,16 @@ fn checked<C: CountySet>(
     requires target { IsLawfulTarget (problem_of problem.now) (target_of round.now.target) }
     requires placed { IsPlaced (length round.now.order) C.test state.now }
 {
-    let kind = kind_of(&leaf);
     let branches = Vec::new(alloc);
     let tree = Tree { branches, leaf };
+    let lines = tree_lines(alloc, &tree)?;
+    let kind = first_word(&lines)?;
     let said = match check_tree(alloc, problem, round, state, &tree, ENOUGH)? {
         TreeVerdict::Proof => "a proof",
         TreeVerdict::Fault(_) => "NO PROOF",
         TreeVerdict::Budget => "BUDGET",
     };
-    Ok(format!(in alloc; "{kind}, checked {said}")?)
+    Ok(format!(in alloc; "a {kind} leaf, checked {said}")?)
 }
 
 /// What leaf is found where nothing is closed, and what the checker says of it.

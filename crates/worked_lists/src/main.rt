@@ -70,6 +70,6 @@ pub(crate) fn show_solved(rt: &HostRuntime, problem: &Problem) -> Result<()> {
 }
 
 fn main(rt: HostRuntime) -> Result<()> {
-    small::show(&rt)?;
+    small_problems::show(&rt)?;
     carolina::show(&rt)
 }
