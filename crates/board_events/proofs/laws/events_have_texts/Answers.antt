@@ -2,7 +2,8 @@ use Rattle.std.proofs.Common.{subst}
 use Rattle.board_events.proofs.OneList.{one_list, one_text, append_spelled}
 use Rattle.board_events.proofs.FaultLaws.{none_met}
 use Rattle.board_events.proofs.SomeEvents.{some_list}
-use Rattle.board_events.proofs.FaultKinds.{OfLine, fault_of_line}
+use Rattle.certificate_lines.proofs.LineKinds.{OfLine}
+use Rattle.board_events.proofs.FaultKinds.{fault_of_line}
 use Rattle.board_events.proofs.laws.events_have_texts.Goals as goal
 
 pub returns : goal.returns
