@@ -1,5 +1,5 @@
 -- What a board holds, and what each event with its reply does to it.
-use Rattle.std.specs.Prelude.{ℕ, ◌+◌, ◌-◌, ◌≡◌, ◌≢◌, ◌≤◌, ◌<◌, true, List, [], ◌∷◌, length, All, Contains, Some, None}
+use Rattle.std.specs.Prelude.{ℕ, ◌+◌, ◌-◌, ◌≡◌, ◌≢◌, ◌≤◌, ◌<◌, true, List, [], ◌∷◌, length, Contains, Some, None}
 use Rattle.std.specs.Prelude.{◌⊎◌}
 use Rattle.grouping_laws.specs.Problem.{Problem}
 use Rattle.grouping_laws.specs.Grouping.{Grouping, Lawful, counts, sets_of, IsGreater}
@@ -11,7 +11,7 @@ use Rattle.certificate_laws.specs.State.{State, empty_state, open_to, close, rai
 use Rattle.certificate_laws.specs.Groups.{AreGroupsAt}
 use Rattle.certificate_data.specs.Tree.{Tree}
 use Rattle.certificate_laws.specs.Proving.{Proves, NamesLimit, CanBranch, limit_of}
-use Rattle.certificate_laws.specs.Certificate.{TargetFits}
+use Rattle.certificate_laws.specs.Certificate.{HasGroupsWithin, TargetFits}
 use Rattle.board_laws.specs.Skeleton.{Skeleton, waits, proved, split, Parts, no_part, part, groups_in, waiting}
 use Rattle.board_laws.specs.Skeleton.{IsSkeleton, put, split_from}
 use Rattle.board_laws.specs.Standing.{StandsAt, AreNumbered}
@@ -111,7 +111,7 @@ pub record Renews (p : Problem) (depth : ℕ) (b : Content) (round : Round) (num
 -- a lawful grouping that is greater than the target, and has no group above the limit
 pub record Improves (p : Problem) (round : Round) (g : Grouping) : Type 0 where
   pub lawful : Lawful p g
-  pub small : All (λ m. length m.codes ≤ round.limit) g
+  pub small : HasGroupsWithin round.limit g
   pub greater : (t : Grouping) × (round.target ≡ Some t) × IsGreater (counts (sets_of g)) (counts (sets_of t))
 
 -- a result that is accepted is one of this round, and fills its piece

@@ -24,7 +24,8 @@ IsStateHeld test board b number None = ¬ Contains (waiting b.skeleton) number
 IsStateHeld test board b number (Some state) =
     Contains (waiting b.skeleton) number
     × IsPlaced (length board.round.order) test state
-    × StandsAt b.skeleton b.round (empty_state (problem_of board.problem)) number (state_at board.round.order test state)
+    × StandsAt b.skeleton b.round (empty_state (problem_of board.problem)) number
+    (state_at board.round.order test state)
 
 -- an answer of the piece at its state, exactly where it waits
 abbrev pub IsAnswerAt : Problem → Content → ℕ → Option Piece → Type 0

@@ -1,10 +1,10 @@
 -- What a desk answers of a piece of a round: a state.
-use Rattle.std.specs.Prelude.{ℕ, ◌≡◌, ◌≤◌, length, All, Option, Some, None, ⊤}
+use Rattle.std.specs.Prelude.{◌≡◌, ◌≤◌, Option, Some, None, ⊤}
 use Rattle.grouping_laws.specs.Problem.{Problem}
-use Rattle.grouping_laws.specs.Grouping.{Grouping}
 use Rattle.certificate_data.specs.TreeValue.{tree_of}
 use Rattle.certificate_data.specs.declared.language.Language.TheVariants.{Wide}
 use Rattle.certificate_data.specs.Round.{Round}
+use Rattle.certificate_laws.specs.Certificate.{HasGroupsWithin}
 use Rattle.certificate_laws.specs.State.{State}
 use Rattle.certificate_laws.specs.Proving.{Proves, CanBranch}
 use Rattle.certificate_laws.specs.Search.{IsFound}
@@ -12,10 +12,6 @@ use Rattle.certificate_text.specs.TreeItems.{HasLines, HasTargetLines}
 use Rattle.branch_bound.specs.declared.piece.Piece.{Piece}
 use Rattle.branch_bound.specs.declared.piece.Piece.TheVariants.{Proved, Better, Wider, Open}
 use Rattle.branch_bound.specs.declared.piece.Split.{Split}
-
--- no group has more counties than the limit
-abbrev pub GroupsAreWithin : ℕ → Grouping → Type 0
-GroupsAreWithin limit g = All (λ m. length m.codes ≤ limit) g
 
 -- in a wide round one may branch there, by groups of one county at least
 abbrev pub IsSplit : Round → State → Option Split → Type 0
@@ -27,8 +23,8 @@ IsSplit round s (Some split) = (round.language ≡ Wide) × (1 ≤ split.limit) 
 abbrev pub IsPiece : Problem → Round → State → Piece → Type 0
 IsPiece p round s (Proved tree) = Proves (tree_of tree) p round s × HasLines round.language (tree_of tree)
 IsPiece p round s (Better g) =
-    IsFound p round s g.groups.items × GroupsAreWithin round.limit g.groups.items × HasTargetLines g.groups.items
-IsPiece p round s (Wider g) = IsFound p round s g.groups.items × ¬ GroupsAreWithin round.limit g.groups.items
+    IsFound p round s g.groups.items × HasGroupsWithin round.limit g.groups.items × HasTargetLines g.groups.items
+IsPiece p round s (Wider g) = IsFound p round s g.groups.items × ¬ HasGroupsWithin round.limit g.groups.items
 IsPiece p round s (Open split) = IsSplit round s split
 
 -- the steps ran out

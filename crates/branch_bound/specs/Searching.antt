@@ -68,7 +68,8 @@ pub record IsSearchInput {C : Type 0} (places : ℕ) (test : C → ℕ → Bool)
 pub record IsLargerAt {C : Type 0} (test : C → ℕ → Bool) (g : SearchInput C) (s : State) (size : ℕ)
     (l : Larger C) : Type 0 where
   pub below : AreBelow (length g.graph.now.ordered.now.order) test l.groups.items
-  pub known : AreCandidates (search_problem g) (search_round g) s (size + 1) (codes_of_sets g.graph.now.ordered.now.order test l.groups.items)
+  pub known : AreCandidates (search_problem g) (search_round g) s (size + 1)
+      (codes_of_sets g.graph.now.ordered.now.order test l.groups.items)
 
 -- A position is at a state of the round, of which the groups of so many counties, at most the limit, are known, and
 -- maybe those of one county more.
@@ -79,7 +80,8 @@ pub record IsPositionAt {C : Type 0} (test : C → ℕ → Bool) (g : SearchInpu
   pub state : IsState (search_problem g) (search_round g) s
   pub small : at.size ≤ g.round.now.limit
   pub below : AreBelow (length g.graph.now.ordered.now.order) test at.groups.items
-  pub known : IsKnown (search_problem g) (search_round g) s at.size (codes_of_sets g.graph.now.ordered.now.order test at.groups.items)
+  pub known : IsKnown (search_problem g) (search_round g) s at.size
+      (codes_of_sets g.graph.now.ordered.now.order test at.groups.items)
   pub larger : MatchOption at.larger ⊤ (IsLargerAt test g s at.size)
 
 -- the groups stand by size and then by places, and the codes of each in the order of places
@@ -156,4 +158,5 @@ IsNextSize test g s size (next.Better found) = IsBetter (search_problem g) (sear
 IsNextSize test g s size (next.Groups groups) =
     (size < g.round.now.limit)
     × AreBelow (length g.graph.now.ordered.now.order) test groups.items
-    × AreGroupsOf (search_problem g) (search_round g) s (size + 1) (codes_of_sets g.graph.now.ordered.now.order test groups.items)
+    × AreGroupsOf (search_problem g) (search_round g) s (size + 1)
+    (codes_of_sets g.graph.now.ordered.now.order test groups.items)

@@ -3,6 +3,7 @@
 ghost use Rattle.std.specs.Prelude.{◌≡◌, ℕ, ◌≤◌, ◌↔◌, IsTrue, length, IfOk, IsErrOf};
 ghost use Rattle.county_codes.specs.Limits.{most_counties};
 ghost use Rattle.connected_sets.specs.Graphs.{graph_order, graph_places, place_problem};
+ghost use Rattle.certificate_laws.specs.Certificate.{HasGroupsWithin};
 ghost use Rattle.certificate_laws.specs.State.{IsState};
 ghost use Rattle.certificate_data.specs.RoundValue.{round_of};
 ghost use Rattle.certificate_laws.specs.State.{State as StateValue};
@@ -14,7 +15,7 @@ ghost use Rattle.state_groups.specs.Placed.{state_at, IsPlaced};
 ghost use Rattle.branch_bound.specs.PlainRounds.{IsPlainGround, IsStateOf};
 ghost use Rattle.branch_bound.specs.Searching.{search_problem, search_round, search_state, IsSearchInput, IsPositionAt};
 ghost use Rattle.branch_bound.specs.Searching.{IsBetter, IsChoice, IsOutcome};
-ghost use Rattle.branch_bound.specs.Pieces.{GroupsAreWithin, IsPiece, IsOpen};
+ghost use Rattle.branch_bound.specs.Pieces.{IsPiece, IsOpen};
 
 use crate::input::SearchInput;
 use crate::judging::next_move;
@@ -35,7 +36,7 @@ use std::alloc::{AllocError, Global};
 
 /// Whether no group has more counties than the limit.
 fn is_within(grouping: &Grouping, limit: u16) -> bool
-    ensures { IsTrue result ↔ GroupsAreWithin limit grouping.now.groups.items }
+    ensures { IsTrue result ↔ HasGroupsWithin limit grouping.now.groups.items }
 {
     for group in &grouping.groups {
         if group.codes.as_slice().len() > usize::from(limit) {

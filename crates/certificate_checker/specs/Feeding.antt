@@ -41,7 +41,13 @@ pub record Stream : Type 0 where
 
 abbrev pub stream_of : {S F : Type 0} → (S → ItemsLeft) → (F → List ℕ) → Feed S → F → Stream
 stream_of left given feed from =
-    record { left = left feed.source; given = given from; line = feed.line; limit = feed.steps.limit; used = feed.steps.used }
+    record {
+      left = left feed.source;
+      given = given from;
+      line = feed.line;
+      limit = feed.steps.limit;
+      used = feed.steps.used;
+    }
 
 -- the feed where the source gives this text in the end
 abbrev pub fed_by : Stream → List ℕ → FeedValue

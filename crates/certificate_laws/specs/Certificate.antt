@@ -16,10 +16,14 @@ abbrev pub Beats : Option Grouping → (ℕ → ℕ) → Type 0
 Beats None f = ⊤
 Beats (Some t) f = IsGreater f (counts (sets_of t))
 
+-- no group has more counties than the limit
+abbrev pub HasGroupsWithin : ℕ → Grouping → Type 0
+HasGroupsWithin limit g = All (λ m. length m.codes ≤ limit) g
+
 -- the target, if there is one, is lawful with no group above the limit
 abbrev pub TargetFits : Problem → ℕ → Option Grouping → Type 0
 TargetFits p limit None = ⊤
-TargetFits p limit (Some t) = Lawful p t × All (λ s. length s.codes ≤ limit) t
+TargetFits p limit (Some t) = Lawful p t × HasGroupsWithin limit t
 
 -- the problem's allowance, an order of its counties, a target that fits, and a proof tree at the empty state
 pub record IsCertificate (p : Problem) (round : Round) (tree : Tree) : Type 0 where

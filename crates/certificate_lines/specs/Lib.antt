@@ -10,3 +10,4 @@ pub mod Writes
 pub mod Courses
 pub mod ItemsLeft
 pub mod Stacks
+pub mod KindWords

@@ -1,6 +1,7 @@
 //! What may be wrong with a line of a certificate, and why a value may have no text.
 
 ghost use Rattle.std.specs.Prelude.{◌≡◌};
+ghost use Rattle.certificate_lines.specs.KindWords.{text_kind_word};
 ghost use Rattle.certificate_lines.specs.declared.fault.TextKind.TheVariants.{Memory};
 ghost use Rattle.certificate_lines.specs.declared.fault.WriteFault.TheVariants as write;
 
@@ -38,6 +39,25 @@ pub enum TextKind {
     /// Memory was refused.
     #[error("out of memory")]
     Memory,
+}
+
+impl TextKind {
+    /// The word of the kind in the lines of the program, such as `BadHead`.
+    pub fn word(self) -> &'static [u8]
+        ensures { result.now ≡ text_kind_word self }
+    {
+        match self {
+            TextKind::BadHead => b"BadHead",
+            TextKind::BadWord => b"BadWord",
+            TextKind::BadNumber => b"BadNumber",
+            TextKind::NotCanonical => b"NotCanonical",
+            TextKind::CutShort => b"CutShort",
+            TextKind::AfterEnd => b"AfterEnd",
+            TextKind::TooDeep => b"TooDeep",
+            TextKind::ReadFault => b"ReadFault",
+            TextKind::Memory => b"Memory",
+        }
+    }
 }
 
 /// Why a text is no certificate: its first fault. The line counts from 1; for `Memory` it is left open.

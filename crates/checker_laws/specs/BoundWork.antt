@@ -14,7 +14,9 @@ use Rattle.checker_laws.specs.Cost.{Both, LineLooks, AllowancesLook, LeafLooks}
 -- As the lines that are left end, so the leaf ends before the line; a fault or a loss ends all.
 pub record BoundLinesCarry : Type 0 where
   -- where there is a target and no more lines than the limit, the leaf ends as its lines do
-  pub opened : (lines : List Allowance) (p : Problem) (round : Round) (s : State) (target : Grouping) (line : ℕ) (end : End) → round.target ≡ Some target → length lines ≤ round.limit
+  pub opened : (lines : List Allowance) (p : Problem) (round : Round) (s : State) (target : Grouping) (line : ℕ)
+      (end : End)
+      → round.target ≡ Some target → length lines ≤ round.limit
       → BoundedEnds lines p round s (counts (sets_of target)) 1 0 line (line + 1) end
       → LeafEnds (bound lines) p round s line end
   -- a line that allows as many groups as the target has

@@ -78,7 +78,8 @@ abbrev mutual
   TakesLook no_take p round s groups n = n ≡ 0
   TakesLook (take codes tree others) p round s groups n =
       Where (IsNextTake groups codes)
-      (Both (TreeLooks tree p round (close codes s)) (Where (Proves tree p round (close codes s)) (TakesLook others p round s (behind groups))))
+      (Both (TreeLooks tree p round (close codes s))
+      (Where (Proves tree p round (close codes s)) (TakesLook others p round s (behind groups))))
       n
 
 -- 3 for each line, and 3 for each set that is looked through

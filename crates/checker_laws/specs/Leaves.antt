@@ -65,7 +65,8 @@ IsAllowanceFault language p s wanted i used line fault =
 abbrev pub AllowancesEnd : List Allowance → Language → Problem → State → (ℕ → ℕ) → ℕ → ℕ → ℕ → End → Type 0
 AllowancesEnd [] language p s wanted i used n end = LinesEnd 0 ⊤ (λ fault. ⊥) n end
 AllowancesEnd (line ∷ lines) language p s wanted i used n end =
-    Then (LineEnds (IsWithinTarget language p s wanted i used line) (IsAllowanceFault language p s wanted i used line) n)
+    Then
+    (LineEnds (IsWithinTarget language p s wanted i used line) (IsAllowanceFault language p s wanted i used line) n)
     (λ next later.
     (IsLoss p s wanted i used line × (later ≡ fine next))
     ⊎ (IsEven p s wanted i used line

@@ -17,7 +17,9 @@ abbrev mutual
   TreeEnds (branch county limit takes raised) p round s line end =
       Then (BranchEnds round s county limit line)
       (λ next later. (groups : List (List ℕ)) × AreGroupsAt p round s county (limit_of round limit) groups
-      × Then (TakesEnd takes p round s groups next) (TreeEnds raised p round (raise county (limit_of round limit) s)) later)
+      × Then
+      (TakesEnd takes p round s groups next)
+      (TreeEnds raised p round (raise county (limit_of round limit) s)) later)
       end
 
   -- the takes from one on, and the mark, where these groups are still to be taken
@@ -25,5 +27,7 @@ abbrev mutual
   TakesEnd no_take p round s groups line end = MarkEnds groups line end
   TakesEnd (take codes tree others) p round s groups line end =
       Then (TakeEnds groups codes line)
-      (λ next later. Then (TreeEnds tree p round (close codes s) next) (TakesEnd others p round s (behind groups)) later)
+      (λ next later. Then
+      (TreeEnds tree p round (close codes s) next)
+      (TakesEnd others p round s (behind groups)) later)
       end

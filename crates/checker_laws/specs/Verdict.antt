@@ -1,5 +1,5 @@
 -- The verdict of a certificate whose text can be read.
-use Rattle.std.specs.Prelude.{ℕ, ◌+◌, ◌≡◌, ◌≢◌, ◌≤◌, ◌<◌, length, All, Contains, Option, Some, None, ⊤}
+use Rattle.std.specs.Prelude.{ℕ, ◌+◌, ◌≡◌, ◌≢◌, ◌<◌, length, Contains, Option, Some, None, ⊤}
 use Rattle.county_codes.specs.declared.group.Group.{Group}
 use Rattle.county_problem.specs.declared.grouping_fault.GroupingFault.{GroupingFault}
 use Rattle.county_problem.specs.declared.grouping_fault.GroupingFault.TheVariants.{Memory}
@@ -9,6 +9,7 @@ use Rattle.grouping_laws.specs.GroupsFrom.{IsOrder}
 use Rattle.grouping_laws.specs.Allowance.{HasWindow}
 use Rattle.county_problem.specs.Judging.{IsFault}
 use Rattle.certificate_data.specs.Round.{Round}
+use Rattle.certificate_laws.specs.Certificate.{HasGroupsWithin}
 use Rattle.certificate_laws.specs.State.{empty_state}
 use Rattle.certificate_data.specs.Tree.{Tree}
 use Rattle.checker_laws.specs.Fault.{Fault, WrongWindow, WrongOrder, LimitTooSmall, TargetFault}
@@ -26,7 +27,7 @@ IsOrderFault p round fault = (fault ≡ WrongOrder) × (¬ IsOrder p round.order
 -- no group of the target, if there is one, is above the limit
 abbrev pub IsLargeEnough : ℕ → Option Grouping → Type 0
 IsLargeEnough limit None = ⊤
-IsLargeEnough limit (Some target) = All (λ g. length g.codes ≤ limit) target
+IsLargeEnough limit (Some target) = HasGroupsWithin limit target
 
 abbrev pub IsLimitFault : ℕ → Option Grouping → Fault → Type 0
 IsLimitFault limit None fault = ⊥
@@ -49,7 +50,8 @@ IsTargetFault p (Some target) fault =
 abbrev pub RestEnds : Problem → Round → Tree → ℕ → End → Type 0
 RestEnds p round tree second end =
     Then (LineEnds (IsOrder p round.order) (IsOrderFault p round) second)
-    (λ third after_order. Then (LineEnds (IsLargeEnough round.limit round.target) (IsLimitFault round.limit round.target) third)
+    (λ third after_order. Then
+    (LineEnds (IsLargeEnough round.limit round.target) (IsLimitFault round.limit round.target) third)
     (λ fourth after_limit. Then (LinesEnd (1
     + target_lines round.target) (IsLawfulTarget p round.target) (IsTargetFault p round.target) fourth)
     (TreeEnds tree p round (empty_state p))
@@ -60,7 +62,10 @@ RestEnds p round tree second end =
 -- The allowance comes first: it stands on line 2, or a certificate without one is at fault on line 1.
 abbrev pub CertificateEnds : Problem → Round → Tree → End → Type 0
 CertificateEnds p round tree end =
-    Then (LineEnds (HasWindow p round.window) (IsWindowFault p round) (window_line round.window)) (RestEnds p round tree) end
+    Then
+    (LineEnds (HasWindow p round.window) (IsWindowFault p round) (window_line round.window))
+    (RestEnds p round tree)
+    end
 
 -- what is said of a certificate
 pub data CertificateVerdict : Type 0 where

@@ -31,13 +31,15 @@ pub record LinesCarry : Type 0 where
   pub leaf_fine : (l : Leaf) (p : Problem) (round : Round) (s : State) (more : List Open) (line next : ℕ) (end : End)
       → LeafEnds l p round s line (fine next) → WorkEnds more p round next end
       → WorkEnds (a_tree (leaf l) s ∷ more) p round line end
-  pub branch_fine : (county : ℕ) (limit : Option ℕ) (takes : Takes) (raised : Tree) (p : Problem) (round : Round) (s : State) (groups : List (List ℕ)) (more : List Open) (line : ℕ) (end : End)
+  pub branch_fine : (county : ℕ) (limit : Option ℕ) (takes : Takes) (raised : Tree) (p : Problem) (round : Round)
+      (s : State) (groups : List (List ℕ)) (more : List Open) (line : ℕ) (end : End)
       → NamesLimit round.language limit → CanBranch round s county (limit_of round limit)
       → AreGroupsAt p round s county (limit_of round limit) groups
       → WorkEnds (some_takes takes s groups ∷ a_tree raised (raise county (limit_of round limit) s)
       ∷ more) p round (line + 1) end
       → WorkEnds (a_tree (branch county limit takes raised) s ∷ more) p round line end
-  pub take_fine : (codes : List ℕ) (tree : Tree) (others : Takes) (p : Problem) (round : Round) (s : State) (groups : List (List ℕ)) (more : List Open) (line : ℕ) (end : End)
+  pub take_fine : (codes : List ℕ) (tree : Tree) (others : Takes) (p : Problem) (round : Round) (s : State)
+      (groups : List (List ℕ)) (more : List Open) (line : ℕ) (end : End)
       → IsNextTake groups codes
       → WorkEnds (a_tree tree (close codes s) ∷ some_takes others s (behind groups) ∷ more) p round (line + 1) end
       → WorkEnds (some_takes (take codes tree others) s groups ∷ more) p round line end
@@ -46,13 +48,16 @@ pub record LinesCarry : Type 0 where
   -- the faults
   pub leaf_fault : (l : Leaf) (p : Problem) (round : Round) (s : State) (more : List Open) (line at : ℕ) (fault : Fault)
       → LeafEnds l p round s line (faulty fault at) → WorkEnds (a_tree (leaf l) s ∷ more) p round line (faulty fault at)
-  pub branch_fault : (county : ℕ) (limit : Option ℕ) (takes : Takes) (raised : Tree) (p : Problem) (round : Round) (s : State) (more : List Open) (line : ℕ) (fault : Fault)
+  pub branch_fault : (county : ℕ) (limit : Option ℕ) (takes : Takes) (raised : Tree) (p : Problem) (round : Round)
+      (s : State) (more : List Open) (line : ℕ) (fault : Fault)
       → IsBranchFault round s county (limit_of round limit) fault
       → WorkEnds (a_tree (branch county limit takes raised) s ∷ more) p round line (faulty fault line)
-  pub take_fault : (codes : List ℕ) (tree : Tree) (others : Takes) (p : Problem) (round : Round) (s : State) (groups : List (List ℕ)) (more : List Open) (line : ℕ) (fault : Fault)
+  pub take_fault : (codes : List ℕ) (tree : Tree) (others : Takes) (p : Problem) (round : Round) (s : State)
+      (groups : List (List ℕ)) (more : List Open) (line : ℕ) (fault : Fault)
       → IsTakeFault groups codes fault
       → WorkEnds (some_takes (take codes tree others) s groups ∷ more) p round line (faulty fault line)
-  pub mark_fault : (p : Problem) (round : Round) (s : State) (groups : List (List ℕ)) (more : List Open) (line : ℕ) (fault : Fault)
+  pub mark_fault : (p : Problem) (round : Round) (s : State) (groups : List (List ℕ)) (more : List Open) (line : ℕ)
+      (fault : Fault)
       → IsMarkFault groups fault → WorkEnds (some_takes no_take s groups ∷ more) p round line (faulty fault line)
   -- at the beginning a tree is open, and nothing behind it
   pub alone : (tree : Tree) (p : Problem) (round : Round) (s : State) (line : ℕ) (end : End)

@@ -32,12 +32,16 @@ pub record LinesCost : Type 0 where
   pub leaf_looks : (l : Leaf) (p : Problem) (round : Round) (s : State) (more : List Open) (n : ℕ)
       → IsValidLeaf p round s l → WorkLooks (a_tree (leaf l) s ∷ more) p round n
       → Both (LeafLooks l p round s) (WorkLooks more p round) n
-  pub branch_looks : (county : ℕ) (limit : Option ℕ) (takes : Takes) (raised : Tree) (p : Problem) (round : Round) (s : State) (groups : List (List ℕ)) (more : List Open) (n : ℕ)
+  pub branch_looks : (county : ℕ) (limit : Option ℕ) (takes : Takes) (raised : Tree) (p : Problem) (round : Round)
+      (s : State) (groups : List (List ℕ)) (more : List Open) (n : ℕ)
       → NamesLimit round.language limit → CanBranch round s county (limit_of round limit)
       → AreGroupsAt p round s county (limit_of round limit) groups
       → WorkLooks (a_tree (branch county limit takes raised) s ∷ more) p round n
-      → Both (AreSoMany round.order (IsSetAt p round.order s county (limit_of round limit))) (WorkLooks (some_takes takes s groups ∷ a_tree raised (raise county (limit_of round limit) s) ∷ more) p round) n
-  pub take_looks : (codes : List ℕ) (tree : Tree) (others : Takes) (p : Problem) (round : Round) (s : State) (groups : List (List ℕ)) (more : List Open) (n : ℕ)
+      → Both (AreSoMany round.order (IsSetAt p round.order s county (limit_of round limit)))
+      (WorkLooks
+      (some_takes takes s groups ∷ a_tree raised (raise county (limit_of round limit) s) ∷ more) p round) n
+  pub take_looks : (codes : List ℕ) (tree : Tree) (others : Takes) (p : Problem) (round : Round) (s : State)
+      (groups : List (List ℕ)) (more : List Open) (n : ℕ)
       → IsNextTake groups codes → WorkLooks (some_takes (take codes tree others) s groups ∷ more) p round n
       → WorkLooks (a_tree tree (close codes s) ∷ some_takes others s (behind groups) ∷ more) p round n
   pub mark_looks : (p : Problem) (round : Round) (s : State) (more : List Open) (n : ℕ)

@@ -2,7 +2,7 @@
 use Rattle.std.proofs.Common.{◌≡◌, List, [], ◌∷◌, map, refl, ap}
 use Rattle.county_codes.specs.declared.county.County.{County}
 use Rattle.pl94_counties.specs.declared.county_names.NamedCounty.{NamedCounty}
-use Rattle.pl94_counties.specs.Named.{county_name}
+use Rattle.pl94_counties.specs.CountyNames.{county_name}
 use Rattle.grouping_table.specs.Table.{unnamed_counties as without_names}
 
 -- the counties without their names

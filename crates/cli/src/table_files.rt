@@ -3,7 +3,7 @@
 ghost use Rattle.std.specs.Prelude.{◌≡◌, ◌≤◌, IfOk, map};
 ghost use Rattle.cli_shelves.specs.History.{History};
 ghost use Rattle.cli_answers.specs.Answers.{Comes};
-ghost use Rattle.pl94_counties.specs.Named.{county_name};
+ghost use Rattle.pl94_counties.specs.CountyNames.{county_name};
 ghost use Rattle.cli_runs.specs.TableCourse.{named_counties_in, named_counties_of};
 
 use crate::end::{End, Ending, FileFault, FileOption};

@@ -26,13 +26,13 @@ use Rattle.county_problem.specs.declared.fault.ProblemFault.TheVariants as probl
 use Rattle.certificate_lines.specs.declared.fault.TextFault.{TextFault}
 use Rattle.certificate_lines.specs.declared.fault.TextKind.{TextKind}
 use Rattle.certificate_lines.specs.declared.fault.TextKind.TheVariants as text
+use Rattle.certificate_lines.specs.KindWords.{text_kind_word}
 use Rattle.share_board.specs.declared.fault.BoardFault.{BoardFault}
 use Rattle.share_board.specs.declared.fault.BoardFault.TheVariants as board
 use Rattle.cli_shelves.specs.declared.shelf.ShelfFault.{ShelfFault}
 use Rattle.cli_shelves.specs.declared.shelf.ShelfFault.TheVariants as shelf
 use Rattle.county_codes.specs.Digits.{five_digits}
 use Rattle.cli_answers.specs.Answer.{Answered, budget_answer, memory_answer}
-use Rattle.cli_answers.specs.CheckLines.{text_kind_word}
 
 -- the word of a line fault
 abbrev pub line_fault_word : LineFault → List ℕ

@@ -7,7 +7,7 @@ ghost use Rattle.cli_answers.specs.Answers.{RefusalShows, IsShown};
 ghost use Rattle.cli_answers.specs.Refusals.{board_answer, board_word, events_answer, refused_board};
 
 use crate::answer::Refusal;
-use crate::check_lines::{budget_answer, word_of_text_kind};
+use crate::check_lines::budget_answer;
 use crate::refusal::{InputFile, refuse_input};
 use certificate_lines::{TextFault, TextKind};
 use share_board::BoardFault;
@@ -22,8 +22,7 @@ pub fn refuse_events(alloc: Global, fault: TextFault) -> Refusal
     if fault.kind == TextKind::Memory {
         return Refusal::Memory;
     }
-    let word = word_of_text_kind(fault.kind);
-    refuse_input(alloc, InputFile::Events, word, fault.line)
+    refuse_input(alloc, InputFile::Events, fault.kind.word(), fault.line)
 }
 
 fn word_of_board_fault(fault: BoardFault) -> &'static [u8]

@@ -2,7 +2,7 @@
 
 ghost use Rattle.std.specs.Prelude.{◌≡◌, ◌≢◌, ℕ, ◌++◌, OnOk, IfOk, codes, decimal};
 ghost use Rattle.pl94_counties.specs.declared.fault.Pl94Kind.TheVariants as kinds;
-ghost use Rattle.pl94_counties.specs.Named.{IsNoMemory};
+ghost use Rattle.pl94_counties.specs.CountyNames.{IsNoMemory};
 ghost use Rattle.county_problem.specs.declared.fault.ProblemFault.TheVariants as problem;
 ghost use Rattle.cli_answers.specs.Answers.{RefusalShows, IsShown};
 ghost use Rattle.county_codes.specs.Digits.{five_digits};
@@ -274,7 +274,7 @@ fn push_word_number(out: &mut Vec<u8>, word: &[u8], number: u64) -> Result<(), A
 }
 
 /// Appends a word.
-pub(crate) fn push_word(out: &mut Vec<u8>, word: &[u8]) -> Result<(), AllocError>
+fn push_word(out: &mut Vec<u8>, word: &[u8]) -> Result<(), AllocError>
     ensures { OnOk result (out.new.items ≡ out.old.items ++ word.now) }
 {
     out.extend_from_slice(word)

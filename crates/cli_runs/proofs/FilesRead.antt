@@ -9,7 +9,7 @@ use Rattle.county_codes.specs.declared.withdrawn.Withdrawn.{Withdrawn}
 use Rattle.county_problem.specs.ProblemValue.{ProblemValue, codes_of}
 use Rattle.grouping_laws.specs.Grouping.{Grouping}
 use Rattle.pl94_counties.specs.Counties.{county_list}
-use Rattle.pl94_counties.specs.Named.{CountyName}
+use Rattle.pl94_counties.specs.CountyNames.{CountyName}
 use Rattle.pl94_counties.proofs.ListedLemmas.{are_counties}
 use Rattle.pl94_counties.proofs.TraceLemmas.{contains_head}
 use Rattle.adjacency_reader.specs.declared.links.Link.{Link}

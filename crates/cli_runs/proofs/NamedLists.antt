@@ -8,7 +8,8 @@ use Rattle.pl94_counties.specs.declared.county_names.NamedFault.{NamedFault}
 use Rattle.pl94_counties.specs.declared.county_names.NamedFault.TheVariants.{BadName}
 use Rattle.pl94_counties.specs.CodeNames.{CodeName}
 use Rattle.pl94_counties.specs.Counties.{county_list}
-use Rattle.pl94_counties.specs.Named.{CountyName, names_on, bad_name, with_names, unless_bad, named_by_lines, named_list}
+use Rattle.pl94_counties.specs.CountyNames.{CountyName, names_on, bad_name, with_names, unless_bad, named_by_lines}
+use Rattle.pl94_counties.specs.CountyNames.{named_list}
 use Rattle.grouping_table.specs.Table.{unnamed_counties as without_names}
 
 -- names don't change the counties

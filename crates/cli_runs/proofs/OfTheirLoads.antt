@@ -32,7 +32,7 @@ use Rattle.cli_runs.specs.ProblemCourse.{counties_course, pairs_of, links_of, wi
 use Rattle.cli_runs.specs.TableCourse.{Reported, untabled, tabled_by, named_counties_of, tabled_problem_in}
 use Rattle.county_codes.specs.declared.county.County.{County}
 use Rattle.grouping_table.specs.Table.{unnamed_counties as without_names}
-use Rattle.pl94_counties.specs.Named.{named_list}
+use Rattle.pl94_counties.specs.CountyNames.{named_list}
 use Rattle.cli_runs.specs.PlanCourse.{blocks_of, plan_assignments}
 use Rattle.cli_runs.specs.JudgeWithCertificate.{certificate_text_of}
 use Rattle.cli_runs.specs.JudgeCourse.{size_course, IsJudgeReport, judge_course, IsAudited, audit_course}

@@ -8,7 +8,7 @@ use Rattle.pl94_counties.specs.declared.fault.Pl94Kind.{Pl94Kind}
 use Rattle.pl94_counties.specs.declared.fault.Pl94Kind.TheVariants as kinds
 use Rattle.pl94_counties.specs.declared.county_names.NamedFault.{NamedFault}
 use Rattle.pl94_counties.specs.declared.county_names.NamedFault.TheVariants as names
-use Rattle.pl94_counties.specs.Named.{named_list}
+use Rattle.pl94_counties.specs.CountyNames.{named_list}
 use Rattle.county_codes.specs.declared.county.County.{County}
 use Rattle.grouping_table.specs.Table.{unnamed_counties as without_names}
 use Rattle.grouping_reader.specs.declared.fault.CodeLineKind.{CodeLineKind}

@@ -13,7 +13,7 @@ use Rattle.pl94_counties.specs.declared.fault.Pl94Fault.{Pl94Fault}
 use Rattle.pl94_counties.specs.declared.county_names.NamedFault.{NamedFault}
 use Rattle.pl94_counties.specs.declared.county_names.NamedFault.TheVariants.{BadName}
 use Rattle.pl94_counties.specs.Counties.{county_list}
-use Rattle.pl94_counties.specs.Named.{CountyName, named_list}
+use Rattle.pl94_counties.specs.CountyNames.{CountyName, named_list}
 use Rattle.adjacency_reader.specs.declared.links.Link.{Link}
 use Rattle.adjacency_reader.specs.Rows.{row_list}
 use Rattle.adjacency_reader.specs.Pairs.{ArePairs, IsPairsAnswer}

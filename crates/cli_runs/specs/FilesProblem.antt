@@ -6,7 +6,7 @@ use Rattle.county_codes.specs.declared.withdrawn.Withdrawn as county
 use Rattle.grouping_laws.specs.Grouping as groups
 use Rattle.county_problem.specs.ProblemValue.{ProblemValue, codes_of}
 use Rattle.county_problem.specs.Building.{IsProblemOf}
-use Rattle.pl94_counties.specs.Named.{CountyName, named_list}
+use Rattle.pl94_counties.specs.CountyNames.{CountyName, named_list}
 use Rattle.grouping_table.specs.Table.{table_text}
 use Rattle.pl94_counties.specs.declared.blocks.Block.{Block}
 use Rattle.pl94_counties.specs.Listed.{AreCounties, AreBlocks}

@@ -90,6 +90,7 @@ pub record RunShowsImpossible (files : Files) (words : SolveWords) (stored : Lis
 pub record RunsAgree : Type 0 where
   pub best : (files : Files) (words : SolveWords) (before after : History) (stored : List NamedFile) (a : Answered)
       → CommandRun (Some files) (Solve words) before after stored a → a.status ≡ 0 → ShowsBest files words stored a
-  pub impossible : (files : Files) (words : SolveWords) (before after : History) (stored : List NamedFile) (a : Answered)
+  pub impossible : (files : Files) (words : SolveWords) (before after : History) (stored : List NamedFile)
+      (a : Answered)
       → CommandRun (Some files) (Solve words) before after stored a → a.status ≡ 1
       → RunShowsImpossible files words stored a

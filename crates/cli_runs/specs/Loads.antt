@@ -35,9 +35,11 @@ AnsweredBy files before after =
 -- A run over a shelf that tells its files, or that tells none, is also a run over any files by which its loads and
 -- readers answered. The same holds of the run of a command.
 pub record RunsAreOfTheirLoads : Type 0 where
-  pub answer : (given : Option Files) (files : Files) (words : List (List ℕ)) (before after : History) (stored : List NamedFile) (a : Answered)
+  pub answer : (given : Option Files) (files : Files) (words : List (List ℕ)) (before after : History)
+      (stored : List NamedFile) (a : Answered)
       → IsRunAnswer given words before after stored a → AnsweredBy files before after
       → IsRunAnswer (Some files) words before after stored a
-  pub run : (given : Option Files) (files : Files) (command : CommandWords) (before after : History) (stored : List NamedFile) (a : Answered)
+  pub run : (given : Option Files) (files : Files) (command : CommandWords) (before after : History)
+      (stored : List NamedFile) (a : Answered)
       → CommandRun given command before after stored a → AnsweredBy files before after
       → CommandRun (Some files) command before after stored a

@@ -35,7 +35,9 @@ piece_said round number (Some piece) = record { text = piece_text_of round numbe
 -- the step in which a desk proves a piece
 abbrev pub piece_step : ProblemValue → Grouping → PieceWords → List Event → Course (Option desk.Piece)
 piece_step v g words events =
-    call_step board_answer (AnswersOnBoard v g words.board.round piece_budget (λ round. IsAnswered (problem_of v) (depth_of words.board.round) round events words.number))
+    call_step board_answer
+    (AnswersOnBoard v g words.board.round piece_budget
+    (λ round. IsAnswered (problem_of v) (depth_of words.board.round) round events words.number))
 
 -- and what is said of it
 abbrev pub said_step : ProblemValue → Grouping → PieceWords → List Event → Course Answered

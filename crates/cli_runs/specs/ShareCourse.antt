@@ -28,7 +28,9 @@ share_answer s = record { text = s.text.items; status = left_status s.left }
 -- the step in which a board takes the events
 abbrev pub share_step : ProblemValue → Grouping → ShareWords → List Event → Course Shared
 share_step v g words events =
-    call_step board_answer (AnswersOnBoard v g words.board.round words.budget (λ round. IsShared (problem_of v) (depth_of words.board.round) words.budget round events))
+    call_step board_answer
+    (AnswersOnBoard v g words.board.round words.budget
+    (λ round. IsShared (problem_of v) (depth_of words.board.round) words.budget round events))
 
 -- `share`: all files are read before the board is opened
 abbrev pub share_course : Option Files → ShareWords → Course Shared

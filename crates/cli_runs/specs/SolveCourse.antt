@@ -45,7 +45,12 @@ SaysSolved t (Impossible c) s = (text : List ℕ) × IsSpelling text (certificat
       table = None;
     })
 SaysSolved t (Open None steps) s =
-    s ≡ record { answer = record { text = outcome_text t.problem (outcome.Open None steps); status = 3 }; certificate = None; grouping = None; table = None }
+    s ≡ record {
+      answer = record { text = outcome_text t.problem (outcome.Open None steps); status = 3 };
+      certificate = None;
+      grouping = None;
+      table = None;
+    }
 SaysSolved t (Open (Some g) steps) s =
     s ≡ record {
       answer =

@@ -3,7 +3,7 @@ use Rattle.std.specs.Prelude.{◌≡◌, ℕ, List, Option, Some, None, option_m
 use Rattle.std.specs.Borrow.{Bor}
 use Rattle.county_codes.specs.declared.group.Group.{Group}
 use Rattle.county_problem.specs.ProblemValue.{ProblemValue}
-use Rattle.pl94_counties.specs.Named.{CountyName, named_list}
+use Rattle.pl94_counties.specs.CountyNames.{CountyName, named_list}
 use Rattle.grouping_table.specs.Table.{unnamed_counties as without_names, table_text}
 use Rattle.cli_words.specs.declared.words.CommonWords.{CommonWords}
 use Rattle.cli_words.specs.declared.words.ProblemWords.{ProblemWords}

@@ -4,7 +4,7 @@ use Rattle.cli_answers.specs.Answers.{answer_of}
 use Rattle.cli_runs.specs.SolveCourse as course
 use Rattle.cli_runs.specs.ListCourse as lists
 use Rattle.cli_runs.specs.TableCourse as tables
-use Rattle.pl94_counties.specs.Named.{county_name}
+use Rattle.pl94_counties.specs.CountyNames.{county_name}
 use Rattle.cli_runs.specs.declared.desk_report.Solved.{Solved}
 use Rattle.cli_runs.specs.declared.listing_report.Listed.{Listed}
 use Rattle.cli_runs.specs.declared.table_runs.Tabled.{Tabled}
@@ -21,7 +21,12 @@ reported_of r = record { answer = answer_of r.answer; table = option_map (λ t. 
 -- the answer and the texts of `solve`
 abbrev pub solved_of : Solved → course.Solved
 solved_of s =
-    record { answer = answer_of s.answer; certificate = option_map (λ t. t.items) s.certificate; grouping = option_map (λ t. t.items) s.grouping; table = option_map (λ t. t.items) s.table }
+    record {
+      answer = answer_of s.answer;
+      certificate = option_map (λ t. t.items) s.certificate;
+      grouping = option_map (λ t. t.items) s.grouping;
+      table = option_map (λ t. t.items) s.table;
+    }
 
 -- the answer and the text of `list`
 abbrev pub listed_of : Listed → lists.Listed

@@ -30,7 +30,8 @@ graph_places g = length g.ordered.now.order
 abbrev pub place_problem : {C : Type 0} → CountyGraph C → Problem
 place_problem g = problem_at g.ordered.now
 
--- The rows are those of the problem by places, and the sets hold all places. No sum of people is too great.
+-- There are as many places as the sets hold, or fewer, and 256 at most. The rows are those of the problem by places.
+-- No sum of people is too great.
 pub record IsGraph {C : Type 0} (test : C → ℕ → Bool) (held : ℕ) (g : CountyGraph C) : Type 0 where
   pub fits : graph_places g ≤ held
   pub few : graph_places g ≤ most_counties

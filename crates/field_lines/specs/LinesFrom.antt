@@ -96,7 +96,8 @@ abbrev pub AnswersRead : Option LineFault → LinesHeld → List ℕ → Bool �
 AnswersRead (Some fault) old given_before failed_before answer new given_after failed_after =
     (answer ≡ Err fault) × (new ≡ old) × (given_after ≡ given_before) × (failed_after ≡ failed_before)
 AnswersRead None old given_before failed_before answer new given_after failed_after =
-    IsNextFrom (lines_held old) given_before failed_before (line_answered answer) (lines_held new) given_after failed_after
+    IsNextFrom (lines_held old) given_before failed_before (line_answered answer)
+    (lines_held new) given_after failed_after
     × (new.fault ≡ fault_answered answer) × IsAtLine answer new.number
 
 -- what a call of a reader answers

@@ -53,7 +53,8 @@ pub record TakesLine (number_before : ℕ) (old : Pulled) (given_before : List �
   pub pulled : List ℕ
   pub given : given_after ≡ given_before ++ pulled
   pub end : StaysEnded old.ended pulled new.ended
-  pub answers : AnswersCut (λ later. cut_of (pieces_held number_before old later)) pulled (λ later. cut_of (pieces_held number new later)) new.ended (line_taken new answer)
+  pub answers : AnswersCut (λ later. cut_of (pieces_held number_before old later)) pulled
+      (λ later. cut_of (pieces_held number new later)) new.ended (line_taken new answer)
   pub failed : FailsOnly failed_before answer failed_after
   pub place : IsLine number new answer
   pub read_fault : IsAtLine answer number

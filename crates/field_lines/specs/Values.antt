@@ -25,7 +25,8 @@ unless_fault None None values = Ok values
 abbrev pub values_of : {X K F : Type 0} → (List ℕ → Result X K) → (K → ℕ → F) → (LineFault → F) → List Line
     → Option LineFault → Result (List X) F
 values_of read at_line at_cut lines fault =
-    unless_fault (option_map (λ f. at_line f.0 f.1) (slice_get (filter_map (fault_on read) lines) 0)) (option_map at_cut fault) (filter_map (value_on read) lines)
+    unless_fault (option_map (λ f. at_line f.0 f.1) (slice_get (filter_map (fault_on read) lines) 0))
+    (option_map at_cut fault) (filter_map (value_on read) lines)
 
 -- what is wrong with the line of a number, and the number, or else the later fault
 abbrev pub fault_or_later : {K : Type 0} → ℕ → Option K → Option (K × ℕ) → Option (K × ℕ)

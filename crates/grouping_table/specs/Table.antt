@@ -4,7 +4,7 @@ use Rattle.county_codes.specs.declared.county.County.{County}
 use Rattle.county_codes.specs.declared.group.Group.{Group}
 use Rattle.county_codes.specs.declared.withdrawn.Withdrawn.{Withdrawn}
 use Rattle.county_codes.specs.Digits.{five_digits}
-use Rattle.pl94_counties.specs.Named.{CountyName}
+use Rattle.pl94_counties.specs.CountyNames.{CountyName}
 use Rattle.grouping_table.specs.LabelledSets.{SetValue, labelled_sets, set_of_code}
 use Rattle.grouping_table.specs.Quoting.{line_text}
 

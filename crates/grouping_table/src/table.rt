@@ -5,7 +5,7 @@ ghost use Rattle.std.specs.Option.{option_copied};
 ghost use Rattle.csv.specs.Writing.{default_writer, row_text};
 ghost use Rattle.grouping_table.specs.Quoting.{line_text};
 ghost use Rattle.grouping_table.specs.LabelledSets.{set_of_code as set_of_code};
-ghost use Rattle.pl94_counties.specs.Named.{county_name};
+ghost use Rattle.pl94_counties.specs.CountyNames.{county_name};
 ghost use Rattle.grouping_table.specs.Table.{county_fields, county_lines, table_text};
 
 use crate::sets::{LabelledSet, labelled_sets, set_of};

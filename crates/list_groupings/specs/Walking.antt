@@ -80,11 +80,13 @@ AreAt g s position takes =
 -- a tree was gone through from a state on
 abbrev pub WalksTree : WalkInput → State → Tree → Found → Result (Unit {0}) WalkStop → Found → Type 0
 WalksTree g s tree old result new =
-    HasWalked (problem_of g.problem.now) (IsComplete tree (problem_of g.problem.now) (round_of g.round.now) s) (IsFirstGap tree (problem_of g.problem.now) (round_of g.round.now) s old.line)
+    HasWalked (problem_of g.problem.now) (IsComplete tree (problem_of g.problem.now) (round_of g.round.now) s)
+    (IsFirstGap tree (problem_of g.problem.now) (round_of g.round.now) s old.line)
     (ends tree (problem_of g.problem.now) (round_of g.round.now) s) (tree_lines tree) old result new
 
 -- takes were gone through, and the mark behind them
 abbrev pub WalksTakes : WalkInput → State → Takes → Found → Result (Unit {0}) WalkStop → Found → Type 0
 WalksTakes g s takes old result new =
-    HasWalked (problem_of g.problem.now) (EachIsComplete takes (problem_of g.problem.now) (round_of g.round.now) s) (IsFirstGapIn takes (problem_of g.problem.now) (round_of g.round.now) s old.line)
+    HasWalked (problem_of g.problem.now) (EachIsComplete takes (problem_of g.problem.now) (round_of g.round.now) s)
+    (IsFirstGapIn takes (problem_of g.problem.now) (round_of g.round.now) s old.line)
     (ends_in takes (problem_of g.problem.now) (round_of g.round.now) s) (takes_lines takes) old result new

@@ -104,6 +104,7 @@ fn put_leaf(
 {
     match leaf {
         Leaf::Bound(lines) => add_end(input, position, lines, found),
+        // Each other leaf has one line, and no end of a grouping.
         _ => {
             found.line += 1;
             Ok(())

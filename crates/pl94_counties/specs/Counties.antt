@@ -22,9 +22,11 @@ block_of code people = record { code = code; people = people }
 -- the counties of a state by code, or the first fault
 abbrev pub county_list : List ℕ → List ℕ → ℕ → Result (List County) Pl94Fault
 county_list geo segment1 state =
-    result_map_both (λ entries. map (λ e. county_of e.0 e.1) entries) (λ fault. fault) (area_list areas.County geo segment1 state)
+    result_map_both (λ entries. map (λ e. county_of e.0 e.1) entries) (λ fault. fault)
+    (area_list areas.County geo segment1 state)
 
 -- the blocks of a state by code, or the first fault
 abbrev pub block_list : List ℕ → List ℕ → ℕ → Result (List Block) Pl94Fault
 block_list geo segment1 state =
-    result_map_both (λ entries. map (λ e. block_of e.0 e.1) entries) (λ fault. fault) (area_list areas.Block geo segment1 state)
+    result_map_both (λ entries. map (λ e. block_of e.0 e.1) entries) (λ fault. fault)
+    (area_list areas.Block geo segment1 state)

@@ -48,4 +48,11 @@ geo_fields line = do
 -- the fields that a `GeoLine` refers to
 abbrev pub fields_shown : GeoLine → GeoFields
 fields_shown g =
-    record { level = g.level.now; component = g.component.now; record_number = g.record_number.now; geocode = g.geocode.now; of_state = g.state.now; county = g.county.now }
+    record {
+      level = g.level.now;
+      component = g.component.now;
+      record_number = g.record_number.now;
+      geocode = g.geocode.now;
+      of_state = g.state.now;
+      county = g.county.now;
+    }

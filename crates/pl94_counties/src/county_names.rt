@@ -9,10 +9,10 @@ ghost use Rattle.county_codes.specs.Counties.{codes_of};
 ghost use Rattle.field_lines.specs.Values.{GivesUnless};
 ghost use Rattle.field_lines.specs.Cut.{cut};
 ghost use Rattle.pl94_counties.specs.Counties.{county_list};
-ghost use Rattle.pl94_counties.specs.Named.{IsNoMemory, code_name, county_name, name_on as name_on_line, code_on};
-ghost use Rattle.pl94_counties.specs.Named.{has_bad_name, bad_name, named_on, names_on, name_of as name_of_code};
-ghost use Rattle.pl94_counties.specs.Named.{with_names as named_by, is_after, first_named_fault, unless_bad};
-ghost use Rattle.pl94_counties.specs.Named.{named_list};
+ghost use Rattle.pl94_counties.specs.CountyNames.{IsNoMemory, code_name, county_name, name_on as name_on_line, code_on};
+ghost use Rattle.pl94_counties.specs.CountyNames.{has_bad_name, bad_name, named_on, names_on, name_of as name_of_code};
+ghost use Rattle.pl94_counties.specs.CountyNames.{with_names as named_by, is_after, first_named_fault, unless_bad};
+ghost use Rattle.pl94_counties.specs.CountyNames.{named_list};
 
 use crate::area_list::no_memory;
 use crate::counties::read_counties;

@@ -1,6 +1,7 @@
 -- What a search knows of the groups at a state: one list of groups of one size, which is filtered as the search goes
 -- on.
-use Rattle.std.specs.Prelude.{ℕ, ◌+◌, ◌≡◌, ◌≤◌, ◌<◌, Bool, true, false, List, [], length, filter, Contains, AllPairs, ◌↔◌}
+use Rattle.std.specs.Prelude.{ℕ, ◌+◌, ◌≡◌, ◌≤◌, ◌<◌, Bool, true, false, List, [], length, filter}
+use Rattle.std.specs.Prelude.{Contains, AllPairs, ◌↔◌}
 use Rattle.grouping_laws.specs.Sets.{member, Inside}
 use Rattle.grouping_laws.specs.Problem.{Problem, IsProblem, LawfulGroup}
 use Rattle.grouping_laws.specs.GroupsFrom.{IsOrder, IsBefore}
@@ -52,7 +53,8 @@ Has c g = member g c ≡ true
 
 -- for each set with places of the order alone a test with these answers says what this says of its codes
 abbrev pub Tells : {C : Type 0} → List ℕ → (C → ℕ → Bool) → (C → Bool → Type 0) → (List ℕ → Bool) → Type 0
-Tells {C} order test Returns keeps = (set : C) (answer : Bool) → ((x : ℕ) → test set x ≡ true → x < length order) → Returns set answer → answer ≡ keeps (codes_of_set order test set)
+Tells {C} order test Returns keeps = (set : C) (answer : Bool) → ((x : ℕ) → test set x ≡ true → x < length order)
+    → Returns set answer → answer ≡ keeps (codes_of_set order test set)
 
 -- what is known goes from size to size and from state to state, and gives the groups that fit
 pub record KnownServes : Type 0 where

@@ -86,8 +86,11 @@ NoneIsOpen round s = (c : ℕ) → open_to s round.limit c ≢ true
 pub record IsBranching {C : Type 0} (test : C → ℕ → Bool) (g : OpeningInput C) (state : StateHeld C)
     (branching : Branching C) : Type 0 where
   pub place : branching.place < graph_places g.graph.now
-  pub can : CanBranch (board_round g) (board_state g test state) (code_at (graph_order g.graph.now) branching.place) g.round.now.limit
-  pub groups : AreGroupsAt (board_problem g) (board_round g) (board_state g test state) (code_at (graph_order g.graph.now) branching.place) g.round.now.limit (codes_of_sets (graph_order g.graph.now) test branching.groups.items)
+  pub can : CanBranch (board_round g) (board_state g test state)
+      (code_at (graph_order g.graph.now) branching.place) g.round.now.limit
+  pub groups : AreGroupsAt (board_problem g) (board_round g) (board_state g test state)
+      (code_at (graph_order g.graph.now) branching.place) g.round.now.limit
+      (codes_of_sets (graph_order g.graph.now) test branching.groups.items)
   pub closable : All (IsClosable test state) branching.groups.items
 
 -- the share of a branch is below the cost of a line

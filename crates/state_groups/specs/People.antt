@@ -44,7 +44,12 @@ pub fewer_tables : (language : Language) (p : Problem) (n limit : ℕ) (rest reg
     → AreTables language p n limit rest fewer tables
 fewer_tables language p n limit rest region fewer tables within are = record {
   by_people =
-      record { each = are.by_people.each; once = λ c e. are.by_people.once c (within c e); rising = are.by_people.rising; few = are.by_people.few };
+      record {
+        each = are.by_people.each;
+        once = λ c e. are.by_people.once c (within c e);
+        rising = are.by_people.rising;
+        few = are.by_people.few;
+      };
   windows = are.windows;
   divided = are.divided;
 }

@@ -9,6 +9,7 @@
 mod bound;
 mod branch;
 mod fault;
+mod fault_words;
 mod judging;
 mod leaf;
 mod weights;
@@ -16,4 +17,5 @@ mod weights;
 pub use bound::{Allowed, closed_of_size, judge_allowance, room_left};
 pub use branch::{Branching, judge_branch, judge_take};
 pub use fault::{CheckFault, LineStop};
+pub use fault_words::push_check_fault;
 pub use leaf::{judge_seats, judge_stuck};

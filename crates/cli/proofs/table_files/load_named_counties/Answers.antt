@@ -1,6 +1,6 @@
 use Rattle.std.proofs.Common.{Option, Vec, Global, map, refl, subst}
 use Rattle.pl94_counties.specs.declared.county_names.NamedCounty.{NamedCounty}
-use Rattle.pl94_counties.specs.Named.{county_name}
+use Rattle.pl94_counties.specs.CountyNames.{county_name}
 use Rattle.std.specs.Prelude.{Ok, Err}
 use Rattle.cli_shelves.specs.Files.{Files}
 use Rattle.cli_answers.specs.Answers.{AnswerMeets}

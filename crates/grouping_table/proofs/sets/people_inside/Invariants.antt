@@ -1,7 +1,7 @@
 use Rattle.std.proofs.Common.{◌≡◌, ◌≤◌, ◌+◌, ◌*◌, drop, map}
 use Rattle.grouping_table.specs.LabelledSets.{people_of_set}
 use Rattle.grouping_table.specs.Table.{unnamed_counties}
-use Rattle.pl94_counties.specs.Named.{county_name}
+use Rattle.pl94_counties.specs.CountyNames.{county_name}
 use Rattle.grouping_table.proofs.sets.people_inside.Given as goal
 
 abbrev pub invariant-loop-named : goal.invariant-loop-named

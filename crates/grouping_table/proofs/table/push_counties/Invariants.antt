@@ -1,5 +1,5 @@
 use Rattle.std.proofs.Common.{◌≡◌, ◌++◌, drop, map}
-use Rattle.pl94_counties.specs.Named.{county_name}
+use Rattle.pl94_counties.specs.CountyNames.{county_name}
 use Rattle.grouping_table.specs.Table.{county_lines}
 use Rattle.grouping_table.proofs.table.push_counties.Given as goal
 

@@ -1,6 +1,6 @@
 use Rattle.std.proofs.Common.{◌≡◌, ◌++◌, length}
 use Rattle.field_lines.specs.Cut.{cut}
-use Rattle.pl94_counties.specs.Named.{bad_name, names_on}
+use Rattle.pl94_counties.specs.CountyNames.{bad_name, names_on}
 use Rattle.pl94_counties.proofs.county_names.names_in.Given as goal
 
 abbrev pub invariant-loop-number : goal.invariant-loop-number

@@ -1,5 +1,5 @@
 use Rattle.std.proofs.Common.{◌≡◌, ◌++◌, map, drop}
-use Rattle.pl94_counties.specs.Named.{county_name, with_names}
+use Rattle.pl94_counties.specs.CountyNames.{county_name, with_names}
 use Rattle.pl94_counties.proofs.county_names.with_names.Given as goal
 
 abbrev pub invariant-loop-county : goal.invariant-loop-county
