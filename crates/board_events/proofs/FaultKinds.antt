@@ -1,5 +1,5 @@
 -- The fault of a text of events is one of a line, or that a line is missing.
-use Rattle.std.proofs.Common.{◌≡◌, ℕ, ◌+◌, ◌-◌, List, [], ◌∷◌, ◌++◌, codes, drop, Option, Some, None, Result, Ok, Err, subst}
+use Rattle.std.proofs.Common.{◌≡◌, ℕ, ◌+◌, List, [], ◌∷◌, ◌++◌, codes, drop, Option, Some, None, Result, Ok, Err, subst}
 use Rattle.field_lines.specs.Raw.{RawLine, raw_lines}
 use Rattle.certificate_data.specs.declared.language.Language.{Language}
 use Rattle.certificate_lines.specs.Lines.{most, begins, counted, number_at, code_word_at}

@@ -8,7 +8,7 @@ use mathlib.Core.Former.{Count}
 use Rattle.certificate_data.specs.declared.tree.Tree.{Tree as DeclaredTree, Tree', Row_of-Branch, end_of-Branch, more_of-Branch, items-the_row-Branch, items_hidden-the_row-Branch-1, roll-Tree}
 use Rattle.certificate_data.specs.declared.tree.Branch.{Branch, Branch', Row_of-Take, end_of-Take, more_of-Take, items-the_row-Take, items_hidden-the_row-Take-0, roll-Branch}
 use Rattle.certificate_data.specs.declared.tree.Take.{Take}
-use Rattle.certificate_data.specs.Tree.{Tree, leaf, branch, Takes, no_take}
+use Rattle.certificate_data.specs.Tree.{Tree, leaf, branch, Takes}
 use Rattle.certificate_data.specs.TreeValue.{leaf_of, tree_of, branches_onto, branch_onto, takes_of, take_onto, list_of_takes, weight_of, declared_weight, allowance_of, declared_allowance}
 
 -- branches in front of a tree

@@ -1,16 +1,14 @@
 -- The course of a text, one line on.
-use Rattle.std.proofs.Common.{◌≡◌, ℕ, ◌+◌, ◌<◌, Bool, true, false, cond, List, [], ◌∷◌, ◌++◌, length, reverse, Result, Ok, Err, refl, ap, sym, ◌∙◌, arith}
-use Rattle.std.specs.Prelude.{nat_lt, not}
+use Rattle.std.proofs.Common.{◌≡◌, ℕ, ◌+◌, ◌<◌, Bool, List, [], ◌∷◌, ◌++◌, length, reverse, Result, Ok, Err, ap, sym, ◌∙◌, arith}
 use Rattle.std.proofs.lemmas.Bool.Decides.{nat_tests}
 use Rattle.field_lines.specs.Raw.{RawLine}
 use Rattle.field_lines.specs.Fault.{most_bytes}
 use Rattle.certificate_lines.specs.Words.{line_bytes, line_words}
 use Rattle.certificate_lines.specs.Rest.{text_fault_at}
-use Rattle.certificate_lines.specs.Items.{by_words, seen, item_on, wanted_after}
-use Rattle.certificate_lines.specs.Courses.{Unread, nothing, only_fault, first, course_from}
-use Rattle.certificate_lines.specs.Lines as line
+use Rattle.certificate_lines.specs.Items.{item_on, wanted_after}
+use Rattle.certificate_lines.specs.Courses.{Unread, only_fault, first, course_from}
 use Rattle.certificate_lines.specs.declared.fault.TextKind.{TextKind}
-use Rattle.certificate_lines.specs.declared.fault.TextKind.TheVariants.{CutShort, AfterEnd, BadWord}
+use Rattle.certificate_lines.specs.declared.fault.TextKind.TheVariants.{CutShort, BadWord}
 use Rattle.certificate_lines.specs.declared.item.Item.{Item}
 use Rattle.certificate_lines.specs.declared.item.Wanted.{Wanted}
 use Rattle.certificate_lines.specs.declared.item.Wanted.TheVariants as want

@@ -8,7 +8,7 @@ use Rattle.field_lines.specs.Fault.{most_bytes}
 use Rattle.field_lines.specs.Raw.{RawLine}
 use Rattle.certificate_lines.specs.Words.{line_bytes, line_words, code, pair}
 use Rattle.certificate_lines.specs.Lines as line
-use Rattle.certificate_lines.specs.Lines.{most, begins, named, counted, number_at, code_word_at, each, ascend, order_on, limit_on, target_on, group_on, branch_on, stuck_on, bound_on, opening_on, take_on, weigh_on, allowance_on}
+use Rattle.certificate_lines.specs.Lines.{most, named, counted, number_at, code_word_at, each, ascend, order_on, limit_on, target_on, group_on, branch_on, stuck_on, bound_on, opening_on, take_on, weigh_on, allowance_on}
 use Rattle.certificate_lines.specs.Items.{by_words, head_in, headed, seen, taken, item_on, wanted_after, items_in_front, items_from}
 use Rattle.certificate_lines.specs.Rest.{text_fault_at}
 use Rattle.county_codes.specs.Digits.{five_digits}

@@ -1,21 +1,19 @@
 -- Items that are read from a source.
-use Rattle.std.proofs.Common.{◌≡◌, ℕ, ◌+◌, ◌<◌, Bool, true, List, [], ◌∷◌, ◌++◌, length, drop, reverse, Option, Some, None, Result, Ok, Err, refl, ap, sym, subst, ◌∙◌, append_assoc, append-nil, arith, inl, inr}
+use Rattle.std.proofs.Common.{◌≡◌, ℕ, ◌+◌, Bool, List, [], ◌∷◌, ◌++◌, length, drop, reverse, Option, Some, None, Result, Ok, Err, refl, ap, sym, subst, ◌∙◌, append_assoc, append-nil, inl, inr}
 use Rattle.std.proofs.Math.Seq.{drop-append_seam}
 use Rattle.field_lines.specs.Raw.{RawLine, raw_lines_from}
 use Rattle.field_lines.specs.Piece.{raw_of}
-use Rattle.field_lines.specs.Fault.{most_bytes}
-use Rattle.field_lines.specs.Held.{MayCome, StaysEnded}
+use Rattle.field_lines.specs.Held.{StaysEnded}
 use Rattle.field_lines.specs.LinesFrom.{LinesHeld}
 use Rattle.field_lines.specs.PiecesFrom.{pieces_left, BeginsTooLong, IsNextPieceFrom, IsRawRead, AnswersRaw}
 use Rattle.field_lines.proofs.ReadLineLemmas.{may_come}
 use Rattle.field_lines.specs.declared.raw.Piece.{Piece}
 use Rattle.field_lines.specs.declared.fault.LineFault.{LineFault}
 use Rattle.field_lines.specs.declared.fault.LineFault.TheVariants as of_line
-use Rattle.certificate_lines.specs.Rest.{text_fault_at, IsUnread}
+use Rattle.certificate_lines.specs.Rest.{text_fault_at}
 use Rattle.certificate_lines.specs.Items.{item_on, wanted_after}
-use Rattle.certificate_lines.specs.Courses.{Unread, nothing, only_fault, first, course_from, IsNextItem, IsNextItemRead}
+use Rattle.certificate_lines.specs.Courses.{only_fault, first, course_from}
 use Rattle.certificate_lines.specs.ItemsLeft.{ItemsLeft, left_at, unless_found, Foresees, ReadsItem, ReadsEnd, ReadsNext, IsNextItemOf, fault_of_reader}
-use Rattle.certificate_lines.specs.declared.fault.TextKind.{TextKind}
 use Rattle.certificate_lines.specs.declared.fault.TextKind.TheVariants.{CutShort, AfterEnd, BadWord, Memory}
 use Rattle.certificate_lines.specs.declared.fault.TextFault.{TextFault}
 use Rattle.certificate_lines.specs.declared.item.Item.{Item}

@@ -3,7 +3,6 @@ use Rattle.std.proofs.Common.{◌≡◌, ℕ, List, [], ◌∷◌, ◌++◌, len
 use Rattle.county_codes.specs.declared.window.Window.{Window}
 use Rattle.grouping_laws.specs.Grouping.{Grouping}
 use Rattle.certificate_lines.specs.Lines as line
-use Rattle.certificate_lines.specs.Lines.{most}
 use Rattle.certificate_lines.specs.Items.{by_words, items_in_front, certificate_items}
 use Rattle.certificate_lines.specs.Rest.{Rest, lines_of, IsTextMemory, TakesTextLine, FaultOf}
 use Rattle.certificate_lines.specs.Reads.{items_at, ReadsItems, Refuses}

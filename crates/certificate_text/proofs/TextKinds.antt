@@ -1,5 +1,5 @@
 -- The fault of a text is never that memory was refused or that a source could not be read.
-use Rattle.std.proofs.Common.{ℕ, ◌+◌, cond, not, Bool, true, false, List, [], ◌∷◌, ◌++◌, codes, Option, Some, None, Result, Ok, Err}
+use Rattle.std.proofs.Common.{ℕ, ◌+◌, cond, Bool, true, false, List, [], ◌∷◌, ◌++◌, codes, Option, Some, None, Result, Ok, Err}
 use Rattle.std.specs.Prelude.{nat_eq}
 use Rattle.std.specs.Cmp.Lexicographic.{pointwise}
 use Rattle.field_lines.specs.Chain.{◌>>=◌}

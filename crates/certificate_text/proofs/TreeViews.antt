@@ -4,15 +4,12 @@ use Rattle.certificate_lines.specs.declared.item.Opening.TheVariants as opening
 use Rattle.certificate_lines.specs.declared.item.Item.{Item}
 use Rattle.certificate_lines.specs.declared.item.Item.TheVariants as item
 use Rattle.certificate_data.specs.declared.tree.Leaf.{Leaf as DeclaredLeaf}
-use Rattle.certificate_data.specs.declared.weights.Weight.{Weight as DeclaredWeight}
 use Rattle.certificate_data.specs.declared.allowance.Allowance.{Allowance as DeclaredAllowance}
-use Rattle.certificate_data.specs.declared.allowance.Allowance.TheVariants.{Room, Weigh}
-use mathlib.Core.Former.{Count}
-use Rattle.certificate_data.specs.declared.tree.Tree.{Tree as DeclaredTree, Tree', Row_of-Branch, end_of-Branch, more_of-Branch, items-the_row-Branch, items_hidden-the_row-Branch-1, roll-Tree}
-use Rattle.certificate_data.specs.declared.tree.Branch.{Branch, Branch', Row_of-Take, end_of-Take, more_of-Take, items-the_row-Take, items_hidden-the_row-Take-0, roll-Branch}
+use Rattle.certificate_data.specs.declared.tree.Tree.{Tree as DeclaredTree, roll-Tree}
+use Rattle.certificate_data.specs.declared.tree.Branch.{Branch, Branch', items_hidden-the_row-Take-0, roll-Branch}
 use Rattle.certificate_data.specs.declared.tree.Take.{Take, Take', roll-Take}
-use Rattle.certificate_data.specs.Tree.{Tree, leaf, branch, Takes, no_take}
-use Rattle.certificate_data.specs.TreeValue.{leaf_of, tree_of, branches_onto, branch_onto, takes_of, take_onto, list_of_takes, weight_of, declared_weight, allowance_of, declared_allowance}
+use Rattle.certificate_data.specs.Tree.{Tree, leaf, Takes, no_take}
+use Rattle.certificate_data.specs.TreeValue.{leaf_of, tree_of, branch_onto, takes_of, take_onto, list_of_takes, allowance_of, declared_allowance}
 use Rattle.certificate_text.specs.Trees.{leaf_items, items_of_tree, items_of_takes}
 use Rattle.certificate_data.proofs.TreeLists.{list_onto, take_row, takes_row, made_tree, allowance_again}
 

@@ -1,5 +1,5 @@
 -- The sums of the last events of a shelf.
-use Rattle.std.proofs.Common.{◌≡◌, ◌∙◌, ℕ, ◌+◌, ◌-◌, ◌^◌, List, [], ◌∷◌, ◌++◌, Option, Some, None, Vec, Global, IfSome, length, min, refl, sym, ap, ap₂, map, append_assoc, arith, length-append}
+use Rattle.std.proofs.Common.{◌≡◌, ◌∙◌, ℕ, ◌+◌, ◌-◌, ◌^◌, List, [], ◌∷◌, ◌++◌, Option, Some, None, Vec, Global, IfSome, length, min, sym, ap, ap₂, map, append_assoc, arith, length-append}
 use Rattle.std.specs.Option.{IsSomeAnd}
 use Rattle.std.proofs.lemmas.List.{append-nil, map-append}
 use Rattle.cli_shelves.specs.declared.sums.EventSum.{EventSum}

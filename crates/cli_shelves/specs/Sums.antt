@@ -1,10 +1,9 @@
 -- The sums of what a shelf gave and took.
-use Rattle.std.specs.Prelude.{◌≡◌, ◌++◌, ℕ, true, false, List, [], Result, Ok, Err, map}
+use Rattle.std.specs.Prelude.{◌≡◌, ◌++◌, ℕ, true, false, List, [], Ok, Err, map}
 use Rattle.std.specs.String.{string_bytes}
 use Rattle.cli_record_text.specs.Sums.{SumValue, sum_of}
 use Rattle.cli_shelves.specs.declared.shelf.ReadEnd.{ReadEnd}
 use Rattle.cli_shelves.specs.declared.shelf.ReadEnd.TheVariants as ends
-use Rattle.cli_shelves.specs.declared.shelf.ShelfFault.{ShelfFault}
 use Rattle.cli_shelves.specs.declared.sums.EventKind.{EventKind}
 use Rattle.cli_shelves.specs.declared.sums.EventKind.TheVariants.{Whole, Part, Taken, Failed}
 use Rattle.cli_shelves.specs.declared.sums.EventSum.{EventSum}

@@ -1,5 +1,5 @@
 -- Allowances as fractions.
-use Rattle.std.specs.Prelude.{◌≡◌, ℕ, ◌*◌, ◌==◌, ◌&&◌, nat_le, Bool, true, Option, Some, None}
+use Rattle.std.specs.Prelude.{◌≡◌, ◌*◌, ◌==◌, ◌&&◌, nat_le, Bool, true, Option, Some, None}
 use Rattle.county_codes.specs.declared.window.Window.{Window}
 
 -- one twentieth, the five percent of Stephenson

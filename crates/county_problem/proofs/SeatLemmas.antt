@@ -1,5 +1,5 @@
 -- At most twice the chamber's seats suit anybody, since a district has at least half of the ideal population.
-use Rattle.std.proofs.Common.{◌≡◌, ℕ, ◌*◌, ◌/◌, ◌≤◌, arith}
+use Rattle.std.proofs.Common.{ℕ, ◌*◌, ◌/◌, ◌≤◌, arith}
 use Rattle.std.proofs.Math.Nat.{div-le_of_le-mul, mul-le-mul_left, mul-le-mul_right}
 
 pub few_suit : (whole below total chamber people : ℕ) → whole ≤ 2 * below → people ≤ total → chamber ≤ 1000 → whole * chamber * people / (below * total) ≤ 2000

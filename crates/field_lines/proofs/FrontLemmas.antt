@@ -1,20 +1,20 @@
 -- The piece at the front of bytes, whatever comes later.
-use Rattle.std.proofs.Common.{◌≡◌, ℕ, ◌+◌, ◌-◌, ◌<◌, ◌≤◌, Bool, true, false, List, [], ◌∷◌, ◌++◌, length, take, drop, All, Some, None, suc, slice_range, refl, sym, ap, ◌∙◌, append_assoc, arith, subst, length-append, take_all, take-take, drop_of_length-le, if◌then◌else◌}
+use Rattle.std.proofs.Common.{◌≡◌, ℕ, ◌+◌, ◌-◌, ◌<◌, ◌≤◌, Bool, true, false, List, [], ◌∷◌, ◌++◌, length, take, drop, Some, suc, slice_range, refl, sym, ap, ◌∙◌, append_assoc, arith, subst, length-append, take_all, take-take, drop_of_length-le, if◌then◌else◌}
 use Rattle.std.specs.List.{slice_split, onto_first}
 use Rattle.std.proofs.Math.Seq.{drop-append_seam}
 use Rattle.std.proofs.lemmas.List.{append-nil}
 use Rattle.std.proofs.lemmas.Bool.Decides.{nat_tests}
 use Rattle.std.proofs.lemmas.List.Splits.{slice_split-cons_no, slice_split_none, slice_split_at}
 use Rattle.field_lines.specs.Raw.{RawLine, is_lf, numbered, raw_lines_from}
-use Rattle.field_lines.specs.Fault.{most_lines, most_bytes}
-use Rattle.field_lines.specs.Cut.{Cut, cut_of, fault_at, fault_in}
+use Rattle.field_lines.specs.Fault.{most_bytes}
+use Rattle.field_lines.specs.Cut.{cut_of, fault_at}
 use Rattle.field_lines.specs.Held.{Pulled, MayCome}
 use Rattle.field_lines.specs.Taken.{taken_bytes, TakesFirst}
 use Rattle.field_lines.specs.declared.taken_pieces.TakenPiece.{TakenPiece}
 use Rattle.field_lines.specs.Front.{HasNoLf, HasLfAt, IsAllOf, IsFrontPiece}
 use Rattle.field_lines.specs.LinesFrom.{no_line}
 use Rattle.field_lines.specs.declared.fault.LineFault.{LineFault}
-use Rattle.field_lines.proofs.SplitLemmas.{Parts, parts_of, numbered-ended, numbered-last}
+use Rattle.field_lines.proofs.SplitLemmas.{parts_of, numbered-ended, numbered-last}
 use Rattle.field_lines.proofs.CutLemmas.{cut_of-faulty}
 
 -- how many bytes are taken with a piece

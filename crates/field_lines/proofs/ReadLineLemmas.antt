@@ -1,16 +1,16 @@
 -- A line is taken: the blank ones before it add nothing.
-use Rattle.std.proofs.Common.{◌≡◌, ℕ, ◌+◌, ◌<◌, ◌≤◌, ◌==◌, Bool, true, false, List, [], ◌∷◌, ◌++◌, length, nat_lt, Option, Some, None, Result, Ok, Err, slice_range, take, refl, sym, ap, ◌∙◌, append_assoc, arith, subst, if◌then◌else◌}
+use Rattle.std.proofs.Common.{◌≡◌, ℕ, ◌+◌, ◌≤◌, ◌==◌, Bool, true, false, List, [], ◌∷◌, ◌++◌, length, nat_lt, Option, Some, None, Result, Ok, Err, take, refl, sym, ap, ◌∙◌, append_assoc, arith, subst, if◌then◌else◌}
 use Rattle.std.specs.Borrow.{Bor}
 use Rattle.std.proofs.lemmas.List.{append-nil}
 use Rattle.std.proofs.lemmas.Bool.Decides.{nat_tests}
-use Rattle.field_lines.specs.Raw.{RawLine, raw_lines_from}
+use Rattle.field_lines.specs.Raw.{raw_lines_from}
 use Rattle.field_lines.specs.Fault.{most_lines, most_bytes}
-use Rattle.field_lines.specs.Cut.{Cut, Line, cut_of, fault_at, line_bytes, in_front, line_of}
+use Rattle.field_lines.specs.Cut.{Line, cut_of, fault_at, line_bytes, in_front, line_of}
 use Rattle.field_lines.specs.Held.{Pulled, MayCome, StaysEnded, Pulls}
 use Rattle.field_lines.specs.Front.{IsFrontPiece}
-use Rattle.field_lines.specs.Taken.{IsPlace, taken_bytes, piece_at, line_at}
-use Rattle.field_lines.specs.LinesFrom.{no_line, AnswersCut, FailsOnly, LinesHeld, lines_held, IsNextFrom, AnswersRead, IsNextRead, fault_answered, line_answered, IsAtLine}
-use Rattle.field_lines.specs.ReadLine.{pieces_held, AnswersPiece, TakesPiece, TakesLine}
+use Rattle.field_lines.specs.Taken.{taken_bytes, line_at}
+use Rattle.field_lines.specs.LinesFrom.{no_line, LinesHeld, lines_held, IsNextFrom, AnswersRead, IsNextRead, fault_answered, line_answered, IsAtLine}
+use Rattle.field_lines.specs.ReadLine.{pieces_held, TakesPiece, TakesLine}
 use Rattle.field_lines.specs.declared.fault.LineFault.{LineFault}
 use Rattle.field_lines.specs.declared.fault.LineFault.TheVariants.{LineTooLong, TooManyLines, ReadFault, Memory}
 use Rattle.field_lines.specs.declared.taken_pieces.TakenPiece.{TakenPiece}

@@ -1,11 +1,11 @@
 -- A loop that reads lines of any source: what it comes to on what is left is what the whole text comes to.
-use Rattle.std.proofs.Common.{◌≡◌, ℕ, Bool, true, false, List, [], ◌++◌, Option, Some, None, Result, Ok, Err, refl, sym, ap, ◌∙◌, append_assoc, subst}
+use Rattle.std.proofs.Common.{◌≡◌, ℕ, Bool, true, false, List, [], ◌++◌, Some, None, Ok, Err, refl, sym, ap, ◌∙◌, append_assoc}
 use Rattle.std.specs.Borrow.{Bor}
 use Rattle.std.proofs.lemmas.List.{append-nil}
 use Rattle.field_lines.specs.Fault.{IsOfText}
-use Rattle.field_lines.specs.Cut.{Cut, Line, in_front, line_of}
+use Rattle.field_lines.specs.Cut.{Cut, in_front, line_of}
 use Rattle.field_lines.specs.Held.{MayCome, StaysEnded}
-use Rattle.field_lines.specs.LinesFrom.{LinesLeft, no_line, IsNextAnswer, IsNextFrom}
+use Rattle.field_lines.specs.LinesFrom.{LinesLeft, no_line, IsNextAnswer}
 use Rattle.field_lines.specs.declared.fault.LineFault.{LineFault}
 use Rattle.field_lines.specs.declared.fault.LineFault.TheVariants.{LineTooLong, TooManyLines, ReadFault, Memory}
 use Rattle.field_lines.proofs.ReadLineLemmas.{may_come}

@@ -7,7 +7,7 @@ use Rattle.field_lines.specs.Fault.{most_lines}
 use Rattle.field_lines.specs.Cut.{Cut, Line, cut_of, in_front, line_of}
 use Rattle.field_lines.specs.Held.{MayCome, StaysEnded}
 use Rattle.field_lines.specs.declared.fault.LineFault.{LineFault}
-use Rattle.field_lines.specs.declared.fault.LineFault.TheVariants.{LineTooLong, TooManyLines, ReadFault, Memory}
+use Rattle.field_lines.specs.declared.fault.LineFault.TheVariants.{ReadFault, Memory}
 
 -- what a reader of lines has: the bytes that it holds, whether the source has ended, the number of the next line, and
 -- its fault

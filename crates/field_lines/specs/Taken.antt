@@ -1,5 +1,5 @@
 -- What is taken of the bytes that were pulled.
-use Rattle.std.specs.Prelude.{◌≡◌, ℕ, ◌+◌, ◌≤◌, Bool, List, ◌∷◌, ◌++◌, slice_range, length, Option, Some, None, Result}
+use Rattle.std.specs.Prelude.{◌≡◌, ℕ, ◌+◌, ◌≤◌, List, ◌∷◌, ◌++◌, slice_range, length, Option, Some, None, Result}
 use Rattle.std.specs.Prelude.{Ok, Err}
 use Rattle.field_lines.specs.Raw.{RawLine, raw_lines_from}
 use Rattle.field_lines.specs.Cut.{Line, line_bytes}

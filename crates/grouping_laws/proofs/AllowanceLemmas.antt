@@ -1,7 +1,6 @@
 -- What a certificate names for a problem is the problem's allowance.
-use Rattle.std.proofs.Common.{◌≡◌, ◌∙◌, ℕ, ◌*◌, ◌==◌, Bool, true, false, Option, Some, None, if◌then◌else◌, refl, sym, ap}
+use Rattle.std.proofs.Common.{◌≡◌, ◌*◌, Bool, true, false, Some, None, if◌then◌else◌, refl, sym, ap}
 use Rattle.std.proofs.lemmas.Bool.{eqb-true}
-use Rattle.county_codes.specs.declared.window.Window.{Window}
 use Rattle.county_codes.specs.Windows.{twentieth, same_window, is_window, FitsRange}
 use Rattle.grouping_laws.specs.Problem.{Problem}
 use Rattle.grouping_laws.specs.Allowance.{HasWindow, window_of, named_window}

@@ -1,5 +1,5 @@
 -- The allowance that a certificate names, and that of a problem.
-use Rattle.std.specs.Prelude.{ℕ, ◌*◌, ◌≡◌, Option, Some, None, if◌then◌else◌}
+use Rattle.std.specs.Prelude.{◌*◌, ◌≡◌, Option, Some, None, if◌then◌else◌}
 use Rattle.county_codes.specs.declared.window.Window.{Window}
 use Rattle.county_codes.specs.Windows.{meant, twentieth, same_window}
 use Rattle.grouping_laws.specs.Problem.{Problem}

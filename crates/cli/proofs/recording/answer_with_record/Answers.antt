@@ -1,4 +1,4 @@
-use Rattle.std.proofs.Common.{◌++◌, List, [], Option, sym, subst, refl}
+use Rattle.std.proofs.Common.{◌++◌, [], Option, sym, subst, refl}
 use Rattle.std.proofs.lemmas.List.{append-nil}
 use Rattle.cli_shelves.specs.Files.{Files}
 use Rattle.cli_shelves.specs.History.{History}

@@ -1,4 +1,3 @@
-use Rattle.std.proofs.Common.{arith}
 use Rattle.county_problem.proofs.SeatLemmas.{few_suit}
 use Rattle.county_problem.proofs.size.most_seats.Goals as goal
 

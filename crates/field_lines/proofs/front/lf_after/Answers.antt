@@ -1,5 +1,4 @@
-use Rattle.std.proofs.Common.{◌≡◌, ◌-◌, ◌≤◌, None, length, drop, take_all, length-drop, arith, rules, subst, sym}
-use Rattle.memchr.specs.Find.{IsFirstByte, is_byte}
+use Rattle.std.proofs.Common.{◌≡◌, ◌-◌, ◌≤◌, None, length, drop, take_all, length-drop, arith, rules}
 use Rattle.field_lines.proofs.PulledLemmas.{no_lf, lf_found}
 use Rattle.field_lines.proofs.front.lf_after.Goals as goal
 

@@ -2,7 +2,6 @@ use Rattle.std.proofs.Common.{◌≡◌, ◌∙◌, ◌∷◌, [], ◌++◌, Lis
 use Rattle.std.specs.Option.{IsSomeAnd}
 use Rattle.cli_record_text.specs.Sums.{SumValue, sum_of}
 use Rattle.cli_shelves.specs.declared.sums.EventSum.{EventSum}
-use Rattle.cli_shelves.specs.History.{ShelfEvent}
 use Rattle.cli_shelves.specs.History.ShelfEvent.{Read}
 use Rattle.cli_shelves.specs.Sums.{SumOfEvent, sum_of_event, sum_value}
 use Rattle.cli_shelves.proofs.SumLemmas.{counted_on, kept_on}

@@ -1,4 +1,4 @@
-use Rattle.county_problem.proofs.BuildLemmas.{few_sets, window_not_memory, seats_not_memory, counties_not_memory}
+use Rattle.county_problem.proofs.BuildLemmas.{few_sets}
 use Rattle.county_problem.proofs.problem.Problem.build_with.Goals as goal
 
 pub with_totals-requires-clause-sets : goal.with_totals-requires-clause-sets

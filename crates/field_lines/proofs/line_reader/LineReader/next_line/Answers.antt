@@ -1,4 +1,4 @@
-use Rattle.std.proofs.Common.{◌≡◌, ◌≤◌, ◌+◌, ℕ, List, None, Ok, Some, length, refl, sym, ap, subst, ◌∙◌, arith, rules}
+use Rattle.std.proofs.Common.{◌≡◌, ◌≤◌, ◌+◌, ℕ, List, None, Ok, Some, length, refl, sym, ap, subst, ◌∙◌, arith}
 use Rattle.field_lines.specs.Fault.{most_lines, most_bytes}
 use Rattle.field_lines.specs.Cut.{Line, line_bytes, line_of}
 use Rattle.field_lines.specs.Taken.{line_at}

@@ -1,4 +1,4 @@
-use Rattle.std.proofs.Common.{◌≡◌, ◌<◌, ℕ, [], refl, sym, arith}
+use Rattle.std.proofs.Common.{◌<◌, ℕ, [], refl, sym, arith}
 use Rattle.std.proofs.lemmas.List.{append-nil}
 use Rattle.field_lines.proofs.pulled_bytes.PulledBytes.front.Goals as goal
 

@@ -1,4 +1,3 @@
-use Rattle.std.proofs.Common.{◌≤◌, ◌≡◌, length, slice_range}
 use Rattle.field_lines.proofs.PulledLemmas.{taken_more, held_less}
 use Rattle.field_lines.proofs.pulled_bytes.PulledBytes.take.Goals as goal
 

@@ -1,6 +1,5 @@
-use Rattle.std.proofs.Common.{◌≡◌, ◌≤◌, ◌+◌, ◌<◌, ◌^◌, ℕ, List, None, Ok, Some, length, refl, sym, ap, subst, ◌∙◌, arith}
+use Rattle.std.proofs.Common.{◌≡◌, ◌≤◌, ◌+◌, ℕ, List, None, Ok, Some, length, refl, sym, ap, subst}
 use Rattle.field_lines.specs.Fault.{most_bytes}
-use Rattle.field_lines.specs.Raw.{RawLine}
 use Rattle.field_lines.specs.Piece.{raw_of}
 use Rattle.field_lines.specs.declared.raw.Piece.{Piece}
 use Rattle.field_lines.specs.Taken.{piece_at}
