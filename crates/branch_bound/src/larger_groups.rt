@@ -74,8 +74,9 @@ pub(crate) fn next_groups<C: CountySet>(
     }
 }
 
-/// The groups of one county more, listed.
-fn listed_larger<C: CountySet>(
+/// The groups of one county more: all that fit are listed, or if they are listed already, dead ones are left out. A step
+/// is taken for each set that is looked through, or for each group that is listed.
+fn larger_groups<C: CountySet>(
     input: &SearchInput<C>,
     position: &Position<C>,
     steps: &mut Steps,
@@ -87,13 +88,17 @@ fn listed_larger<C: CountySet>(
     ensures limit { steps.new.limit ≡ steps.old.limit }
     ensures stopped { IsErrOf result Stop.StepLimit → steps.new.used ≡ steps.new.limit }
 {
-    match all_groups_of_size(
-        input.graph,
-        input.round,
-        &position.state,
-        position.size + 1,
-        steps,
-    ) {
+    let Position {
+        state,
+        size,
+        larger,
+        ..
+    } = position;
+    let found = match larger {
+        Some(larger) => live_groups(input.graph, state, &larger.groups, steps),
+        None => all_groups_of_size(input.graph, input.round, state, *size + 1, steps),
+    };
+    match found {
         Ok(groups) => Ok(Larger {
             groups,
             tested: true,
@@ -102,27 +107,12 @@ fn listed_larger<C: CountySet>(
     }
 }
 
-/// The groups of one county more, without dead ones. A step is taken for each that is listed.
-fn tested_larger<C: CountySet>(
-    input: &SearchInput<C>,
-    position: &Position<C>,
-    larger: &Larger<C>,
-    steps: &mut Steps,
-) -> Result<Larger<C>, Stop>
-    requires input { IsSearchInput C.PLACES C.test input.now }
-    requires at { IsPositionAt C.test input.now (search_state input.now C.test position.now.state) position.now }
-    requires larger { IsLargerAt C.test input.now (search_state input.now C.test position.now.state) position.now.size larger.now }
-    ensures larger { IfOk result (IsLargerAt C.test input.now (search_state input.now C.test position.now.state) position.now.size) }
-    ensures more { steps.old.used ≤ steps.new.used }
-    ensures limit { steps.new.limit ≡ steps.old.limit }
-    ensures stopped { IsErrOf result Stop.StepLimit → steps.new.used ≡ steps.new.limit }
-{
-    match live_groups(input.graph, &position.state, &larger.groups, steps) {
-        Ok(groups) => Ok(Larger {
-            groups,
-            tested: true,
-        }),
-        Err(stop) => Err(stop),
+/// Whether the groups of one county more are listed where so many groups are wanted and so many steps are taken, or if
+/// they are listed already, whether dead ones are left out.
+fn wants_larger<C: CountySet>(position: &Position<C>, limit: u16, wanted: u32, used: u64) -> bool {
+    match &position.larger {
+        Some(larger) => wanted == TEST_WANTED && !larger.tested,
+        None => wanted >= LEAST_WANTED && position.size < limit && used >= FIRST_STEPS,
     }
 }
 
@@ -149,26 +139,14 @@ pub(crate) fn with_larger<C: CountySet>(
     ) else {
         return Ok(position);
     };
-    if let Some(larger) = &position.larger {
-        if wanted == TEST_WANTED && !larger.tested {
-            return match tested_larger(input, &position, larger, steps) {
-                Ok(larger) => Ok(Position {
-                    larger: Some(larger),
-                    ..position
-                }),
-                Err(stop) => Err(stop),
-            };
-        }
+    if !wants_larger(&position, input.round.limit, wanted, steps.used()) {
         return Ok(position);
     }
-    if wanted >= LEAST_WANTED && position.size < input.round.limit && steps.used() >= FIRST_STEPS {
-        return match listed_larger(input, &position, steps) {
-            Ok(larger) => Ok(Position {
-                larger: Some(larger),
-                ..position
-            }),
-            Err(stop) => Err(stop),
-        };
+    match larger_groups(input, &position, steps) {
+        Ok(larger) => Ok(Position {
+            larger: Some(larger),
+            ..position
+        }),
+        Err(stop) => Err(stop),
     }
-    Ok(position)
 }
