@@ -12,7 +12,7 @@ use Rattle.adjacency_reader.specs.declared.links.Sign.TheVariants.{Add, Cut}
 use Rattle.adjacency_reader.specs.declared.links.Link.{Link}
 use Rattle.adjacency_reader.specs.Pairs.{by_codes, names, ArePairs}
 use Rattle.adjacency_reader.specs.Links.{is_on, last_sign}
-use Rattle.adjacency_reader.specs.Adjacent.{joined_by, Adjacent, AreLinked, IsStrangeLink, AreAdjacent}
+use Rattle.adjacency_reader.specs.Adjacency.{joined_by, Adjacent, AreLinked, IsStrangeLink, AreAdjacent}
 use Rattle.adjacency_reader.proofs.SetLemmas.{listed_where, pair_from_named, any_from_contained, named_among}
 
 -- ---- one link

@@ -1,5 +1,5 @@
 pub mod Rows
 pub mod Pairs
 pub mod Links
-pub mod Withdrawn
-pub mod Adjacent
+pub mod WithdrawnSets
+pub mod Adjacency

@@ -4,7 +4,7 @@ ghost use Rattle.std.specs.Prelude.{◌≡◌, ℕ, ◌&&◌, not, nat_lt, List,
 ghost use Rattle.std.specs.BTreeSet.{contains};
 ghost use Rattle.adjacency_reader.specs.Pairs.{by_codes, names, ArePairs};
 ghost use Rattle.adjacency_reader.specs.Links.{is_on};
-ghost use Rattle.adjacency_reader.specs.Adjacent.{joined_by, AreLinked, AreAdjacent};
+ghost use Rattle.adjacency_reader.specs.Adjacency.{joined_by, AreLinked, AreAdjacent};
 
 use crate::links::{Link, Sign};
 use crate::pairs::{add_pair, in_order, list, pair_set};

@@ -3,7 +3,7 @@
 ghost use Rattle.std.specs.Prelude.{◌≡◌};
 ghost use Rattle.field_lines.specs.Values.{GivesUnless, AddsUnless};
 ghost use Rattle.grouping_reader.specs.Faults.{IsCodeLineMemory};
-ghost use Rattle.adjacency_reader.specs.Withdrawn.{set_on, withdrawn_list};
+ghost use Rattle.adjacency_reader.specs.WithdrawnSets.{set_on, withdrawn_list};
 ghost use Rattle.grouping_reader.specs.declared.fault.CodeLineKind.TheVariants.{Memory};
 
 use county_codes::Withdrawn;

@@ -1,6 +1,6 @@
 -- The fault of a text of events is one of a line, or that a line is missing.
 use Rattle.std.proofs.Common.{◌≡◌, ℕ, ◌+◌, List, [], ◌∷◌, ◌++◌, codes, drop, Option, Some, None, Result, Ok, Err, subst}
-use Rattle.field_lines.specs.Raw.{RawLine, raw_lines}
+use Rattle.field_lines.specs.RawPieces.{RawLine, raw_lines}
 use Rattle.certificate_data.specs.declared.language.Language.{Language}
 use Rattle.certificate_lines.specs.Lines.{most, begins, counted, number_at, code_word_at}
 use Rattle.certificate_lines.specs.Items.{by_words, item_on, wanted_after}
@@ -10,7 +10,7 @@ use Rattle.certificate_lines.specs.declared.item.Item.{Item}
 use Rattle.certificate_lines.specs.declared.item.Wanted.{Wanted}
 use Rattle.certificate_lines.proofs.LineKinds.{OfLine, Said, cond_said, bind_said, counted_said, number_at_said, code_at_said, words_then_said, AreBehind, both_behind, groups_behind, after_behind, item_said}
 use Rattle.board_events.specs.Lines.{greatest, hand_on, result_on, split_on, better_on, wider_on, event_on}
-use Rattle.board_events.specs.Spelled.{wanted_by}
+use Rattle.board_events.specs.Spelling.{wanted_by}
 use Rattle.board_events.specs.Faults.{fault_from, events_fault}
 use Rattle.board_events.specs.declared.line.EventLine.{EventLine}
 use Rattle.board_events.specs.declared.line.EventLine.TheVariants as says

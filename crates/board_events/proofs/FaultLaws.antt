@@ -1,19 +1,19 @@
 -- No fault is met in the text of events that have a spelling.
 use Rattle.std.proofs.Common.{◌≡◌, ℕ, ◌+◌, List, [], ◌∷◌, ◌++◌, length, Option, Some, None, Result, Ok, Err, ap, sym, ◌∙◌, arith, append_assoc, append-nil}
 use Rattle.std.specs.List.{AllByRecursion, join_with_byte}
-use Rattle.field_lines.specs.Raw.{RawLine, raw_lines_from}
+use Rattle.field_lines.specs.RawPieces.{RawLine, raw_lines_from}
 use Rattle.certificate_data.specs.declared.language.Language.{Language}
 use Rattle.certificate_lines.specs.Items.{wanted_after}
 use Rattle.certificate_lines.specs.Rest.{text_fault_at}
 use Rattle.certificate_lines.specs.Spelling.{item_words, text_of_items}
-use Rattle.certificate_lines.specs.Fits.{AllFit}
+use Rattle.certificate_lines.specs.Fitting.{AllFit}
 use Rattle.certificate_lines.specs.declared.fault.TextFault.{TextFault}
 use Rattle.certificate_lines.specs.declared.fault.TextKind.{TextKind}
 use Rattle.certificate_lines.specs.declared.item.Item.{Item}
 use Rattle.certificate_lines.specs.declared.item.Wanted.{Wanted}
 use Rattle.certificate_text.proofs.TextBack.{fits_line, line_cut}
 use Rattle.board_laws.specs.Content.{Event}
-use Rattle.board_events.specs.Spelled.{event_words, line_of_event, items_of, wanted_by, text_of_event, text_of_events, HasSpelling}
+use Rattle.board_events.specs.Spelling.{event_words, line_of_event, items_of, wanted_by, text_of_event, text_of_events, HasSpelling}
 use Rattle.board_events.specs.Faults.{fault_from, events_fault}
 use Rattle.board_events.specs.declared.line.EventLine.{EventLine}
 use Rattle.board_events.proofs.LinesBack.{event_back}

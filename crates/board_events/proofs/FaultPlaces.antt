@@ -3,7 +3,7 @@ use Rattle.std.proofs.Common.{◌≡◌, ℕ, ◌+◌, ◌≤◌, List, [], ◌�
 use Rattle.std.specs.List.{slice_split, join_with_byte}
 use Rattle.std.specs.Option.{option_map}
 use Rattle.std.proofs.lemmas.List.Splits.{join_with_byte-slice_split}
-use Rattle.field_lines.specs.Raw.{RawLine, is_lf, numbered, raw_lines_from}
+use Rattle.field_lines.specs.RawPieces.{RawLine, is_lf, numbered, raw_lines_from}
 use Rattle.certificate_data.specs.declared.language.Language.{Language}
 use Rattle.certificate_lines.specs.Items.{by_words, item_on, wanted_after}
 use Rattle.certificate_lines.specs.Rest.{text_fault_at}
@@ -13,7 +13,7 @@ use Rattle.certificate_lines.specs.declared.item.Item.{Item}
 use Rattle.certificate_lines.specs.declared.item.Wanted.{Wanted}
 use Rattle.certificate_lines.specs.declared.item.Wanted.TheVariants as want
 use Rattle.board_events.specs.Lines.{event_on}
-use Rattle.board_events.specs.Spelled.{wanted_by}
+use Rattle.board_events.specs.Spelling.{wanted_by}
 use Rattle.board_events.specs.Faults.{fault_from}
 use Rattle.board_events.specs.declared.line.EventLine.{EventLine}
 use Rattle.board_events.proofs.FaultLaws.{by_first, by_item}

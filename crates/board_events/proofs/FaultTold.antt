@@ -2,7 +2,7 @@
 use Rattle.std.proofs.Common.{◌≡◌, ℕ, ◌+◌, ◌≤◌, cond, not, Bool, true, false, List, [], ◌∷◌, ◌++◌, codes, length, Some, Result, Ok, Err, refl, ap, sym, ◌∙◌, arith, append_assoc}
 use Rattle.std.specs.Prelude.{nat_lt, nat_eq}
 use Rattle.std.specs.Cmp.Lexicographic.{pointwise}
-use Rattle.field_lines.specs.Raw.{RawLine}
+use Rattle.field_lines.specs.RawPieces.{RawLine}
 use Rattle.field_lines.specs.Fault.{most_bytes}
 use Rattle.certificate_data.specs.declared.language.Language.{Language}
 use Rattle.certificate_data.specs.declared.language.Language.TheVariants.{Plain, Wide}

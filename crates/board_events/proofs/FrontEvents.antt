@@ -5,19 +5,19 @@ use Rattle.std.specs.Option.{option_map}
 use Rattle.std.proofs.Math.Seq.{take-append-add}
 use Rattle.std.proofs.lemmas.Grind.{flat_map-append}
 use Rattle.std.proofs.lemmas.List.{take-append-drop}
-use Rattle.field_lines.specs.Raw.{RawLine, raw_lines, raw_lines_from, text_of as raw_text}
+use Rattle.field_lines.specs.RawPieces.{RawLine, raw_lines, raw_lines_from, text_of as raw_text}
 use Rattle.field_lines.proofs.TextLemmas.{text_of-raw_lines}
 use Rattle.certificate_data.specs.declared.language.Language.{Language}
 use Rattle.certificate_lines.specs.Items.{by_words, items_from}
 use Rattle.certificate_lines.specs.Rest.{Rest, lines_of as lines_left, TakesTextLine, FaultOf, text_fault_at}
-use Rattle.certificate_lines.specs.Fits.{AllFit}
+use Rattle.certificate_lines.specs.Fitting.{AllFit}
 use Rattle.certificate_lines.specs.declared.fault.TextFault.{TextFault}
 use Rattle.certificate_lines.specs.declared.fault.TextKind.{TextKind}
 use Rattle.certificate_lines.specs.declared.item.Wanted.{Wanted}
 use Rattle.board_laws.specs.Content.{Event}
 use Rattle.board_events.specs.Lines.{event_on}
-use Rattle.board_events.specs.Spelled.{line_of_event, items_of, event_line, FitsLine, wanted_by, text_of_event, text_of_events, HasSpelling, EventsAreSpelled}
-use Rattle.board_events.specs.Behind.{StandsBehind}
+use Rattle.board_events.specs.Spelling.{line_of_event, items_of, event_line, FitsLine, wanted_by, text_of_event, text_of_events, HasSpelling, EventsAreSpelled}
+use Rattle.board_events.specs.LaterLines.{StandsBehind}
 use Rattle.board_events.specs.Faults.{fault_from, events_fault}
 use Rattle.board_events.specs.declared.line.EventLine.{EventLine}
 use Rattle.board_events.proofs.LinesRead.{event_read}

@@ -11,7 +11,7 @@ use Rattle.field_lines.proofs.NumbersBack.{decimal_digits}
 use Rattle.certificate_text.proofs.SpellLaws.{Printed, printed_line, line_words_back, number_at_back, code_at_back}
 use Rattle.certificate_text.proofs.TextBack.{IsShort, named_word, digits_shown, code_word, words_of_short}
 use Rattle.board_events.specs.Lines.{greatest, hand_on, result_on, split_on, better_on, wider_on, event_on}
-use Rattle.board_events.specs.Spelled.{event_words, FitsLine}
+use Rattle.board_events.specs.Spelling.{event_words, FitsLine}
 use Rattle.board_events.specs.declared.line.EventLine.{EventLine}
 use Rattle.board_events.specs.declared.line.EventLine.TheVariants.{Hand, Result as Proof, Split, Better, Wider}
 

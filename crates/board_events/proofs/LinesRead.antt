@@ -2,7 +2,7 @@
 use Rattle.std.proofs.Common.{◌≡◌, ℕ, ◌≤◌, cond, Bool, true, false, List, [], ◌∷◌, ◌++◌, length, drop, codes, Ok, Err, refl, ap, sym, subst, ◌∙◌, arith, lit<}
 use Rattle.std.specs.Fmt.{decimal}
 use Rattle.std.specs.List.{join_with_byte}
-use Rattle.field_lines.specs.Raw.{RawLine, bytes_of}
+use Rattle.field_lines.specs.RawPieces.{RawLine, bytes_of}
 use Rattle.certificate_lines.specs.Words.{line_words}
 use Rattle.certificate_lines.specs.Lines.{most, begins, counted, number_at, code_word_at}
 use Rattle.certificate_lines.specs.Items.{by_words}
@@ -12,7 +12,7 @@ use Rattle.certificate_lines.proofs.WordLaws.{bind_ok}
 use Rattle.certificate_lines.proofs.FormLaws.{named_ok, counted_ok, number_at_ok, code_at_ok}
 use Rattle.certificate_lines.proofs.TextLaws.{line_words_ok}
 use Rattle.board_events.specs.Lines.{greatest, hand_on, result_on, split_on, better_on, wider_on, event_on}
-use Rattle.board_events.specs.Spelled.{event_words, event_line, FitsLine}
+use Rattle.board_events.specs.Spelling.{event_words, event_line, FitsLine}
 use Rattle.board_events.specs.declared.line.EventLine.{EventLine}
 use Rattle.board_events.specs.declared.line.EventLine.TheVariants.{Hand, Result as Proof, Split, Better, Wider}
 

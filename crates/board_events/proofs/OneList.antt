@@ -5,12 +5,12 @@ use Rattle.std.proofs.lemmas.List.Elements.{filter-append}
 use Rattle.std.proofs.lemmas.List.{length-append}
 use Rattle.std.proofs.lemmas.Grind.{flat_map-append}
 use Rattle.std.proofs.lemmas.Bool.{ne_eqb}
-use Rattle.field_lines.specs.Raw.{is_lf}
+use Rattle.field_lines.specs.RawPieces.{is_lf}
 use Rattle.certificate_data.specs.declared.language.Language.{Language}
 use Rattle.county_codes.specs.declared.group.Group.{Group}
 use Rattle.certificate_lines.specs.Items.{by_words, item_on, wanted_after}
 use Rattle.certificate_lines.specs.Spelling.{item_words, item_line, text_of_items}
-use Rattle.certificate_lines.specs.Fits.{AllFit}
+use Rattle.certificate_lines.specs.Fitting.{AllFit}
 use Rattle.certificate_lines.specs.declared.fault.TextKind.{TextKind}
 use Rattle.certificate_lines.specs.declared.item.Item.{Item}
 use Rattle.certificate_lines.specs.declared.item.Item.TheVariants.{Grouped}
@@ -20,7 +20,7 @@ use Rattle.certificate_text.proofs.TextBack.{fits_line}
 use Rattle.certificate_text.proofs.OneSpelling.{tree_told}
 use Rattle.board_laws.specs.Content.{Event, hand, result, split_piece, better, wider}
 use Rattle.board_events.specs.Lines.{event_on}
-use Rattle.board_events.specs.Spelled.{event_words, event_line, line_of_event, items_of, wanted_by, text_of_event, text_of_events, HasSpelling, EventsAreSpelled}
+use Rattle.board_events.specs.Spelling.{event_words, event_line, line_of_event, items_of, wanted_by, text_of_event, text_of_events, HasSpelling, EventsAreSpelled}
 use Rattle.board_events.specs.declared.line.EventLine.{EventLine}
 use Rattle.board_events.proofs.LinesBack.{event_back}
 

@@ -3,11 +3,11 @@ use Rattle.std.proofs.Common.{◌≡◌, ℕ, List, Option, Some, None, Result, 
 use Rattle.std.specs.Result.{IfOk, IfErr}
 use Rattle.certificate_data.specs.declared.language.Language.{Language}
 use Rattle.certificate_lines.specs.Rest.{IsTextMemory}
-use Rattle.certificate_lines.specs.Reads.{IsUnlessMemory}
+use Rattle.certificate_lines.specs.Reading.{IsUnlessMemory}
 use Rattle.certificate_lines.specs.declared.fault.TextFault.{TextFault}
 use Rattle.certificate_text.proofs.GiveLaws.{memory_only}
 use Rattle.board_laws.specs.Content.{Event}
-use Rattle.board_events.specs.Spelled.{EventsAreSpelled}
+use Rattle.board_events.specs.Spelling.{EventsAreSpelled}
 use Rattle.board_events.specs.Faults.{events_fault}
 use Rattle.board_events.proofs.FaultLaws.{none_met}
 use Rattle.board_events.proofs.OneList.{one_list}

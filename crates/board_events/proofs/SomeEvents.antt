@@ -1,12 +1,12 @@
 -- A text without a fault is that of events.
 use Rattle.std.proofs.Common.{◌≡◌, ℕ, zero, suc, ◌+◌, ◌≤◌, List, [], ◌∷◌, ◌++◌, length, map, None, Result, Ok, Err, refl, sym, ap, subst, ◌∙◌, arith, append_assoc, append-nil}
 use Rattle.std.specs.List.{AllByRecursion}
-use Rattle.field_lines.specs.Raw.{RawLine, raw_lines, text_of as raw_text}
+use Rattle.field_lines.specs.RawPieces.{RawLine, raw_lines, text_of as raw_text}
 use Rattle.field_lines.proofs.TextLemmas.{text_of-raw_lines}
 use Rattle.certificate_data.specs.declared.language.Language.{Language}
 use Rattle.certificate_lines.specs.Items.{by_words, item_on, wanted_after, groups_wanted}
 use Rattle.certificate_lines.specs.Spelling.{item_line, text_of_items}
-use Rattle.certificate_lines.specs.Fits.{AllFit}
+use Rattle.certificate_lines.specs.Fitting.{AllFit}
 use Rattle.certificate_lines.specs.declared.fault.TextKind.{TextKind}
 use Rattle.certificate_lines.specs.declared.item.Item.{Item}
 use Rattle.certificate_lines.specs.declared.item.Item.TheVariants.{Grouped}
@@ -17,7 +17,7 @@ use Rattle.certificate_text.specs.Trees.{items_of_tree}
 use Rattle.checker_laws.proofs.TreesFound.{groups_found, tree_found}
 use Rattle.board_laws.specs.Content.{Event, hand, result, split_piece, better, wider}
 use Rattle.board_events.specs.Lines.{event_on}
-use Rattle.board_events.specs.Spelled.{line_of_event, items_of, wanted_by, event_line, FitsLine, text_of_event, text_of_events, HasSpelling, EventsAreSpelled}
+use Rattle.board_events.specs.Spelling.{line_of_event, items_of, wanted_by, event_line, FitsLine, text_of_event, text_of_events, HasSpelling, EventsAreSpelled}
 use Rattle.board_events.specs.Faults.{fault_from, events_fault}
 use Rattle.board_events.specs.declared.line.EventLine.{EventLine}
 use Rattle.board_events.specs.declared.line.EventLine.TheVariants as says

@@ -4,16 +4,16 @@ use Rattle.certificate_data.specs.declared.language.Language.{Language}
 use Rattle.county_codes.specs.declared.group.Group.{Group}
 use Rattle.certificate_lines.specs.Lines.{most}
 use Rattle.certificate_lines.specs.Items.{groups_wanted}
-use Rattle.certificate_lines.specs.Fits.{AllFit}
+use Rattle.certificate_lines.specs.Fitting.{AllFit}
 use Rattle.certificate_lines.specs.Spelling.{text_of_items}
-use Rattle.certificate_lines.specs.Writes.{Writes}
+use Rattle.certificate_lines.specs.Writing.{Writes}
 use Rattle.certificate_lines.specs.declared.fault.WriteFault.{WriteFault}
 use Rattle.certificate_lines.specs.declared.item.Item.{Item}
 use Rattle.certificate_lines.specs.declared.item.Item.TheVariants.{Grouped}
 use Rattle.certificate_lines.specs.declared.item.Wanted.{Wanted}
 use Rattle.board_laws.specs.Content.{better}
 use Rattle.board_events.specs.Lines.{greatest}
-use Rattle.board_events.specs.Writes.{WritesEvent}
+use Rattle.board_events.specs.Writing.{WritesEvent}
 
 -- a name, two words and an LF
 pub two_words : (old name first second : List ℕ) → (old ++ (name ++ first)) ++ (32 ∷ (second ++ 10 ∷ [])) ≡ old ++ ((name ++ (first ++ 32 ∷ second)) ++ 10 ∷ [])

@@ -1,6 +1,6 @@
 -- The first fault of a text of events.
 use Rattle.std.specs.Prelude.{ℕ, ◌+◌, List, [], ◌∷◌, ◌++◌, Option, Some, None, Ok, Err}
-use Rattle.field_lines.specs.Raw.{RawLine, raw_lines}
+use Rattle.field_lines.specs.RawPieces.{RawLine, raw_lines}
 use Rattle.certificate_data.specs.declared.language.Language.{Language}
 use Rattle.certificate_lines.specs.Items.{by_words, item_on, wanted_after}
 use Rattle.certificate_lines.specs.Rest.{text_fault_at}
@@ -8,7 +8,7 @@ use Rattle.certificate_lines.specs.declared.fault.TextFault.{TextFault}
 use Rattle.certificate_lines.specs.declared.fault.TextKind.TheVariants.{CutShort}
 use Rattle.certificate_lines.specs.declared.item.Wanted.{Wanted}
 use Rattle.board_events.specs.Lines.{event_on}
-use Rattle.board_events.specs.Spelled.{wanted_by}
+use Rattle.board_events.specs.Spelling.{wanted_by}
 
 -- The first fault on lines, the first of which has the number n, where these things are wanted in turn. If nothing is
 -- wanted, an event begins on the next line, or the text ends.

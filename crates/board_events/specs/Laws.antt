@@ -4,7 +4,7 @@ use Rattle.certificate_data.specs.declared.language.Language.{Language}
 use Rattle.certificate_lines.specs.declared.fault.TextKind.TheVariants.{BadHead, AfterEnd, ReadFault, Memory}
 use Rattle.certificate_lines.specs.declared.fault.TextFault.{TextFault}
 use Rattle.board_laws.specs.Content.{Event}
-use Rattle.board_events.specs.Spelled.{EventsAreSpelled}
+use Rattle.board_events.specs.Spelling.{EventsAreSpelled}
 use Rattle.board_events.specs.Faults.{events_fault}
 
 pub record EventsHaveTexts : Type 0 where

@@ -1,7 +1,7 @@
 pub mod Lines
-pub mod Spelled
+pub mod Spelling
 pub mod Faults
-pub mod Behind
-pub mod Writes
+pub mod LaterLines
+pub mod Writing
 pub mod Replies
 pub mod Laws

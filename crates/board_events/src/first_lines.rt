@@ -1,7 +1,7 @@
 //! What the first line of an event says, by its words.
 
 ghost use Rattle.std.specs.Prelude.{◌≡◌, drop, if◌then◌else◌};
-ghost use Rattle.certificate_lines.specs.Left.{Leaves};
+ghost use Rattle.certificate_lines.specs.WordsLeft.{Leaves};
 ghost use Rattle.certificate_lines.specs.Lines.{begins, number_at};
 ghost use Rattle.board_events.specs.Lines.{greatest, hand_on, result_on, split_on, better_on, wider_on, event_on};
 

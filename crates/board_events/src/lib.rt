@@ -8,7 +8,7 @@
 //! let text = write_event(alloc, &event, Language::Wide, 100)?;
 //! ```
 //!
-//! The definitions stand in `specs/`: `Spelled`, `Faults`, `Lines`, `Replies` and `Laws`.
+//! The definitions stand in `specs/`: `Spelling`, `Faults`, `Lines`, `Replies` and `Laws`.
 #![tactic(auto)]
 
 mod first_lines;

@@ -2,20 +2,20 @@
 
 ghost use Rattle.std.specs.Prelude.{◌≡◌, ◌<◌, ◌≤◌, ◌+◌, ◌^◌, ℕ, List, [], ◌++◌, map, length, take, filter, Some, IfOk};
 ghost use Rattle.std.specs.Prelude.{IfErr};
-ghost use Rattle.field_lines.specs.Raw.{is_lf, raw_lines};
+ghost use Rattle.field_lines.specs.RawPieces.{is_lf, raw_lines};
 ghost use Rattle.certificate_lines.specs.Items.{by_words, groups_wanted, items_from};
 ghost use Rattle.certificate_lines.specs.Lines.{most};
-ghost use Rattle.certificate_lines.specs.Reads.{ReadsAll, IsUnlessMemory};
+ghost use Rattle.certificate_lines.specs.Reading.{ReadsAll, IsUnlessMemory};
 ghost use Rattle.certificate_lines.specs.Rest.{IsTextMemory, ReadsLine};
-ghost use Rattle.certificate_lines.specs.Fits.{AllFit};
+ghost use Rattle.certificate_lines.specs.Fitting.{AllFit};
 ghost use Rattle.certificate_lines.specs.Spelling.{text_of_items};
 ghost use Rattle.certificate_lines.specs.declared.item.Item.TheVariants as item;
 ghost use Rattle.certificate_lines.specs.declared.item.Wanted.{Wanted};
 ghost use Rattle.board_laws.specs.Content.{Event as EventValue};
 ghost use Rattle.share_board.specs.Events.{event_of};
 ghost use Rattle.board_events.specs.Lines.{event_on};
-ghost use Rattle.board_events.specs.Spelled.{wanted_by, text_of_event, HasSpelling, EventsAreSpelled};
-ghost use Rattle.board_events.specs.Behind.{StandsBehind};
+ghost use Rattle.board_events.specs.Spelling.{wanted_by, text_of_event, HasSpelling, EventsAreSpelled};
+ghost use Rattle.board_events.specs.LaterLines.{StandsBehind};
 ghost use Rattle.board_events.specs.Faults.{fault_from, events_fault};
 
 use crate::first_lines::event_on;

@@ -4,14 +4,14 @@ ghost use Rattle.std.specs.Prelude.{◌≡◌, ◌≤◌, ℕ, List, [], ◌∷�
 ghost use Rattle.certificate_data.specs.declared.language.Language.{Language};
 ghost use Rattle.certificate_lines.specs.Items.{groups_wanted};
 ghost use Rattle.certificate_lines.specs.Lines.{most};
-ghost use Rattle.certificate_lines.specs.Writes.{Writes};
+ghost use Rattle.certificate_lines.specs.Writing.{Writes};
 ghost use Rattle.certificate_lines.specs.declared.fault.WriteFault.TheVariants as write_fault;
 ghost use Rattle.certificate_lines.specs.declared.item.Item.TheVariants as item;
 ghost use Rattle.certificate_data.specs.TreeValue.{tree_of};
 ghost use Rattle.board_laws.specs.Content.{hand, result as proof, split_piece, better, wider};
 ghost use Rattle.share_board.specs.Events.{event_of};
-ghost use Rattle.board_events.specs.Spelled.{EventsAreSpelled};
-ghost use Rattle.board_events.specs.Writes.{WritesEvent};
+ghost use Rattle.board_events.specs.Spelling.{EventsAreSpelled};
+ghost use Rattle.board_events.specs.Writing.{WritesEvent};
 
 use crate::numbers::push_words_number;
 use certificate_data::{Language, Tree};

@@ -5,7 +5,7 @@ use Rattle.certificate_data.specs.Round.{Round}
 use Rattle.certificate_data.specs.Tree.{Tree}
 use Rattle.certificate_data.specs.TreeValue.{Certificate}
 use Rattle.certificate_text.specs.Trees.{items_of_certificate}
-use Rattle.certificate_text.specs.Spelled.{IsSpelling}
+use Rattle.certificate_text.specs.Spelling.{IsSpelling}
 use Rattle.certificate_lines.specs.Spelling.{text_of_items}
 use Rattle.board_laws.specs.Skeleton.{joined}
 use Rattle.board_laws.specs.Content.{Content, IsContent, EventAndReply}

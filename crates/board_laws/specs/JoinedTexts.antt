@@ -7,7 +7,7 @@ use Rattle.grouping_laws.specs.Grouping.{Grouping}
 use Rattle.certificate_laws.specs.State.{State, empty_state}
 use Rattle.certificate_data.specs.Tree.{Tree}
 use Rattle.certificate_laws.specs.Certificate.{TargetFits}
-use Rattle.certificate_text.specs.Spelled.{IsSpelling}
+use Rattle.certificate_text.specs.Spelling.{IsSpelling}
 use Rattle.board_laws.specs.Skeleton.{joined}
 use Rattle.board_laws.specs.Standing.{Held, Holds}
 use Rattle.board_laws.specs.Content.{Content, Begins, EventAndReply, LeadsOver}

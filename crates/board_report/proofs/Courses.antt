@@ -12,10 +12,10 @@ use Rattle.share_board.specs.Rounds.{IsOpening}
 use Rattle.board_events.specs.Replies.{reply_line}
 use Rattle.branch_bound.specs.declared.piece.Piece.{Piece}
 use Rattle.board_report.specs.Taking.{TakesEvents, EventsAreTaken, HasTaken, HasTold, HasHeard}
-use Rattle.board_report.specs.Shared.{IsEnded, IsShared}
-use Rattle.board_report.specs.declared.shared.Shared.{Shared}
+use Rattle.board_report.specs.BoardOutcome.{IsEnded, IsShared}
+use Rattle.board_report.specs.declared.board_outcome.Shared.{Shared}
 use Rattle.board_report.specs.PieceText.{HasText}
-use Rattle.board_report.specs.Proved.{IsAnswerAt, IsAnswered, piece_budget}
+use Rattle.board_report.specs.PieceAnswers.{IsAnswerAt, IsAnswered, piece_budget}
 use Rattle.board_report.proofs.InTurn.{same_language}
 
 module _ {C : Type 0} (test : C → ℕ → Bool) (problem : ProblemHeld) (depth budget : ℕ) (round : Round) (before later : Board C) (b : Content) (events : List Event) where

@@ -5,15 +5,15 @@ use Rattle.grouping_laws.proofs.Elements.{Has, has_from_contains, contains_from_
 use Rattle.certificate_data.specs.Round.{Round}
 use Rattle.certificate_data.specs.Tree.{Tree}
 use Rattle.certificate_data.specs.TreeValue.{Certificate}
-use Rattle.certificate_text.specs.Spelled.{IsSpelling}
+use Rattle.certificate_text.specs.Spelling.{IsSpelling}
 use Rattle.board_laws.specs.Skeleton.{Skeleton, joined, waiting}
 use Rattle.board_laws.specs.Content.{Content, IsContent}
 use Rattle.board_laws.proofs.Boards.{boards_keep}
 use Rattle.board_laws.proofs.Joining.{skeletons_join}
 use Rattle.share_board.specs.OpenPieces.{AreOpen}
 use Rattle.certificate_data.specs.declared.language.Language.{Language}
-use Rattle.board_report.specs.Shared.{IsJoinedText, AreJoined, IsEnded, left_lines, board_end_lines}
-use Rattle.board_report.specs.declared.shared.Shared.{Shared}
+use Rattle.board_report.specs.BoardOutcome.{IsJoinedText, AreJoined, IsEnded, left_lines, board_end_lines}
+use Rattle.board_report.specs.declared.board_outcome.Shared.{Shared}
 
 none_waits : (skeleton : Skeleton) → AreOpen skeleton [] → waiting skeleton ≡ []
 none_waits skeleton are = go (waiting skeleton) (λ n h. has_from_contains [] n ((are.each n).1 (contains_from_has (waiting skeleton) n h)))

@@ -1,6 +1,6 @@
 -- A text spells the event that gives a desk's answer to a board.
 use Rattle.std.proofs.Common.{◌≡◌, ◌≤◌, ℕ, Bool, true, false, List, [], ◌++◌, ◌&&◌, nat_le, map, length, append-nil, refl, subst, arith, Some, None}
-use Rattle.certificate_lines.specs.Fits.{AllFit}
+use Rattle.certificate_lines.specs.Fitting.{AllFit}
 use Rattle.certificate_lines.specs.Items.{groups_wanted}
 use Rattle.certificate_lines.specs.Lines.{most}
 use Rattle.certificate_lines.specs.declared.item.Item.{Item}
@@ -17,7 +17,7 @@ use Rattle.certificate_data.specs.TreeValue.{tree_of}
 use Rattle.certificate_text.specs.TreeItems.{HasTargetLines}
 use Rattle.certificate_text.proofs.ItemsFit.{target_fits}
 use Rattle.certificate_text.proofs.Texts.{have_texts}
-use Rattle.share_board.specs.Spelled.{HasFiveDigits}
+use Rattle.share_board.specs.Spelling.{HasFiveDigits}
 use Rattle.share_board.proofs.Spelling.{five_digits}
 use Rattle.branch_bound.specs.Pieces.{IsPiece}
 use Rattle.branch_bound.specs.declared.piece.Piece.{Piece}

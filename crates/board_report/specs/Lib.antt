@@ -1,5 +1,5 @@
 pub mod Rounds
 pub mod Taking
-pub mod Shared
+pub mod BoardOutcome
 pub mod PieceText
-pub mod Proved
+pub mod PieceAnswers

@@ -3,7 +3,7 @@
 ghost use Rattle.std.specs.Prelude.{◌≡◌, ◌≤◌, ℕ, [], ◌∷◌, IfOk, IfSome, option_map};
 ghost use Rattle.certificate_lines.specs.Lines.{most};
 ghost use Rattle.share_board.specs.Events.{event_of};
-ghost use Rattle.board_events.specs.Spelled.{text_of_event, HasSpelling, EventsAreSpelled};
+ghost use Rattle.board_events.specs.Spelling.{text_of_event, HasSpelling, EventsAreSpelled};
 ghost use Rattle.board_report.specs.PieceText.{event_in, piece_text_of, HasText};
 
 use board_events::write_event;

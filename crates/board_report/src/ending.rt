@@ -2,14 +2,14 @@
 
 ghost use Rattle.std.specs.Prelude.{◌≡◌, ℕ, ◌++◌, List, length, IfOk, OnOk};
 ghost use Rattle.std.specs.List.{flat_map};
-ghost use Rattle.certificate_text.specs.Spelled.{IsSpelling};
+ghost use Rattle.certificate_text.specs.Spelling.{IsSpelling};
 ghost use Rattle.certificate_data.specs.TreeValue.{certificate_of};
 ghost use Rattle.county_problem.specs.ProblemValue.{problem_of};
 ghost use Rattle.board_laws.specs.Content.{Content};
 ghost use Rattle.share_board.specs.BoardValue.{IsOf};
-ghost use Rattle.board_report.specs.Shared.{open_line, open_lines, left_lines, IsEnded};
+ghost use Rattle.board_report.specs.BoardOutcome.{open_line, open_lines, left_lines, IsEnded};
 
-use crate::shared::Shared;
+use crate::board_outcome::Shared;
 use certificate_data::{Certificate, Language};
 use certificate_lines::{WriteFault, push_number_line};
 use certificate_text::write;

@@ -5,21 +5,21 @@
 //! let answer = prove_waiting(alloc, &problem, &grouping, shape, events, 3, 100_000)?;
 //! ```
 //!
-//! The definitions stand in `specs/`: `Rounds` (the first round of such a board), `Taking` (events in turn), `Shared`,
-//! `Proved` and `PieceText` (what is said). A board's order is that of ascending codes.
+//! The definitions stand in `specs/`: `Rounds` (the first round of such a board), `Taking` (events in turn),
+//! `BoardOutcome`, `PieceAnswers` and `PieceText` (what is said). A board's order is that of ascending codes.
 #![tactic(auto)]
 
 mod answer_text;
+mod board_outcome;
 mod ending;
 mod opening;
 mod proving;
 mod shape;
-mod shared;
 mod sharing;
 mod taking;
 
 pub use answer_text::piece_text;
+pub use board_outcome::Shared;
 pub use proving::prove_waiting;
 pub use shape::BoardShape;
-pub use shared::Shared;
 pub use sharing::share;

@@ -9,7 +9,7 @@ ghost use Rattle.share_board.specs.BoardValue.{IsOf};
 ghost use Rattle.share_board.specs.Events.{event_of};
 ghost use Rattle.share_board.specs.Rounds.{IsBoardFault};
 ghost use Rattle.board_report.specs.PieceText.{HasText};
-ghost use Rattle.board_report.specs.Proved.{IsAnswerAt, IsAnswered, IsStateHeld, piece_budget};
+ghost use Rattle.board_report.specs.PieceAnswers.{IsAnswerAt, IsAnswered, IsStateHeld, piece_budget};
 ghost use Rattle.board_report.specs.Rounds.{IsFirstRound};
 
 use crate::opening::opened_board;

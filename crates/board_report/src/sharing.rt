@@ -6,12 +6,12 @@ ghost use Rattle.certificate_data.specs.Round.{Round as RoundValue};
 ghost use Rattle.share_board.specs.Events.{event_of};
 ghost use Rattle.share_board.specs.Rounds.{IsBoardFault};
 ghost use Rattle.board_report.specs.Rounds.{IsFirstRound};
-ghost use Rattle.board_report.specs.Shared.{IsShared};
+ghost use Rattle.board_report.specs.BoardOutcome.{IsShared};
 
+use crate::board_outcome::Shared;
 use crate::ending::ended;
 use crate::opening::opened_board;
 use crate::shape::BoardShape;
-use crate::shared::Shared;
 use crate::taking::take_and_tell;
 use county_codes::Grouping;
 use county_problem::Problem;

@@ -18,7 +18,7 @@ use Rattle.certificate_laws.specs.State.{State}
 use Rattle.certificate_laws.specs.Places.{IsRegionAt}
 use Rattle.certificate_laws.specs.Search.{IsInFittingGroup}
 use Rattle.certificate_laws.proofs.Decided.{listed_alike}
-use Rattle.state_groups.specs.Placed.{codes_of_set, codes_of_sets}
+use Rattle.state_groups.specs.PlacedValues.{codes_of_set, codes_of_sets}
 use Rattle.bound_proofs.specs.CountLeaves.{has_county, IsListOf}
 
 any_has : {X : Type 0} (q : X → Bool) (xs : List X) → list_any q xs ≡ true → (x : X) × Has xs x × (q x ≡ true)

@@ -11,7 +11,7 @@ use Rattle.certificate_data.specs.Tree.{Allowance}
 use Rattle.certificate_laws.specs.Groups.{AreGroupsOf}
 use Rattle.certificate_laws.specs.BoundLines.{Bounds}
 use Rattle.certificate_laws.specs.Search.{AreCountLines}
-use Rattle.state_groups.specs.Placed.{codes_of_sets}
+use Rattle.state_groups.specs.PlacedValues.{codes_of_sets}
 
 -- whether a set of places has the county's
 abbrev pub has_county : {C : Type 0} → List ℕ → (C → ℕ → Bool) → C → ℕ → Bool

@@ -10,7 +10,7 @@ ghost use Rattle.certificate_data.specs.RoundValue.{round_of};
 ghost use Rattle.certificate_laws.specs.BoundLines.{allowance, IsBound};
 ghost use Rattle.certificate_laws.specs.Search.{IsCountLine, AreCountLines};
 ghost use Rattle.certificate_data.specs.TreeValue.{allowance_of};
-ghost use Rattle.state_groups.specs.Placed.{state_at, IsPlaced};
+ghost use Rattle.state_groups.specs.PlacedValues.{state_at, IsPlaced};
 ghost use Rattle.bound_proofs.specs.CountLeaves.{IsListOf, AreListsFrom, BoundBy, BoundByNone};
 
 use crate::lines::{count_lines, places_in};

@@ -7,7 +7,7 @@ ghost use Rattle.certificate_data.specs.RoundValue.{round_of};
 ghost use Rattle.certificate_laws.specs.Leaves.{IsValidLeaf};
 ghost use Rattle.certificate_laws.specs.Search.{HasNoLeaf};
 ghost use Rattle.certificate_data.specs.TreeValue.{leaf_of};
-ghost use Rattle.state_groups.specs.Placed.{state_at, IsPlaced};
+ghost use Rattle.state_groups.specs.PlacedValues.{state_at, IsPlaced};
 ghost use Rattle.bound_proofs.specs.CountLeaves.{AreListsFrom};
 
 use crate::bound::bounding_lines;

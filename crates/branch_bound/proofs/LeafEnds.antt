@@ -6,13 +6,13 @@ use Rattle.certificate_data.specs.Round.{Round}
 use Rattle.certificate_laws.specs.State.{State, IsState}
 use Rattle.certificate_laws.specs.Leaves.{IsOffSeats}
 use Rattle.certificate_laws.specs.Certificate.{TargetFits}
-use Rattle.list_laws.specs.Complete.{IsCompleteLeaf}
+use Rattle.list_laws.specs.Completeness.{IsCompleteLeaf}
 use Rattle.list_laws.proofs.Level.{level_states}
 use Rattle.list_laws.proofs.LeafEnds.{filled_complete}
 use Rattle.certificate_data.specs.declared.tree.Leaf.{Leaf as LeafHeld}
 use Rattle.certificate_data.specs.TreeValue.{leaf_of}
 use Rattle.search_ends.specs.GivenLeaf.{IsGivenLeaf}
-use Rattle.search_ends.specs.Missing.{StandsLevel}
+use Rattle.search_ends.specs.MissingGroups.{StandsLevel}
 use Rattle.branch_bound.specs.Searching.{IsEnd}
 
 module _ (p : Problem) (round : Round) (s : State) where

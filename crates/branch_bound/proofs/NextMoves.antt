@@ -11,8 +11,8 @@ use Rattle.connected_laws.proofs.PlaceLists.{some_member}
 use Rattle.certificate_laws.specs.State.{State}
 use Rattle.certificate_laws.specs.Fitting.{Fits, IsLive}
 use Rattle.certificate_laws.specs.Groups.{AreGroupsOf}
-use Rattle.state_groups.specs.Placed.{codes_of_set, codes_of_sets, IsPlaced}
-use Rattle.search_groups.specs.Known.{IsKnown, IsCandidateGroup, AreThose}
+use Rattle.state_groups.specs.PlacedValues.{codes_of_set, codes_of_sets, IsPlaced}
+use Rattle.search_groups.specs.KnownGroups.{IsKnown, IsCandidateGroup, AreThose}
 use Rattle.search_groups.proofs.KnownGroups.{known_serves, none_left, candidates_fit, candidates_listed}
 use Rattle.search_groups.proofs.KeptSteps.{code_in, place_in}
 use Rattle.branch_bound.specs.Searching.{search_problem, search_round, search_state, IsSearchInput, IsLargerAt, IsPositionAt, IsChoice}

@@ -10,7 +10,7 @@ use Rattle.grouping_laws.specs.GroupsFrom.{place, IsLesser, IsBefore}
 use Rattle.grouping_laws.proofs.Elements.{Has, has_all, has_get, all_from_has, has-map}
 use Rattle.grouping_laws.proofs.Parts.{has-filter}
 use Rattle.branch_bound.specs.Searching.{IsSorted}
-use Rattle.branch_bound.specs.Answered.{StandsInOrder}
+use Rattle.branch_bound.specs.Answers.{StandsInOrder}
 
 -- a code of the order stands at its place
 place_there : (order : List ℕ) (c : ℕ) → Has order c → (place order c < length order) × (get_or order (place order c) 0 ≡ c)

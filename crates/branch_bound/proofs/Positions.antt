@@ -11,8 +11,8 @@ use Rattle.certificate_laws.specs.Groups.{IsGroupAt, AreGroupsAt}
 use Rattle.certificate_laws.specs.Proving.{CanBranch}
 use Rattle.certificate_laws.proofs.Branches.{branch_keeps_state}
 use Rattle.certificate_laws.proofs.Completion.{open_least}
-use Rattle.state_groups.specs.Placed.{codes_of_set, codes_of_sets, IsPlaced, IsClosable}
-use Rattle.search_groups.specs.Known.{IsCandidateGroup, IsKnown, AreThose, IsApart, Lacks, Has}
+use Rattle.state_groups.specs.PlacedValues.{codes_of_set, codes_of_sets, IsPlaced, IsClosable}
+use Rattle.search_groups.specs.KnownGroups.{IsCandidateGroup, IsKnown, AreThose, IsApart, Lacks, Has}
 use Rattle.search_groups.proofs.KnownGroups.{known_serves, candidates_closed, candidates_raised}
 use Rattle.search_groups.proofs.Closing.{candidate_closable}
 use Rattle.branch_bound.specs.Searching.{search_problem, search_round, search_state, IsSearchInput, IsLargerAt, IsPositionAt, IsChoice}

@@ -21,8 +21,8 @@ use Rattle.certificate_laws.specs.Certificate.{IsCertificate, TargetFits, Conclu
 use Rattle.certificate_data.specs.Tree.{leaf, Tree as TreeValue}
 use Rattle.certificate_laws.specs.Proving.{Proves}
 use Rattle.certificate_laws.proofs.Agreement.{certificate_shows}
-use Rattle.list_laws.specs.Complete.{IsComplete}
-use Rattle.certificate_lines.specs.Fits.{AreCodes}
+use Rattle.list_laws.specs.Completeness.{IsComplete}
+use Rattle.certificate_lines.specs.Fitting.{AreCodes}
 use Rattle.certificate_data.specs.declared.tree.Leaf.{Leaf}
 use Rattle.certificate_data.specs.declared.tree.Tree.{Tree, roll-Tree}
 use Rattle.certificate_data.specs.declared.tree.Branch.{Branch}
@@ -34,7 +34,7 @@ use Rattle.certificate_text.proofs.Texts.{have_texts}
 use Rattle.search_ends.specs.GivenLeaf.{IsGivenLeaf}
 use Rattle.branch_bound.specs.Searching.{IsProof}
 use Rattle.branch_bound.specs.Solving.{round_over, IsTarget}
-use Rattle.branch_bound.specs.Answered.{Certifies, IsFoundOpen, IsSolveAnswer, SolveIsRight, HasCompleteTree, SaysWhether}
+use Rattle.branch_bound.specs.Answers.{Certifies, IsFoundOpen, IsSolveAnswer, SolveIsRight, HasCompleteTree, SaysWhether}
 use Rattle.branch_bound.proofs.Orders.{stands_in_order}
 use Rattle.branch_bound.specs.declared.answer.Answer.{Answer}
 use Rattle.branch_bound.specs.declared.answer.Answer.TheVariants.{Best, Impossible, Open}

@@ -7,7 +7,7 @@ use Rattle.grouping_laws.specs.Problem.{Problem}
 use Rattle.grouping_laws.specs.Grouping.{Grouping}
 use Rattle.grouping_laws.proofs.Elements.{Has, has_get, contains_from_has}
 use Rattle.county_codes.specs.declared.group.Grouping.{Grouping as GroupingHeld}
-use Rattle.certificate_lines.specs.Fits.{IsSet}
+use Rattle.certificate_lines.specs.Fitting.{IsSet}
 use Rattle.certificate_lines.specs.declared.item.Item.{Item}
 use Rattle.certificate_lines.specs.declared.item.Item.TheVariants as item
 use Rattle.certificate_lines.specs.declared.item.Opening.TheVariants as opening
@@ -19,13 +19,13 @@ use Rattle.certificate_data.specs.TreeValue.{tree_of, leaf_of, take_onto, list_o
 use Rattle.certificate_text.specs.Trees.{leaf_items}
 use Rattle.certificate_data.proofs.TreeLists.{list_onto, made_tree, made_takes}
 use Rattle.certificate_text.proofs.TreeViews.{items_of_branches, tree_items, made_branch}
-use Rattle.state_groups.specs.Placed.{codes_of_set, codes_of_sets}
+use Rattle.state_groups.specs.PlacedValues.{codes_of_set, codes_of_sets}
 use Rattle.certificate_laws.specs.Agreement.{Agrees}
 use Rattle.certificate_laws.specs.Fitting.{Fits}
 use Rattle.certificate_laws.specs.Groups.{IsGroupAt, AreGroupsAt}
 use Rattle.certificate_laws.specs.Proving.{limit_of, NamesLimit, Proves, CanBranch}
 use Rattle.certificate_laws.specs.Certificate.{TargetFits}
-use Rattle.list_laws.specs.Complete.{IsComplete}
+use Rattle.list_laws.specs.Completeness.{IsComplete}
 use Rattle.certificate_data.specs.Round.{Round}
 use Rattle.certificate_laws.specs.State.{State, close, raise}
 use Rattle.certificate_data.specs.Tree.{Tree, leaf, Takes}

@@ -1,5 +1,5 @@
 pub mod Searching
-pub mod Answered
+pub mod Answers
 pub mod Solving
 pub mod Pieces
 pub mod PlainRounds

@@ -7,7 +7,7 @@ use Rattle.certificate_data.specs.declared.language.Language.TheVariants.{Plain}
 use Rattle.certificate_laws.specs.State.{State, IsState}
 use Rattle.state_groups.specs.declared.state.State.{State as StateHeld}
 use Rattle.certificate_laws.specs.Proving.{CanBranch}
-use Rattle.state_groups.specs.Placed.{IsPlaced}
+use Rattle.state_groups.specs.PlacedValues.{IsPlaced}
 use Rattle.branch_bound.specs.declared.input.SearchInput.{SearchInput}
 use Rattle.branch_bound.specs.declared.outcome.PlainMove.{PlainMove}
 use Rattle.branch_bound.specs.declared.outcome.PlainMove.TheVariants as next_move

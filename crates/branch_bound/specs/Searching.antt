@@ -22,16 +22,16 @@ use Rattle.certificate_data.specs.Tree.{groups_of, take, Tree as TreeValue, Take
 use Rattle.certificate_laws.specs.Proving.{Proves, EachProves}
 use Rattle.certificate_laws.specs.Certificate.{TargetFits}
 use Rattle.certificate_laws.specs.Search.{IsFound}
-use Rattle.list_laws.specs.Complete.{IsCompleteLeaf, IsComplete, EachIsComplete}
+use Rattle.list_laws.specs.Completeness.{IsCompleteLeaf, IsComplete, EachIsComplete}
 use Rattle.certificate_data.specs.declared.tree.Leaf.{Leaf}
 use Rattle.certificate_data.specs.declared.tree.Tree.{Tree}
 use Rattle.certificate_data.specs.declared.tree.Take.{Take}
 use Rattle.certificate_data.specs.TreeValue.{leaf_of, tree_of, take_onto, list_of_takes}
 use Rattle.certificate_text.specs.Trees.{items_of_takes, items_of_tree}
 use Rattle.certificate_lines.specs.declared.item.Item.TheVariants as item
-use Rattle.state_groups.specs.Placed.{state_at, codes_of_sets, IsPlaced}
+use Rattle.state_groups.specs.PlacedValues.{state_at, codes_of_sets, IsPlaced}
 use Rattle.certificate_text.specs.TreeItems.{FitsInTree, HasLines, HasTargetLines}
-use Rattle.search_groups.specs.Known.{AreCandidates, IsKnown}
+use Rattle.search_groups.specs.KnownGroups.{AreCandidates, IsKnown}
 use Rattle.search_ends.specs.GivenLeaf.{IsGivenLeaf}
 use Rattle.branch_bound.specs.declared.input.SearchInput.{SearchInput}
 use Rattle.branch_bound.specs.declared.position.Larger.{Larger}

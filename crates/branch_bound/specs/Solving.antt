@@ -8,7 +8,7 @@ use Rattle.certificate_data.specs.declared.language.Language.TheVariants.{Plain}
 use Rattle.certificate_data.specs.Round.{Round}
 use Rattle.certificate_text.specs.TreeItems.{HasTargetLines}
 use Rattle.branch_bound.specs.Searching.{IsSorted}
-use Rattle.branch_bound.specs.Answered.{Certifies}
+use Rattle.branch_bound.specs.Answers.{Certifies}
 use Rattle.branch_bound.specs.declared.outcome.First.{First}
 use Rattle.branch_bound.specs.declared.outcome.First.TheVariants.{Impossible, Found}
 

@@ -8,7 +8,7 @@ ghost use Rattle.connected_sets.specs.Graphs.{graph_order, graph_places, place_p
 ghost use Rattle.connected_laws.specs.Listing.{AreBelow};
 ghost use Rattle.certificate_laws.specs.Groups.{AreGroupsOf};
 ghost use Rattle.certificate_laws.specs.Leaves.{IsStuck};
-ghost use Rattle.state_groups.specs.Placed.{codes_of_sets};
+ghost use Rattle.state_groups.specs.PlacedValues.{codes_of_sets};
 ghost use Rattle.search_groups.specs.PartLists.{AreListsOf};
 ghost use Rattle.connected_sets.specs.declared.stop.Stop.{Stop};
 ghost use Rattle.branch_bound.specs.Searching.{search_problem, search_round, search_state};
@@ -74,8 +74,8 @@ pub(crate) fn next_groups<C: CountySet>(
     }
 }
 
-/// The groups of one county more: all that fit are listed, or if they are listed already, dead ones are left out. A step
-/// is taken for each set that is looked through, or for each group that is listed.
+/// The groups of one county more: all that fit are listed, or if they are listed already, dead ones are left out. A
+/// step is taken for each set that is looked through, or for each group that is listed.
 fn larger_groups<C: CountySet>(
     input: &SearchInput<C>,
     position: &Position<C>,

@@ -8,7 +8,7 @@ ghost use Rattle.certificate_laws.specs.State.{empty_state, close, raise};
 ghost use Rattle.certificate_laws.specs.Groups.{IsGroupAt, AreGroupsAt};
 ghost use Rattle.certificate_laws.specs.Proving.{CanBranch};
 ghost use Rattle.connected_sets.specs.declared.stop.Stop.{Stop};
-ghost use Rattle.state_groups.specs.Placed.{codes_of_set, codes_of_sets};
+ghost use Rattle.state_groups.specs.PlacedValues.{codes_of_set, codes_of_sets};
 ghost use Rattle.branch_bound.specs.Searching.{search_problem, search_round, search_state};
 ghost use Rattle.branch_bound.specs.Searching.{IsSearchInput, IsLargerAt, IsPositionAt};
 

@@ -8,7 +8,7 @@ ghost use Rattle.county_problem.specs.OrderedValue.{code_at};
 ghost use Rattle.certificate_laws.specs.Groups.{IsGroupAt, AreGroupsAt};
 ghost use Rattle.certificate_laws.specs.Proving.{CanBranch};
 ghost use Rattle.connected_sets.specs.declared.stop.Stop.{Stop};
-ghost use Rattle.state_groups.specs.Placed.{codes_of_set, codes_of_sets, IsClosable};
+ghost use Rattle.state_groups.specs.PlacedValues.{codes_of_set, codes_of_sets, IsClosable};
 ghost use Rattle.branch_bound.specs.Searching.{search_problem, search_round, search_state, IsOutcome, IsTakenGroup};
 ghost use Rattle.branch_bound.specs.Searching.{AreTakesAt};
 ghost use Rattle.branch_bound.specs.PlainRounds.{IsPlainGround, IsStateOf};

@@ -12,7 +12,7 @@ ghost use Rattle.certificate_laws.specs.Fitting.{Fits};
 ghost use Rattle.certificate_laws.specs.Groups.{IsGroupAt};
 ghost use Rattle.certificate_laws.specs.State.{State as StateValue, close, raise};
 ghost use Rattle.connected_sets.specs.declared.stop.Stop.{Stop};
-ghost use Rattle.state_groups.specs.Placed.{codes_of_set};
+ghost use Rattle.state_groups.specs.PlacedValues.{codes_of_set};
 ghost use Rattle.branch_bound.specs.declared.outcome.Raised.TheVariants as end;
 ghost use Rattle.branch_bound.specs.declared.outcome.Taken.TheVariants as one;
 ghost use Rattle.branch_bound.specs.declared.outcome.Takes.TheVariants as all;

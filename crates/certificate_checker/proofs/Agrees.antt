@@ -4,16 +4,16 @@ use Rattle.grouping_laws.specs.Problem.{Problem}
 use Rattle.grouping_laws.specs.Grouping.{Grouping}
 use Rattle.certificate_laws.specs.Certificate.{IsCertificate}
 use Rattle.certificate_data.specs.TreeValue.{Certificate}
-use Rattle.certificate_text.specs.Spelled.{IsSpelling}
+use Rattle.certificate_text.specs.Spelling.{IsSpelling}
 use Rattle.checker_laws.specs.Fault.{Fault}
 use Rattle.checker_laws.specs.Verdict as said
 use Rattle.checker_laws.specs.TextVerdict.{IsTextVerdict}
 use Rattle.checker_laws.proofs.TextVerdicts.{certified, one, apart}
-use Rattle.certificate_checker.specs.Answered.{IsCheckAnswer, IsRefusal}
+use Rattle.certificate_checker.specs.Answers.{IsCheckAnswer, IsRefusal}
 use Rattle.state_judge.specs.declared.fault.CheckFault.{CheckFault}
 use Rattle.certificate_checker.specs.declared.verdict.Verdict.{Verdict}
 use Rattle.certificate_checker.specs.declared.verdict.Verdict.TheVariants.{Best, Impossible, No, Budget}
-use Rattle.certificate_checker.specs.Says.{SaysBest, SaysImpossible, CheckerAgrees}
+use Rattle.certificate_checker.specs.CertificateAnswers.{SaysBest, SaysImpossible, CheckerAgrees}
 
 module _ (p : Problem) (text : List ℕ) (c : Certificate) (spelling : IsSpelling text c) (is : IsCertificate p c.round c.tree) where
   -- the text has the verdict of this target

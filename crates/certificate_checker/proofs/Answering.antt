@@ -5,7 +5,7 @@ use Rattle.county_codes.specs.declared.group.Grouping.{Grouping as GroupingHeld}
 use Rattle.grouping_laws.specs.Problem.{Problem}
 use Rattle.certificate_lines.specs.Courses.{Unread, certificate_course}
 use Rattle.certificate_lines.specs.ItemsLeft.{ItemsHeld, in_memory, left_of_reader, nothing_taken}
-use Rattle.certificate_lines.specs.Fits.{AllFit}
+use Rattle.certificate_lines.specs.Fitting.{AllFit}
 use Rattle.certificate_lines.specs.declared.fault.TextFault.{TextFault}
 use Rattle.certificate_lines.specs.declared.item.Wanted.TheVariants as want
 use Rattle.certificate_data.specs.TreeValue.{Certificate}
@@ -19,7 +19,7 @@ use Rattle.checker_laws.proofs.LineFeeds.{lines}
 use Rattle.checker_laws.proofs.TextVerdicts.{best, impossible}
 use Rattle.certificate_checker.specs.Feeding.{FeedValue, Fed}
 use Rattle.certificate_checker.specs.Certificates.{IsCertificateJudged}
-use Rattle.certificate_checker.specs.Answered.{IsCheckAnswer, CheckIsRight, ShowsImpossible, ChecksItems, ChecksBytes}
+use Rattle.certificate_checker.specs.Answers.{IsCheckAnswer, CheckIsRight, ShowsImpossible, ChecksItems, ChecksBytes}
 use Rattle.state_judge.specs.declared.fault.CheckFault.{CheckFault}
 use Rattle.state_judge.specs.declared.fault.CheckFault.TheVariants.{Text}
 use Rattle.std.specs.declared.alloc.AllocError.{AllocError}

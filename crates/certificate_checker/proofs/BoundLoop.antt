@@ -14,7 +14,7 @@ use Rattle.checker_laws.specs.End.{End, fine, faulty}
 use Rattle.checker_laws.specs.Leaves.{BoundedEnds, BoundEnds, LeafEnds}
 use Rattle.checker_laws.specs.Cost.{AllowancesLook, LeafLooks}
 use Rattle.checker_laws.proofs.BoundWork.{bound_lines_carry, bound_lines_cost}
-use Rattle.certificate_checker.specs.Readable.{AllowancesAreSpelled}
+use Rattle.certificate_checker.specs.ReadableTrees.{AllowancesAreSpelled}
 use Rattle.state_judge.specs.declared.bound.Allowed.{Allowed}
 use Rattle.state_judge.specs.declared.bound.Allowed.TheVariants.{Loss, Even}
 use Rattle.certificate_checker.specs.Feeding.{FeedValue, Fed}

@@ -15,10 +15,10 @@ use Rattle.checker_laws.specs.Cost.{LineLooks}
 use Rattle.state_judge.specs.LineStops.{StopsAt}
 use Rattle.state_judge.specs.declared.fault.LineStop.{LineStop}
 use Rattle.state_judge.specs.declared.fault.LineStop.TheVariants as line_stop
-use Rattle.state_judge.specs.Allowed.{AllowanceIsSpelled, IsAllowed}
+use Rattle.state_judge.specs.AllowanceVerdicts.{AllowanceIsSpelled, IsAllowed}
 use Rattle.state_judge.specs.declared.bound.Allowed.{Allowed}
 use Rattle.state_judge.specs.declared.bound.Allowed.TheVariants.{Loss, Even}
-use Rattle.certificate_checker.specs.Readable.{AllowancesAreSpelled}
+use Rattle.certificate_checker.specs.ReadableTrees.{AllowancesAreSpelled}
 use Rattle.certificate_checker.specs.Feeding.{FeedValue, Fed, IsFed, TookLine}
 use Rattle.certificate_checker.specs.Judging.{line_items, IsLineJudged, IsSmall, IsStopAt, IsJudgedAt}
 use Rattle.certificate_checker.specs.declared.feed.Halt.{Halt}

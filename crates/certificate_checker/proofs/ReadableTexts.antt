@@ -3,14 +3,14 @@ use Rattle.std.proofs.Common.{◌≤◌, List, [], ◌∷◌, ◌++◌, length}
 use Rattle.county_codes.specs.Limits.{most_counties}
 use Rattle.certificate_data.specs.declared.language.Language.{Language}
 use Rattle.certificate_data.specs.Tree.{Allowance, room, weigh, stuck, seats, bound, Tree, leaf, branch, Takes, no_take, take}
-use Rattle.certificate_lines.specs.Fits.{AllFit}
+use Rattle.certificate_lines.specs.Fitting.{AllFit}
 use Rattle.certificate_lines.specs.declared.item.Item.TheVariants as item
 use Rattle.certificate_lines.specs.declared.item.Wanted.TheVariants as want
 use Rattle.certificate_data.specs.TreeValue.{Certificate, declared_allowance}
 use Rattle.certificate_text.specs.Trees.{items_of_target, items_of_tree, items_of_certificate}
 use Rattle.checker_laws.proofs.Readable.{head_over, IsFormedLine, AreFormedLines, IsFormed, AreFormed, formed_of_fits}
-use Rattle.state_judge.specs.Allowed.{AllowanceIsSpelled}
-use Rattle.certificate_checker.specs.Readable.{AllowancesAreSpelled, IsReadable, AreReadable}
+use Rattle.state_judge.specs.AllowanceVerdicts.{AllowanceIsSpelled}
+use Rattle.certificate_checker.specs.ReadableTrees.{AllowancesAreSpelled, IsReadable, AreReadable}
 
 line_spelled : (line : Allowance) → IsFormedLine line → AllowanceIsSpelled (declared_allowance line)
 line_spelled room f = tt

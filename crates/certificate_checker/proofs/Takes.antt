@@ -15,8 +15,8 @@ use Rattle.checker_laws.specs.Fault as fault
 use Rattle.checker_laws.specs.Branches.{IsNextTake, behind}
 use Rattle.checker_laws.specs.Work.{Open, a_tree, some_takes, WorkEnds}
 use Rattle.checker_laws.proofs.Work.{lines_carry}
-use Rattle.state_groups.specs.Placed.{codes_of_sets}
-use Rattle.certificate_checker.specs.Readable.{IsReadable, AreReadable}
+use Rattle.state_groups.specs.PlacedValues.{codes_of_sets}
+use Rattle.certificate_checker.specs.ReadableTrees.{IsReadable, AreReadable}
 use Rattle.certificate_checker.specs.Feeding.{FeedValue, Fed, IsFed, TookLine, Reaches, Halts, items_to_mark}
 use Rattle.certificate_checker.specs.Judging.{IsJudged, TookForm, IsTakeStop}
 use Rattle.state_judge.specs.declared.fault.CheckFault.TheVariants.{MissingGroup}

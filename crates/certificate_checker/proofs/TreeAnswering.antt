@@ -8,11 +8,11 @@ use Rattle.certificate_laws.specs.State.{State}
 use Rattle.certificate_data.specs.Tree.{stuck, seats, bound, Tree, leaf, branch}
 use Rattle.certificate_data.specs.declared.language.Language.{Language}
 use Rattle.certificate_lines.specs.Courses.{tree_course}
-use Rattle.certificate_lines.specs.Fits.{AllFit}
+use Rattle.certificate_lines.specs.Fitting.{AllFit}
 use Rattle.certificate_lines.specs.declared.item.Item.{Item}
 use Rattle.certificate_lines.specs.declared.item.Wanted.TheVariants as want
 use Rattle.certificate_text.specs.Trees.{items_of_tree}
-use Rattle.certificate_text.specs.Spelled.{IsTreeSpelling}
+use Rattle.certificate_text.specs.Spelling.{IsTreeSpelling}
 use Rattle.certificate_text.specs.Ranges.{AreTreeNumbers}
 use Rattle.certificate_text.specs.TreeFault.{lines_of_tree}
 use Rattle.certificate_text.proofs.Spelling.{spell}
@@ -24,10 +24,10 @@ use Rattle.checker_laws.proofs.Trees.{trees_end}
 use Rattle.checker_laws.proofs.Work.{lines_carry}
 use Rattle.checker_laws.proofs.Readable.{tree_formed}
 use Rattle.checker_laws.proofs.Lengths.{tree_length}
-use Rattle.certificate_checker.specs.Readable.{IsReadable}
+use Rattle.certificate_checker.specs.ReadableTrees.{IsReadable}
 use Rattle.certificate_checker.specs.Feeding.{FeedValue}
 use Rattle.certificate_checker.specs.Judging.{IsJudged}
-use Rattle.certificate_checker.specs.TreeAnswered.{IsSpelledTree, IsTreeAnswer, IsRightOfTrees, IsSaid}
+use Rattle.certificate_checker.specs.TreeAnswers.{IsSpelledTree, IsTreeAnswer, IsRightOfTrees, IsSaid}
 use Rattle.certificate_checker.specs.declared.feed.Halt.{Halt}
 use Rattle.certificate_checker.specs.declared.feed.Halt.TheVariants as stop
 use Rattle.certificate_checker.specs.declared.verdict.TreeVerdict.{TreeVerdict}

@@ -19,7 +19,7 @@ use Rattle.checker_laws.specs.Work.{Open, a_tree, some_takes}
 use Rattle.state_judge.specs.LineStops.{StopsAt}
 use Rattle.state_judge.specs.declared.fault.LineStop.{LineStop}
 use Rattle.state_judge.specs.declared.fault.LineStop.TheVariants as line_stop
-use Rattle.certificate_checker.specs.Readable.{IsReadable, AreReadable, AllowancesAreSpelled}
+use Rattle.certificate_checker.specs.ReadableTrees.{IsReadable, AreReadable, AllowancesAreSpelled}
 use Rattle.certificate_checker.specs.Feeding.{FeedValue, Fed, IsFed, TookLine, Reaches, Halts, items_to_mark}
 use Rattle.certificate_checker.specs.Judging.{IsJudged, IsLeafJudged, IsJudgedAt, AreTakesListed, IsBranchRefused, TookForm, line_items}
 use Rattle.certificate_checker.specs.declared.feed.Halt.{Halt}

@@ -23,7 +23,7 @@ use Rattle.checker_laws.specs.Leaves.{LeafEnds, IsAllowanceFault}
 use Rattle.checker_laws.specs.Cost.{LineLooks, LeafLooks}
 use Rattle.checker_laws.specs.Branches.{IsTakeFault}
 use Rattle.checker_laws.specs.Work.{Open, a_tree, some_takes}
-use Rattle.state_judge.specs.Allowed.{IsAllowed}
+use Rattle.state_judge.specs.AllowanceVerdicts.{IsAllowed}
 use Rattle.state_judge.specs.declared.bound.Allowed.{Allowed}
 use Rattle.state_judge.specs.declared.bound.Allowed.TheVariants.{Loss, Even}
 use Rattle.state_judge.specs.declared.fault.LineStop.{LineStop}

@@ -1,7 +1,7 @@
-pub mod Readable
+pub mod ReadableTrees
 pub mod Feeding
 pub mod Judging
 pub mod Certificates
-pub mod Answered
-pub mod TreeAnswered
-pub mod Says
+pub mod Answers
+pub mod TreeAnswers
+pub mod CertificateAnswers

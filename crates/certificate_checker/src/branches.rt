@@ -8,7 +8,7 @@ ghost use Rattle.certificate_data.specs.RoundValue.{round_of};
 ghost use Rattle.certificate_laws.specs.State.{close};
 ghost use Rattle.certificate_laws.specs.Proving.{limit_of};
 ghost use Rattle.checker_laws.specs.Branches.{IsNextTake};
-ghost use Rattle.state_groups.specs.Placed.{state_at, codes_of_sets, IsPlaced, IsClosable};
+ghost use Rattle.state_groups.specs.PlacedValues.{state_at, codes_of_sets, IsPlaced, IsClosable};
 ghost use Rattle.certificate_lines.specs.Courses.{Unread};
 ghost use Rattle.certificate_checker.specs.Feeding.{feed_at, CountsSteps, IsFed};
 ghost use Rattle.certificate_checker.specs.Judging.{IsCheckInput, AreTakesListed, IsBranchRefused, IsTakeStop};

@@ -6,8 +6,8 @@ ghost use Rattle.connected_sets.specs.Graphs.{graph_problem, graph_order, graph_
 ghost use Rattle.certificate_data.specs.RoundValue.{round_of};
 ghost use Rattle.certificate_data.specs.Tree.{Allowance as AllowanceValue, stuck, seats, bound};
 ghost use Rattle.certificate_lines.specs.declared.item.Item.{Item as ItemValue};
-ghost use Rattle.state_groups.specs.Placed.{state_at, IsPlaced};
-ghost use Rattle.certificate_checker.specs.Readable.{AllowancesAreSpelled};
+ghost use Rattle.state_groups.specs.PlacedValues.{state_at, IsPlaced};
+ghost use Rattle.certificate_checker.specs.ReadableTrees.{AllowancesAreSpelled};
 ghost use Rattle.certificate_checker.specs.Feeding.{FeedValue, stream_of, CountsSteps, IsFed, FeedsThrough, ForEach};
 ghost use Rattle.certificate_checker.specs.Judging.{IsCheckInput, IsLeafJudged, IsFoundAt, IsEndOf, IsSmall};
 ghost use Rattle.certificate_checker.specs.Judging.{IsLineJudged, line_items};

@@ -15,8 +15,8 @@
 //! one form, and `input` is what they are judged by. It makes no value of a tree. Any form of sets of places serves,
 //! and any source of items: `check_from` pulls the text line by line.
 //!
-//! A law (`specs/Says.antt`) says that the checker never says No to the text of a certificate. It answers what the
-//! certificate shows, or that the budget is too small.
+//! A law (`specs/CertificateAnswers.antt`) says that the checker never says No to the text of a certificate. It answers
+//! what the certificate shows, or that the budget is too small.
 #![tactic(auto)]
 
 mod branches;

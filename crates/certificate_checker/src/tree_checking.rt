@@ -12,9 +12,9 @@ ghost use Rattle.certificate_data.specs.TreeValue.{tree_of};
 ghost use Rattle.certificate_text.specs.Ranges.{AreTreeNumbers};
 ghost use Rattle.certificate_text.specs.TreeFault.{lines_of_tree};
 ghost use Rattle.checker_laws.specs.Verdict.{IsLawfulTarget};
-ghost use Rattle.state_groups.specs.Placed.{state_at, IsPlaced};
+ghost use Rattle.state_groups.specs.PlacedValues.{state_at, IsPlaced};
 ghost use Rattle.certificate_checker.specs.Judging.{AreWanted};
-ghost use Rattle.certificate_checker.specs.TreeAnswered.{IsTreeAnswer, IsRightOfTrees, IsSaid};
+ghost use Rattle.certificate_checker.specs.TreeAnswers.{IsTreeAnswer, IsRightOfTrees, IsSaid};
 
 use crate::certificate::{judge_order, judge_placed, judge_target};
 use crate::feed::{Feed, Halt, first_fault};

@@ -9,8 +9,8 @@
 //! A further kind of leaf begins here, with `Leaf` in `tree.rt` and `specs/Tree.antt`. `certificate_laws` says what the
 //! leaf shows, and `list_laws` when it is complete. `certificate_lines` and `certificate_text` have its lines.
 //! `checker_laws` has its verdict and cost, `state_judge` and `certificate_checker` judge it, and `search_ends` finds
-//! it. If the leaf has a fault of its own, its word stands beside `CheckFault` in `state_judge`. `tools/check.py` is the
-//! second checker.
+//! it. If the leaf has a fault of its own, the fault and its word stand in `state_judge`. `tools/check.py` is the second
+//! checker.
 #![tactic(auto)]
 
 mod allowance;

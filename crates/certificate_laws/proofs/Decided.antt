@@ -19,11 +19,11 @@ use Rattle.certificate_data.specs.declared.language.Language.TheVariants.{Plain,
 use Rattle.certificate_data.specs.Round.{Round}
 use Rattle.certificate_laws.specs.Regions.{without}
 use Rattle.certificate_laws.specs.State.{State, open_to, close}
-use Rattle.certificate_laws.specs.Stuck.{CannotFill}
+use Rattle.certificate_laws.specs.StuckParts.{CannotFill}
 use Rattle.certificate_laws.specs.Fitting.{IsDead, IsKept, Fits}
 use Rattle.certificate_laws.specs.Leaves.{IsStuck, IsOffSeats}
 use Rattle.certificate_laws.specs.Groups.{AreGroupsAt, AreGroupsOf}
-use Rattle.certificate_laws.specs.Decided.{LeavesAreDecided}
+use Rattle.certificate_laws.specs.Decisions.{LeavesAreDecided}
 use Rattle.certificate_laws.proofs.Living.{cannot_once_closed, cannot_before}
 use Rattle.certificate_laws.proofs.WithoutGroup.{without_not, without_same}
 use Rattle.certificate_laws.proofs.Regions.{parts_exist}

@@ -10,7 +10,7 @@ use Rattle.grouping_laws.proofs.Digits.{true_digit}
 use Rattle.grouping_laws.proofs.Parts.{FillRegion, inner, part_suits, has_from_stands, has_hit, within_part}
 use Rattle.grouping_laws.proofs.Seated.{parts_seated, AllZip-append, least_sum, most_sum}
 use Rattle.certificate_laws.specs.State.{State}
-use Rattle.certificate_laws.specs.Stuck.{CannotFill, StuckPart}
+use Rattle.certificate_laws.specs.StuckParts.{CannotFill, StuckPart}
 use Rattle.certificate_laws.specs.Leaves.{IsOffSeats}
 use Rattle.certificate_laws.proofs.Completion.{IsWhole, Completes, group_rest, group_lawful}
 use Rattle.certificate_laws.proofs.Counting.{not_longer}

@@ -9,7 +9,7 @@ use Rattle.grouping_laws.proofs.Alike.{Alike, length_alike, member_alike, lawful
 use Rattle.certificate_data.specs.declared.language.Language.{Language}
 use Rattle.certificate_data.specs.declared.language.Language.TheVariants.{Plain, Wide}
 use Rattle.certificate_laws.specs.State.{State, close}
-use Rattle.certificate_laws.specs.Stuck.{CannotFill, StuckPart}
+use Rattle.certificate_laws.specs.StuckParts.{CannotFill, StuckPart}
 use Rattle.certificate_laws.specs.Fitting.{IsDead, IsKept, Fits}
 use Rattle.certificate_laws.proofs.Completion.{IsWhole, Completes, group_open, group_lawful}
 use Rattle.certificate_laws.proofs.LeafLemmas.{none_stuck}

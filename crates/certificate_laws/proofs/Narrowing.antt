@@ -16,7 +16,7 @@ use Rattle.certificate_data.specs.declared.language.Language.{Language}
 use Rattle.certificate_data.specs.declared.language.Language.TheVariants.{Plain, Wide}
 use Rattle.certificate_laws.specs.Regions.{without}
 use Rattle.certificate_laws.specs.State.{State, open_to, close, raise}
-use Rattle.certificate_laws.specs.Stuck.{CannotFill}
+use Rattle.certificate_laws.specs.StuckParts.{CannotFill}
 use Rattle.certificate_laws.specs.Fitting.{IsDead, IsKept, Fits}
 use Rattle.certificate_laws.specs.Branching.{Narrows}
 use Rattle.certificate_laws.proofs.Completion.{open_rest, open_least, is_open}

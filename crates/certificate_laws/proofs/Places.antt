@@ -22,7 +22,7 @@ use Rattle.certificate_data.specs.declared.language.Language.TheVariants.{Plain,
 use Rattle.certificate_data.specs.Round.{Round}
 use Rattle.certificate_laws.specs.Regions.{without, listed}
 use Rattle.certificate_laws.specs.State.{State}
-use Rattle.certificate_laws.specs.Stuck.{CannotFill}
+use Rattle.certificate_laws.specs.StuckParts.{CannotFill}
 use Rattle.certificate_laws.specs.Fitting.{IsDead, IsKept, Fits}
 use Rattle.certificate_laws.specs.Groups.{IsGroupAt, AreGroupsAt, IsGroupOf, AreGroupsOf}
 use Rattle.certificate_laws.specs.Places.{IsRegionAt, IsStateAt, round_at, PlacesServe}

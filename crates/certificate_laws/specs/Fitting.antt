@@ -7,7 +7,7 @@ use Rattle.certificate_data.specs.declared.language.Language.TheVariants.{Plain,
 use Rattle.certificate_data.specs.Round.{Round}
 use Rattle.certificate_laws.specs.Regions.{without}
 use Rattle.certificate_laws.specs.State.{State, open_to}
-use Rattle.certificate_laws.specs.Stuck.{StuckPart}
+use Rattle.certificate_laws.specs.StuckParts.{StuckPart}
 
 -- a group of the rest is dead where some connected part of the rest without it is stuck, else live
 abbrev pub IsDead : Problem → State → List ℕ → Type 0

@@ -1,7 +1,7 @@
 pub mod Regions
 pub mod State
 pub mod Agreement
-pub mod Stuck
+pub mod StuckParts
 pub mod Fitting
 pub mod Groups
 pub mod BoundLines
@@ -9,7 +9,7 @@ pub mod Leaves
 pub mod Proving
 pub mod Certificate
 pub mod Branching
-pub mod Decided
+pub mod Decisions
 pub mod Search
 pub mod Lists
 pub mod Depth

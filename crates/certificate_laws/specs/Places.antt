@@ -10,7 +10,7 @@ use Rattle.county_problem.specs.OrderedValue.{code_at, at_places}
 use Rattle.certificate_data.specs.Round.{Round}
 use Rattle.certificate_laws.specs.Regions.{listed}
 use Rattle.certificate_laws.specs.State.{State, empty_state, close, raise}
-use Rattle.certificate_laws.specs.Stuck.{CannotFill}
+use Rattle.certificate_laws.specs.StuckParts.{CannotFill}
 use Rattle.certificate_laws.specs.Fitting.{Fits}
 use Rattle.certificate_laws.specs.Groups.{AreGroupsAt, AreGroupsOf}
 

@@ -2,7 +2,7 @@
 
 ghost use Rattle.certificate_laws.specs.Certificate.{ProofTreeExcludes, CertificateShows, IsCertificate};
 ghost use Rattle.certificate_laws.specs.Branching.{BranchKeepsState};
-ghost use Rattle.certificate_laws.specs.Decided.{LeavesAreDecided};
+ghost use Rattle.certificate_laws.specs.Decisions.{LeavesAreDecided};
 ghost use Rattle.certificate_laws.specs.Depth.{TreesAreShallow};
 ghost use Rattle.certificate_laws.specs.Lists.{ListsServe};
 ghost use Rattle.certificate_laws.specs.Places.{PlacesServe, StatesHaveCodes};

@@ -11,7 +11,7 @@
 //! that *fits* and has the county, at the state where it is closed, and one for where the county's group is
 //! larger. A *certificate* is a proof tree at the empty state.
 //!
-//! The definitions stand in `specs/`: `State`, `Agreement`, `Stuck`, `Fitting`, `Groups` (of a branch),
+//! The definitions stand in `specs/`: `State`, `Agreement`, `StuckParts`, `Fitting`, `Groups` (of a branch),
 //! `BoundLines`, `Leaves`, `Proving` and `Certificate`; the other files state the laws. The data of rounds and trees
 //! stand in `certificate_data`. `docs/definitions.md` tells all of them with examples.
 #![tactic(auto)]

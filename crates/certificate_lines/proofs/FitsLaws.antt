@@ -5,7 +5,7 @@ use Rattle.std.specs.List.{join_with_byte}
 use Rattle.std.proofs.lemmas.Bool.{ltb-true, ltb-false}
 use Rattle.field_lines.specs.Chain.{◌>>=◌}
 use Rattle.field_lines.specs.Fault.{most_bytes}
-use Rattle.field_lines.specs.Raw.{RawLine}
+use Rattle.field_lines.specs.RawPieces.{RawLine}
 use Rattle.certificate_lines.specs.Words.{line_bytes, line_words, code, pair}
 use Rattle.certificate_lines.specs.Lines as line
 use Rattle.certificate_lines.specs.Lines.{most, named, counted, number_at, code_word_at, each, ascend, order_on, limit_on, target_on, group_on, branch_on, stuck_on, bound_on, opening_on, take_on, weigh_on, allowance_on}
@@ -13,7 +13,7 @@ use Rattle.certificate_lines.specs.Items.{by_words, head_in, headed, seen, taken
 use Rattle.certificate_lines.specs.Rest.{text_fault_at}
 use Rattle.county_codes.specs.Digits.{five_digits}
 use Rattle.certificate_lines.specs.Spelling.{item_words}
-use Rattle.certificate_lines.specs.Fits.{AreCodes, IsSet, IsWanted, AllFit}
+use Rattle.certificate_lines.specs.Fitting.{AreCodes, IsSet, IsWanted, AllFit}
 use Rattle.certificate_lines.proofs.WordLaws.{bind_ok}
 use Rattle.certificate_lines.proofs.FormLaws.{counted_ok, number_at_ok, code_at_ok, codes_ok, weights_ok, order_few, window_fits, length_map}
 use Rattle.certificate_lines.proofs.TextLaws.{item_ok, seen_ok, in_front_ok}

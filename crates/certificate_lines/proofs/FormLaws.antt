@@ -14,7 +14,7 @@ use Rattle.certificate_lines.specs.Lines.{most, begins, named, counted, number_a
 use Rattle.county_codes.specs.Digits.{five_digits}
 use Rattle.certificate_lines.specs.Spelling.{weight_word, item_words}
 use Rattle.certificate_lines.specs.Items.{taken}
-use Rattle.certificate_lines.specs.Fits.{FitsWeight}
+use Rattle.certificate_lines.specs.Fitting.{FitsWeight}
 use Rattle.certificate_lines.proofs.WordLaws.{bind_ok, number_ok, code_ok, pair_ok, each_ok}
 use Rattle.certificate_lines.specs.declared.fault.TextKind.TheVariants.{BadWord, BadNumber, NotCanonical, TooDeep}
 use Rattle.certificate_data.specs.declared.language.Language.{Language}

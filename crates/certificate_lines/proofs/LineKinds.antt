@@ -6,7 +6,7 @@ use Rattle.field_lines.specs.Chain.{◌>>=◌}
 use Rattle.field_lines.specs.Fault.{most_bytes}
 use Rattle.field_lines.specs.Fields.{fields_of}
 use Rattle.field_lines.specs.Number.{number_in, digits_of}
-use Rattle.field_lines.specs.Raw.{RawLine}
+use Rattle.field_lines.specs.RawPieces.{RawLine}
 use Rattle.certificate_data.specs.declared.language.Language.{Language}
 use Rattle.certificate_data.specs.declared.language.Language.TheVariants.{Plain, Wide}
 use Rattle.certificate_lines.specs.Words.{is_numeral, has_leading_zero, is_canonical, words_of, line_bytes, line_words, number, code, halves, pair}

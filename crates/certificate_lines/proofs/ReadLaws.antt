@@ -3,13 +3,13 @@ use Rattle.std.proofs.Common.{◌≡◌, ℕ, ◌==◌, ◌+◌, ◌<◌, ◌≤
 use Rattle.std.proofs.lemmas.Bool.Decides.{nat_tests}
 use Rattle.std.proofs.lemmas.List.{reverse-append}
 use Rattle.std.proofs.lemmas.Grind.{flat_map-append}
-use Rattle.field_lines.specs.Raw.{RawLine, text_of as raw_text}
+use Rattle.field_lines.specs.RawPieces.{RawLine, text_of as raw_text}
 use Rattle.field_lines.proofs.TextLemmas.{text_of-raw_lines}
 use Rattle.certificate_lines.specs.Rest.{Rest, lines_of, IsTextMemory, TakesTextLine, FaultOf, text_fault_at}
 use Rattle.certificate_lines.specs.Items.{by_words, seen, item_on, wanted_after, items_in_front, items_from, allowances_wanted, groups_wanted}
 use Rattle.certificate_lines.specs.Spelling.{item_line, text_of_items}
-use Rattle.certificate_lines.specs.Reads.{items_at, ReadsItems, Refuses}
-use Rattle.certificate_lines.specs.Fits.{AllFit}
+use Rattle.certificate_lines.specs.Reading.{items_at, ReadsItems, Refuses}
+use Rattle.certificate_lines.specs.Fitting.{AllFit}
 use Rattle.certificate_lines.specs.Words.{line_words}
 use Rattle.certificate_lines.specs.Lines as line
 use Rattle.certificate_lines.specs.Lines.{most}

@@ -1,13 +1,13 @@
 -- Items that are read from a source.
 use Rattle.std.proofs.Common.{◌≡◌, ℕ, ◌+◌, Bool, List, [], ◌∷◌, ◌++◌, length, drop, reverse, Option, Some, None, Result, Ok, Err, refl, ap, sym, subst, ◌∙◌, append_assoc, append-nil, inl, inr}
 use Rattle.std.proofs.Math.Seq.{drop-append_seam}
-use Rattle.field_lines.specs.Raw.{RawLine, raw_lines_from}
+use Rattle.field_lines.specs.RawPieces.{RawLine, raw_lines_from}
 use Rattle.field_lines.specs.Piece.{raw_of}
-use Rattle.field_lines.specs.Held.{StaysEnded}
+use Rattle.field_lines.specs.HeldBytes.{StaysEnded}
 use Rattle.field_lines.specs.LinesFrom.{LinesHeld}
 use Rattle.field_lines.specs.PiecesFrom.{pieces_left, BeginsTooLong, IsNextPieceFrom, IsRawRead, AnswersRaw}
 use Rattle.field_lines.proofs.ReadLineLemmas.{may_come}
-use Rattle.field_lines.specs.declared.raw.Piece.{Piece}
+use Rattle.field_lines.specs.declared.raw_pieces.Piece.{Piece}
 use Rattle.field_lines.specs.declared.fault.LineFault.{LineFault}
 use Rattle.field_lines.specs.declared.fault.LineFault.TheVariants as of_line
 use Rattle.certificate_lines.specs.Rest.{text_fault_at}

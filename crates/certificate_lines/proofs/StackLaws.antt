@@ -2,10 +2,10 @@
 use Rattle.std.proofs.Common.{◌≡◌, ℕ, ◌+◌, ◌-◌, ◌≤◌, cond, Bool, true, false, List, [], ◌∷◌, ◌++◌, length, reverse, Some, None, Ok, arith}
 use Rattle.std.specs.Prelude.{nat_lt}
 use Rattle.std.proofs.lemmas.List.{length-reverse}
-use Rattle.field_lines.specs.Raw.{RawLine}
+use Rattle.field_lines.specs.RawPieces.{RawLine}
 use Rattle.certificate_lines.specs.Items.{item_on, wanted_after}
 use Rattle.certificate_lines.specs.Lines.{most}
-use Rattle.certificate_lines.specs.Fits.{IsWanted}
+use Rattle.certificate_lines.specs.Fitting.{IsWanted}
 use Rattle.certificate_lines.specs.Stacks.{HasRoom, greatest_place, IsBounded}
 use Rattle.certificate_lines.proofs.FitsLaws.{item_fits}
 use Rattle.certificate_lines.proofs.ReadLaws.{stacked_one}

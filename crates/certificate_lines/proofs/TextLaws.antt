@@ -5,7 +5,7 @@ use Rattle.std.specs.List.{join_with_byte}
 use Rattle.std.specs.Cmp.Lexicographic.{pointwise, bytes_decides}
 use Rattle.std.proofs.lemmas.List.Splits.{join_with_byte-slice_split}
 use Rattle.field_lines.specs.Fault.{most_bytes}
-use Rattle.field_lines.specs.Raw.{RawLine, raw_lines_from, bytes_of, text_of as raw_text}
+use Rattle.field_lines.specs.RawPieces.{RawLine, raw_lines_from, bytes_of, text_of as raw_text}
 use Rattle.field_lines.proofs.TextLemmas.{text_of-raw_lines}
 use Rattle.certificate_lines.specs.Words.{words_of, line_bytes, line_words, is_canonical}
 use Rattle.certificate_lines.specs.Lines as line

@@ -5,7 +5,7 @@ use Rattle.std.specs.List.{flat_map, join_with_byte}
 use Rattle.std.proofs.lemmas.List.Elements.{recursion_from_All}
 use Rattle.county_codes.specs.Digits.{five_digits}
 use Rattle.certificate_lines.specs.Spelling.{weight_word, item_words}
-use Rattle.certificate_lines.specs.Fits.{AreCodes}
+use Rattle.certificate_lines.specs.Fitting.{AreCodes}
 use Rattle.certificate_data.specs.declared.weights.Weight.{Weight}
 use Rattle.certificate_data.specs.declared.allowance.Allowance.TheVariants.{Weigh}
 use Rattle.certificate_lines.specs.declared.item.Item.TheVariants.{Allows}

@@ -1,6 +1,6 @@
 -- The items of a text one at a time, also those in front of a fault.
 use Rattle.std.specs.Prelude.{◌≡◌, ℕ, ◌+◌, Bool, List, [], ◌∷◌, ◌++◌, reverse, Option, Some, None, Result, Ok, Err}
-use Rattle.field_lines.specs.Raw.{RawLine, raw_lines}
+use Rattle.field_lines.specs.RawPieces.{RawLine, raw_lines}
 use Rattle.field_lines.specs.Values.{GivesUnless}
 use Rattle.certificate_lines.specs.Rest.{Rest, lines_of, text_fault_at, IsUnread}
 use Rattle.certificate_lines.specs.Items.{item_on, wanted_after}

@@ -2,7 +2,7 @@
 use Rattle.std.specs.Prelude.{ℕ, Bool, ◌+◌, ◌-◌, nat_lt, List, [], ◌∷◌, ◌++◌, length, Option, Some, None, Result, Ok}
 use Rattle.std.specs.Prelude.{Err, if◌then◌else◌}
 use Rattle.field_lines.specs.Chain.{◌>>=◌}
-use Rattle.field_lines.specs.Raw.{RawLine, raw_lines}
+use Rattle.field_lines.specs.RawPieces.{RawLine, raw_lines}
 use Rattle.certificate_data.specs.Levels.{after_raise}
 use Rattle.certificate_lines.specs.Words.{line_bytes, line_words}
 use Rattle.certificate_lines.specs.Lines as line

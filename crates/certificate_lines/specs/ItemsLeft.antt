@@ -1,8 +1,8 @@
 -- The items of a text that may yet come from a source.
 use Rattle.std.specs.Prelude.{◌≡◌, ℕ, Bool, true, List, [], ◌∷◌, ◌++◌, length, drop, reverse, Option, Some, None}
 use Rattle.std.specs.Prelude.{Result, Ok, Err}
-use Rattle.field_lines.specs.Raw.{raw_lines_from}
-use Rattle.field_lines.specs.Held.{MayCome}
+use Rattle.field_lines.specs.RawPieces.{raw_lines_from}
+use Rattle.field_lines.specs.HeldBytes.{MayCome}
 use Rattle.field_lines.specs.LinesFrom.{LinesHeld, nothing_read}
 use Rattle.field_lines.specs.declared.fault.LineFault.{LineFault}
 use Rattle.field_lines.specs.declared.fault.LineFault.TheVariants as line

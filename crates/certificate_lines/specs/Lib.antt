@@ -1,12 +1,12 @@
 pub mod Words
 pub mod Lines
-pub mod Left
+pub mod WordsLeft
 pub mod Rest
 pub mod Items
 pub mod Spelling
-pub mod Fits
-pub mod Reads
-pub mod Writes
+pub mod Fitting
+pub mod Reading
+pub mod Writing
 pub mod Courses
 pub mod ItemsLeft
 pub mod Stacks

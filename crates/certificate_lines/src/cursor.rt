@@ -4,7 +4,7 @@ ghost use Rattle.std.specs.Prelude.{◌≡◌, [], ◌∷◌, ◌++◌, IfOk, If
 ghost use Rattle.certificate_lines.specs.Words.{line_words};
 ghost use Rattle.certificate_lines.specs.Lines as line;
 ghost use Rattle.certificate_lines.specs.Rest.{IsTextMemory, ReadsLine, TakesTextPiece};
-ghost use Rattle.certificate_lines.specs.Reads.{EndsUnless};
+ghost use Rattle.certificate_lines.specs.Reading.{EndsUnless};
 ghost use Rattle.certificate_lines.specs.Items.{by_words, head_in};
 
 use crate::fault::{TextFault, TextKind};

@@ -1,7 +1,7 @@
 //! The lines of a certificate or of a tree, one at a time.
 
 ghost use Rattle.std.specs.Prelude.{◌≡◌, ℕ, ◌≤◌, List, [], ◌∷◌, None};
-ghost use Rattle.field_lines.specs.Raw.{raw_lines};
+ghost use Rattle.field_lines.specs.RawPieces.{raw_lines};
 ghost use Rattle.certificate_lines.specs.Lines.{most};
 ghost use Rattle.certificate_lines.specs.Stacks.{HasRoom, IsBounded};
 ghost use Rattle.certificate_lines.specs.Courses.{certificate_course, tree_course, course_from, course_left};

@@ -6,7 +6,7 @@ ghost use Rattle.field_lines.specs.Values.{GivesUnless};
 ghost use Rattle.field_lines.specs.Fields.{fields_of, fields_left};
 ghost use Rattle.certificate_lines.specs.Words.{line_bytes, line_words, code, pair};
 ghost use Rattle.certificate_lines.specs.Lines.{begins, named, counted, number_at, code_word_at, each};
-ghost use Rattle.certificate_lines.specs.Left.{Leaves, LeavesWords, IsNextWord};
+ghost use Rattle.certificate_lines.specs.WordsLeft.{Leaves, LeavesWords, IsNextWord};
 ghost use Rattle.certificate_lines.specs.declared.fault.TextKind.TheVariants.{Memory};
 
 use crate::fault::TextKind;

@@ -10,7 +10,7 @@ use Rattle.certificate_data.specs.declared.weights.Weight.{Weight}
 use Rattle.certificate_lines.specs.declared.item.Item.{Item}
 use Rattle.certificate_data.proofs.ListLaws.{taken_more}
 use Rattle.certificate_text.specs.Ranges.{IsWeightInRange, IsInRange}
-use Rattle.certificate_text.specs.Added.{Added}
+use Rattle.certificate_text.specs.Writing.{Added}
 
 all_range : (is js : List Item) → AllByRecursion IsInRange is → AllByRecursion IsInRange js → AllByRecursion IsInRange (is ++ js)
 all_range [] js a b = b

@@ -5,7 +5,7 @@ use Rattle.grouping_laws.specs.Grouping.{Grouping}
 use Rattle.certificate_lines.specs.Lines as line
 use Rattle.certificate_lines.specs.Items.{by_words, items_in_front, certificate_items}
 use Rattle.certificate_lines.specs.Rest.{Rest, lines_of, IsTextMemory, TakesTextLine, FaultOf}
-use Rattle.certificate_lines.specs.Reads.{items_at, ReadsItems, Refuses}
+use Rattle.certificate_lines.specs.Reading.{items_at, ReadsItems, Refuses}
 use Rattle.certificate_text.specs.Trees.{items_of_head, items_of_target}
 use Rattle.certificate_lines.proofs.ReadLaws.{reads_then, reads_with, reads_refuse, reads_line, refuses_line}
 use Rattle.certificate_lines.specs.declared.fault.TextFault.{TextFault}

@@ -1,9 +1,9 @@
 -- The items of a text one at a time.
 use Rattle.std.proofs.Common.{◌≡◌, ℕ, ◌+◌, List, [], ◌∷◌, ◌++◌, Option, Some, None, Result, Ok, Err, refl, ap, sym, ◌∙◌}
-use Rattle.field_lines.specs.Raw.{RawLine}
+use Rattle.field_lines.specs.RawPieces.{RawLine}
 use Rattle.certificate_lines.specs.Rest.{Rest, lines_of, text_fault_at, TakesTextLine, FaultOf}
 use Rattle.certificate_lines.specs.Items.{item_on, wanted_after, items_in_front, items_from}
-use Rattle.certificate_lines.specs.Reads.{items_at}
+use Rattle.certificate_lines.specs.Reading.{items_at}
 use Rattle.certificate_lines.specs.Courses.{Unread, nothing, only_fault, first, course_from, whole}
 use Rattle.certificate_lines.specs.declared.fault.TextKind.{TextKind}
 use Rattle.certificate_lines.specs.declared.fault.TextKind.TheVariants.{AfterEnd}

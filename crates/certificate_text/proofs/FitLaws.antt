@@ -4,8 +4,8 @@ use Rattle.std.specs.List.{flat_map}
 use Rattle.std.proofs.lemmas.Grind.{flat_map-append}
 use Rattle.std.proofs.lemmas.List.{map-append}
 use Rattle.certificate_lines.specs.Items.{wanted_after}
-use Rattle.certificate_lines.specs.Fits.{IsWanted, AllFit}
-use Rattle.certificate_lines.specs.Writes.{DontFit}
+use Rattle.certificate_lines.specs.Fitting.{IsWanted, AllFit}
+use Rattle.certificate_lines.specs.Writing.{DontFit}
 use Rattle.certificate_lines.specs.declared.item.Item.{Item}
 use Rattle.certificate_lines.specs.declared.item.Wanted.{Wanted}
 use Rattle.certificate_text.specs.Tests.{Fitting, Tests}

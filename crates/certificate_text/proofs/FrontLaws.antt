@@ -3,15 +3,15 @@ use Rattle.std.proofs.Common.{◌≡◌, ℕ, ◌+◌, cond, ◌&&◌, not, Bool
 use Rattle.std.specs.Prelude.{nat_lt, nat_le, drop}
 use Rattle.field_lines.specs.Chain.{◌>>=◌}
 use Rattle.field_lines.specs.Fault.{most_bytes}
-use Rattle.field_lines.specs.Raw.{RawLine, raw_lines_from}
+use Rattle.field_lines.specs.RawPieces.{RawLine, raw_lines_from}
 use Rattle.certificate_lines.specs.Words.{words_of, is_canonical, line_bytes, line_words}
 use Rattle.certificate_lines.specs.Lines as line
 use Rattle.certificate_lines.specs.Lines.{begins, named, counted}
 use Rattle.certificate_lines.specs.Rest.{text_fault_at, IsTextMemory}
 use Rattle.certificate_lines.specs.Items.{by_words, seen, item_on, items_in_front, items_from}
-use Rattle.certificate_lines.specs.Reads.{Refuses}
+use Rattle.certificate_lines.specs.Reading.{Refuses}
 use Rattle.certificate_lines.specs.Spelling.{text_of_items}
-use Rattle.certificate_lines.specs.Fits.{AllFit}
+use Rattle.certificate_lines.specs.Fitting.{AllFit}
 use Rattle.certificate_text.proofs.PrefixLaws.{items_then}
 use Rattle.certificate_text.proofs.GiveLaws.{memory_only}
 use Rattle.certificate_text.proofs.TextBack.{line_by}

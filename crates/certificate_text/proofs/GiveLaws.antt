@@ -1,14 +1,14 @@
 -- What is given is spelled, and what is spelled is given.
 use Rattle.std.proofs.Common.{◌≡◌, ℕ, List, Result, Ok, Err, refl, ap, sym, ◌∙◌}
 use Rattle.std.specs.Result.{IfOk, IfErr}
-use Rattle.field_lines.specs.Raw.{raw_lines}
+use Rattle.field_lines.specs.RawPieces.{raw_lines}
 use Rattle.certificate_lines.specs.Items.{items_from}
 use Rattle.certificate_lines.specs.Rest.{IsTextMemory}
-use Rattle.certificate_lines.specs.Reads.{GivesItems, IsUnlessMemory}
+use Rattle.certificate_lines.specs.Reading.{GivesItems, IsUnlessMemory}
 use Rattle.certificate_lines.specs.declared.fault.TextKind.{TextKind}
 use Rattle.certificate_lines.specs.declared.fault.TextKind.TheVariants.{BadHead, BadWord, BadNumber, NotCanonical, CutShort, AfterEnd, TooDeep, ReadFault, Memory}
 use Rattle.certificate_lines.specs.Spelling.{text_of_items}
-use Rattle.certificate_lines.specs.Fits.{AllFit}
+use Rattle.certificate_lines.specs.Fitting.{AllFit}
 use Rattle.certificate_lines.proofs.TextLaws.{text_ok}
 use Rattle.certificate_text.proofs.TextBack.{items_back}
 use Rattle.certificate_lines.proofs.FitsLaws.{items_fit}

@@ -4,7 +4,7 @@ use Rattle.county_codes.specs.declared.window.Window.{Window}
 use Rattle.certificate_lines.specs.Lines as line
 use Rattle.certificate_lines.specs.Items.{by_words, head_in, headed, wanted_after}
 use Rattle.certificate_lines.specs.Rest.{Rest, TakesTextLine}
-use Rattle.certificate_lines.specs.Reads.{ReadsItems}
+use Rattle.certificate_lines.specs.Reading.{ReadsItems}
 use Rattle.certificate_lines.proofs.ReadLaws.{reads_then, reads_line}
 use Rattle.certificate_data.specs.declared.language.Language.{Language}
 use Rattle.certificate_lines.specs.declared.item.Version.{Version}

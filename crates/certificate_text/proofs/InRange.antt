@@ -3,7 +3,7 @@ use Rattle.std.proofs.Common.{ℕ, ◌-◌, cond, Bool, true, false, List, [], �
 use Rattle.std.specs.List.{AllByRecursion}
 use Rattle.certificate_data.specs.declared.language.Language.TheVariants.{Plain, Wide}
 use Rattle.certificate_lines.specs.Items.{wanted_after, allowances_wanted}
-use Rattle.certificate_lines.specs.Fits.{FitsWeight, IsWanted, AllFit}
+use Rattle.certificate_lines.specs.Fitting.{FitsWeight, IsWanted, AllFit}
 use Rattle.certificate_data.specs.declared.weights.Weight.{Weight}
 use Rattle.certificate_data.specs.declared.allowance.Allowance.TheVariants.{Room, Weigh}
 use Rattle.certificate_lines.specs.declared.item.Opening.TheVariants.{Branch, Stuck, Seats, Bound}

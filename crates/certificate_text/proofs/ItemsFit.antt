@@ -10,7 +10,7 @@ use Rattle.certificate_data.specs.declared.language.Language.TheVariants.{Plain,
 use Rattle.certificate_laws.specs.Depth.{after_raise, IsWithin, EachWithin}
 use Rattle.certificate_data.specs.Tree.{Allowance, stuck, seats, bound, Tree, leaf, branch, Takes, no_take, take}
 use Rattle.certificate_lines.specs.Items.{allowances_wanted, groups_wanted}
-use Rattle.certificate_lines.specs.Fits.{IsWanted, AllFit}
+use Rattle.certificate_lines.specs.Fitting.{IsWanted, AllFit}
 use Rattle.certificate_data.specs.declared.allowance.Allowance.{Allowance as DeclaredAllowance}
 use Rattle.certificate_data.specs.declared.allowance.Allowance.TheVariants.{Room, Weigh}
 use Rattle.certificate_lines.specs.declared.item.Opening.TheVariants as opening

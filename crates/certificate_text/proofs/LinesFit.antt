@@ -7,7 +7,7 @@ use Rattle.certificate_data.specs.declared.language.Language.TheVariants.{Plain,
 use Rattle.certificate_data.specs.Levels.{after_raise}
 use Rattle.certificate_lines.specs.Items.{allowances_wanted}
 use Rattle.certificate_lines.proofs.ReadLaws.{allowances_more}
-use Rattle.certificate_lines.specs.Fits.{IsWanted, AllFit}
+use Rattle.certificate_lines.specs.Fitting.{IsWanted, AllFit}
 use Rattle.certificate_data.specs.declared.allowance.Allowance.{Allowance as DeclaredAllowance}
 use Rattle.certificate_data.specs.declared.allowance.Allowance.TheVariants.{Room, Weigh}
 use Rattle.certificate_lines.specs.declared.item.Opening.TheVariants as opening

@@ -2,12 +2,12 @@
 use Rattle.std.proofs.Common.{◌≡◌, ℕ, ◌+◌, ◌-◌, ◌<◌, ◌≤◌, cond, List, [], ◌∷◌, ◌++◌, map, Option, Some, None, Result, refl, ap, sym, subst, ◌∙◌, append_assoc, arith}
 use Rattle.std.specs.Prelude.{nat_lt}
 use Rattle.std.proofs.lemmas.Bool.Decides.{nat_tests}
-use Rattle.field_lines.specs.Raw.{RawLine}
+use Rattle.field_lines.specs.RawPieces.{RawLine}
 use Rattle.certificate_lines.specs.Lines as line
 use Rattle.certificate_lines.specs.Rest.{Rest, lines_of, IsTextMemory, TakesTextLine, FaultOf}
 use Rattle.certificate_lines.specs.Items.{by_words, seen, taken, item_on, wanted_after}
 use Rattle.certificate_laws.specs.Depth.{after_raise}
-use Rattle.certificate_lines.specs.Reads.{ReadsItems, Refuses}
+use Rattle.certificate_lines.specs.Reading.{ReadsItems, Refuses}
 use Rattle.certificate_lines.proofs.ReadLaws.{reads_none, reads_then, reads_with, reads_refuse, reads_line, refuses_line}
 use Rattle.certificate_lines.specs.declared.fault.TextKind.{TextKind}
 use Rattle.certificate_lines.specs.declared.fault.TextFault.{TextFault}

@@ -1,6 +1,6 @@
 -- A text spells one value at most, a value has one text at most, and no text begins another.
 use Rattle.std.proofs.Common.{◌≡◌, ℕ, List, [], ◌∷◌, ◌++◌, length, map, Option, Some, None, Result, Ok, refl, ap, sym, subst, ◌∙◌, append-nil}
-use Rattle.field_lines.specs.Raw.{raw_lines_from}
+use Rattle.field_lines.specs.RawPieces.{raw_lines_from}
 use Rattle.county_codes.specs.declared.group.Group.{Group}
 use Rattle.county_codes.specs.declared.window.Window.{Window}
 use Rattle.grouping_laws.specs.Grouping.{Grouping}
@@ -8,8 +8,8 @@ use Rattle.certificate_data.specs.Tree.{Tree}
 use Rattle.certificate_data.specs.declared.language.Language.{Language}
 use Rattle.certificate_lines.specs.Items.{items_from}
 use Rattle.certificate_lines.specs.Spelling.{text_of_items}
-use Rattle.certificate_lines.specs.Fits.{AllFit}
-use Rattle.certificate_text.specs.Spelled.{IsSpelling, IsTreeSpelling}
+use Rattle.certificate_lines.specs.Fitting.{AllFit}
+use Rattle.certificate_text.specs.Spelling.{IsSpelling, IsTreeSpelling}
 use Rattle.certificate_data.specs.TreeValue.{Certificate}
 use Rattle.certificate_text.specs.Trees.{items_of_head, items_of_tree, items_of_target, items_of_certificate}
 use Rattle.certificate_lines.specs.declared.fault.TextFault.{TextFault}

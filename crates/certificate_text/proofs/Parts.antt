@@ -8,7 +8,7 @@ use Rattle.certificate_data.specs.declared.tree.Tree.{Tree, out-Tree}
 use Rattle.certificate_data.specs.declared.tree.Take.{Take}
 use Rattle.certificate_text.proofs.TreeViews.{items_of_branch, items_of_take}
 use Rattle.certificate_text.proofs.TreeFits.{take_parts, branch_parts, takes_flat, tree_parts}
-use Rattle.certificate_text.specs.Added.{branch_items, take_items}
+use Rattle.certificate_text.specs.Writing.{branch_items, take_items}
 use Rattle.certificate_text.proofs.AddedLaws.{flat_same}
 
 pub takes_are : (ts : List Take) → items_of_takes (list_of_takes ts) ≡ flat_map take_items ts

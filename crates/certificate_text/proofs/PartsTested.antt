@@ -9,7 +9,7 @@ use Rattle.certificate_data.specs.declared.language.Language.{Language}
 use Rattle.certificate_data.specs.Tree.{Tree, bound}
 use Rattle.certificate_lines.specs.Lines.{most}
 use Rattle.certificate_lines.specs.Items.{groups_wanted, allowances_wanted}
-use Rattle.certificate_lines.specs.Writes.{DontFit}
+use Rattle.certificate_lines.specs.Writing.{DontFit}
 use Rattle.certificate_data.specs.declared.allowance.Allowance.{Allowance as DeclaredAllowance}
 use Rattle.certificate_lines.specs.declared.item.Opening.TheVariants as opening
 use Rattle.certificate_lines.specs.declared.item.Item.TheVariants as item

@@ -1,7 +1,7 @@
 -- Items of trees that have the same text are the same.
 use Rattle.std.proofs.Common.{◌≡◌, ℕ, ◌+◌, true, List, [], ◌∷◌, refl, ap, sym, ◌∙◌, append_assoc}
 use Rattle.std.specs.List.{AllByRecursion, join_with_byte}
-use Rattle.field_lines.specs.Raw.{RawLine, raw_lines_from, text_of as raw_text}
+use Rattle.field_lines.specs.RawPieces.{RawLine, raw_lines_from, text_of as raw_text}
 use Rattle.field_lines.proofs.TextLemmas.{text_of-raw_lines}
 use Rattle.certificate_lines.specs.Spelling.{item_words, text_of_items}
 use Rattle.certificate_lines.specs.declared.item.Item.{Item}

@@ -7,7 +7,7 @@ use Rattle.field_lines.specs.Fault.{most_bytes}
 use Rattle.certificate_lines.specs.Lines.{most, ascend}
 use Rattle.county_codes.specs.Digits.{five_digits}
 use Rattle.certificate_lines.specs.Spelling.{weight_word, item_words}
-use Rattle.certificate_lines.specs.Fits.{FitsWeight, AreWeights}
+use Rattle.certificate_lines.specs.Fitting.{FitsWeight, AreWeights}
 use Rattle.certificate_data.specs.declared.weights.Weight.{Weight}
 use Rattle.certificate_data.specs.declared.allowance.Allowance.TheVariants.{Weigh}
 use Rattle.certificate_lines.specs.declared.item.Item.TheVariants.{Allows}

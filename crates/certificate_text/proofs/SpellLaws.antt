@@ -14,7 +14,7 @@ use Rattle.certificate_lines.specs.Words.{words_of, has_bytes, is_printable, is_
 use Rattle.certificate_lines.specs.Lines.{most, begins, counted, number_at, code_word_at, each, order_on, window_on, limit_on, target_on, group_on, branch_on, stuck_on, bound_on, opening_on, take_on, weigh_on, allowance_on}
 use Rattle.county_codes.specs.Digits.{five_digits}
 use Rattle.certificate_lines.specs.Spelling.{weight_word, item_words}
-use Rattle.certificate_lines.specs.Fits.{AreCodes, IsSet, FitsWeight, AreWeights}
+use Rattle.certificate_lines.specs.Fitting.{AreCodes, IsSet, FitsWeight, AreWeights}
 use Rattle.field_lines.proofs.NumbersBack.{Digit, decimal_digits}
 use Rattle.certificate_lines.proofs.BackLaws.{number_back, code_back, pair_back, each_back}
 use Rattle.certificate_data.specs.declared.language.Language.{Language}

@@ -1,11 +1,11 @@
 -- The lines of a tree spell it, or have a fault.
 use Rattle.std.proofs.Common.{◌≡◌, ◌≢◌, ℕ, List, [], ◌∷◌, Option, Some, None, Ok, refl, ap, sym, subst, ◌∙◌, inl, inr, ◌⊎◌}
-use Rattle.field_lines.specs.Raw.{raw_lines}
+use Rattle.field_lines.specs.RawPieces.{raw_lines}
 use Rattle.certificate_data.specs.Tree.{Tree}
 use Rattle.certificate_data.specs.declared.language.Language.{Language}
 use Rattle.certificate_lines.specs.Items.{items_from}
 use Rattle.certificate_lines.specs.Courses.{tree_course, whole}
-use Rattle.certificate_lines.specs.Fits.{AllFit}
+use Rattle.certificate_lines.specs.Fitting.{AllFit}
 use Rattle.certificate_lines.specs.declared.fault.TextKind.TheVariants.{ReadFault, Memory}
 use Rattle.certificate_lines.specs.declared.fault.TextFault.{TextFault}
 use Rattle.certificate_lines.specs.declared.item.Item.{Item}
@@ -13,7 +13,7 @@ use Rattle.certificate_lines.specs.declared.item.Wanted.TheVariants as want
 use Rattle.certificate_lines.proofs.FitsLaws.{items_fit}
 use Rattle.certificate_lines.proofs.TextLaws.{text_ok}
 use Rattle.certificate_text.specs.Trees.{items_of_tree}
-use Rattle.certificate_text.specs.Spelled.{IsTreeSpelling}
+use Rattle.certificate_text.specs.Spelling.{IsTreeSpelling}
 use Rattle.certificate_text.proofs.TextBack.{items_back}
 use Rattle.certificate_text.proofs.CourseLaws.{courses_are_items}
 use Rattle.certificate_text.proofs.TextKinds.{OfText, SaidFault, course_said}

@@ -8,7 +8,7 @@ use Rattle.std.proofs.lemmas.Fmt.{decimal_nonempty, length-decimal-le}
 use Rattle.std.proofs.lemmas.List.Elements.{All-from_recursion}
 use Rattle.std.proofs.lemmas.List.Splits.{slice_split_at}
 use Rattle.field_lines.specs.Fault.{most_bytes}
-use Rattle.field_lines.specs.Raw.{RawLine, raw_lines_from, numbered, is_lf}
+use Rattle.field_lines.specs.RawPieces.{RawLine, raw_lines_from, numbered, is_lf}
 use Rattle.field_lines.proofs.SplitLemmas.{numbered-ended}
 use Rattle.certificate_lines.specs.Words.{line_bytes}
 use Rattle.certificate_lines.specs.Lines as line
@@ -16,7 +16,7 @@ use Rattle.certificate_lines.specs.Lines.{most}
 use Rattle.certificate_lines.specs.Items.{by_words, seen, taken, item_on, wanted_after, items_in_front, items_from}
 use Rattle.county_codes.specs.Digits.{five_digits}
 use Rattle.certificate_lines.specs.Spelling.{weight_word, item_words, text_of_items}
-use Rattle.certificate_lines.specs.Fits.{AreCodes, IsSet, FitsWeight, AreWeights, IsWanted, AllFit}
+use Rattle.certificate_lines.specs.Fitting.{AreCodes, IsSet, FitsWeight, AreWeights, IsWanted, AllFit}
 use Rattle.certificate_lines.specs.Rest.{text_fault_at}
 use Rattle.field_lines.proofs.NumbersBack.{Digit, decimal_digits}
 use Rattle.county_codes.proofs.DigitsBack.{code_digits}

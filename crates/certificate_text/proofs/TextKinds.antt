@@ -3,7 +3,7 @@ use Rattle.std.proofs.Common.{ℕ, ◌+◌, cond, Bool, true, false, List, [], �
 use Rattle.std.specs.Prelude.{nat_eq}
 use Rattle.std.specs.Cmp.Lexicographic.{pointwise}
 use Rattle.field_lines.specs.Chain.{◌>>=◌}
-use Rattle.field_lines.specs.Raw.{RawLine}
+use Rattle.field_lines.specs.RawPieces.{RawLine}
 use Rattle.certificate_lines.specs.Words.{line_bytes}
 use Rattle.certificate_lines.specs.Lines as line
 use Rattle.certificate_lines.specs.Items.{by_words, head_in, headed, seen, taken, item_on, wanted_after}

@@ -11,14 +11,14 @@ use Rattle.certificate_laws.specs.Certificate.{IsCertificate}
 use Rattle.certificate_laws.proofs.Branches.{branch_keeps_state}
 use Rattle.certificate_laws.proofs.Depth.{trees_are_shallow}
 use Rattle.certificate_lines.specs.Lines.{most}
-use Rattle.certificate_lines.specs.Fits.{AreCodes, AllFit}
+use Rattle.certificate_lines.specs.Fitting.{AreCodes, AllFit}
 use Rattle.certificate_lines.specs.Spelling.{text_of_items}
 use Rattle.certificate_lines.specs.declared.item.Item.{Item}
 use Rattle.certificate_lines.specs.declared.item.Item.TheVariants as item
 use Rattle.certificate_lines.specs.declared.item.Wanted.TheVariants as want
 use Rattle.certificate_data.specs.TreeValue.{Certificate}
 use Rattle.certificate_text.specs.Trees.{items_of_tree, items_of_target, items_of_certificate}
-use Rattle.certificate_text.specs.Spelled.{IsSpelling}
+use Rattle.certificate_text.specs.Spelling.{IsSpelling}
 use Rattle.certificate_text.specs.TreeItems.{HasLines, TargetHasLines}
 use Rattle.certificate_text.specs.TextLaws.{ProofTreesHaveTexts}
 use Rattle.certificate_text.proofs.ItemsFit.{tree_fits, target_fits, head_fits}

@@ -7,8 +7,8 @@ use Rattle.certificate_data.specs.Tree.{bound}
 use Rattle.certificate_laws.specs.Depth.{after_raise}
 use Rattle.certificate_lines.specs.Lines.{most}
 use Rattle.certificate_lines.specs.Items.{allowances_wanted}
-use Rattle.certificate_lines.specs.Fits.{IsWanted, IsSet}
-use Rattle.certificate_lines.specs.Writes.{DontFit}
+use Rattle.certificate_lines.specs.Fitting.{IsWanted, IsSet}
+use Rattle.certificate_lines.specs.Writing.{DontFit}
 use Rattle.certificate_data.specs.declared.allowance.Allowance.{Allowance as DeclaredAllowance}
 use Rattle.certificate_lines.specs.declared.item.Opening.TheVariants as opening
 use Rattle.certificate_lines.specs.declared.item.Item.{Item}

@@ -4,8 +4,8 @@ use Rattle.std.proofs.lemmas.Grind.{flat_map-append}
 use Rattle.std.proofs.lemmas.List.{map-append}
 use Rattle.certificate_lines.specs.Items.{wanted_after}
 use Rattle.certificate_lines.specs.Spelling.{item_line, text_of_items}
-use Rattle.certificate_lines.specs.Fits.{IsWanted}
-use Rattle.certificate_lines.specs.Writes.{Wrote, DontFit}
+use Rattle.certificate_lines.specs.Fitting.{IsWanted}
+use Rattle.certificate_lines.specs.Writing.{Wrote, DontFit}
 use Rattle.certificate_lines.specs.declared.item.Item.{Item}
 use Rattle.certificate_lines.specs.declared.item.Wanted.{Wanted}
 use Rattle.certificate_text.specs.Tests.{Fitting}

@@ -1,8 +1,8 @@
 pub mod Trees
-pub mod Spelled
+pub mod Spelling
 pub mod Tests
 pub mod Ranges
-pub mod Added
+pub mod Writing
 pub mod TreeFault
 pub mod LineLaws
 pub mod TreeItems

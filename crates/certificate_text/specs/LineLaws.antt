@@ -6,7 +6,7 @@ use Rattle.certificate_lines.specs.Courses.{tree_course}
 use Rattle.certificate_lines.specs.declared.fault.TextKind.TheVariants.{ReadFault, Memory}
 use Rattle.certificate_lines.specs.declared.fault.TextFault.{TextFault}
 use Rattle.certificate_text.specs.Trees.{items_of_tree}
-use Rattle.certificate_text.specs.Spelled.{IsTreeSpelling}
+use Rattle.certificate_text.specs.Spelling.{IsTreeSpelling}
 use Rattle.certificate_text.specs.Ranges.{AreTreeNumbers}
 use Rattle.certificate_text.specs.TreeFault.{lines_of_tree, HasTreeFault}
 

@@ -1,7 +1,7 @@
 -- The numbers that the lines of a tree tell apart.
 use Rattle.std.specs.Prelude.{◌<◌, ◌≤◌, ◌^◌, Some, None}
 use Rattle.std.specs.List.{AllByRecursion}
-use Rattle.certificate_lines.specs.Fits.{AreCodes}
+use Rattle.certificate_lines.specs.Fitting.{AreCodes}
 use Rattle.certificate_data.specs.declared.weights.Weight.{Weight}
 use Rattle.certificate_data.specs.declared.allowance.Allowance.TheVariants.{Room, Weigh}
 use Rattle.certificate_lines.specs.declared.item.Opening.TheVariants.{Branch, Stuck, Seats, Bound}

@@ -1,7 +1,7 @@
 -- What a test tells of items: whether they fit where some things are wanted.
 use Rattle.std.specs.Prelude.{List, ◌++◌, Bool, true, false}
-use Rattle.certificate_lines.specs.Fits.{AllFit}
-use Rattle.certificate_lines.specs.Writes.{DontFit}
+use Rattle.certificate_lines.specs.Fitting.{AllFit}
+use Rattle.certificate_lines.specs.Writing.{DontFit}
 use Rattle.certificate_lines.specs.declared.item.Item.{Item}
 use Rattle.certificate_lines.specs.declared.item.Wanted.{Wanted}
 

@@ -10,12 +10,12 @@ use Rattle.certificate_data.specs.Tree.{Tree}
 use Rattle.certificate_laws.specs.Proving.{Proves}
 use Rattle.certificate_laws.specs.Certificate.{IsCertificate}
 use Rattle.certificate_lines.specs.Lines.{most, ascend}
-use Rattle.certificate_lines.specs.Fits.{AreCodes, FitsWeight, AreWeights, AllFit}
+use Rattle.certificate_lines.specs.Fitting.{AreCodes, FitsWeight, AreWeights, AllFit}
 use Rattle.certificate_data.specs.declared.weights.Weight.{Weight}
 use Rattle.certificate_lines.specs.declared.item.Wanted.TheVariants as want
 use Rattle.certificate_data.specs.TreeValue.{Certificate}
 use Rattle.certificate_text.specs.Trees.{items_of_tree}
-use Rattle.certificate_text.specs.Spelled.{IsSpelling}
+use Rattle.certificate_text.specs.Spelling.{IsSpelling}
 use Rattle.certificate_text.specs.TreeItems.{HasLines, TargetHasLines}
 
 -- Proof trees and certificates whose numbers are in the ranges of their lines have texts.

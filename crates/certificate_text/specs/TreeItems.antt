@@ -5,7 +5,7 @@ use Rattle.std.specs.List.{AllByRecursion}
 use Rattle.county_codes.specs.declared.group.Group.{Group}
 use Rattle.grouping_laws.specs.Grouping.{Grouping}
 use Rattle.certificate_lines.specs.Lines.{most}
-use Rattle.certificate_lines.specs.Fits.{IsWanted}
+use Rattle.certificate_lines.specs.Fitting.{IsWanted}
 use Rattle.certificate_lines.specs.declared.item.Item.{Item}
 use Rattle.certificate_lines.specs.declared.item.Item.TheVariants.{Grouped, Opens, Takes, Mark, Allows}
 use Rattle.certificate_lines.specs.declared.item.Wanted.TheVariants as want

@@ -1,17 +1,17 @@
 //! Laws of the text. The functions do nothing, and their contracts are the laws.
 
 ghost use Rattle.std.specs.Prelude.{◌≡◌, ℕ, List, [], ◌++◌, Ok};
-ghost use Rattle.field_lines.specs.Raw.{RawLine, raw_lines_from};
+ghost use Rattle.field_lines.specs.RawPieces.{RawLine, raw_lines_from};
 ghost use Rattle.certificate_data.specs.Tree.{Tree};
 ghost use Rattle.certificate_data.specs.declared.language.Language.{Language};
 ghost use Rattle.certificate_lines.specs.declared.item.Item.{Item};
 ghost use Rattle.certificate_lines.specs.declared.item.Wanted.{Wanted};
 ghost use Rattle.certificate_lines.specs.Items.{items_from};
 ghost use Rattle.certificate_lines.specs.Courses.{course_from, whole};
-ghost use Rattle.certificate_lines.specs.Fits.{AllFit};
+ghost use Rattle.certificate_lines.specs.Fitting.{AllFit};
 ghost use Rattle.certificate_lines.specs.Spelling.{text_of_items};
 ghost use Rattle.certificate_text.specs.LineLaws.{TreesSpell};
-ghost use Rattle.certificate_text.specs.Spelled.{IsSpelling, IsTreeSpelling};
+ghost use Rattle.certificate_text.specs.Spelling.{IsSpelling, IsTreeSpelling};
 ghost use Rattle.certificate_text.specs.TextLaws.{ProofTreesHaveTexts};
 ghost use Rattle.certificate_data.specs.TreeValue.{Certificate};
 

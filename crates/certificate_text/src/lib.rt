@@ -10,7 +10,7 @@
 //! ```
 //!
 //! A proof tree whose numbers are in the ranges of their lines always has a text. The definitions stand in `specs/`:
-//! `Trees` (the items of a tree), `Spelled`, `TreeFault` and `Ranges`.
+//! `Trees` (the items of a tree), `Spelling`, `TreeFault` and `Ranges`.
 #![tactic(auto)]
 
 mod fitting;

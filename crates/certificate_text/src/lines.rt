@@ -9,7 +9,7 @@ ghost use Rattle.certificate_data.specs.RoundValue.{target_of};
 ghost use Rattle.certificate_data.specs.TreeValue.{tree_of, leaf_of, certificate_of};
 ghost use Rattle.certificate_text.specs.Trees.{leaf_items, items_of_tree, items_of_head, items_of_target};
 ghost use Rattle.certificate_text.specs.Trees.{items_of_certificate};
-ghost use Rattle.certificate_text.specs.Added.{Added, branch_items, take_items};
+ghost use Rattle.certificate_text.specs.Writing.{Added, branch_items, take_items};
 ghost use Rattle.certificate_text.specs.Ranges.{AreTreeNumbers};
 
 use certificate_data::{Allowance, Branch, Certificate, Language, Leaf, Take, Tree, Weight};

@@ -1,7 +1,7 @@
 //! Certificates and trees, written in their spelling where they have one.
 
 ghost use Rattle.std.specs.Prelude.{◌≡◌, ◌≤◌, ℕ, List, IfOk, IfErr};
-ghost use Rattle.certificate_text.specs.Spelled.{IsSpelling, IsTreeSpelling};
+ghost use Rattle.certificate_text.specs.Spelling.{IsSpelling, IsTreeSpelling};
 ghost use Rattle.certificate_lines.specs.Lines.{most};
 ghost use Rattle.certificate_data.specs.TreeValue.{tree_of, certificate_of};
 ghost use Rattle.certificate_lines.specs.declared.fault.WriteFault.TheVariants as write_fault;

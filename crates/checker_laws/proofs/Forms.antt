@@ -5,7 +5,7 @@ use Rattle.certificate_data.specs.declared.language.Language.TheVariants.{Plain,
 use Rattle.county_codes.specs.declared.group.Group.{Group}
 use Rattle.county_codes.specs.declared.window.Window.{Window}
 use Rattle.certificate_lines.specs.Items.{taken}
-use Rattle.certificate_lines.specs.Fits.{IsWanted, AllFit}
+use Rattle.certificate_lines.specs.Fitting.{IsWanted, AllFit}
 use Rattle.certificate_lines.specs.declared.item.Version.TheVariants.{One, Two}
 use Rattle.certificate_data.specs.declared.allowance.Allowance.{Allowance}
 use Rattle.certificate_lines.specs.declared.item.Opening.{Opening}

@@ -3,13 +3,13 @@ use Rattle.std.proofs.Common.{◌≡◌, ℕ, ◌+◌, ◌≤◌, cond, Bool, tr
 use Rattle.std.specs.List.{AllByRecursion, join_with_byte}
 use Rattle.std.proofs.lemmas.Bool.{ne_eqb}
 use Rattle.std.proofs.lemmas.List.Sums.{sum_by-cons, sum_by-append}
-use Rattle.field_lines.specs.Raw.{RawLine, is_lf, bytes_of, raw_lines, text_of as raw_text}
+use Rattle.field_lines.specs.RawPieces.{RawLine, is_lf, bytes_of, raw_lines, text_of as raw_text}
 use Rattle.field_lines.proofs.TextLemmas.{text_of-raw_lines}
 use Rattle.certificate_lines.specs.Items.{item_on, wanted_after}
 use Rattle.certificate_lines.specs.Courses.{Unread, only_fault, first, course_from, certificate_course}
 use Rattle.certificate_lines.specs.Rest.{text_fault_at}
 use Rattle.certificate_lines.specs.Spelling.{item_words, item_line, text_of_items}
-use Rattle.certificate_lines.specs.Fits.{AllFit}
+use Rattle.certificate_lines.specs.Fitting.{AllFit}
 use Rattle.certificate_lines.specs.declared.fault.TextKind.{TextKind}
 use Rattle.certificate_lines.specs.declared.fault.TextFault.{TextFault}
 use Rattle.certificate_lines.specs.declared.item.Item.{Item}

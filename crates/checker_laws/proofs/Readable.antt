@@ -10,7 +10,7 @@ use Rattle.certificate_data.specs.Tree.{Allowance, room, weigh, Leaf, stuck, sea
 use Rattle.certificate_laws.specs.Proving.{NamesLimit}
 use Rattle.certificate_lines.specs.Lines.{ascend}
 use Rattle.certificate_lines.specs.Items.{allowances_wanted, groups_wanted}
-use Rattle.certificate_lines.specs.Fits.{IsWanted, AllFit}
+use Rattle.certificate_lines.specs.Fitting.{IsWanted, AllFit}
 use Rattle.certificate_lines.specs.declared.item.Item.{Item}
 use Rattle.certificate_lines.specs.declared.item.Item.TheVariants as item
 use Rattle.certificate_lines.specs.declared.item.Opening.TheVariants as opening

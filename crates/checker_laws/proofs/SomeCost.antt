@@ -13,7 +13,7 @@ use Rattle.certificate_laws.specs.BoundLines.{allowance, IsFair}
 use Rattle.certificate_laws.specs.Proving.{limit_of, CanBranch, NamesLimit, Proves, EachProves}
 use Rattle.certificate_lines.specs.declared.fault.TextFault.{TextFault}
 use Rattle.certificate_data.specs.TreeValue.{Certificate}
-use Rattle.certificate_text.specs.Spelled.{IsSpelling}
+use Rattle.certificate_text.specs.Spelling.{IsSpelling}
 use Rattle.checker_laws.specs.Leaves.{IsEven}
 use Rattle.checker_laws.specs.Branches.{IsNextTake, behind}
 use Rattle.checker_laws.specs.Lines.{certificate_lines}

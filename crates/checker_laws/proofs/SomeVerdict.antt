@@ -16,7 +16,7 @@ use Rattle.certificate_laws.specs.BoundLines.{weight_of, allowance, IsFair, Boun
 use Rattle.certificate_laws.specs.Leaves.{IsStuck, IsOffSeats}
 use Rattle.certificate_laws.specs.Proving.{limit_of, CanBranch, NamesLimit}
 use Rattle.certificate_data.specs.TreeValue.{Certificate}
-use Rattle.certificate_text.specs.Spelled.{IsSpelling}
+use Rattle.certificate_text.specs.Spelling.{IsSpelling}
 use Rattle.checker_laws.specs.Fault.{Fault, WrongWindow, WrongOrder, LimitTooSmall, TargetFault, WrongCounty, MissingGroup, StrayGroup, LightGroup, BoundOver, BoundLength, NotStuck, SeatsOpen, BoundWithoutTarget, NoLeaf}
 use Rattle.checker_laws.specs.End.{End, fine, faulty, LinesEnd, LineEnds, Then}
 use Rattle.checker_laws.specs.Leaves.{IsStuckFault, IsSeatsFault, NamesForeign, HasLightGroup, allowed, IsWithinTarget, IsLoss, IsEven, IsAllowanceFault, AllowancesEnd, BoundedEnds, BoundEnds, LeafEnds}

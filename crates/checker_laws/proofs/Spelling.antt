@@ -1,9 +1,9 @@
 -- A text spells a certificate, whose items are the text's, or has a fault.
 use Rattle.std.proofs.Common.{◌≡◌, ℕ, List, [], ◌∷◌, length, Option, Some, None, Ok, refl, ap, sym, subst, ◌∙◌, inl, inr, ◌⊎◌}
-use Rattle.field_lines.specs.Raw.{raw_lines}
+use Rattle.field_lines.specs.RawPieces.{raw_lines}
 use Rattle.certificate_lines.specs.Items.{items_from}
 use Rattle.certificate_lines.specs.Courses.{certificate_course, whole}
-use Rattle.certificate_lines.specs.Fits.{AllFit}
+use Rattle.certificate_lines.specs.Fitting.{AllFit}
 use Rattle.certificate_lines.specs.Spelling.{text_of_items}
 use Rattle.certificate_lines.specs.declared.fault.TextFault.{TextFault}
 use Rattle.certificate_lines.specs.declared.item.Item.{Item}
@@ -12,7 +12,7 @@ use Rattle.certificate_lines.proofs.FitsLaws.{items_fit}
 use Rattle.certificate_lines.proofs.TextLaws.{text_ok}
 use Rattle.certificate_data.specs.TreeValue.{Certificate}
 use Rattle.certificate_text.specs.Trees.{items_of_certificate}
-use Rattle.certificate_text.specs.Spelled.{IsSpelling}
+use Rattle.certificate_text.specs.Spelling.{IsSpelling}
 use Rattle.certificate_text.proofs.TextBack.{items_back}
 use Rattle.certificate_text.proofs.CourseLaws.{courses_are_items}
 use Rattle.checker_laws.specs.Lines.{certificate_lines}

@@ -1,6 +1,6 @@
 -- The fault of a text is never that memory was refused or that a source could not be read.
 use Rattle.std.proofs.Common.{◌≡◌, ◌≢◌, ℕ, List, [], ◌∷◌, subst}
-use Rattle.field_lines.specs.Raw.{raw_lines}
+use Rattle.field_lines.specs.RawPieces.{raw_lines}
 use Rattle.certificate_lines.specs.Rest.{IsTextMemory}
 use Rattle.certificate_lines.specs.declared.fault.TextKind.TheVariants.{ReadFault, Memory}
 use Rattle.certificate_lines.specs.declared.fault.TextFault.{TextFault}

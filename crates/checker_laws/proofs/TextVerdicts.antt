@@ -5,7 +5,7 @@ use Rattle.grouping_laws.specs.Grouping.{Grouping, IsBest, IsImpossible}
 use Rattle.certificate_laws.specs.Certificate.{IsCertificate}
 use Rattle.certificate_lines.specs.declared.fault.TextFault.{TextFault}
 use Rattle.certificate_data.specs.TreeValue.{Certificate}
-use Rattle.certificate_text.specs.Spelled.{IsSpelling}
+use Rattle.certificate_text.specs.Spelling.{IsSpelling}
 use Rattle.certificate_text.proofs.OneSpelling.{one_value}
 use Rattle.checker_laws.specs.Fault.{Fault}
 use Rattle.checker_laws.specs.Verdict.{CertificateVerdict, Best, Impossible, No, shown, IsVerdict}

@@ -5,7 +5,7 @@ use Rattle.certificate_data.specs.declared.language.Language.{Language}
 use Rattle.certificate_laws.specs.Depth.{after_raise}
 use Rattle.certificate_data.specs.Tree.{Allowance, stuck, seats, bound, Tree, leaf, branch, Takes, no_take, take}
 use Rattle.certificate_lines.specs.Items.{wanted_after, taken, allowances_wanted, groups_wanted}
-use Rattle.certificate_lines.specs.Fits.{AllFit}
+use Rattle.certificate_lines.specs.Fitting.{AllFit}
 use Rattle.certificate_lines.specs.declared.item.Opening.{Opening}
 use Rattle.certificate_lines.specs.declared.item.Opening.TheVariants as opening
 use Rattle.certificate_lines.specs.declared.item.Item.{Item}

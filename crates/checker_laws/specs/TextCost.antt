@@ -1,11 +1,11 @@
 -- What the judging of a text costs.
 use Rattle.std.specs.Prelude.{ℕ, ◌+◌, ◌*◌, ◌≡◌, List, ◌⊎◌}
 use Rattle.std.specs.List.{count_by}
-use Rattle.field_lines.specs.Raw.{is_lf}
+use Rattle.field_lines.specs.RawPieces.{is_lf}
 use Rattle.grouping_laws.specs.Problem.{Problem}
 use Rattle.certificate_lines.specs.declared.fault.TextFault.{TextFault}
 use Rattle.certificate_data.specs.TreeValue.{Certificate}
-use Rattle.certificate_text.specs.Spelled.{IsSpelling}
+use Rattle.certificate_text.specs.Spelling.{IsSpelling}
 use Rattle.checker_laws.specs.Cost.{CertificateCosts}
 use Rattle.checker_laws.specs.TextVerdict.{HasTextFault}
 

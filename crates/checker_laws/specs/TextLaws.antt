@@ -8,7 +8,7 @@ use Rattle.certificate_lines.specs.declared.fault.TextKind.TheVariants.{ReadFaul
 use Rattle.certificate_lines.specs.declared.fault.TextFault.{TextFault}
 use Rattle.certificate_data.specs.TreeValue.{Certificate}
 use Rattle.certificate_text.specs.Trees.{items_of_certificate}
-use Rattle.certificate_text.specs.Spelled.{IsSpelling}
+use Rattle.certificate_text.specs.Spelling.{IsSpelling}
 use Rattle.checker_laws.specs.Fault.{Fault}
 use Rattle.checker_laws.specs.Lines.{certificate_lines}
 use Rattle.checker_laws.specs.Verdict.{CertificateVerdict, Best, Impossible, No, shown}

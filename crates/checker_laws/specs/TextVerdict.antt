@@ -4,7 +4,7 @@ use Rattle.grouping_laws.specs.Problem.{Problem}
 use Rattle.certificate_lines.specs.Courses.{certificate_course}
 use Rattle.certificate_lines.specs.declared.fault.TextFault.{TextFault}
 use Rattle.certificate_data.specs.TreeValue.{Certificate}
-use Rattle.certificate_text.specs.Spelled.{IsSpelling}
+use Rattle.certificate_text.specs.Spelling.{IsSpelling}
 use Rattle.checker_laws.specs.Verdict.{CertificateVerdict, IsVerdict}
 
 -- the first fault of the text

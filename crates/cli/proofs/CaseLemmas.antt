@@ -8,7 +8,7 @@ use Rattle.cli_answers.specs.Answer.{Answered}
 use Rattle.cli_shelves.specs.Files.{NamedFile, Files, held, with_files}
 use Rattle.cli_shelves.specs.History.{ShelfEvent, no_history}
 use Rattle.std.specs.List.{slice_split}
-use Rattle.field_lines.specs.Raw.{raw_lines}
+use Rattle.field_lines.specs.RawPieces.{raw_lines}
 use Rattle.cli.specs.Case.{case_files, first_case_line, is_case}
 use Rattle.cli_runs.specs.Run.{IsRunAnswer}
 use Rattle.cli.specs.CaseRun.{WordsOver, stored_text, IsCaseAnswer}

@@ -5,7 +5,7 @@ ghost use Rattle.std.specs.Prelude.{Ok, Err, IfOk, OnOk, MatchOption, codes, dro
 ghost use Rattle.std.specs.Prelude.{string_bytes, map};
 ghost use Rattle.std.specs.List.{slice_split, list_all};
 ghost use Rattle.std.specs.Str.{is_utf8};
-ghost use Rattle.field_lines.specs.Raw.{RawLine, raw_lines};
+ghost use Rattle.field_lines.specs.RawPieces.{RawLine, raw_lines};
 ghost use Rattle.field_lines.specs.Piece.{raw_of};
 ghost use Rattle.cli_shelves.specs.Files.{NamedFile};
 ghost use Rattle.cli_shelves.specs.Memory.{files_of};

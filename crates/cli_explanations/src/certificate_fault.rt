@@ -1,7 +1,7 @@
 //! Why a text is no certificate.
 
+use crate::file_lines::whole_line;
 use crate::grouping_fault::explain_chamber;
-use crate::line_of::whole_line;
 use crate::options::{NamedFile, Options};
 use crate::shown_bytes::start_of;
 use certificate_lines::TextKind;

@@ -1,6 +1,6 @@
 //! Why an input file or the problem is refused.
 
-use crate::line_of::{county_state, cut_line, looks_like};
+use crate::file_lines::{county_state, cut_line, looks_like};
 use crate::machine_files::is_plain;
 use crate::options::{NamedFile, Options};
 use crate::shown_bytes::start_of;

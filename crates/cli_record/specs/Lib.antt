@@ -1,2 +1,2 @@
 pub mod RecordFiles
-pub mod Recorded
+pub mod RunRecord

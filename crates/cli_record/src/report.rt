@@ -4,7 +4,7 @@ ghost use Rattle.std.specs.Prelude.{◌≡◌, List, IfOk, map};
 ghost use Rattle.std.specs.Option.{option_map};
 ghost use Rattle.std.specs.String.{string_bytes};
 ghost use Rattle.cli_shelves.specs.Sums.{sum_value};
-ghost use Rattle.cli_record.specs.Recorded.{IsRecord, SaysOfRun};
+ghost use Rattle.cli_record.specs.RunRecord.{IsRecord, SaysOfRun};
 ghost use Rattle.cli_record.specs.RecordFiles.{record_name_of};
 
 use crate::reads::reads_of;

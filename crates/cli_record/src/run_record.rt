@@ -3,7 +3,7 @@
 ghost use Rattle.std.specs.Prelude.{◌≡◌, ◌+◌, ◌-◌, ◌^◌, ◌<◌, IfSome, length, map, min};
 ghost use Rattle.cli_shelves.specs.History.{History};
 ghost use Rattle.cli_shelves.specs.Sums.{sum_value};
-ghost use Rattle.cli_record.specs.Recorded.{IsRecord, sums_between};
+ghost use Rattle.cli_record.specs.RunRecord.{IsRecord, sums_between};
 
 use crate::report::record_of_run;
 use cli_shelves::{EventSum, Shelf};

@@ -3,7 +3,7 @@
 ghost use Rattle.std.specs.Prelude.{◌≡◌, ◌++◌, List, IfOk, OnOk, map};
 ghost use Rattle.cli_shelves.specs.declared.sums.EventKind.TheVariants.{Taken};
 ghost use Rattle.cli_shelves.specs.Sums.{sum_value};
-ghost use Rattle.cli_record.specs.Recorded.{stored_line_of};
+ghost use Rattle.cli_record.specs.RunRecord.{stored_line_of};
 ghost use Rattle.cli_record.specs.RecordFiles.{if_given, if_listed, files_stored, options_to_store as options_of};
 ghost use Rattle.cli_record.specs.RecordFiles.{stored_value};
 ghost use Rattle.cli_words.specs.declared.words.CommandWords.TheVariants.{Solve};

@@ -7,7 +7,7 @@ use Rattle.grouping_laws.specs.Grouping.{Grouping}
 use Rattle.certificate_data.specs.TreeValue.{certificate_of}
 use Rattle.branch_bound.specs.declared.answer.Answer as desk
 use Rattle.branch_bound.specs.declared.answer.Answer.TheVariants.{Best, Impossible, Open}
-use Rattle.branch_bound.specs.Answered.{IsSolveAnswer, SolveIsRight, SaysWhether}
+use Rattle.branch_bound.specs.Answers.{IsSolveAnswer, SolveIsRight, SaysWhether}
 use Rattle.certificate_checker.proofs.Agrees as texts
 use Rattle.cli_words.specs.declared.words.SolveWords.{SolveWords}
 use Rattle.cli_words.specs.declared.words.CommandWords.TheVariants.{Solve}

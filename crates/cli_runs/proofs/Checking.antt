@@ -7,10 +7,10 @@ use Rattle.grouping_laws.specs.Grouping.{Grouping}
 use Rattle.grouping_report.specs.Outcomes.{outcome_text}
 use Rattle.grouping_report.specs.Report.{report_text}
 use Rattle.grouping_report.specs.declared.outcome.Outcome.TheVariants as outcome
-use Rattle.certificate_checker.specs.Answered.{IsCheckAnswer}
+use Rattle.certificate_checker.specs.Answers.{IsCheckAnswer}
 use Rattle.certificate_checker.specs.declared.verdict.Verdict.{Verdict}
 use Rattle.certificate_checker.specs.declared.verdict.Verdict.TheVariants.{Best, Impossible, No, Budget}
-use Rattle.certificate_checker.specs.Says.{SaysBest, SaysImpossible}
+use Rattle.certificate_checker.specs.CertificateAnswers.{SaysBest, SaysImpossible}
 use Rattle.pl94_counties.specs.declared.county_names.NamedFault.TheVariants.{BadName}
 use Rattle.cli_words.specs.declared.words.CheckWords.{CheckWords}
 use Rattle.cli_shelves.specs.Files.{NamedFile, Files}

@@ -7,8 +7,8 @@ use Rattle.grouping_laws.specs.Problem.{Problem}
 use Rattle.grouping_laws.specs.Grouping.{Grouping}
 use Rattle.certificate_data.specs.Round.{Round}
 use Rattle.board_laws.specs.Content.{Event, Content}
-use Rattle.board_report.specs.Shared.{IsShared, IsJoinedText, AreJoined}
-use Rattle.board_report.specs.declared.shared.Shared.{Shared}
+use Rattle.board_report.specs.BoardOutcome.{IsShared, IsJoinedText, AreJoined}
+use Rattle.board_report.specs.declared.board_outcome.Shared.{Shared}
 use Rattle.certificate_checker.proofs.Agrees as texts
 use Rattle.cli_words.specs.declared.words.ShareWords.{ShareWords}
 use Rattle.cli_words.specs.declared.words.CommandWords.TheVariants.{Share}

@@ -11,7 +11,7 @@ use Rattle.county_problem.specs.CountList.{count_at}
 use Rattle.county_problem.specs.declared.grouping_fault.GroupingFault.{GroupingFault}
 use Rattle.county_problem.specs.declared.grouping_fault.GroupingFault.TheVariants as fault
 use Rattle.grouping_report.specs.Report.{head_lines, answer_line, counts_line, group_lines}
-use Rattle.certificate_checker.specs.Answered.{CheckIsRight}
+use Rattle.certificate_checker.specs.Answers.{CheckIsRight}
 use Rattle.certificate_checker.specs.declared.verdict.Verdict.{Verdict}
 use Rattle.certificate_checker.specs.declared.verdict.Verdict.TheVariants.{Best, Impossible, No, Budget}
 use Rattle.share_board.proofs.Renewing.{greater_same}

@@ -7,13 +7,13 @@ use Rattle.certificate_laws.specs.State.{empty_state}
 use Rattle.certificate_laws.specs.Certificate.{IsCertificate, Conclusion}
 use Rattle.certificate_laws.proofs.Agreement.{certificate_shows}
 use Rattle.certificate_data.specs.TreeValue.{Certificate}
-use Rattle.certificate_text.specs.Spelled.{IsSpelling}
+use Rattle.certificate_text.specs.Spelling.{IsSpelling}
 use Rattle.certificate_text.proofs.OneSpelling.{one_value}
 use Rattle.list_laws.specs.AllBest.{AreAllBest}
-use Rattle.list_laws.specs.Complete.{IsComplete}
+use Rattle.list_laws.specs.Completeness.{IsComplete}
 use Rattle.list_groupings.specs.declared.gap.Gap.{Gap}
 use Rattle.list_groupings.specs.declared.listing.Listing.TheVariants.{All, Open}
-use Rattle.list_groupings.specs.Answered.{IsListing}
+use Rattle.list_groupings.specs.Answers.{IsListing}
 use Rattle.list_groupings.specs.Gaps.{IsFirstGap, first_gap_line}
 use Rattle.list_groupings.specs.Walking.{sets_held}
 use Rattle.list_groupings.proofs.Gapped.{tree_none}

@@ -5,17 +5,17 @@ use Rattle.std.specs.Borrow.{Bor}
 use Rattle.county_problem.specs.ProblemValue.{ProblemValue, problem_of}
 use Rattle.grouping_laws.specs.Grouping.{Grouping}
 use Rattle.certificate_data.specs.TreeValue.{Certificate, certificate_of}
-use Rattle.certificate_text.specs.Spelled.{IsSpelling}
+use Rattle.certificate_text.specs.Spelling.{IsSpelling}
 use Rattle.certificate_laws.specs.State.{empty_state}
 use Rattle.certificate_laws.specs.Certificate.{IsCertificate}
-use Rattle.list_laws.specs.Complete.{IsComplete}
+use Rattle.list_laws.specs.Completeness.{IsComplete}
 use Rattle.list_groupings.specs.declared.listing.Listing.{Listing}
 use Rattle.list_groupings.specs.declared.listing.Listing.TheVariants.{All, Open, Impossible, No, Budget}
-use Rattle.list_groupings.specs.Answered.{IsListing, ListsAllBest}
+use Rattle.list_groupings.specs.Answers.{IsListing, ListsAllBest}
 use Rattle.list_groupings.specs.Walking.{sets_held}
 use Rattle.branch_bound.specs.declared.answer.Answer as desk
 use Rattle.branch_bound.specs.declared.answer.Answer.TheVariants as found
-use Rattle.branch_bound.specs.Answered.{IsSolveAnswer, HasCompleteTree}
+use Rattle.branch_bound.specs.Answers.{IsSolveAnswer, HasCompleteTree}
 use Rattle.certificate_checker.specs.declared.verdict.Verdict.TheVariants as verdict
 use Rattle.certificate_checker.proofs.Agrees as texts
 use Rattle.list_report.specs.Listing.{listing_text}

@@ -7,8 +7,8 @@ use Rattle.pl94_counties.specs.Counties.{county_list, block_list}
 use Rattle.baf_auditor.specs.Assignments.{assignment_list}
 use Rattle.adjacency_reader.specs.Pairs.{IsPairsAnswer}
 use Rattle.adjacency_reader.specs.Links.{link_list}
-use Rattle.adjacency_reader.specs.Withdrawn.{withdrawn_list}
-use Rattle.adjacency_reader.specs.Adjacent.{AreLinked}
+use Rattle.adjacency_reader.specs.WithdrawnSets.{withdrawn_list}
+use Rattle.adjacency_reader.specs.Adjacency.{AreLinked}
 use Rattle.grouping_reader.specs.GroupingLines.{grouping_list}
 use Rattle.grouping_report.specs.SizeTable.{size_text}
 use Rattle.cli_words.specs.declared.words.CommonWords.{CommonWords}
@@ -41,8 +41,8 @@ use Rattle.cli_runs.specs.CheckCourse.{IsChecked, check_course}
 use Rattle.cli_runs.specs.ListCourse.{IsListAnswer, list_course, listed_file}
 use Rattle.county_problem.specs.ProblemValue.{codes_of, problem_of}
 use Rattle.certificate_data.specs.declared.language.Language as rounds
-use Rattle.board_report.specs.Shared.{IsShared}
-use Rattle.board_report.specs.Proved.{IsAnswered, piece_budget}
+use Rattle.board_report.specs.BoardOutcome.{IsShared}
+use Rattle.board_report.specs.PieceAnswers.{IsAnswered, piece_budget}
 use Rattle.cli_runs.specs.BoardCourse.{language_of, depth_of, AreEvents, events_of, named_events_of, AnswersOnBoard}
 use Rattle.cli_runs.specs.ShareCourse.{share_answer, share_course, joined_file}
 use Rattle.cli_runs.specs.PieceCourse.{piece_said, piece_course}
@@ -52,7 +52,7 @@ use Rattle.cli_runs.specs.Storing.{EndsStoring, named_file, store_steps}
 use Rattle.cli_runs.specs.Recording.{RecordEnds}
 use Rattle.cli_runs.specs.Run.{CommandEnds, CommandRun, IsRunAnswer, RunsAsAsked}
 use Rattle.cli_runs.specs.Loads.{AnsweredBy, RunsAreOfTheirLoads}
-use Rattle.cli_runs.specs.Told.{IsStoreTaken}
+use Rattle.cli_runs.specs.ToldFiles.{IsStoreTaken}
 use Rattle.cli_runs.proofs.Lifting.{Extends, extends_same, extends_twice, answered_split, Lifts, lifts_load, lifts_load_pair, lifts_text, lifts_texts, lifts_call, lifts_value, lifts_bind, lifts_optional, ends_lift}
 
 -- files that are stored add events

@@ -25,8 +25,8 @@ use Rattle.county_problem.specs.ProblemValue.{codes_of}
 use Rattle.pl94_counties.specs.Counties.{county_list, block_list}
 use Rattle.adjacency_reader.specs.Pairs.{IsPairsAnswer}
 use Rattle.adjacency_reader.specs.Links.{link_list}
-use Rattle.adjacency_reader.specs.Withdrawn.{withdrawn_list}
-use Rattle.adjacency_reader.specs.Adjacent.{AreLinked}
+use Rattle.adjacency_reader.specs.WithdrawnSets.{withdrawn_list}
+use Rattle.adjacency_reader.specs.Adjacency.{AreLinked}
 use Rattle.grouping_reader.specs.GroupingLines.{grouping_list}
 use Rattle.baf_auditor.specs.declared.fault.AssignmentKind.{AssignmentKind}
 use Rattle.baf_auditor.specs.declared.fault.AssignmentKind.TheVariants as assigned

@@ -18,8 +18,8 @@ use Rattle.adjacency_reader.specs.declared.links.Link.{Link}
 use Rattle.adjacency_reader.specs.Rows.{row_list}
 use Rattle.adjacency_reader.specs.Pairs.{ArePairs, IsPairsAnswer}
 use Rattle.adjacency_reader.specs.Links.{link_list}
-use Rattle.adjacency_reader.specs.Withdrawn.{withdrawn_list}
-use Rattle.adjacency_reader.specs.Adjacent.{AreLinked}
+use Rattle.adjacency_reader.specs.WithdrawnSets.{withdrawn_list}
+use Rattle.adjacency_reader.specs.Adjacency.{AreLinked}
 use Rattle.grouping_table.specs.Table.{unnamed_counties as without_names}
 use Rattle.cli_words.specs.declared.words.ProblemWords.{ProblemWords}
 use Rattle.cli_shelves.specs.Files.{Files}

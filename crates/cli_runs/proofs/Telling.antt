@@ -3,7 +3,7 @@ use Rattle.std.proofs.Common.{◌≡◌, ◌≢◌, ◌≤◌, ℕ, List, [], �
 use Rattle.std.specs.Prelude.{Ok, true}
 use Rattle.std.specs.Borrow.{Bor}
 use Rattle.county_problem.specs.ProblemValue.{problem_of}
-use Rattle.certificate_checker.specs.Answered.{IsCheckAnswer, CheckIsRight, ShowsImpossible}
+use Rattle.certificate_checker.specs.Answers.{IsCheckAnswer, CheckIsRight, ShowsImpossible}
 use Rattle.certificate_checker.specs.declared.verdict.Verdict.{Verdict}
 use Rattle.certificate_checker.specs.declared.verdict.Verdict.TheVariants.{Best, Impossible, No, Budget}
 use Rattle.cli_words.specs.declared.words.ProblemWords.{ProblemWords}
@@ -32,7 +32,7 @@ use Rattle.cli_record.specs.RecordFiles.{record_name_of}
 use Rattle.cli_runs.specs.Storing.{IsStoredAs, named_file, said_after, store_steps}
 use Rattle.cli_runs.specs.Recording.{RecordEnds}
 use Rattle.cli_runs.specs.Run.{CommandRun, IsEndAnswer, IsRunAnswer, RunsAsAsked}
-use Rattle.cli_runs.specs.Told.{IsStoreTaken, IsTakenAs, TellsBest, TellsImpossible, TellsJudged, TellsAllBest, TellsFindings, Tells, RunTells}
+use Rattle.cli_runs.specs.ToldFiles.{IsStoreTaken, IsTakenAs, TellsBest, TellsImpossible, TellsJudged, TellsAllBest, TellsFindings, Tells, RunTells}
 use Rattle.cli_runs.proofs.Agrees.{agrees}
 use Rattle.cli_runs.proofs.Judgments as judgments
 use Rattle.cli_runs.proofs.Lists.{runs}

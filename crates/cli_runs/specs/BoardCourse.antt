@@ -10,7 +10,7 @@ use Rattle.certificate_lines.specs.declared.fault.TextFault.{TextFault}
 use Rattle.board_laws.specs.Content.{Event}
 use Rattle.share_board.specs.Rounds.{IsBoardFault}
 use Rattle.share_board.specs.declared.fault.BoardFault.{BoardFault}
-use Rattle.board_events.specs.Spelled.{EventsAreSpelled}
+use Rattle.board_events.specs.Spelling.{EventsAreSpelled}
 use Rattle.board_events.specs.Faults.{events_fault}
 use Rattle.board_report.specs.Rounds.{IsFirstRound}
 use Rattle.cli_words.specs.declared.words.RoundWords.{RoundWords}

@@ -9,13 +9,13 @@ use Rattle.county_problem.specs.Building.{IsProblemOf}
 use Rattle.pl94_counties.specs.CountyNames.{CountyName, named_list}
 use Rattle.grouping_table.specs.Table.{table_text}
 use Rattle.pl94_counties.specs.declared.blocks.Block.{Block}
-use Rattle.pl94_counties.specs.Listed.{AreCounties, AreBlocks}
+use Rattle.pl94_counties.specs.ListedAreas.{AreCounties, AreBlocks}
 use Rattle.adjacency_reader.specs.declared.links.Link.{Link}
 use Rattle.adjacency_reader.specs.Rows.{row_list}
 use Rattle.adjacency_reader.specs.Pairs.{ArePairs}
 use Rattle.adjacency_reader.specs.Links.{link_list}
-use Rattle.adjacency_reader.specs.Withdrawn.{withdrawn_list}
-use Rattle.adjacency_reader.specs.Adjacent.{AreLinked}
+use Rattle.adjacency_reader.specs.WithdrawnSets.{withdrawn_list}
+use Rattle.adjacency_reader.specs.Adjacency.{AreLinked}
 use Rattle.baf_auditor.specs.declared.assignments.Assignment.{Assignment}
 use Rattle.baf_auditor.specs.Assignments.{assignment_list}
 use Rattle.grouping_reader.specs.GroupingLines.{grouping_list}

@@ -6,7 +6,7 @@ use Rattle.grouping_laws.specs.Grouping.{Grouping, IsBest, counts, sets_of}
 use Rattle.grouping_report.specs.Report.{report_text}
 use Rattle.certificate_checker.specs.declared.verdict.Verdict.{Verdict}
 use Rattle.certificate_checker.specs.declared.verdict.Verdict.TheVariants.{Best}
-use Rattle.certificate_checker.specs.Answered.{IsCheckAnswer}
+use Rattle.certificate_checker.specs.Answers.{IsCheckAnswer}
 use Rattle.cli_shelves.specs.Files.{Files}
 use Rattle.cli_answers.specs.Answer.{Answered, success}
 use Rattle.cli_runs.specs.Course.{Course, ◌>>=◌, load_step, optional_step, value_step}

@@ -16,7 +16,7 @@ pub mod Recording
 pub mod Run
 pub mod Loads
 pub mod FilesProblem
-pub mod Told
+pub mod ToldFiles
 pub mod Headline
 pub mod ListHeadline
 pub mod ShareHeadline

@@ -11,7 +11,7 @@ use Rattle.list_groupings.specs.declared.gap.Gap.{Gap}
 use Rattle.list_groupings.specs.declared.gap.Gap.TheVariants.{CountiesLeft, SeatsOff}
 use Rattle.list_groupings.specs.declared.listing.Listing.{Listing}
 use Rattle.list_groupings.specs.declared.listing.Listing.TheVariants.{All, Open, Impossible, No, Budget}
-use Rattle.list_groupings.specs.Answered.{IsListing, ListsAllBest}
+use Rattle.list_groupings.specs.Answers.{IsListing, ListsAllBest}
 use Rattle.list_groupings.specs.Walking.{sets_held}
 use Rattle.list_report.specs.Listing.{listing_text}
 use Rattle.cli_words.specs.declared.words.ListWords.{ListWords}

@@ -5,7 +5,7 @@ use Rattle.county_problem.specs.ProblemValue.{ProblemValue, problem_of}
 use Rattle.grouping_laws.specs.Grouping.{Grouping}
 use Rattle.grouping_report.specs.GroupingText.{grouping_text}
 use Rattle.list_laws.specs.AllBest.{AreAllBest}
-use Rattle.list_groupings.specs.InOrder.{AreInOrder}
+use Rattle.list_groupings.specs.ListOrder.{AreInOrder}
 use Rattle.list_report.specs.Listing.{listing_text}
 use Rattle.cli_words.specs.declared.words.ListWords.{ListWords}
 use Rattle.cli_words.specs.declared.words.SolveWords.{SolveWords}

@@ -6,7 +6,7 @@ use Rattle.county_problem.specs.ProblemValue.{ProblemValue, problem_of}
 use Rattle.board_laws.specs.Content.{Event}
 use Rattle.branch_bound.specs.declared.piece.Piece as desk
 use Rattle.branch_bound.specs.declared.piece.Piece.TheVariants.{Proved, Better, Wider, Open}
-use Rattle.board_report.specs.Proved.{IsAnswered, piece_budget}
+use Rattle.board_report.specs.PieceAnswers.{IsAnswered, piece_budget}
 use Rattle.board_report.specs.PieceText.{piece_text_of}
 use Rattle.cli_words.specs.declared.words.PieceWords.{PieceWords}
 use Rattle.cli_shelves.specs.Files.{Files}

@@ -12,8 +12,8 @@ use Rattle.pl94_counties.specs.Counties.{county_list}
 use Rattle.adjacency_reader.specs.declared.links.Link.{Link}
 use Rattle.adjacency_reader.specs.Pairs.{IsPairsAnswer}
 use Rattle.adjacency_reader.specs.Links.{link_list}
-use Rattle.adjacency_reader.specs.Withdrawn.{withdrawn_list}
-use Rattle.adjacency_reader.specs.Adjacent.{AreLinked}
+use Rattle.adjacency_reader.specs.WithdrawnSets.{withdrawn_list}
+use Rattle.adjacency_reader.specs.Adjacency.{AreLinked}
 use Rattle.grouping_reader.specs.GroupingLines.{grouping_list}
 use Rattle.cli_words.specs.declared.words.CommonWords.{CommonWords}
 use Rattle.cli_words.specs.declared.words.ProblemWords.{ProblemWords}

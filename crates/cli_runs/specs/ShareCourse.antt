@@ -4,8 +4,8 @@ use Rattle.std.specs.Prelude.{ℕ, zero, suc, List, length, Option, option_map}
 use Rattle.grouping_laws.specs.Grouping.{Grouping}
 use Rattle.county_problem.specs.ProblemValue.{ProblemValue, problem_of}
 use Rattle.board_laws.specs.Content.{Event}
-use Rattle.board_report.specs.Shared.{IsShared}
-use Rattle.board_report.specs.declared.shared.Shared.{Shared}
+use Rattle.board_report.specs.BoardOutcome.{IsShared}
+use Rattle.board_report.specs.declared.board_outcome.Shared.{Shared}
 use Rattle.cli_words.specs.declared.words.ShareWords.{ShareWords}
 use Rattle.cli_shelves.specs.Files.{NamedFile, Files}
 use Rattle.cli_shelves.specs.History.{History}

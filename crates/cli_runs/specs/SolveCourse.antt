@@ -6,10 +6,10 @@ use Rattle.grouping_report.specs.Outcomes.{outcome_text}
 use Rattle.grouping_report.specs.GroupingText.{grouping_text}
 use Rattle.grouping_report.specs.declared.outcome.Outcome.TheVariants as outcome
 use Rattle.certificate_data.specs.TreeValue.{certificate_of}
-use Rattle.certificate_text.specs.Spelled.{IsSpelling}
+use Rattle.certificate_text.specs.Spelling.{IsSpelling}
 use Rattle.branch_bound.specs.declared.answer.Answer as desk
 use Rattle.branch_bound.specs.declared.answer.Answer.TheVariants.{Best, Impossible, Open}
-use Rattle.branch_bound.specs.Answered.{IsSolveAnswer, SolveIsRight, HasCompleteTree, SaysWhether}
+use Rattle.branch_bound.specs.Answers.{IsSolveAnswer, SolveIsRight, HasCompleteTree, SaysWhether}
 use Rattle.cli_words.specs.declared.words.SolveWords.{SolveWords}
 use Rattle.cli_shelves.specs.Files.{NamedFile, Files}
 use Rattle.cli_shelves.specs.History.{History}

@@ -2,7 +2,7 @@
 
 ghost use Rattle.std.specs.Prelude.{◌≡◌, false, None, IfOk};
 ghost use Rattle.county_problem.specs.ProblemValue.{problem_of};
-ghost use Rattle.certificate_checker.specs.Answered.{CheckIsRight};
+ghost use Rattle.certificate_checker.specs.Answers.{CheckIsRight};
 ghost use Rattle.certificate_checker.specs.declared.verdict.Verdict.TheVariants as verdict;
 ghost use Rattle.cli_answers.specs.Answers.{answer_of};
 ghost use Rattle.cli_runs.specs.CheckCourse.{IsChecked, ChecksGiven, verdict_said, verdict_table};

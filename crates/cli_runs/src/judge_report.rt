@@ -4,7 +4,7 @@ ghost use Rattle.std.specs.Prelude.{◌≡◌, ℕ, IfOk, option_map};
 ghost use Rattle.county_problem.specs.ProblemValue.{problem_of};
 ghost use Rattle.grouping_laws.specs.Grouping.{Lawful, counts, sets_of};
 ghost use Rattle.county_problem.specs.CountList.{count_at};
-ghost use Rattle.certificate_checker.specs.Answered.{CheckIsRight};
+ghost use Rattle.certificate_checker.specs.Answers.{CheckIsRight};
 ghost use Rattle.cli_answers.specs.Answers.{answer_of};
 ghost use Rattle.cli_runs.specs.JudgeWithCertificate.{IsSaidBy, IsSaidOf, NamesSameCounts, SaysBeside, best_answer};
 ghost use Rattle.cli_runs.specs.JudgeWithCertificate.{lawful_answer};

@@ -3,7 +3,7 @@ use Rattle.std.proofs.Common.{◌≡◌, ℕ, Bool, true, false, List, [], ◌�
 use Rattle.std.proofs.lemmas.Bool.Decides.{nat_tests}
 use Rattle.std.specs.List.{take_while, filter_map, slice_get}
 use Rattle.std.proofs.lemmas.List.Sums.{take_while-cons}
-use Rattle.field_lines.specs.Raw.{RawLine}
+use Rattle.field_lines.specs.RawPieces.{RawLine}
 use Rattle.field_lines.specs.Cut.{Cut, cut_of, line_in, fault_in, line_bytes, fault_at, in_front}
 use Rattle.field_lines.specs.declared.fault.LineFault.{LineFault}
 

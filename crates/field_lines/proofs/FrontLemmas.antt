@@ -5,11 +5,11 @@ use Rattle.std.proofs.Math.Seq.{drop-append_seam}
 use Rattle.std.proofs.lemmas.List.{append-nil}
 use Rattle.std.proofs.lemmas.Bool.Decides.{nat_tests}
 use Rattle.std.proofs.lemmas.List.Splits.{slice_split-cons_no, slice_split_none, slice_split_at}
-use Rattle.field_lines.specs.Raw.{RawLine, is_lf, numbered, raw_lines_from}
+use Rattle.field_lines.specs.RawPieces.{RawLine, is_lf, numbered, raw_lines_from}
 use Rattle.field_lines.specs.Fault.{most_bytes}
 use Rattle.field_lines.specs.Cut.{cut_of, fault_at}
-use Rattle.field_lines.specs.Held.{Pulled, MayCome}
-use Rattle.field_lines.specs.Taken.{taken_bytes, TakesFirst}
+use Rattle.field_lines.specs.HeldBytes.{Pulled, MayCome}
+use Rattle.field_lines.specs.TakenPieces.{taken_bytes, TakesFirst}
 use Rattle.field_lines.specs.declared.taken_pieces.TakenPiece.{TakenPiece}
 use Rattle.field_lines.specs.Front.{HasNoLf, HasLfAt, IsAllOf, IsFrontPiece}
 use Rattle.field_lines.specs.LinesFrom.{no_line}

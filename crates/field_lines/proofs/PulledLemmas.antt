@@ -4,8 +4,8 @@ use Rattle.std.proofs.Math.Seq.{take-add}
 use Rattle.std.proofs.lemmas.List.{drop-take, take-append-le, take-append-drop, get_or-drop}
 use Rattle.std.proofs.lemmas.List.Elements.{All-append}
 use Rattle.memchr.specs.Find.{IsFirstByte, is_byte}
-use Rattle.field_lines.specs.Raw.{is_lf}
-use Rattle.field_lines.specs.Held.{Pulled, Pulls}
+use Rattle.field_lines.specs.RawPieces.{is_lf}
+use Rattle.field_lines.specs.HeldBytes.{Pulled, Pulls}
 use Rattle.field_lines.specs.Front.{HasNoLf, HasLfAt}
 use Rattle.field_lines.proofs.SplitLemmas.{none_below, at_found}
 

@@ -3,12 +3,12 @@ use Rattle.std.proofs.Common.{◌≡◌, ℕ, ◌+◌, ◌≤◌, ◌==◌, Bool
 use Rattle.std.specs.Borrow.{Bor}
 use Rattle.std.proofs.lemmas.List.{append-nil}
 use Rattle.std.proofs.lemmas.Bool.Decides.{nat_tests}
-use Rattle.field_lines.specs.Raw.{raw_lines_from}
+use Rattle.field_lines.specs.RawPieces.{raw_lines_from}
 use Rattle.field_lines.specs.Fault.{most_lines, most_bytes}
 use Rattle.field_lines.specs.Cut.{Line, cut_of, fault_at, line_bytes, in_front, line_of}
-use Rattle.field_lines.specs.Held.{Pulled, MayCome, StaysEnded, Pulls}
+use Rattle.field_lines.specs.HeldBytes.{Pulled, MayCome, StaysEnded, Pulls}
 use Rattle.field_lines.specs.Front.{IsFrontPiece}
-use Rattle.field_lines.specs.Taken.{taken_bytes, line_at}
+use Rattle.field_lines.specs.TakenPieces.{taken_bytes, line_at}
 use Rattle.field_lines.specs.LinesFrom.{no_line, LinesHeld, lines_held, IsNextFrom, AnswersRead, IsNextRead, fault_answered, line_answered, IsAtLine}
 use Rattle.field_lines.specs.ReadLine.{pieces_held, TakesPiece, TakesLine}
 use Rattle.field_lines.specs.declared.fault.LineFault.{LineFault}

@@ -1,19 +1,19 @@
 -- A piece is taken where only its length is limited.
 use Rattle.std.proofs.Common.{◌≡◌, ℕ, ◌+◌, ◌-◌, ◌^◌, ◌<◌, ◌≤◌, ◌==◌, nat_lt, eqb-true, Bool, true, false, List, [], ◌∷◌, ◌++◌, length, Option, Some, None, Result, Ok, Err, take, refl, sym, ap, ◌∙◌, append_assoc, arith, subst, length-append, length-take-le, if◌then◌else◌}
 use Rattle.std.proofs.lemmas.Bool.Decides.{nat_tests}
-use Rattle.field_lines.specs.Raw.{RawLine, raw_lines_from}
+use Rattle.field_lines.specs.RawPieces.{RawLine, raw_lines_from}
 use Rattle.field_lines.specs.Piece.{raw_of}
 use Rattle.field_lines.specs.Fault.{most_bytes}
-use Rattle.field_lines.specs.Held.{Pulled, Pulls}
+use Rattle.field_lines.specs.HeldBytes.{Pulled, Pulls}
 use Rattle.field_lines.specs.Front.{IsFrontPiece}
-use Rattle.field_lines.specs.Taken.{piece_at}
+use Rattle.field_lines.specs.TakenPieces.{piece_at}
 use Rattle.field_lines.specs.ReadLine.{pieces_held}
 use Rattle.field_lines.specs.LinesFrom.{LinesHeld, fault_answered, IsAtLine}
 use Rattle.field_lines.specs.PiecesFrom.{BeginsTooLong, IsNextPieceFrom, pieces_left, AnswersRaw, IsRawRead, IsPastNumbers}
 use Rattle.field_lines.specs.ReadPiece.{raw_fault_at, TakesRaw}
 use Rattle.field_lines.specs.declared.fault.LineFault.{LineFault}
 use Rattle.field_lines.specs.declared.fault.LineFault.TheVariants.{LineTooLong, Memory}
-use Rattle.field_lines.specs.declared.raw.Piece.{Piece}
+use Rattle.field_lines.specs.declared.raw_pieces.Piece.{Piece}
 use Rattle.field_lines.specs.declared.taken_pieces.TakenPiece.{TakenPiece}
 use Rattle.field_lines.proofs.FrontLemmas.{lf_first, begins_with}
 

@@ -4,7 +4,7 @@ use Rattle.std.specs.Borrow.{Bor}
 use Rattle.std.proofs.lemmas.List.{append-nil}
 use Rattle.field_lines.specs.Fault.{IsOfText}
 use Rattle.field_lines.specs.Cut.{Cut, in_front, line_of}
-use Rattle.field_lines.specs.Held.{MayCome, StaysEnded}
+use Rattle.field_lines.specs.HeldBytes.{MayCome, StaysEnded}
 use Rattle.field_lines.specs.LinesFrom.{LinesLeft, no_line, IsNextAnswer}
 use Rattle.field_lines.specs.declared.fault.LineFault.{LineFault}
 use Rattle.field_lines.specs.declared.fault.LineFault.TheVariants.{LineTooLong, TooManyLines, ReadFault, Memory}

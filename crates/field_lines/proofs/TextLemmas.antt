@@ -3,7 +3,7 @@ use Rattle.std.proofs.Common.{◌≡◌, ℕ, ◌+◌, ◌<◌, ◌≤◌, List,
 use Rattle.std.specs.List.{slice_split, join_with_byte}
 use Rattle.std.specs.List.Sorted.{IsStrictlyIncreasing}
 use Rattle.std.proofs.lemmas.List.Splits.{join_with_byte-slice_split}
-use Rattle.field_lines.specs.Raw.{RawLine, is_lf, numbered, raw_lines_from, text_of}
+use Rattle.field_lines.specs.RawPieces.{RawLine, is_lf, numbered, raw_lines_from, text_of}
 use Rattle.field_lines.specs.Cut.{Cut, Line, cut_of, line_in, fault_in, line_bytes}
 use Rattle.field_lines.proofs.CutLemmas.{cut_of-faulty, cut_of-blank, cut_of-line}
 

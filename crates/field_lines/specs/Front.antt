@@ -1,7 +1,7 @@
 -- The piece at the front of bytes that were pulled.
 use Rattle.std.specs.Prelude.{◌≡◌, ℕ, ◌+◌, ◌<◌, ◌≤◌, Bool, true, false, List, [], ◌∷◌, ◌++◌, Option, Some, None, take}
 use Rattle.std.specs.Prelude.{drop, length, All}
-use Rattle.field_lines.specs.Raw.{is_lf}
+use Rattle.field_lines.specs.RawPieces.{is_lf}
 use Rattle.field_lines.specs.Fault.{most_bytes}
 use Rattle.field_lines.specs.declared.front.FrontPiece.{FrontPiece}
 

@@ -2,10 +2,10 @@
 use Rattle.std.specs.Prelude.{◌≡◌, ℕ, ◌+◌, ◌-◌, ◌<◌, Bool, true, false, List, [], ◌++◌, length, Option, Some, None}
 use Rattle.std.specs.Prelude.{Result, Ok, Err, OnOk, OnSome, IfOk}
 use Rattle.std.specs.Borrow.{Bor}
-use Rattle.field_lines.specs.Raw.{raw_lines_from}
+use Rattle.field_lines.specs.RawPieces.{raw_lines_from}
 use Rattle.field_lines.specs.Fault.{most_lines}
 use Rattle.field_lines.specs.Cut.{Cut, Line, cut_of, in_front, line_of}
-use Rattle.field_lines.specs.Held.{MayCome, StaysEnded}
+use Rattle.field_lines.specs.HeldBytes.{MayCome, StaysEnded}
 use Rattle.field_lines.specs.declared.fault.LineFault.{LineFault}
 use Rattle.field_lines.specs.declared.fault.LineFault.TheVariants.{ReadFault, Memory}
 

@@ -1,12 +1,12 @@
 -- Pieces that are read from a source.
 use Rattle.std.specs.Prelude.{◌≡◌, ℕ, ◌+◌, ◌-◌, ◌^◌, ◌<◌, Bool, true, List, [], ◌∷◌, ◌++◌, length, Option, Some, None}
 use Rattle.std.specs.Prelude.{Result, Ok, Err, OnOk, OnSome, IfOk}
-use Rattle.field_lines.specs.Raw.{RawLine, raw_lines_from}
+use Rattle.field_lines.specs.RawPieces.{RawLine, raw_lines_from}
 use Rattle.field_lines.specs.Piece.{raw_of}
 use Rattle.field_lines.specs.Fault.{most_bytes}
-use Rattle.field_lines.specs.Held.{MayCome, StaysEnded}
+use Rattle.field_lines.specs.HeldBytes.{MayCome, StaysEnded}
 use Rattle.field_lines.specs.LinesFrom.{LinesHeld, FailsOnly, fault_answered, IsAtLine}
-use Rattle.field_lines.specs.declared.raw.Piece.{Piece}
+use Rattle.field_lines.specs.declared.raw_pieces.Piece.{Piece}
 use Rattle.field_lines.specs.declared.fault.LineFault.{LineFault}
 use Rattle.field_lines.specs.declared.fault.LineFault.TheVariants.{LineTooLong, TooManyLines, ReadFault, Memory}
 

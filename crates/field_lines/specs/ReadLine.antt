@@ -1,11 +1,11 @@
 -- What taking a piece or a line of the bytes that were pulled answers.
 use Rattle.std.specs.Prelude.{◌≡◌, ℕ, ◌+◌, ◌≤◌, Bool, true, List, [], ◌∷◌, ◌++◌, length, slice_range, Option}
 use Rattle.std.specs.Prelude.{Some, None, Result, Ok, Err}
-use Rattle.field_lines.specs.Raw.{RawLine, raw_lines_from}
+use Rattle.field_lines.specs.RawPieces.{RawLine, raw_lines_from}
 use Rattle.field_lines.specs.Fault.{most_bytes}
 use Rattle.field_lines.specs.Cut.{fault_at, cut_of, line_bytes}
-use Rattle.field_lines.specs.Held.{Pulled, MayCome, StaysEnded}
-use Rattle.field_lines.specs.Taken.{IsPlace, taken_bytes, piece_at, line_taken}
+use Rattle.field_lines.specs.HeldBytes.{Pulled, MayCome, StaysEnded}
+use Rattle.field_lines.specs.TakenPieces.{IsPlace, taken_bytes, piece_at, line_taken}
 use Rattle.field_lines.specs.LinesFrom.{no_line, AnswersCut, FailsOnly, IsAtLine}
 use Rattle.field_lines.specs.declared.fault.LineFault.{LineFault}
 use Rattle.field_lines.specs.declared.fault.LineFault.TheVariants.{ReadFault, Memory}

@@ -2,8 +2,8 @@
 use Rattle.std.specs.Prelude.{◌≡◌, ℕ, ◌+◌, ◌-◌, ◌^◌, ◌<◌, ◌≤◌, ◌==◌, nat_lt, Bool, true, List, [], ◌∷◌, ◌++◌, length}
 use Rattle.std.specs.Prelude.{Option, Some, None, Result, Ok, Err, if◌then◌else◌}
 use Rattle.field_lines.specs.Fault.{most_bytes}
-use Rattle.field_lines.specs.Held.{Pulled, MayCome, StaysEnded}
-use Rattle.field_lines.specs.Taken.{IsPlace, taken_bytes, piece_at}
+use Rattle.field_lines.specs.HeldBytes.{Pulled, MayCome, StaysEnded}
+use Rattle.field_lines.specs.TakenPieces.{IsPlace, taken_bytes, piece_at}
 use Rattle.field_lines.specs.LinesFrom.{FailsOnly}
 use Rattle.field_lines.specs.ReadLine.{pieces_held}
 use Rattle.field_lines.specs.PiecesFrom.{BeginsTooLong}

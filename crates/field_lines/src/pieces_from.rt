@@ -6,7 +6,7 @@ ghost use Rattle.std.specs.Io.BufRead.{Rests};
 ghost use Rattle.field_lines.specs.PiecesFrom.{PiecesLeft, pieces_of_text, pieces_left, IsNextPieceOf};
 
 use crate::fault::LineFault;
-use crate::raw::{Piece, RawLines};
+use crate::raw_pieces::{Piece, RawLines};
 use crate::raw_reader::RawReader;
 use crate::source::Source;
 

@@ -25,7 +25,7 @@ pub(crate) struct PulledBytes {
 
 impl Model for PulledBytes {
     ghost use Rattle.std.specs.Prelude.{◌≡◌, ◌≤◌, vec_len, take, slice_range};
-    ghost use Rattle.field_lines.specs.Held.{Pulled};
+    ghost use Rattle.field_lines.specs.HeldBytes.{Pulled};
 
     /// The bytes that were taken since the last pull, those that are held, and whether the source has ended.
     ghost Value = { Pulled };
@@ -68,9 +68,9 @@ impl PulledBytes {
     ghost use Rattle.std.specs.Prelude.{◌≡◌, ◌+◌, ◌<◌, ◌≤◌, Bool, true, false, List, [], ◌++◌, ◌==◌, take, drop};
     ghost use Rattle.std.specs.Prelude.{length, IfOk, OnOk, OnErr, MatchOption, slice_range, vec_len};
     ghost use Rattle.std.specs.Result.{is_err};
-    ghost use Rattle.field_lines.specs.Held.{no_bytes, Pulls};
+    ghost use Rattle.field_lines.specs.HeldBytes.{no_bytes, Pulls};
     ghost use Rattle.field_lines.specs.Front.{IsFrontPiece, HasFront};
-    ghost use Rattle.field_lines.specs.Taken.{IsPlace, taken_bytes, TakesFirst};
+    ghost use Rattle.field_lines.specs.TakenPieces.{IsPlace, taken_bytes, TakesFirst};
 
     /// No byte so far.
     pub(crate) fn new(alloc: Global) -> Result<Self, AllocError>

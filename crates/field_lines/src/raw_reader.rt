@@ -6,7 +6,7 @@ ghost use Rattle.field_lines.specs.ReadPiece.{raw_fault_at, TakesRaw};
 use crate::fault::LineFault;
 use crate::lines::MAX_LINE;
 use crate::pulled_bytes::PulledBytes;
-use crate::raw::Piece;
+use crate::raw_pieces::Piece;
 use crate::source::Source;
 use crate::taken_pieces::TakenPiece;
 use std::alloc::Global;

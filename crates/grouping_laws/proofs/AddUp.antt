@@ -3,7 +3,7 @@ use Rattle.std.proofs.Common.{◌≡◌, ℕ, ◌≤◌, Bool, true, false, List
 use Rattle.grouping_laws.specs.Sets.{digit, total, often, stands, member}
 use Rattle.grouping_laws.specs.Problem.{Problem, Suits, people_of, IsProblem}
 use Rattle.grouping_laws.specs.Grouping.{sets_of}
-use Rattle.grouping_laws.specs.AddUp.{WindowsAddUp, SizesAddUp, GroupsFit}
+use Rattle.grouping_laws.specs.Totals.{WindowsAddUp, SizesAddUp, GroupsFit}
 use Rattle.place_laws.proofs.Sums.{total_within, total_ones, often_none, often_some}
 use Rattle.grouping_laws.proofs.Elements.{has_all}
 use Rattle.grouping_laws.proofs.Sizes.{same_sizes}

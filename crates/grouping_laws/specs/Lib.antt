@@ -4,7 +4,7 @@ pub mod Grouping
 pub mod Order
 pub mod Parts
 pub mod Ranges
-pub mod AddUp
+pub mod Totals
 pub mod Fill
 pub mod GroupsFrom
 pub mod Places

@@ -2,7 +2,7 @@
 
 ghost use Rattle.grouping_laws.specs.Problem.{Problem};
 ghost use Rattle.grouping_laws.specs.Allowance.{HasWindow, named_window};
-ghost use Rattle.grouping_laws.specs.AddUp.{SizesAddUp, WindowsAddUp, GroupsFit};
+ghost use Rattle.grouping_laws.specs.Totals.{SizesAddUp, WindowsAddUp, GroupsFit};
 ghost use Rattle.grouping_laws.specs.Order.{GreaterIsIrreflexive, GreaterIsTransitive, GreaterIsTotal};
 
 /// The sizes of the sets of a lawful grouping add up to the number of counties of the problem. The people

@@ -9,7 +9,7 @@ use Rattle.std.proofs.lemmas.List.Splits.{slice_split_at}
 use Rattle.county_codes.specs.declared.group.Group.{Group}
 use Rattle.grouping_laws.specs.Grouping.{Grouping}
 use Rattle.field_lines.specs.Fault.{most_lines, most_bytes}
-use Rattle.field_lines.specs.Raw.{RawLine, is_lf, raw_lines_from, numbered}
+use Rattle.field_lines.specs.RawPieces.{RawLine, is_lf, raw_lines_from, numbered}
 use Rattle.field_lines.specs.Cut.{Line, Cut, cut_of, line_bytes, without_mark, fault_in, in_front}
 use Rattle.field_lines.specs.Values.{fault_on, value_on, values_of}
 use Rattle.field_lines.proofs.SplitLemmas.{numbered-ended}

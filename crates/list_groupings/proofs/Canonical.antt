@@ -12,7 +12,7 @@ use Rattle.grouping_laws.proofs.Places.{has_member}
 use Rattle.grouping_laws.proofs.PlaceCodes.{member_has, mapped_has, has_mapped}
 use Rattle.certificate_laws.proofs.Kept.{head_before, tail_pairs, cons_pairs}
 use Rattle.list_laws.specs.AllBest.{HasSet, SameSets, AreAllBest}
-use Rattle.list_groupings.specs.InOrder.{IsLesserSet, IsLesserList, IsInOrder, AreInOrder}
+use Rattle.list_groupings.specs.ListOrder.{IsLesserSet, IsLesserList, IsInOrder, AreInOrder}
 
 -- two lists in one strict order that have the same elements are the same
 pub same_sorted : {X : Type 0} (R : X → X → Type 0) → ((x y : X) → R x y → R y x → ⊥) → (xs ys : List X) → AllPairs R xs → AllPairs R ys → ((x : X) → Has xs x → Has ys x) → ((x : X) → Has ys x → Has xs x) → xs ≡ ys

@@ -8,7 +8,7 @@ use Rattle.certificate_data.specs.Tree.{Leaf, Tree, leaf, branch, Takes, no_take
 use Rattle.certificate_laws.specs.Proving.{limit_of}
 use Rattle.checker_laws.specs.Lines.{tree_lines, takes_lines}
 use Rattle.list_laws.specs.Ends.{leaf_ends}
-use Rattle.list_laws.specs.Complete.{IsFilled, IsCompleteLeaf, IsComplete, EachIsComplete}
+use Rattle.list_laws.specs.Completeness.{IsFilled, IsCompleteLeaf, IsComplete, EachIsComplete}
 use Rattle.list_laws.proofs.LeafEnds.{complete_filled, filled_complete, end_or_none}
 use Rattle.list_groupings.specs.declared.gap.Gap.{Gap}
 use Rattle.list_groupings.specs.declared.gap.Gap.TheVariants.{CountiesLeft, SeatsOff}

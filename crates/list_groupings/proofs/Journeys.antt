@@ -4,7 +4,7 @@ use Rattle.certificate_data.specs.Round.{Round}
 use Rattle.certificate_laws.specs.State.{State}
 use Rattle.certificate_data.specs.Tree.{Tree, Takes}
 use Rattle.checker_laws.specs.Lines.{tree_lines, takes_lines}
-use Rattle.list_laws.specs.Complete.{IsComplete, EachIsComplete}
+use Rattle.list_laws.specs.Completeness.{IsComplete, EachIsComplete}
 use Rattle.list_laws.specs.Ends.{ends, ends_in}
 use Rattle.list_groupings.specs.declared.walk.Found.{Found}
 use Rattle.list_groupings.specs.Gaps.{IsFirstGap, IsFirstGapIn}

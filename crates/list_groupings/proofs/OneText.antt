@@ -4,10 +4,10 @@ use Rattle.grouping_laws.specs.Problem.{Problem}
 use Rattle.grouping_laws.specs.Grouping.{Grouping}
 use Rattle.county_problem.specs.ProblemValue.{ProblemValue, problem_of}
 use Rattle.list_laws.specs.AllBest.{AreAllBest}
-use Rattle.list_groupings.specs.InOrder.{AreInOrder}
+use Rattle.list_groupings.specs.ListOrder.{AreInOrder}
 use Rattle.list_groupings.specs.declared.listing.Listing.{Listing}
 use Rattle.list_groupings.specs.declared.listing.Listing.TheVariants.{All, Open, Impossible, No, Budget}
-use Rattle.list_groupings.specs.Answered.{ListsAllBest}
+use Rattle.list_groupings.specs.Answers.{ListsAllBest}
 use Rattle.list_groupings.specs.Walking.{sets_held}
 use Rattle.list_groupings.proofs.Canonical.{lists_same}
 use Rattle.list_report.specs.Listing.{sets_text, listing_text}

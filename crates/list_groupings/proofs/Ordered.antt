@@ -21,7 +21,7 @@ use Rattle.search_ends.proofs.Moving.{has_moved, has_back}
 use Rattle.list_laws.specs.AllBest.{SameSets, AreAllBest}
 use Rattle.list_laws.proofs.Same.{same_self}
 use Rattle.list_groupings.specs.Keys.{set_order}
-use Rattle.list_groupings.specs.InOrder.{IsLesserSet, IsLesserList, IsInOrder, AreInOrder}
+use Rattle.list_groupings.specs.ListOrder.{IsLesserSet, IsLesserList, IsInOrder, AreInOrder}
 use Rattle.list_groupings.specs.Walking.{sets_held}
 use Rattle.list_groupings.proofs.Canonical.{same_in_order}
 

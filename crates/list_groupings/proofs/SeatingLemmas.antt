@@ -18,14 +18,14 @@ use Rattle.place_laws.proofs.Sums.{total-map, total_alike, often_some, often_non
 use Rattle.place_laws.proofs.PlaceSets.{often_tested}
 use Rattle.connected_laws.proofs.Distinct.{distinct_from_pairs}
 use Rattle.connected_laws.proofs.Sorting.{sorted_before}
-use Rattle.county_problem.specs.Allot.{SuitEach}
-use Rattle.search_ends.specs.Finished.{CoverOnce, CanSeat}
+use Rattle.county_problem.specs.Allotting.{SuitEach}
+use Rattle.search_ends.specs.FinishedStates.{CoverOnce, CanSeat}
 use Rattle.search_ends.proofs.Moving.{has_moved, has_back, total_moved}
 use Rattle.search_ends.proofs.Covering.{total_covered, all_differ}
 use Rattle.search_ends.proofs.Finishing.{seats_moved}
 use Rattle.list_laws.specs.AllBest.{HasSet, SameSets}
 use Rattle.list_groupings.specs.Keys.{set_order}
-use Rattle.list_groupings.specs.InOrder.{IsInOrder}
+use Rattle.list_groupings.specs.ListOrder.{IsInOrder}
 
 -- seats that suit the people suit the sets
 pub suit_sets : (p : Problem) (sets : List (List ℕ)) (ks : List ℕ) → SuitEach p (map (people_of p) sets) ks → SuitAll p sets ks

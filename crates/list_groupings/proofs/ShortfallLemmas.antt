@@ -18,11 +18,11 @@ use Rattle.certificate_data.specs.declared.allowance.Allowance.TheVariants.{Weig
 use Rattle.certificate_data.specs.TreeValue.{allowance_of}
 use Rattle.certificate_data.proofs.TreeLists.{allowance_again}
 use Rattle.certificate_data.proofs.ListLaws.{taken_more}
-use Rattle.state_judge.specs.Allowed.{AllowanceIsSpelled}
+use Rattle.state_judge.specs.AllowanceVerdicts.{AllowanceIsSpelled}
 use Rattle.state_judge.specs.Weights.{county_weight}
-use Rattle.certificate_checker.specs.Readable.{AllowancesAreSpelled}
+use Rattle.certificate_checker.specs.ReadableTrees.{AllowancesAreSpelled}
 use Rattle.list_laws.specs.Ends.{falls_short}
-use Rattle.list_laws.specs.Told.{still_wanted}
+use Rattle.list_laws.specs.Shortfalls.{still_wanted}
 use Rattle.list_laws.proofs.Told.{told}
 
 -- one more of the groups

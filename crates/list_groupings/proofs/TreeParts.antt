@@ -14,7 +14,7 @@ use Rattle.certificate_data.specs.Tree.{Tree, leaf, branch, Takes, no_take, take
 use Rattle.certificate_laws.specs.Proving.{limit_of}
 use Rattle.certificate_laws.proofs.Branches.{branch_keeps_state}
 use Rattle.checker_laws.specs.Lines.{tree_lines, takes_lines}
-use Rattle.list_laws.specs.Complete.{IsComplete, EachIsComplete}
+use Rattle.list_laws.specs.Completeness.{IsComplete, EachIsComplete}
 use Rattle.list_laws.specs.Ends.{ends, ends_in}
 use Rattle.county_codes.specs.declared.group.Grouping.{Grouping as GroupingHeld}
 use Rattle.list_groupings.specs.declared.walk.Found.{Found}

@@ -20,7 +20,7 @@ use Rattle.certificate_data.specs.Tree.{Allowance, leaf, bound}
 use Rattle.certificate_laws.specs.BoundLines.{Bounds, IsBound}
 use Rattle.list_laws.specs.AllBest.{SameSets}
 use Rattle.list_laws.specs.Ends.{wanted, falls_short, ends}
-use Rattle.list_laws.specs.Complete.{IsFilled, IsComplete}
+use Rattle.list_laws.specs.Completeness.{IsFilled, IsComplete}
 use Rattle.list_laws.specs.Listing.{HaveSets}
 use Rattle.list_groupings.specs.declared.gap.Gap.{Gap}
 use Rattle.list_groupings.specs.declared.position.Waiting.{Waiting}
@@ -29,7 +29,7 @@ use Rattle.list_groupings.specs.declared.walk.Found.{Found}
 use Rattle.list_groupings.specs.declared.walk.WalkStop.{WalkStop}
 use Rattle.list_groupings.specs.declared.walk.WalkStop.TheVariants as stop
 use Rattle.list_groupings.specs.Positions.{waiting, IsPosition}
-use Rattle.list_groupings.specs.InOrder.{IsInOrder}
+use Rattle.list_groupings.specs.ListOrder.{IsInOrder}
 use Rattle.list_groupings.specs.Gaps.{IsFirstGap}
 use Rattle.list_groupings.specs.Walking.{sets_held, HasAdded, HasWalked}
 

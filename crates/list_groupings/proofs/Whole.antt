@@ -6,7 +6,7 @@ use Rattle.std.specs.List.Sorted.{IsPermutation, IsSortedBy}
 use Rattle.std.proofs.lemmas.List.Sums.{count_by-le-length}
 use Rattle.county_codes.specs.Limits.{most_counties}
 use Rattle.county_codes.specs.declared.group.Grouping.{Grouping as GroupingHeld}
-use Rattle.field_lines.specs.Raw.{is_lf}
+use Rattle.field_lines.specs.RawPieces.{is_lf}
 use Rattle.county_problem.specs.CountList.{count_at}
 use Rattle.grouping_laws.specs.Problem.{Problem}
 use Rattle.grouping_laws.specs.Grouping.{Grouping, sets_of}
@@ -16,7 +16,7 @@ use Rattle.certificate_laws.specs.Certificate.{IsCertificate}
 use Rattle.certificate_laws.proofs.Branches.{branch_keeps_state}
 use Rattle.certificate_data.specs.declared.certificate.Certificate.{Certificate as CertificateHeld}
 use Rattle.certificate_data.specs.TreeValue.{Certificate, certificate_of, tree_of}
-use Rattle.certificate_text.specs.Spelled.{IsSpelling}
+use Rattle.certificate_text.specs.Spelling.{IsSpelling}
 use Rattle.certificate_checker.proofs.ReadableTexts.{readable_of_fits, limit_of_fits}
 use Rattle.certificate_text.proofs.OneSpelling.{one_value}
 use Rattle.checker_laws.specs.Verdict as said
@@ -25,15 +25,15 @@ use Rattle.checker_laws.proofs.TextVerdicts.{best}
 use Rattle.checker_laws.proofs.Spelling.{all_lines}
 use Rattle.checker_laws.specs.Lines.{window_line, tree_lines, target_lines}
 use Rattle.list_laws.specs.AllBest.{AreAllBest}
-use Rattle.list_laws.specs.Complete.{IsComplete}
+use Rattle.list_laws.specs.Completeness.{IsComplete}
 use Rattle.list_laws.specs.Ends.{wanted, ends}
 use Rattle.list_laws.specs.Listing.{HaveSets}
 use Rattle.list_laws.proofs.Certified.{complete_certificate_lists}
 use Rattle.list_groupings.specs.Keys.{set_order}
-use Rattle.list_groupings.specs.InOrder.{IsInOrder, AreInOrder}
+use Rattle.list_groupings.specs.ListOrder.{IsInOrder, AreInOrder}
 use Rattle.list_groupings.specs.Gaps.{first_gap_line}
 use Rattle.list_groupings.specs.Walking.{sets_held, HasAdded, IsProofAt}
-use Rattle.list_groupings.specs.Answered.{SpellsTarget, IsReady}
+use Rattle.list_groupings.specs.Answers.{SpellsTarget, IsReady}
 use Rattle.list_groupings.proofs.Ordered.{still_all, now_in_order}
 
 module _ (p : Problem) (text : List ℕ) (c : CertificateHeld) (target : GroupingHeld) (counted : List ℕ) (ready : IsReady p text c target counted) where

@@ -10,7 +10,7 @@ use Rattle.certificate_data.specs.Tree.{Leaf, Tree, leaf, branch, Takes, no_take
 use Rattle.certificate_laws.specs.Proving.{limit_of}
 use Rattle.checker_laws.specs.Lines.{window_line, tree_lines, takes_lines, target_lines}
 use Rattle.list_laws.specs.Ends.{leaf_ends}
-use Rattle.list_laws.specs.Complete.{IsComplete, EachIsComplete}
+use Rattle.list_laws.specs.Completeness.{IsComplete, EachIsComplete}
 use Rattle.list_groupings.specs.declared.gap.Gap.{Gap}
 use Rattle.list_groupings.specs.declared.gap.Gap.TheVariants.{CountiesLeft, SeatsOff}
 

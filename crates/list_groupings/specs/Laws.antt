@@ -6,10 +6,10 @@ use Rattle.certificate_data.specs.Round.{Round}
 use Rattle.certificate_laws.specs.State.{State}
 use Rattle.certificate_data.specs.Tree.{Tree}
 use Rattle.list_laws.specs.AllBest.{AreAllBest}
-use Rattle.list_laws.specs.Complete.{IsComplete}
+use Rattle.list_laws.specs.Completeness.{IsComplete}
 use Rattle.list_groupings.specs.declared.gap.Gap.{Gap}
 use Rattle.list_groupings.specs.Gaps.{IsFirstGap}
-use Rattle.list_groupings.specs.InOrder.{AreInOrder}
+use Rattle.list_groupings.specs.ListOrder.{AreInOrder}
 
 -- Two lists of all best groupings of a problem, both in order, have the same sets in the same order.
 abbrev pub ListsAgree : Type 0

@@ -1,8 +1,8 @@
 pub mod Gaps
-pub mod InOrder
+pub mod ListOrder
 pub mod Positions
 pub mod Keys
 pub mod Walking
-pub mod Answered
+pub mod Answers
 pub mod Laws
 pub mod ListLaws

@@ -3,10 +3,10 @@ use Rattle.std.specs.Prelude.{ℕ, ◌≡◌, List, map, Option, Some, None}
 use Rattle.grouping_laws.specs.Grouping.{Grouping}
 use Rattle.county_problem.specs.ProblemValue.{ProblemValue, problem_of}
 use Rattle.list_laws.specs.AllBest.{AreAllBest}
-use Rattle.list_groupings.specs.InOrder.{AreInOrder}
+use Rattle.list_groupings.specs.ListOrder.{AreInOrder}
 use Rattle.list_groupings.specs.declared.listing.Listing.{Listing}
 use Rattle.list_groupings.specs.declared.listing.Listing.TheVariants.{All, Open, Impossible, No, Budget}
-use Rattle.list_groupings.specs.Answered.{IsListing, ListsAllBest}
+use Rattle.list_groupings.specs.Answers.{IsListing, ListsAllBest}
 use Rattle.list_groupings.specs.Walking.{sets_held}
 use Rattle.list_report.specs.Listing.{listing_text}
 

@@ -13,8 +13,8 @@ use Rattle.county_problem.specs.ProblemValue.{problem_of}
 use Rattle.checker_laws.specs.Lines.{tree_lines, takes_lines}
 use Rattle.county_problem.specs.CountList.{count_at}
 use Rattle.certificate_laws.specs.Proving.{Proves, EachProves}
-use Rattle.certificate_checker.specs.Readable.{IsReadable, AreReadable}
-use Rattle.list_laws.specs.Complete.{IsComplete, EachIsComplete}
+use Rattle.certificate_checker.specs.ReadableTrees.{IsReadable, AreReadable}
+use Rattle.list_laws.specs.Completeness.{IsComplete, EachIsComplete}
 use Rattle.list_laws.specs.Ends.{wanted, ends, ends_in}
 use Rattle.list_laws.specs.Listing.{HaveSets}
 use Rattle.list_groupings.specs.declared.gap.Gap.{Gap}
@@ -25,7 +25,7 @@ use Rattle.list_groupings.specs.declared.walk.WalkStop.TheVariants as stop
 use Rattle.list_groupings.specs.declared.position.Position.{Position}
 use Rattle.list_groupings.specs.Positions.{IsPosition}
 use Rattle.list_groupings.specs.Gaps.{IsFirstGap, IsFirstGapIn}
-use Rattle.list_groupings.specs.InOrder.{IsInOrder}
+use Rattle.list_groupings.specs.ListOrder.{IsInOrder}
 
 -- the groups of a grouping of the code's type
 abbrev pub sets_held : GroupingHeld → Grouping

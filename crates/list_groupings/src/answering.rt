@@ -5,7 +5,7 @@ ghost use Rattle.county_problem.specs.ProblemValue.{problem_of};
 ghost use Rattle.checker_laws.specs.Lines.{window_line};
 ghost use Rattle.checker_laws.specs.Verdict as said;
 ghost use Rattle.checker_laws.specs.TextVerdict.{IsTextVerdict};
-ghost use Rattle.list_groupings.specs.Answered.{IsReady, IsListing, ListsAllBest};
+ghost use Rattle.list_groupings.specs.Answers.{IsReady, IsListing, ListsAllBest};
 
 use crate::listing::Listing;
 use crate::position::Position;

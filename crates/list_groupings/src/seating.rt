@@ -6,9 +6,9 @@ ghost use Rattle.grouping_laws.specs.Problem.{LawfulGroup, people_of};
 ghost use Rattle.grouping_laws.specs.Grouping.{Lawful, sets_of};
 ghost use Rattle.grouping_laws.specs.Ranges.{SuitAll, seated};
 ghost use Rattle.county_problem.specs.ProblemValue.{problem_of};
-ghost use Rattle.search_ends.specs.Finished.{CanSeat};
+ghost use Rattle.search_ends.specs.FinishedStates.{CanSeat};
 ghost use Rattle.list_laws.specs.AllBest.{SameSets};
-ghost use Rattle.list_groupings.specs.InOrder.{IsInOrder};
+ghost use Rattle.list_groupings.specs.ListOrder.{IsInOrder};
 
 use crate::sorting::sorted_sets;
 use county_codes::{Codes, CountyCode, Group, Grouping, has_code};

@@ -9,10 +9,10 @@ ghost use Rattle.certificate_data.specs.declared.language.Language.{Language};
 ghost use Rattle.certificate_laws.specs.State.{State};
 ghost use Rattle.certificate_laws.specs.BoundLines.{allowance as allowance_at, Bounds};
 ghost use Rattle.certificate_data.specs.TreeValue.{allowance_of};
-ghost use Rattle.state_judge.specs.Allowed.{AllowanceIsSpelled};
-ghost use Rattle.certificate_checker.specs.Readable.{AllowancesAreSpelled};
+ghost use Rattle.state_judge.specs.AllowanceVerdicts.{AllowanceIsSpelled};
+ghost use Rattle.certificate_checker.specs.ReadableTrees.{AllowancesAreSpelled};
 ghost use Rattle.list_laws.specs.Ends.{falls_short as is_short};
-ghost use Rattle.list_laws.specs.Told.{still_wanted as counties_wanted};
+ghost use Rattle.list_laws.specs.Shortfalls.{still_wanted as counties_wanted};
 ghost use Rattle.list_groupings.specs.Positions.{IsPosition};
 
 use crate::position::Position;

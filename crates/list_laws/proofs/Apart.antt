@@ -23,7 +23,7 @@ use Rattle.certificate_laws.proofs.Agreement.{one_group}
 use Rattle.certificate_laws.proofs.Kept.{head_before, tail_pairs, pairs_append}
 use Rattle.list_laws.specs.AllBest.{SameSets}
 use Rattle.list_laws.specs.Ends.{wanted, falls_short, leaf_ends, ends, ends_in}
-use Rattle.list_laws.specs.Complete.{IsComplete, EachIsComplete}
+use Rattle.list_laws.specs.Completeness.{IsComplete, EachIsComplete}
 use Rattle.list_laws.proofs.Same.{same_through}
 use Rattle.list_laws.proofs.Ending.{tree_end, take_end, below_closed, below_raised}
 

@@ -12,7 +12,7 @@ use Rattle.certificate_laws.proofs.Branches.{branch_keeps_state}
 use Rattle.certificate_laws.proofs.Kept.{head_before, tail_pairs, cons_pairs}
 use Rattle.list_laws.specs.AllBest.{HasSet, SameSets, AreAllBest, SharedGroups}
 use Rattle.list_laws.specs.Ends.{ends}
-use Rattle.list_laws.specs.Complete.{IsComplete}
+use Rattle.list_laws.specs.Completeness.{IsComplete}
 use Rattle.list_laws.specs.Listing.{ListsAll, HaveSets, CompleteCertificatesList}
 use Rattle.list_laws.proofs.Same.{find_back, same_turned, same_through}
 use Rattle.list_laws.proofs.Apart.{Differ}

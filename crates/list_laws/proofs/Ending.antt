@@ -21,7 +21,7 @@ use Rattle.certificate_laws.proofs.Agreement.{peeled, peeled_completes}
 use Rattle.certificate_laws.proofs.Branches.{branch_keeps_state}
 use Rattle.list_laws.specs.AllBest.{SameSets}
 use Rattle.list_laws.specs.Ends.{wanted, falls_short, leaf_ends, ends, ends_in}
-use Rattle.list_laws.specs.Complete.{IsFilled, IsCompleteLeaf, IsComplete, EachIsComplete}
+use Rattle.list_laws.specs.Completeness.{IsFilled, IsCompleteLeaf, IsComplete, EachIsComplete}
 use Rattle.list_laws.proofs.Filled.{agrees_from_same, same_from_agrees, counts_same, filled_lawful}
 use Rattle.list_laws.proofs.Short.{none_short}
 use Rattle.list_laws.proofs.Exact.{exact, none_above}

@@ -7,7 +7,7 @@ use Rattle.certificate_laws.specs.State.{empty_state, close}
 use Rattle.certificate_laws.specs.Examples.{path, stranding, together, plain_round, plain_tree, wide_round, lone_leaf}
 use Rattle.certificate_laws.proofs.Examples.{plain_certificate}
 use Rattle.list_laws.specs.AllBest.{AreAllBest}
-use Rattle.list_laws.specs.Complete.{IsFilled, IsComplete}
+use Rattle.list_laws.specs.Completeness.{IsFilled, IsComplete}
 use Rattle.list_laws.specs.Examples.{only_together}
 use Rattle.list_laws.proofs.Same.{same_self}
 use Rattle.list_laws.proofs.Certified.{all_best}

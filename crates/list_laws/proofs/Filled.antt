@@ -16,7 +16,7 @@ use Rattle.certificate_laws.specs.State.{State, IsState}
 use Rattle.certificate_laws.specs.Agreement.{Agrees}
 use Rattle.certificate_laws.proofs.Agreement.{peeled, peeled_completes, one_group}
 use Rattle.list_laws.specs.AllBest.{HasSet, SameSets}
-use Rattle.list_laws.specs.Complete.{IsFilled}
+use Rattle.list_laws.specs.Completeness.{IsFilled}
 use Rattle.list_laws.proofs.Same.{same_self}
 
 -- groups that no county lies in

@@ -6,7 +6,7 @@ use Rattle.certificate_data.specs.Round.{Round}
 use Rattle.certificate_laws.specs.State.{State}
 use Rattle.certificate_data.specs.Tree.{Allowance, Leaf, stuck, seats, bound}
 use Rattle.list_laws.specs.Ends.{wanted, falls_short, leaf_ends}
-use Rattle.list_laws.specs.Complete.{IsFilled, IsCompleteLeaf}
+use Rattle.list_laws.specs.Completeness.{IsFilled, IsCompleteLeaf}
 
 not_empty : (x : List (List ℕ)) → [] ≡ x ∷ [] → ⊥
 not_empty x e = cc

@@ -17,7 +17,7 @@ use Rattle.certificate_laws.specs.Regions.{listed}
 use Rattle.certificate_laws.specs.State.{State, IsState}
 use Rattle.certificate_laws.specs.Leaves.{IsOffSeats}
 use Rattle.certificate_laws.specs.Certificate.{TargetFits}
-use Rattle.list_laws.specs.Complete.{IsFilled}
+use Rattle.list_laws.specs.Completeness.{IsFilled}
 use Rattle.list_laws.specs.Level.{LevelStatesAreFilled}
 
 none_often : (c : ℕ) (xs : List ℕ) → length xs ≡ 0 → often c xs ≡ 0

@@ -28,7 +28,7 @@ use Rattle.certificate_laws.proofs.Regions.{parts_exist}
 use Rattle.certificate_laws.proofs.Branches.{branch_keeps_state}
 use Rattle.certificate_laws.proofs.Ends.{finished_state_beats}
 use Rattle.list_laws.specs.Ends.{wanted, falls_short}
-use Rattle.list_laws.specs.Complete.{IsComplete, EachIsComplete}
+use Rattle.list_laws.specs.Completeness.{IsComplete, EachIsComplete}
 use Rattle.list_laws.specs.Searching.{CompleteOutcome, CompleteSearchEnds}
 use Rattle.list_laws.proofs.Exact.{none_above}
 use Rattle.list_laws.proofs.Ending.{small}

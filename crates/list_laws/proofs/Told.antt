@@ -9,7 +9,7 @@ use Rattle.certificate_laws.specs.State.{State}
 use Rattle.certificate_data.specs.Tree.{Allowance}
 use Rattle.certificate_laws.specs.BoundLines.{allowance, Bounds}
 use Rattle.list_laws.specs.Ends.{falls_short}
-use Rattle.list_laws.specs.Told.{still_wanted, LeavesAreTold}
+use Rattle.list_laws.specs.Shortfalls.{still_wanted, LeavesAreTold}
 use Rattle.list_laws.proofs.Short.{short_here, short_behind}
 
 some_end : (lines : List Allowance) (line : Allowance) → lines ++ line ∷ [] ≡ [] → ⊥

@@ -6,7 +6,7 @@ use Rattle.certificate_data.specs.Round.{Round}
 use Rattle.certificate_laws.specs.State.{State, IsState}
 use Rattle.certificate_laws.specs.Leaves.{IsOffSeats}
 use Rattle.certificate_laws.specs.Certificate.{TargetFits}
-use Rattle.list_laws.specs.Complete.{IsFilled}
+use Rattle.list_laws.specs.Completeness.{IsFilled}
 
 pub record LevelStatesAreFilled : Type 0 where
   -- if the closed groups have the target's counts through the limit, no county is left

@@ -13,7 +13,7 @@ use Rattle.certificate_laws.specs.Proving.{Proves}
 use Rattle.certificate_laws.specs.Certificate.{TargetFits, IsCertificate}
 use Rattle.list_laws.specs.AllBest.{SameSets, AreAllBest}
 use Rattle.list_laws.specs.Ends.{ends}
-use Rattle.list_laws.specs.Complete.{IsComplete}
+use Rattle.list_laws.specs.Completeness.{IsComplete}
 
 -- The lists of sets are those of all lawful groupings that agree with the state and are not lesser than the target.
 pub record ListsAll (p : Problem) (s : State) (t : Grouping) (lists : List (List (List ℕ))) : Type 0 where

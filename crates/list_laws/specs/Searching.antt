@@ -11,7 +11,7 @@ use Rattle.certificate_laws.specs.Proving.{Proves, CanBranch}
 use Rattle.certificate_laws.specs.Groups.{AreGroupsAt}
 use Rattle.certificate_laws.specs.Certificate.{TargetFits}
 use Rattle.certificate_laws.specs.Search.{IsFound}
-use Rattle.list_laws.specs.Complete.{IsComplete}
+use Rattle.list_laws.specs.Completeness.{IsComplete}
 
 -- a complete proof tree, or a lawful grouping that agrees with the state and is greater than the target
 abbrev pub CompleteOutcome : Problem → Round → State → Type 0

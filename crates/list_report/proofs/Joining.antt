@@ -8,8 +8,8 @@ use Rattle.grouping_laws.proofs.Fill.{member_cases}
 use Rattle.grouping_laws.proofs.Parts.{member_tail}
 use Rattle.list_report.specs.Regions.{met, join, first_county, regions}
 use Rattle.list_report.specs.Places.{moved}
-use Rattle.list_report.specs.Joined.{Joined, InOneRegion, FirstIsLeast}
-use Rattle.list_report.specs.Joined.Joined.{here, along}
+use Rattle.list_report.specs.Chains.{Joined, InOneRegion, FirstIsLeast}
+use Rattle.list_report.specs.Chains.Joined.{here, along}
 use Rattle.list_report.proofs.Members.{filter_in, filter_out, map_in, map_out}
 
 -- ---- the least of codes

@@ -11,9 +11,9 @@ use Rattle.grouping_laws.proofs.Elements.{Has, has_from_contains, has_all}
 use Rattle.grouping_laws.proofs.Digits.{digit_true}
 use Rattle.grouping_laws.proofs.Sizes.{stands_some}
 use Rattle.place_laws.proofs.Sums.{often_some, digit_one}
-use Rattle.list_report.specs.Shared.{has_set, first_sets, shared_sets, unshared_sets}
+use Rattle.list_report.specs.SharedSets.{has_set, first_sets, shared_sets, unshared_sets}
 use Rattle.list_report.specs.Regions.{unshared_counties}
-use Rattle.list_report.specs.Joined.{RegionsAreJoined}
+use Rattle.list_report.specs.Chains.{RegionsAreJoined}
 use Rattle.list_report.proofs.Members.{filter_in}
 use Rattle.list_report.proofs.Joining.{regions_joined}
 

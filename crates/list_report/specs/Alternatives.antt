@@ -3,7 +3,7 @@ use Rattle.std.specs.Prelude.{ℕ, ◌+◌, ◌*◌, List, [], ◌∷◌, ◌++�
 use Rattle.std.specs.List.{list_any, list_all}
 use Rattle.grouping_laws.specs.Sets.{member}
 use Rattle.list_report.specs.declared.alternatives.Region.{Region}
-use Rattle.list_report.specs.Shared.{same_sets}
+use Rattle.list_report.specs.SharedSets.{same_sets}
 
 -- the sets of a grouping whose counties all lie in the region
 abbrev pub sets_inside : List ℕ → List (List ℕ) → List (List ℕ)

@@ -1,7 +1,7 @@
-pub mod Shared
+pub mod SharedSets
 pub mod Regions
 pub mod Places
 pub mod Alternatives
-pub mod Joined
+pub mod Chains
 pub mod Listing
 pub mod GroupPeople

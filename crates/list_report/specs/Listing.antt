@@ -10,7 +10,7 @@ use Rattle.county_codes.specs.Digits.{each_after}
 use Rattle.grouping_report.specs.FaultWords.{with_number}
 use Rattle.grouping_report.specs.Report.{head_lines, answer_line, counts_line}
 use Rattle.list_report.specs.declared.alternatives.Region.{Region}
-use Rattle.list_report.specs.Shared.{first_sets, shared_sets, unshared_sets}
+use Rattle.list_report.specs.SharedSets.{first_sets, shared_sets, unshared_sets}
 use Rattle.list_report.specs.Regions.{unshared_counties, regions}
 use Rattle.list_report.specs.Alternatives.{sets_inside, with_alternatives, number_of_alternative, product}
 

@@ -3,7 +3,7 @@
 ghost use Rattle.std.specs.Prelude.{◌≡◌, ℕ, ◌++◌, ◌==◌, ◌≤◌, List, ◌∷◌, [], length, map, filter, IfOk, OnOk};
 ghost use Rattle.std.specs.List.{list_any, list_all};
 ghost use Rattle.grouping_laws.specs.Sets.{member};
-ghost use Rattle.list_report.specs.Shared.{same_sets};
+ghost use Rattle.list_report.specs.SharedSets.{same_sets};
 ghost use Rattle.list_report.specs.Alternatives.{sets_inside, add_choice, alternatives as alternatives_in};
 ghost use Rattle.list_report.specs.Alternatives.{with_alternatives, number_of_alternative, product};
 

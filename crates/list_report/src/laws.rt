@@ -1,7 +1,7 @@
 //! Laws of what a list says: the functions do nothing, and their contracts are the laws.
 
 ghost use Rattle.list_report.specs.GroupPeople.{PeopleAreOfGroups};
-ghost use Rattle.list_report.specs.Joined.{RegionsAreJoined, FirstIsLeast};
+ghost use Rattle.list_report.specs.Chains.{RegionsAreJoined, FirstIsLeast};
 
 /// Of lawful groupings: two counties that no shared set has lie in one region exactly where a chain of sets that are
 /// not shared joins them, each having a county in common with the next. The county by which a region stands is its

@@ -2,7 +2,7 @@
 
 ghost use Rattle.std.specs.Prelude.{◌≡◌, ℕ, ◌++◌, ◌≤◌, List, length, map, IfOk, OnOk};
 ghost use Rattle.county_codes.specs.Counties.{codes_of};
-ghost use Rattle.list_report.specs.Shared.{shared_sets};
+ghost use Rattle.list_report.specs.SharedSets.{shared_sets};
 ghost use Rattle.list_report.specs.Listing.{body_text, listing_text, regions_found};
 
 use crate::alternatives::{Region, regions_with};

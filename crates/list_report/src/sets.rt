@@ -2,7 +2,7 @@
 
 ghost use Rattle.std.specs.Prelude.{◌≡◌, ◌↔◌, ℕ, IfOk, IsTrue, List, map, length};
 ghost use Rattle.grouping_laws.specs.Grouping.{sets_of};
-ghost use Rattle.list_report.specs.Shared.{same_sets};
+ghost use Rattle.list_report.specs.SharedSets.{same_sets};
 
 use county_codes::{Codes, Group, Grouping};
 use std::alloc::{AllocError, Global};

@@ -2,7 +2,7 @@
 
 ghost use Rattle.std.specs.Prelude.{◌≡◌, ℕ, ◌++◌, List, not, filter, IfOk, OnOk};
 ghost use Rattle.std.specs.List.{list_all};
-ghost use Rattle.list_report.specs.Shared.{has_set, first_sets, shared_sets, unshared_sets};
+ghost use Rattle.list_report.specs.SharedSets.{has_set, first_sets, shared_sets, unshared_sets};
 
 use crate::sets::Sets;
 use county_codes::Codes;

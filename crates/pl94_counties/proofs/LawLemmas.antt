@@ -20,7 +20,7 @@ use Rattle.pl94_counties.specs.PeopleByCode.{LineEntry, people_at_number}
 use Rattle.pl94_counties.specs.Segment.{record_on, record_rule, record_list}
 use Rattle.pl94_counties.specs.Geo.{state_digits, level_of, area_code, rule_of, is_line_of, joined, area_on}
 use Rattle.pl94_counties.specs.Areas.{found_list}
-use Rattle.pl94_counties.specs.Joined.{IsRecordLine, has_logrecno, StandsOnce, IsAreaLine, IsJoined, IsListedArea}
+use Rattle.pl94_counties.specs.JoinedLines.{IsRecordLine, has_logrecno, StandsOnce, IsAreaLine, IsJoined, IsListedArea}
 use Rattle.pl94_counties.proofs.CollectLemmas.{collected, tied_same}
 use Rattle.pl94_counties.proofs.TraceLemmas.{one_line, given_by_line, contains_head, contains_tail, contains_cases}
 

@@ -24,8 +24,8 @@ use Rattle.pl94_counties.specs.Geo.{area_on}
 use Rattle.pl94_counties.specs.PeopleByCode.{entries_on}
 use Rattle.pl94_counties.specs.Areas.{area_list, found_list}
 use Rattle.pl94_counties.specs.Counties.{county_of, block_of, county_list, block_list}
-use Rattle.pl94_counties.specs.Joined.{IsJoined}
-use Rattle.pl94_counties.specs.Listed.{AreCounties, AreBlocks}
+use Rattle.pl94_counties.specs.JoinedLines.{IsJoined}
+use Rattle.pl94_counties.specs.ListedAreas.{AreCounties, AreBlocks}
 use Rattle.pl94_counties.proofs.ListLemmas.{codes_made, listed_made}
 use Rattle.pl94_counties.proofs.LawLemmas.{from_lines, each_line}
 use Rattle.pl94_counties.proofs.OfTextLemmas.{areas_found}

@@ -1,7 +1,7 @@
 -- The faults of the county list are those that texts can have.
 use Rattle.std.proofs.Common.{◌≡◌, ◌≢◌, ℕ, Bool, true, false, List, [], ◌∷◌, ◌++◌, Option, Some, None, Result, Ok, Err, nat_lt, length, if◌then◌else◌, refl, ap, ◌∙◌, subst}
 use Rattle.std.specs.List.{slice_get, filter_map, cons_option}
-use Rattle.field_lines.specs.Raw.{RawLine, raw_lines}
+use Rattle.field_lines.specs.RawPieces.{RawLine, raw_lines}
 use Rattle.field_lines.specs.Fault.{most_lines, most_bytes}
 use Rattle.field_lines.specs.Cut.{Cut, Line, cut, fault_in}
 use Rattle.field_lines.specs.Chain.{◌>>=◌}
@@ -20,7 +20,7 @@ use Rattle.pl94_counties.specs.PeopleByCode.{LineEntry, Rule, people_at_number, 
 use Rattle.pl94_counties.specs.Segment.{record_on, record_rule, record_list, record_list_in}
 use Rattle.pl94_counties.specs.Geo.{area_code, rule_of, is_line_of, joined, area_on}
 use Rattle.pl94_counties.specs.Areas.{found_list, found_list_in, no_areas, some_areas, area_list_in, area_list}
-use Rattle.pl94_counties.specs.OfText.{IsPl94OfText}
+use Rattle.pl94_counties.specs.TextFaults.{IsPl94OfText}
 use Rattle.pl94_counties.proofs.LawLemmas.{record_of_numbers, record_in_fields, with_people, joined_of}
 
 -- what is wrong with a line is the given kind

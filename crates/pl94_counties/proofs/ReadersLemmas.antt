@@ -12,7 +12,7 @@ use Rattle.pl94_counties.specs.declared.fault.Pl94Kind.TheVariants.{TooFewFields
 use Rattle.pl94_counties.specs.declared.fault.File.{File}
 use Rattle.pl94_counties.specs.declared.fault.Pl94Fault.{Pl94Fault}
 use Rattle.pl94_counties.specs.PeopleByCode.{LineEntry, Rule, with_given, pl94_cut_fault}
-use Rattle.pl94_counties.specs.OfText.{IsPl94OfText}
+use Rattle.pl94_counties.specs.TextFaults.{IsPl94OfText}
 use Rattle.pl94_counties.specs.Readers.{is_pl94_read_fault, IsPl94Refused}
 use Rattle.pl94_counties.proofs.CollectLemmas.{collect_from}
 

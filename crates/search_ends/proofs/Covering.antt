@@ -12,7 +12,7 @@ use Rattle.grouping_laws.proofs.Places.{places_are_codes}
 use Rattle.grouping_laws.proofs.PlaceProblem.{order_once, people_codes}
 use Rattle.grouping_laws.proofs.Seated.{first_code}
 use Rattle.connected_laws.proofs.Distinct.{Distinct, distinct_pairs}
-use Rattle.search_ends.specs.Finished.{CoverOnce}
+use Rattle.search_ends.specs.FinishedStates.{CoverOnce}
 
 -- the codes of all sets
 abbrev joined : List (List ℕ) → List ℕ

@@ -23,7 +23,7 @@ use Rattle.certificate_text.specs.TreeItems.{FitsInTree}
 use Rattle.search_groups.specs.Standing.{IsLevel, NoneUpTo}
 use Rattle.search_ends.specs.GivenLeaf.{IsGivenLeaf}
 use Rattle.search_ends.specs.EmptyLines.{AreEmptyFrom, AreEmptyThrough, EndsWith}
-use Rattle.search_ends.specs.Missing.{IsMissing, MayEndAt, TargetEndsAt, AllowsFewer}
+use Rattle.search_ends.specs.MissingGroups.{IsMissing, MayEndAt, TargetEndsAt, AllowsFewer}
 use Rattle.search_ends.proofs.EmptyBounds.{empty_bounds, empty_loss}
 use Rattle.search_ends.proofs.LeafLines.{empty_lines_spelled, one_more_spelled, bound_spelled}
 

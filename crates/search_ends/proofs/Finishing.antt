@@ -18,7 +18,7 @@ use Rattle.certificate_laws.specs.Certificate.{Beats}
 use Rattle.certificate_laws.specs.Search.{FinishedBeats, IsFound}
 use Rattle.certificate_laws.proofs.Ends.{finished_state_beats}
 use Rattle.search_groups.specs.Standing.{StandsAhead}
-use Rattle.search_ends.specs.Finished.{AreFinished, CoverOnce, CanSeat}
+use Rattle.search_ends.specs.FinishedStates.{AreFinished, CoverOnce, CanSeat}
 use Rattle.search_ends.proofs.Moving.{has_moved, has_back, total_moved, moved_along}
 use Rattle.search_ends.proofs.Ahead.{no_leaf}
 

@@ -4,7 +4,7 @@ use Rattle.std.proofs.lemmas.List.{length-map, drop_more, drop_all, append_assoc
 use Rattle.std.proofs.lemmas.List.Elements.{recursion_from_All, All-append}
 use Rattle.county_codes.specs.Limits.{most_counties}
 use Rattle.county_codes.specs.declared.group.Group.{Group}
-use Rattle.certificate_lines.specs.Fits.{IsWanted}
+use Rattle.certificate_lines.specs.Fitting.{IsWanted}
 use Rattle.certificate_lines.specs.declared.item.Item.TheVariants.{Grouped}
 use Rattle.certificate_lines.specs.declared.item.Wanted.TheVariants as want
 use Rattle.grouping_laws.specs.Sets.{total}
@@ -15,7 +15,7 @@ use Rattle.grouping_laws.specs.Ranges.{seated}
 use Rattle.grouping_laws.proofs.Elements.{Has, has_all, all_from_has, has_set}
 use Rattle.state_groups.proofs.PlacedLemmas.{all_one}
 use Rattle.certificate_text.specs.TreeItems.{HasTargetLines}
-use Rattle.search_ends.specs.Finished.{CoverOnce, HasNumbers}
+use Rattle.search_ends.specs.FinishedStates.{CoverOnce, HasNumbers}
 use Rattle.search_ends.proofs.Covering.{size_covered, one_size, few_sets}
 
 -- one more set with its seats

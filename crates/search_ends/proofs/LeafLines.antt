@@ -7,7 +7,7 @@ use Rattle.certificate_data.specs.declared.language.Language.{Language}
 use Rattle.certificate_data.specs.declared.language.Language.TheVariants.{Plain, Wide}
 use Rattle.certificate_laws.specs.State.{State}
 use Rattle.certificate_data.specs.Tree.{Weight, Allowance, room, weigh, bound}
-use Rattle.certificate_lines.specs.Fits.{AreWeights}
+use Rattle.certificate_lines.specs.Fitting.{AreWeights}
 use Rattle.certificate_lines.specs.declared.item.Item.{Item}
 use Rattle.certificate_lines.specs.declared.item.Item.TheVariants.{Opens, Allows}
 use Rattle.certificate_lines.specs.declared.item.Opening.TheVariants as opening

@@ -8,9 +8,9 @@ use Rattle.grouping_laws.specs.GroupsFrom.{IsOrder}
 use Rattle.grouping_laws.specs.Places.{places_below}
 use Rattle.grouping_laws.specs.PlaceProblem.{at_places}
 use Rattle.place_laws.proofs.Sums.{total-map}
-use Rattle.county_problem.specs.Allot.{SuitEach}
-use Rattle.state_groups.specs.Placed.{codes_of_set, codes_of_sets}
-use Rattle.search_ends.specs.Finished.{CoverOnce}
+use Rattle.county_problem.specs.Allotting.{SuitEach}
+use Rattle.state_groups.specs.PlacedValues.{codes_of_set, codes_of_sets}
+use Rattle.search_ends.specs.FinishedStates.{CoverOnce}
 use Rattle.search_ends.proofs.Covering.{people_covered}
 
 -- one more of the list, with its value

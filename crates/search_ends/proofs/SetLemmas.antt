@@ -27,9 +27,9 @@ use Rattle.certificate_laws.specs.Places.{IsStateAt, in_codes}
 use Rattle.certificate_laws.proofs.Places.{places_serve}
 use Rattle.certificate_laws.proofs.PlaceStates.{states_have_codes}
 use Rattle.certificate_laws.proofs.SortedKeys.{keys_before}
-use Rattle.state_groups.specs.Placed.{state_at, codes_of_set, codes_of_sets, IsPlaced}
+use Rattle.state_groups.specs.PlacedValues.{state_at, codes_of_set, codes_of_sets, IsPlaced}
 use Rattle.state_groups.proofs.PlacedLemmas.{copied_below}
-use Rattle.search_ends.specs.Finished.{AreFinished}
+use Rattle.search_ends.specs.FinishedStates.{AreFinished}
 
 module _ {C : Type 0} (test : C → ℕ → Bool) (order : List ℕ) where
   -- the codes of sets are those at their lists of places

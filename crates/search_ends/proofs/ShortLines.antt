@@ -8,13 +8,13 @@ use Rattle.certificate_laws.specs.State.{State}
 use Rattle.certificate_data.specs.Tree.{Allowance, Leaf, bound}
 use Rattle.certificate_laws.specs.BoundLines.{allowance}
 use Rattle.list_laws.specs.Ends.{wanted, falls_short}
-use Rattle.list_laws.specs.Complete.{IsCompleteLeaf}
+use Rattle.list_laws.specs.Completeness.{IsCompleteLeaf}
 use Rattle.list_laws.proofs.Short.{short_here, short_behind}
 use Rattle.certificate_data.specs.declared.allowance.Allowance.{Allowance as AllowanceHeld}
 use Rattle.certificate_data.specs.TreeValue.{allowance_of}
 use Rattle.search_groups.specs.Standing.{IsLevel}
 use Rattle.search_ends.specs.EmptyLines.{IsEmptyLine, AreEmptyFrom, AreEmptyThrough, EndsWith}
-use Rattle.search_ends.specs.Missing.{IsMissing, TargetEndsAt, StandsLevel, AllowsFewer}
+use Rattle.search_ends.specs.MissingGroups.{IsMissing, TargetEndsAt, StandsLevel, AllowsFewer}
 use Rattle.search_ends.proofs.EmptyBounds.{none_used, empty_allows}
 
 module _ (p : Problem) (s : State) (f : ℕ → ℕ) where

@@ -20,11 +20,11 @@ use Rattle.certificate_laws.proofs.Decided.{fits_alike}
 use Rattle.certificate_data.specs.declared.weights.Weight.{Weight as WeightHeld}
 use Rattle.certificate_data.specs.declared.allowance.Allowance.TheVariants.{Weigh}
 use Rattle.certificate_data.specs.TreeValue as held
-use Rattle.state_groups.specs.Placed.{codes_of_sets}
+use Rattle.state_groups.specs.PlacedValues.{codes_of_sets}
 use Rattle.state_judge.specs.Weights.{weights_of, county_weight}
 use Rattle.state_judge.proofs.FairLines.{all_heavy, open_sum}
-use Rattle.search_groups.specs.Known.{IsKnown}
-use Rattle.search_ends.specs.Missing.{AllowsFewer}
+use Rattle.search_groups.specs.KnownGroups.{IsKnown}
+use Rattle.search_ends.specs.MissingGroups.{AllowsFewer}
 use Rattle.search_ends.specs.PlacedWeights.{placed_weight, weights_above, AreTableWeights}
 use Rattle.search_ends.proofs.PlacedWeights.{above_known, table_weights}
 use Rattle.certificate_text.proofs.ShortLines.{weights_fit}

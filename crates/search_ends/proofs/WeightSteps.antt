@@ -9,7 +9,7 @@ use Rattle.county_codes.specs.Counties.{codes_of}
 use Rattle.certificate_lines.specs.Lines.{ascend}
 use Rattle.grouping_laws.specs.Problem.{Problem, IsProblem}
 use Rattle.grouping_laws.specs.GroupsFrom.{IsOrder}
-use Rattle.certificate_lines.specs.Fits.{FitsWeight}
+use Rattle.certificate_lines.specs.Fitting.{FitsWeight}
 use Rattle.certificate_data.specs.declared.weights.Weight.{Weight}
 use Rattle.search_ends.specs.PlacedWeights.{placed_weight, weight_for, weights_above, AreTableWeights}
 use Rattle.search_ends.proofs.PlacedWeights.{above_few, above_ascend, counties_few}

@@ -15,8 +15,8 @@ use Rattle.certificate_data.specs.Round.{Round}
 use Rattle.certificate_laws.specs.State.{State}
 use Rattle.certificate_laws.specs.Search.{IsFound}
 use Rattle.certificate_text.specs.TreeItems.{HasTargetLines}
-use Rattle.state_groups.specs.Placed.{codes_of_set, codes_of_sets}
-use Rattle.search_ends.specs.Finished.{AreFinished, CoverOnce, HasNumbers}
+use Rattle.state_groups.specs.PlacedValues.{codes_of_set, codes_of_sets}
+use Rattle.search_ends.specs.FinishedStates.{AreFinished, CoverOnce, HasNumbers}
 use Rattle.search_ends.proofs.Covering.{all_differ}
 use Rattle.search_ends.proofs.Finishing.{IsEnd, cover_once, found, some_county}
 use Rattle.search_ends.proofs.SetLemmas.{codes_ordered}

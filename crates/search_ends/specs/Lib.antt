@@ -1,5 +1,5 @@
 pub mod GivenLeaf
 pub mod EmptyLines
-pub mod Missing
+pub mod MissingGroups
 pub mod PlacedWeights
-pub mod Finished
+pub mod FinishedStates

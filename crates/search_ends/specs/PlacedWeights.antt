@@ -6,7 +6,7 @@ use Rattle.grouping_laws.specs.Sets.{member}
 use Rattle.grouping_laws.specs.GroupsFrom.{place}
 use Rattle.certificate_data.specs.declared.weights.Weight.{Weight}
 use Rattle.certificate_lines.specs.Lines.{ascend}
-use Rattle.certificate_lines.specs.Fits.{FitsWeight}
+use Rattle.certificate_lines.specs.Fitting.{FitsWeight}
 
 -- what a table with a weight for each place gives to a county
 abbrev pub placed_weight : List ℕ → List ℕ → ℕ → ℕ

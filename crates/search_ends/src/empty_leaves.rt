@@ -5,12 +5,12 @@ ghost use Rattle.county_codes.specs.Limits.{most_counties};
 ghost use Rattle.county_problem.specs.ProblemValue.{problem_of};
 ghost use Rattle.certificate_data.specs.RoundValue.{round_of};
 ghost use Rattle.certificate_data.specs.TreeValue.{allowance_of, leaf_of};
-ghost use Rattle.state_groups.specs.Placed.{state_at, IsPlaced};
+ghost use Rattle.state_groups.specs.PlacedValues.{state_at, IsPlaced};
 ghost use Rattle.search_groups.specs.Standing.{StandsAhead, NoneUpTo};
-ghost use Rattle.list_laws.specs.Complete.{IsCompleteLeaf};
+ghost use Rattle.list_laws.specs.Completeness.{IsCompleteLeaf};
 ghost use Rattle.search_ends.specs.GivenLeaf.{IsGivenLeaf};
 ghost use Rattle.search_ends.specs.EmptyLines.{IsEmptyLine, AreEmptyThrough, EndsWith};
-ghost use Rattle.search_ends.specs.Missing.{StandsLevel, TargetEndsAt};
+ghost use Rattle.search_ends.specs.MissingGroups.{StandsLevel, TargetEndsAt};
 
 use crate::standing::{first_difference, groups_of_size};
 use certificate_data::{Allowance, Leaf, Round, Weights};

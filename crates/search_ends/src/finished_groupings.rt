@@ -11,7 +11,7 @@ ghost use Rattle.certificate_laws.specs.Fitting.{NoGroupFits};
 ghost use Rattle.certificate_laws.specs.Leaves.{IsStuck, IsOffSeats};
 ghost use Rattle.certificate_laws.specs.Search.{IsFound};
 ghost use Rattle.certificate_text.specs.TreeItems.{HasTargetLines};
-ghost use Rattle.state_groups.specs.Placed.{state_at, IsPlaced};
+ghost use Rattle.state_groups.specs.PlacedValues.{state_at, IsPlaced};
 ghost use Rattle.search_groups.specs.Standing.{StandsAhead};
 
 use crate::groups::seated_groups;

@@ -2,8 +2,8 @@
 
 ghost use Rattle.std.specs.Prelude.{◌≡◌, ◌≤◌, length, All, IfOk};
 ghost use Rattle.grouping_laws.specs.Ranges.{seated};
-ghost use Rattle.state_groups.specs.Placed.{codes_of_set, codes_of_sets};
-ghost use Rattle.search_ends.specs.Finished.{HasNumbers};
+ghost use Rattle.state_groups.specs.PlacedValues.{codes_of_set, codes_of_sets};
+ghost use Rattle.search_ends.specs.FinishedStates.{HasNumbers};
 
 use county_codes::Group;
 use county_problem::Ordered;

@@ -7,7 +7,8 @@
 //!
 //! If no group fits and no leaf is valid, the closed groups and the connected parts of the rest make a grouping that is
 //! greater than the target. A state is told by the places of an order, and what is said of it by codes. Any
-//! form of sets of places serves. `specs/` has the definitions: `GivenLeaf`, `EmptyLines`, `Missing` and `Finished`.
+//! form of sets of places serves. `specs/` has the definitions: `GivenLeaf`, `EmptyLines`, `MissingGroups` and
+//! `FinishedStates`.
 #![tactic(auto)]
 
 mod empty_leaves;

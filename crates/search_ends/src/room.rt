@@ -6,8 +6,8 @@ ghost use Rattle.county_problem.specs.ProblemValue.{problem_of};
 ghost use Rattle.certificate_data.specs.RoundValue.{round_of};
 ghost use Rattle.certificate_laws.specs.Fitting.{Fits};
 ghost use Rattle.certificate_data.specs.TreeValue.{leaf_of};
-ghost use Rattle.state_groups.specs.Placed.{state_at, IsPlaced};
-ghost use Rattle.list_laws.specs.Complete.{IsCompleteLeaf};
+ghost use Rattle.state_groups.specs.PlacedValues.{state_at, IsPlaced};
+ghost use Rattle.list_laws.specs.Completeness.{IsCompleteLeaf};
 ghost use Rattle.search_ends.specs.GivenLeaf.{IsGivenLeaf};
 
 use crate::empty_leaves::ending_leaf;

@@ -6,8 +6,8 @@ ghost use Rattle.grouping_laws.specs.Problem.{people_of};
 ghost use Rattle.grouping_laws.specs.Ranges.{SuitAll};
 ghost use Rattle.county_problem.specs.ProblemValue.{problem_of};
 ghost use Rattle.connected_laws.specs.Listing.{AreBelow};
-ghost use Rattle.state_groups.specs.Placed.{codes_of_set, codes_of_sets};
-ghost use Rattle.search_ends.specs.Finished.{CoverOnce, CanSeat};
+ghost use Rattle.state_groups.specs.PlacedValues.{codes_of_set, codes_of_sets};
+ghost use Rattle.search_ends.specs.FinishedStates.{CoverOnce, CanSeat};
 
 use county_problem::{Ordered, allot};
 use place_sets::CountySet;

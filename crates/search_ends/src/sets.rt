@@ -4,8 +4,8 @@ ghost use Rattle.std.specs.Prelude.{◌≢◌, AllPairs, IfOk};
 ghost use Rattle.grouping_laws.specs.GroupsFrom.{IsBefore};
 ghost use Rattle.connected_sets.specs.Graphs.{graph_problem, graph_order, graph_places, IsGraph};
 ghost use Rattle.connected_laws.specs.Listing.{AreBelow};
-ghost use Rattle.state_groups.specs.Placed.{state_at, codes_of_sets, IsPlaced};
-ghost use Rattle.search_ends.specs.Finished.{AreFinished};
+ghost use Rattle.state_groups.specs.PlacedValues.{state_at, codes_of_sets, IsPlaced};
+ghost use Rattle.search_ends.specs.FinishedStates.{AreFinished};
 
 use connected_sets::{CountyGraph, parts_of};
 use place_sets::{CountySet, copy_sets, sorted};

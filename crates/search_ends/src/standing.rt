@@ -4,9 +4,9 @@ ghost use Rattle.std.specs.Prelude.{◌≡◌, ◌≤◌, ⊤, length, MatchOpti
 ghost use Rattle.county_codes.specs.Limits.{most_counties};
 ghost use Rattle.grouping_laws.specs.Grouping.{counts, sets_of};
 ghost use Rattle.certificate_data.specs.RoundValue.{round_of};
-ghost use Rattle.state_groups.specs.Placed.{state_at, IsPlaced};
+ghost use Rattle.state_groups.specs.PlacedValues.{state_at, IsPlaced};
 ghost use Rattle.search_groups.specs.Standing.{IsLevel};
-ghost use Rattle.search_ends.specs.Missing.{DiffersAt, IsMissing};
+ghost use Rattle.search_ends.specs.MissingGroups.{DiffersAt, IsMissing};
 
 use certificate_data::Round;
 use county_codes::Grouping;

@@ -8,11 +8,11 @@ ghost use Rattle.county_problem.specs.ProblemValue.{problem_of};
 ghost use Rattle.connected_laws.specs.Listing.{AreBelow};
 ghost use Rattle.certificate_data.specs.RoundValue.{round_of};
 ghost use Rattle.certificate_data.specs.TreeValue.{leaf_of};
-ghost use Rattle.state_groups.specs.Placed.{state_at, codes_of_sets, IsPlaced};
-ghost use Rattle.search_groups.specs.Known.{IsKnown};
-ghost use Rattle.list_laws.specs.Complete.{IsCompleteLeaf};
+ghost use Rattle.state_groups.specs.PlacedValues.{state_at, codes_of_sets, IsPlaced};
+ghost use Rattle.search_groups.specs.KnownGroups.{IsKnown};
+ghost use Rattle.list_laws.specs.Completeness.{IsCompleteLeaf};
 ghost use Rattle.search_ends.specs.GivenLeaf.{IsGivenLeaf};
-ghost use Rattle.search_ends.specs.Missing.{AllowsFewer};
+ghost use Rattle.search_ends.specs.MissingGroups.{AllowsFewer};
 ghost use Rattle.search_ends.specs.PlacedWeights.{placed_weight, AreTableWeights};
 
 use crate::empty_leaves::ending_leaf;

@@ -6,8 +6,8 @@ ghost use Rattle.connected_sets.specs.Graphs.{graph_problem, graph_order, graph_
 ghost use Rattle.certificate_data.specs.RoundValue.{round_of};
 ghost use Rattle.certificate_laws.specs.Leaves.{IsStuck, IsOffSeats};
 ghost use Rattle.certificate_data.specs.TreeValue.{leaf_of};
-ghost use Rattle.state_groups.specs.Placed.{state_at, IsPlaced};
-ghost use Rattle.list_laws.specs.Complete.{IsCompleteLeaf};
+ghost use Rattle.state_groups.specs.PlacedValues.{state_at, IsPlaced};
+ghost use Rattle.list_laws.specs.Completeness.{IsCompleteLeaf};
 ghost use Rattle.search_ends.specs.GivenLeaf.{IsGivenLeaf};
 
 use crate::stuck_counties::stuck_county;

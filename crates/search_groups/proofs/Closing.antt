@@ -10,9 +10,9 @@ use Rattle.certificate_data.specs.Round.{Round}
 use Rattle.state_groups.specs.declared.state.State.{State as StateHeld}
 use Rattle.state_groups.specs.StateValue.{state_of}
 use Rattle.certificate_laws.proofs.Completion.{open_rest}
-use Rattle.state_groups.specs.Placed.{state_at, codes_of_set, IsPlaced, IsClosable}
+use Rattle.state_groups.specs.PlacedValues.{state_at, codes_of_set, IsPlaced, IsClosable}
 use Rattle.state_judge.proofs.LeafLemmas.{rest_at}
-use Rattle.search_groups.specs.Known.{IsCandidateGroup}
+use Rattle.search_groups.specs.KnownGroups.{IsCandidateGroup}
 use Rattle.search_groups.proofs.KeptSteps.{code_in, place_in}
 
 -- a set of places of the order whose codes are a candidate has a place, and all its places are in the rest

@@ -12,8 +12,8 @@ use Rattle.place_laws.specs.PlaceSets.{places_of, Meets}
 use Rattle.place_laws.proofs.PlaceSets.{places_same, member-places_of}
 use Rattle.connected_laws.specs.Listing.{AreBelow}
 use Rattle.connected_laws.proofs.PlaceLists.{placed_test, placed_below}
-use Rattle.state_groups.specs.Placed.{codes_of_set, codes_of_sets}
-use Rattle.search_groups.specs.Known.{AreThose, IsApart}
+use Rattle.state_groups.specs.PlacedValues.{codes_of_set, codes_of_sets}
+use Rattle.search_groups.specs.KnownGroups.{AreThose, IsApart}
 use Rattle.search_groups.proofs.Those.{step_in, step_out}
 
 -- whether no code of the second list stands in the first

@@ -15,7 +15,7 @@ use Rattle.certificate_laws.specs.Proving.{CanBranch, GoesInOrder}
 use Rattle.certificate_laws.proofs.Branches.{branch_keeps_state}
 use Rattle.certificate_laws.proofs.Completion.{open_rest, open_least, is_open}
 use Rattle.certificate_laws.proofs.Decided.{fits_alike}
-use Rattle.search_groups.specs.Known.{IsCandidateGroup, AreCandidates, IsKnown, AreThose, IsApart, Lacks, Has, KnownServes}
+use Rattle.search_groups.specs.KnownGroups.{IsCandidateGroup, AreCandidates, IsKnown, AreThose, IsApart, Lacks, Has, KnownServes}
 
 nothing : {X : Type 0} (x : X) → Contains [] x → ⊥
 nothing x h = has_from_contains [] x h

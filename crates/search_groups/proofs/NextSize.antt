@@ -16,7 +16,7 @@ use Rattle.certificate_laws.specs.Leaves.{IsStuck}
 use Rattle.certificate_laws.specs.Places.{IsStateAt}
 use Rattle.certificate_laws.proofs.Places.{places_serve}
 use Rattle.certificate_laws.proofs.StateLemmas.{all_below}
-use Rattle.search_groups.specs.Alone.{IsSizeToList}
+use Rattle.search_groups.specs.PartGroups.{IsSizeToList}
 
 -- a round in the wide language
 abbrev by_order : List ℕ → Round

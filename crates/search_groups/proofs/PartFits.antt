@@ -17,7 +17,7 @@ use Rattle.grouping_laws.proofs.Seated.{seated_sets, seated_has, first_code, set
 use Rattle.certificate_data.specs.declared.language.Language.TheVariants.{Wide}
 use Rattle.certificate_laws.specs.Regions.{without}
 use Rattle.certificate_laws.specs.State.{State}
-use Rattle.certificate_laws.specs.Stuck.{CannotFill}
+use Rattle.certificate_laws.specs.StuckParts.{CannotFill}
 use Rattle.certificate_laws.specs.Fitting.{Fits}
 use Rattle.certificate_laws.specs.Leaves.{IsStuck}
 use Rattle.certificate_laws.proofs.Completion.{open_rest, is_open}
@@ -25,7 +25,7 @@ use Rattle.certificate_laws.proofs.Counting.{not_longer, no_more_often}
 use Rattle.certificate_laws.proofs.WithoutGroup.{split_one, without_not, without_in}
 use Rattle.certificate_laws.proofs.Narrowing.{all_suit}
 use Rattle.certificate_laws.proofs.Regions.{parts_exist}
-use Rattle.search_groups.specs.Alone.{alone, IsSizeToList, FitsPart, PartsServe}
+use Rattle.search_groups.specs.PartGroups.{alone, IsSizeToList, FitsPart, PartsServe}
 
 -- a set that can be filled suits some seats
 suits_some : (p : Problem) → IsProblem p → (s : State) (xs : List ℕ) → (CannotFill p s xs → ⊥) → (k : ℕ) × Suits p (people_of p xs) k

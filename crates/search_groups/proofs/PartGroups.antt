@@ -26,7 +26,7 @@ use Rattle.certificate_laws.specs.Groups.{IsGroupOf, AreGroupsOf}
 use Rattle.certificate_laws.proofs.Completion.{open_rest}
 use Rattle.certificate_laws.proofs.SortedKeys.{keys_before}
 use Rattle.certificate_laws.proofs.StateLemmas.{own_places}
-use Rattle.search_groups.specs.Alone.{alone, IsSizeToList}
+use Rattle.search_groups.specs.PartGroups.{alone, IsSizeToList}
 use Rattle.search_groups.specs.PartLists.{IsPartGroup, ArePartGroups, ArePut}
 use Rattle.search_groups.proofs.PartFits.{parts_serve}
 

@@ -4,7 +4,7 @@ use Rattle.std.proofs.lemmas.List.{map-append, take_more, take_all}
 use Rattle.grouping_laws.specs.GroupsFrom.{IsBefore}
 use Rattle.grouping_laws.proofs.Elements.{Has, has_append, has_left, has_right, has_from_contains, contains_from_has}
 use Rattle.certificate_laws.proofs.Kept.{head_before, tail_pairs, cons_pairs, pairs_append}
-use Rattle.search_groups.specs.Known.{AreThose}
+use Rattle.search_groups.specs.KnownGroups.{AreThose}
 
 no_pairs : {X : Type 0} (R : X → X → Type 0) → AllPairs R []
 no_pairs R = λ i j d l m. absurd (omega (arith, m))

@@ -1,4 +1,4 @@
-pub mod Alone
-pub mod Known
+pub mod PartGroups
+pub mod KnownGroups
 pub mod PartLists
 pub mod Standing

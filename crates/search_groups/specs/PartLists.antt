@@ -8,7 +8,7 @@ use Rattle.certificate_data.specs.declared.language.Language.TheVariants.{Wide}
 use Rattle.certificate_data.specs.Round.{Round}
 use Rattle.certificate_laws.specs.State.{State}
 use Rattle.certificate_laws.specs.Groups.{AreGroupsOf}
-use Rattle.search_groups.specs.Alone.{alone, IsSizeToList, FitsPart}
+use Rattle.search_groups.specs.PartGroups.{alone, IsSizeToList, FitsPart}
 use Rattle.search_groups.specs.declared.part_lists.PartList.{PartList}
 use Rattle.search_groups.specs.declared.part_lists.PartLists.{PartLists}
 

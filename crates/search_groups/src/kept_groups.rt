@@ -8,8 +8,8 @@ ghost use Rattle.connected_sets.specs.Graphs.{graph_problem, graph_order, graph_
 ghost use Rattle.connected_laws.specs.Listing.{AreBelow};
 ghost use Rattle.certificate_laws.specs.Fitting.{IsLive};
 ghost use Rattle.connected_sets.specs.declared.stop.Stop.{Stop};
-ghost use Rattle.state_groups.specs.Placed.{state_at, codes_of_set, codes_of_sets, IsPlaced};
-ghost use Rattle.search_groups.specs.Known.{AreThose, IsApart, Lacks, Has, Tells};
+ghost use Rattle.state_groups.specs.PlacedValues.{state_at, codes_of_set, codes_of_sets, IsPlaced};
+ghost use Rattle.search_groups.specs.KnownGroups.{AreThose, IsApart, Lacks, Has, Tells};
 
 use connected_sets::{CountyGraph, Stop};
 use county_problem::{Ordered, Steps};

@@ -1,7 +1,7 @@
 //! Laws of a search: the functions do nothing, and their contracts are the laws.
 
-ghost use Rattle.search_groups.specs.Alone.{PartsServe};
-ghost use Rattle.search_groups.specs.Known.{KnownServes};
+ghost use Rattle.search_groups.specs.PartGroups.{PartsServe};
+ghost use Rattle.search_groups.specs.KnownGroups.{KnownServes};
 
 /// What a search knows of the groups of one size goes with it from size to size and from state to state, and gives
 /// the takes of a branch.

@@ -7,7 +7,7 @@ ghost use Rattle.connected_sets.specs.Graphs.{graph_places, place_problem, IsGra
 ghost use Rattle.connected_laws.specs.Listing.{AreBelow, lists_of};
 ghost use Rattle.state_groups.specs.StateValue.{state_of};
 ghost use Rattle.connected_sets.specs.declared.stop.Stop.{Stop};
-ghost use Rattle.search_groups.specs.Alone.{alone};
+ghost use Rattle.search_groups.specs.PartGroups.{alone};
 ghost use Rattle.search_groups.specs.PartLists.{IsPartList, IsListFor, ArePut, AreListsOf};
 
 use certificate_data::Language;

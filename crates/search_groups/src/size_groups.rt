@@ -12,7 +12,7 @@ ghost use Rattle.certificate_laws.specs.Fitting.{Fits};
 ghost use Rattle.certificate_laws.specs.Leaves.{IsStuck};
 ghost use Rattle.certificate_laws.specs.Groups.{AreGroupsOf};
 ghost use Rattle.connected_sets.specs.declared.stop.Stop.{Stop};
-ghost use Rattle.state_groups.specs.Placed.{state_at, codes_of_sets, IsPlaced};
+ghost use Rattle.state_groups.specs.PlacedValues.{state_at, codes_of_sets, IsPlaced};
 ghost use Rattle.search_groups.specs.PartLists.{ArePartGroups, AreNextGroups, AreListsOf};
 
 use crate::part_lists::PartLists;

@@ -4,7 +4,7 @@ use Rattle.grouping_laws.proofs.Elements.{Has, has_append}
 use Rattle.certificate_data.specs.Tree.{Tree, leaf, branch, Takes, no_take, take}
 use Rattle.board_laws.specs.Skeleton.{Skeleton, waits, proved, split, Parts, no_part, part, pieces, pieces_in, put, put_in}
 use Rattle.share_board.specs.declared.piece.Fate.{Fate}
-use Rattle.share_board.specs.Held.{Shows, ShowsAbove, PartsShowAbove}
+use Rattle.share_board.specs.HeldSkeleton.{Shows, ShowsAbove, PartsShowAbove}
 
 -- What is so of each skeleton in the list that has the number, and is so of a branch where it is so of one of its
 -- parts, is so of the whole.

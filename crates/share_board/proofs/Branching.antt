@@ -13,7 +13,7 @@ use Rattle.state_groups.specs.declared.state.State.{State as StateHeld}
 use Rattle.certificate_laws.specs.Groups.{AreGroupsAt}
 use Rattle.certificate_data.specs.Tree.{Tree, leaf, seats, Takes, no_take, take}
 use Rattle.certificate_laws.specs.Proving.{NamesLimit, CanBranch}
-use Rattle.state_groups.specs.Placed.{state_at, codes_of_set, codes_of_sets, IsPlaced}
+use Rattle.state_groups.specs.PlacedValues.{state_at, codes_of_set, codes_of_sets, IsPlaced}
 use Rattle.connected_sets.specs.declared.stop.Stop.{Stop}
 use Rattle.connected_sets.specs.declared.stop.Stop.TheVariants as search
 use Rattle.share_board.specs.OpeningStops.{opening_stop}
@@ -21,7 +21,7 @@ use Rattle.share_board.specs.declared.stop.OpeningStop.{OpeningStop}
 use Rattle.share_board.specs.declared.stop.OpeningStop.TheVariants as stop
 use Rattle.share_board.specs.Replies.{most_opening}
 use Rattle.share_board.specs.BoardValue.{IsPieceState}
-use Rattle.share_board.specs.Opened.{IsOpened, AreOpened, EachOpensWithMore, StatesAreKept, NoneIsOpen, IsBelowLine, IsHalted, AreHalted, IsOpeningStop}
+use Rattle.share_board.specs.Openings.{IsOpened, AreOpened, EachOpensWithMore, StatesAreKept, NoneIsOpen, IsBelowLine, IsHalted, AreHalted, IsOpeningStop}
 use Rattle.share_board.proofs.Onto.{takes_more, takes_all}
 use Rattle.share_board.proofs.Openings.{opened_kept, piece_opened, none_opened, more_opened, group_more, others_more, takes_more as takes_have_more, raised_more}
 use Rattle.share_board.proofs.NewPieces.{state_pushed, state_last}

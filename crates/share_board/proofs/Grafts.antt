@@ -9,7 +9,7 @@ use Rattle.certificate_data.specs.declared.tree.Take.{Take, out-Take, roll-out-T
 use Rattle.certificate_data.proofs.TreeLists.{list_onto, made_tree, made_takes}
 use Rattle.board_laws.specs.Skeleton.{Skeleton, waits, proved, split, Parts, no_part, part, both, joined, joined_parts}
 use Rattle.share_board.specs.declared.piece.Fate.{Fate}
-use Rattle.share_board.specs.Held.{Shows, ShowsAbove, PartsShowAbove}
+use Rattle.share_board.specs.HeldSkeleton.{Shows, ShowsAbove, PartsShowAbove}
 use Rattle.share_board.proofs.Onto.{made_take}
 
 -- the branch above that the skeleton begins with

@@ -8,7 +8,7 @@ use Rattle.board_laws.specs.Skeleton.{waiting}
 use Rattle.board_laws.specs.Content.{Content}
 use Rattle.share_board.specs.declared.piece.Fate.{Fate}
 use Rattle.share_board.specs.declared.board.Board.{Board}
-use Rattle.share_board.specs.Held.{is_waiting}
+use Rattle.share_board.specs.HeldSkeleton.{is_waiting}
 use Rattle.share_board.specs.BoardValue.{IsOf}
 use Rattle.share_board.specs.OpenPieces.{AreOpen, numbers}
 use Rattle.share_board.proofs.Filling.{waits_there}

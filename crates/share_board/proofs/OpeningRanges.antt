@@ -16,7 +16,7 @@ use Rattle.certificate_laws.specs.Proving.{limit_of}
 use Rattle.board_laws.specs.Skeleton.{Skeleton, waits, proved, split, Parts, no_part, part, groups_in}
 use Rattle.board_laws.specs.Content.{Opens, EachOpens}
 use Rattle.certificate_text.specs.TreeItems.{FitsInTree}
-use Rattle.share_board.specs.Spelled.{HasRanges, EachHasRanges, HasFiveDigits}
+use Rattle.share_board.specs.Spelling.{HasRanges, EachHasRanges, HasFiveDigits}
 use Rattle.share_board.proofs.OneOpening.{names_none}
 use Rattle.share_board.proofs.Spelling.{five_digits, group_is_set}
 

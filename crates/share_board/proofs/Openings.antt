@@ -14,7 +14,7 @@ use Rattle.board_laws.specs.Standing.{StandsAt, StandsIn}
 use Rattle.board_laws.specs.Content.{Opens, EachOpens}
 use Rattle.share_board.specs.Replies.{most_opening, OpensWithMore}
 use Rattle.share_board.specs.BoardValue.{IsPieceState}
-use Rattle.share_board.specs.Opened.{IsOpened, AreOpened, EachOpensWithMore}
+use Rattle.share_board.specs.Openings.{IsOpened, AreOpened, EachOpensWithMore}
 use Rattle.share_board.proofs.OneOpening.{opens_up, opens_up_in, opens_one, opens_one_in, one_county, at_limit}
 
 module _ {C : Type 0} (test : C → ℕ → Bool) (p : Problem) (round : Round) where

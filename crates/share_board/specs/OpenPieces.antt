@@ -3,7 +3,7 @@ use Rattle.std.specs.Prelude.{ℕ, ◌+◌, cond, List, [], ◌∷◌, Contains,
 use Rattle.std.specs.List.Sorted.{IsStrictlyIncreasing}
 use Rattle.board_laws.specs.Skeleton.{Skeleton, waiting}
 use Rattle.share_board.specs.declared.piece.Fate.{Fate}
-use Rattle.share_board.specs.Held.{is_waiting}
+use Rattle.share_board.specs.HeldSkeleton.{is_waiting}
 
 -- the numbers of the pieces that wait, ascending
 pub record AreOpen (skeleton : Skeleton) (found : List ℕ) : Type 0 where

@@ -4,7 +4,7 @@ ghost use Rattle.std.specs.Prelude.{◌≡◌, ℕ, ◌<◌, length, option_map,
 ghost use Rattle.board_laws.specs.Skeleton.{Skeleton, Parts, joined, joined_parts};
 ghost use Rattle.certificate_data.specs.TreeValue.{tree_of, list_of_takes};
 ghost use Rattle.certificate_data.specs.declared.tree.Branch.{out-Branch};
-ghost use Rattle.share_board.specs.Held.{ShowsAbove, PartsShowAbove, GoesForward};
+ghost use Rattle.share_board.specs.HeldSkeleton.{ShowsAbove, PartsShowAbove, GoesForward};
 
 use crate::joining::{behind, joined_tree};
 use crate::piece::Fate;

@@ -6,13 +6,13 @@ ghost use Rattle.connected_sets.specs.Graphs.{graph_order, graph_places};
 ghost use Rattle.certificate_data.specs.TreeValue.{tree_of, list_of_takes};
 ghost use Rattle.certificate_data.specs.declared.tree.Take.{roll-Take};
 ghost use Rattle.connected_sets.specs.declared.stop.Stop.{Stop};
-ghost use Rattle.state_groups.specs.Placed.{codes_of_set, IsPlaced};
+ghost use Rattle.state_groups.specs.PlacedValues.{codes_of_set, IsPlaced};
 ghost use Rattle.county_problem.specs.OrderedValue.{code_at};
 ghost use Rattle.certificate_data.specs.declared.language.Language.TheVariants.{Plain};
 ghost use Rattle.certificate_data.specs.Tree.{branch, leaf, seats};
 ghost use Rattle.share_board.specs.Replies.{most_opening};
-ghost use Rattle.share_board.specs.Opened.{IsOpened, StatesAreKept, board_problem, board_round, board_state};
-ghost use Rattle.share_board.specs.Opened.{IsOpeningInput, NoneIsOpen, IsBranching, IsBelowLine, IsHalted};
+ghost use Rattle.share_board.specs.Openings.{IsOpened, StatesAreKept, board_problem, board_round, board_state};
+ghost use Rattle.share_board.specs.Openings.{IsOpeningInput, NoneIsOpen, IsBranching, IsBelowLine, IsHalted};
 
 use crate::input::OpeningInput;
 use crate::joining::ahead;

@@ -12,7 +12,7 @@ use Rattle.certificate_data.specs.declared.language.Language.{Language}
 use Rattle.certificate_data.specs.declared.language.Language.TheVariants.{Plain, Wide}
 use Rattle.certificate_laws.specs.State.{State, open_to}
 use Rattle.certificate_laws.specs.Regions.{without}
-use Rattle.certificate_laws.specs.Stuck.{CannotFill}
+use Rattle.certificate_laws.specs.StuckParts.{CannotFill}
 use Rattle.certificate_laws.specs.Fitting.{Fits, IsKept, IsLive}
 use Rattle.certificate_laws.proofs.Decided.{leaves_are_decided}
 use Rattle.certificate_laws.proofs.WithoutGroup.{without_in}

@@ -18,7 +18,7 @@ use Rattle.certificate_laws.proofs.StateLemmas.{all_below, pushed_places}
 use Rattle.certificate_laws.proofs.Counting.{fewer_kept}
 use Rattle.certificate_laws.proofs.States.{same_state}
 use Rattle.place_laws.proofs.PlaceSets.{places_same}
-use Rattle.state_groups.specs.Placed.{IsPlaced, IsClosable}
+use Rattle.state_groups.specs.PlacedValues.{IsPlaced, IsClosable}
 
 -- two facts of an answer give a third
 pub both_ok : {X Y : Type 0} (r : Result X Y) (P Q R : X → Type 0) → ((x : X) → P x → Q x → R x) → IfOk r P → IfOk r Q → IfOk r R

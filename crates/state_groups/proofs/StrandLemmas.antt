@@ -12,7 +12,7 @@ use Rattle.connected_laws.specs.Growing.{IsExtension}
 use Rattle.certificate_data.specs.declared.language.Language.TheVariants.{Wide}
 use Rattle.certificate_laws.specs.State.{State}
 use Rattle.certificate_laws.specs.Regions.{without}
-use Rattle.certificate_laws.specs.Stuck.{CannotFill}
+use Rattle.certificate_laws.specs.StuckParts.{CannotFill}
 use Rattle.certificate_laws.proofs.Counting.{no_more_often, not_longer}
 use Rattle.certificate_laws.proofs.Regions.{part_around}
 use Rattle.state_groups.specs.Stranding.{NoneFits, IsTooSmall, StrandedPart}

@@ -17,7 +17,7 @@ use Rattle.connected_sets.proofs.PartLists.{IsParted, parted_start, parted_more,
 use Rattle.certificate_laws.specs.State.{State}
 use Rattle.certificate_laws.specs.Regions.{without}
 use Rattle.certificate_laws.specs.Fitting.{IsDead, IsLive}
-use Rattle.certificate_laws.specs.Stuck.{CannotFill}
+use Rattle.certificate_laws.specs.StuckParts.{CannotFill}
 use Rattle.certificate_laws.proofs.Decided.{cannot_either, part_same}
 use Rattle.state_groups.specs.Cut.{CutOff}
 

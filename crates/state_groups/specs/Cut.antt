@@ -4,7 +4,7 @@ use Rattle.grouping_laws.specs.Sets.{member}
 use Rattle.grouping_laws.specs.Problem.{Problem}
 use Rattle.grouping_laws.specs.Parts.{IsPart}
 use Rattle.certificate_laws.specs.State.{State}
-use Rattle.certificate_laws.specs.Stuck.{CannotFill}
+use Rattle.certificate_laws.specs.StuckParts.{CannotFill}
 
 -- a connected part of the region that has no free place, and that no groups can fill
 pub record CutOff (p : Problem) (s : State) (region free : ℕ → Bool) : Type 0 where

@@ -4,4 +4,4 @@ pub mod Stranding
 pub mod Sums
 pub mod Keeping
 pub mod People
-pub mod Placed
+pub mod PlacedValues

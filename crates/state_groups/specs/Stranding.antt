@@ -6,7 +6,7 @@ use Rattle.grouping_laws.specs.Parts.{IsPart}
 use Rattle.connected_laws.specs.Growing.{IsExtension}
 use Rattle.certificate_data.specs.declared.language.Language.{Language}
 use Rattle.certificate_laws.specs.State.{State}
-use Rattle.certificate_laws.specs.Stuck.{CannotFill}
+use Rattle.certificate_laws.specs.StuckParts.{CannotFill}
 use Rattle.certificate_laws.specs.Fitting.{Fits}
 
 -- no set that has all of a set, else only free places, fits

@@ -8,7 +8,7 @@ ghost use Rattle.connected_sets.specs.declared.stop.Stop.{Stop};
 ghost use Rattle.certificate_data.specs.RoundValue.{round_of};
 ghost use Rattle.certificate_laws.specs.Groups.{AreGroupsOf, IsSetWithin};
 ghost use Rattle.state_groups.specs.StateValue.{state_of};
-ghost use Rattle.state_groups.specs.Placed.{state_at, codes_of_sets, IsPlaced};
+ghost use Rattle.state_groups.specs.PlacedValues.{state_at, codes_of_sets, IsPlaced};
 
 use crate::lists::groups_of;
 use crate::state::State;

@@ -5,7 +5,7 @@ ghost use Rattle.county_problem.specs.ProblemValue.{problem_of};
 ghost use Rattle.county_problem.specs.OrderedValue.{at_places, code_at};
 ghost use Rattle.certificate_laws.specs.State.{empty_state, close, raise};
 ghost use Rattle.state_groups.specs.StateValue.{state_of};
-ghost use Rattle.state_groups.specs.Placed.{state_at, codes_of_set, IsPlaced, IsClosable};
+ghost use Rattle.state_groups.specs.PlacedValues.{state_at, codes_of_set, IsPlaced, IsClosable};
 
 use county_problem::Ordered;
 use place_sets::{CountySet, copy_sets};

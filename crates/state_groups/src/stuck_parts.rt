@@ -7,7 +7,7 @@ ghost use Rattle.place_laws.specs.PlaceSets.{places_of};
 ghost use Rattle.county_problem.specs.OrderedValue.{problem_at};
 ghost use Rattle.connected_sets.specs.Graphs.{graph_places, place_problem, IsGraph};
 ghost use Rattle.state_groups.specs.StateValue.{state_of};
-ghost use Rattle.certificate_laws.specs.Stuck.{CannotFill};
+ghost use Rattle.certificate_laws.specs.StuckParts.{CannotFill};
 ghost use Rattle.certificate_laws.specs.Fitting.{IsLive};
 ghost use Rattle.certificate_laws.specs.Leaves.{IsStuck};
 ghost use Rattle.state_groups.specs.Cut.{CutOff};

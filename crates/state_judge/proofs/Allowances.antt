@@ -15,7 +15,7 @@ use Rattle.certificate_laws.specs.State.{State, open_to}
 use Rattle.certificate_data.specs.Tree.{weigh}
 use Rattle.certificate_laws.specs.BoundLines.{room_at, allowance, IsFair}
 use Rattle.certificate_data.specs.declared.weights.Weight.{Weight as WeightHeld}
-use Rattle.state_groups.specs.Placed.{state_at}
+use Rattle.state_groups.specs.PlacedValues.{state_at}
 use Rattle.state_judge.specs.Weights.{weights_of, county_weight}
 
 closed_sizes : {C : Type 0} (order : List ℕ) (h : C → List ℕ) (xs : List C) (i : ℕ) → counts (map (codes_at order) (map h xs)) i ≡ total (λ x. digit (length (h x) == i)) xs

@@ -26,7 +26,7 @@ use Rattle.certificate_laws.proofs.Decided.{leaves_are_decided}
 use Rattle.certificate_data.specs.declared.weights.Weight.{Weight as WeightHeld}
 use Rattle.certificate_data.specs.TreeValue as held
 use Rattle.checker_laws.specs.Leaves.{NamesForeign, HasLightGroup}
-use Rattle.state_groups.specs.Placed.{codes_of_set, codes_of_sets}
+use Rattle.state_groups.specs.PlacedValues.{codes_of_set, codes_of_sets}
 use Rattle.state_judge.specs.Weights.{weights_of, county_weight}
 use Rattle.state_groups.proofs.OpenCounties.{open_at}
 

@@ -29,7 +29,7 @@ use Rattle.connected_sets.specs.declared.stop.Stop.TheVariants as search
 use Rattle.state_judge.specs.declared.fault.LineStop.{LineStop}
 use Rattle.state_judge.specs.declared.fault.LineStop.TheVariants as line
 use Rattle.state_judge.specs.LineStops.{line_stop}
-use Rattle.state_groups.specs.Placed.{codes_of_sets, IsClosable}
+use Rattle.state_groups.specs.PlacedValues.{codes_of_sets, IsClosable}
 
 -- images of different elements are different
 distinct_mapped : {X Y : Type 0} (f : X → Y) (xs : List X) → Distinct xs → ((x y : X) → Has xs x → Has xs y → f x ≡ f y → x ≡ y) → Distinct (map f xs)

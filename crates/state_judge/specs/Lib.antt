@@ -1,5 +1,5 @@
 pub mod CheckFaults
 pub mod LineStops
 pub mod Weights
-pub mod Allowed
+pub mod AllowanceVerdicts
 pub mod FaultWords

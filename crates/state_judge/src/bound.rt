@@ -10,11 +10,11 @@ ghost use Rattle.certificate_laws.specs.BoundLines.{room_at, allowance, IsFair};
 ghost use Rattle.certificate_data.specs.TreeValue.{allowance_of};
 ghost use Rattle.checker_laws.specs.Leaves.{IsAllowanceFault};
 ghost use Rattle.checker_laws.specs.Cost.{LineLooks};
-ghost use Rattle.state_groups.specs.Placed.{state_at, IsPlaced};
+ghost use Rattle.state_groups.specs.PlacedValues.{state_at, IsPlaced};
 ghost use Rattle.state_judge.specs.LineStops.{StopsAt};
 ghost use Rattle.state_judge.specs.declared.fault.LineStop.{LineStop};
 ghost use Rattle.state_judge.specs.Weights.{IsUnfair};
-ghost use Rattle.state_judge.specs.Allowed.{AllowanceIsSpelled, IsAllowed};
+ghost use Rattle.state_judge.specs.AllowanceVerdicts.{AllowanceIsSpelled, IsAllowed};
 
 use crate::fault::{CheckFault, LineStop};
 use crate::judging::judge_weights;

@@ -11,7 +11,7 @@ ghost use Rattle.certificate_laws.specs.Groups.{AreGroupsAt, IsSetAt};
 ghost use Rattle.certificate_laws.specs.Proving.{limit_of, NamesLimit, CanBranch};
 ghost use Rattle.checker_laws.specs.Branches.{IsBranchFault, IsNextTake, IsTakeFault};
 ghost use Rattle.checker_laws.specs.Cost.{AreSoMany};
-ghost use Rattle.state_groups.specs.Placed.{state_at, codes_of_set, codes_of_sets, IsPlaced, IsClosable};
+ghost use Rattle.state_groups.specs.PlacedValues.{state_at, codes_of_set, codes_of_sets, IsPlaced, IsClosable};
 ghost use Rattle.state_judge.specs.CheckFaults.{NamesFault};
 ghost use Rattle.state_judge.specs.LineStops.{StopsAt};
 ghost use Rattle.state_judge.specs.declared.fault.LineStop.{LineStop};

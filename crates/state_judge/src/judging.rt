@@ -12,7 +12,7 @@ ghost use Rattle.certificate_data.specs.Tree.{weigh};
 ghost use Rattle.certificate_laws.specs.BoundLines.{IsFair};
 ghost use Rattle.certificate_lines.specs.Lines.{ascend};
 ghost use Rattle.checker_laws.specs.Cost.{AreSoMany};
-ghost use Rattle.state_groups.specs.Placed.{state_at, IsPlaced};
+ghost use Rattle.state_groups.specs.PlacedValues.{state_at, IsPlaced};
 ghost use Rattle.state_judge.specs.LineStops.{StopsAt};
 ghost use Rattle.state_judge.specs.declared.fault.LineStop.{LineStop};
 ghost use Rattle.state_judge.specs.Weights.{weights_of, county_weight, IsUnfair};

@@ -1,7 +1,7 @@
 //! States of proof trees, and rounds.
 
 ghost use Rattle.std.specs.Prelude.{◌≤◌, length};
-ghost use Rattle.state_groups.specs.Placed.{IsPlaced};
+ghost use Rattle.state_groups.specs.PlacedValues.{IsPlaced};
 
 use crate::groups::show_places;
 use crate::room::room_for;

@@ -2,7 +2,7 @@ use Rattle.std.proofs.Common.{◌≡◌, ℕ, ◌+◌, List, ◌∷◌, drop, su
 use Rattle.std.proofs.lemmas.List.{drop_all}
 use Rattle.std.proofs.lemmas.Result.{IfOk-weaker}
 use Rattle.adjacency_reader.specs.declared.links.Link.{Link}
-use Rattle.adjacency_reader.specs.Adjacent.{AreLinked}
+use Rattle.adjacency_reader.specs.Adjacency.{AreLinked}
 use Rattle.adjacency_reader.proofs.PairLemmas.{drop_item}
 use Rattle.adjacency_reader.proofs.LinkLemmas.{Joined, joined_at_first, ordered_at_first, joined_after, ordered_after, at_last, linked_from, adjacent_from}
 use Rattle.adjacency_reader.proofs.linked_pairs.apply_links.Goals as goal

@@ -3,7 +3,7 @@ use Rattle.std.specs.BTreeSet.{contains}
 use Rattle.county_problem.specs.ProblemValue.{names_both}
 use Rattle.adjacency_reader.specs.Pairs.{by_codes}
 use Rattle.adjacency_reader.specs.Links.{last_sign}
-use Rattle.adjacency_reader.specs.Adjacent.{joined_by}
+use Rattle.adjacency_reader.specs.Adjacency.{joined_by}
 use Rattle.adjacency_reader.proofs.linked_pairs.apply_links.Given as goal
 
 abbrev pub invariant-loop-link : goal.invariant-loop-link

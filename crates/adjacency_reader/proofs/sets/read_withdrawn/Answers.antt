@@ -1,7 +1,7 @@
 use Rattle.field_lines.specs.Cut.{cut}
 use Rattle.field_lines.proofs.ValueLemmas.{collected}
 use Rattle.grouping_reader.specs.Faults.{code_line_fault, code_line_cut_fault}
-use Rattle.adjacency_reader.specs.Withdrawn.{set_on}
+use Rattle.adjacency_reader.specs.WithdrawnSets.{set_on}
 use Rattle.adjacency_reader.proofs.sets.read_withdrawn.Goals as goal
 
 pub loop-number-init : goal.loop-number-init

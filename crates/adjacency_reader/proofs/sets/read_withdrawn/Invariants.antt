@@ -1,7 +1,7 @@
 use Rattle.std.proofs.Common.{◌≡◌, length}
 use Rattle.field_lines.proofs.ValueLemmas.{collect_values}
 use Rattle.grouping_reader.specs.Faults.{code_line_fault, code_line_cut_fault}
-use Rattle.adjacency_reader.specs.Withdrawn.{set_on, withdrawn_list}
+use Rattle.adjacency_reader.specs.WithdrawnSets.{set_on, withdrawn_list}
 use Rattle.adjacency_reader.proofs.sets.read_withdrawn.Given as goal
 
 abbrev pub invariant-loop-number : goal.invariant-loop-number

@@ -1,10 +1,10 @@
 use Rattle.std.proofs.Common.{◌+◌, ◌-◌, ◌≡◌, ◌≤◌, ◌<◌, ◌^◌, ◌++◌, ◌∷◌, [], ℕ, List, length, map, take, drop, ap, sym, subst, ◌∙◌, arith, take_all, length-drop, length-take}
 use Rattle.std.specs.List.{filter}
 use Rattle.std.proofs.lemmas.List.{map-append}
-use Rattle.field_lines.specs.Raw.{is_lf}
+use Rattle.field_lines.specs.RawPieces.{is_lf}
 use Rattle.board_laws.specs.Content.{Event}
 use Rattle.share_board.specs.Events.{event_of}
-use Rattle.board_events.specs.Spelled.{items_of}
+use Rattle.board_events.specs.Spelling.{items_of}
 use Rattle.board_events.proofs.FrontEvents.{Passed, passed_more, passed_refused}
 use Rattle.board_events.proofs.OneList.{event_lfs}
 use Rattle.board_events.proofs.reading.events_of.Goals as goal

@@ -1,10 +1,10 @@
 use Rattle.std.proofs.Common.{◌+◌, ◌-◌, ◌<◌, ◌^◌, ◌++◌, ℕ, List, length, take, ap, sym, subst, ◌∙◌, arith}
 use Rattle.std.proofs.lemmas.Result.{err_from_is_err_and}
-use Rattle.field_lines.specs.Raw.{raw_lines}
+use Rattle.field_lines.specs.RawPieces.{raw_lines}
 use Rattle.certificate_lines.specs.Items.{items_from}
-use Rattle.board_events.specs.Behind.{StandsBehind}
+use Rattle.board_events.specs.LaterLines.{StandsBehind}
 use Rattle.share_board.specs.Events.{event_of}
-use Rattle.board_events.specs.Spelled.{wanted_by}
+use Rattle.board_events.specs.Spelling.{wanted_by}
 use Rattle.board_events.proofs.FrontEvents.{first_refused, front_text, front_spelled, behind_refused}
 use Rattle.board_events.proofs.reading.front_event.Goals as goal
 

@@ -3,7 +3,7 @@ use Rattle.county_codes.specs.declared.group.Group.{Group}
 use Rattle.std.proofs.lemmas.Result.{err_from_is_err_and}
 use Rattle.certificate_lines.specs.Items.{by_words, groups_wanted}
 use Rattle.certificate_lines.specs.Lines as line
-use Rattle.certificate_lines.specs.Reads.{ReadsItems}
+use Rattle.certificate_lines.specs.Reading.{ReadsItems}
 use Rattle.certificate_lines.specs.declared.item.Item.TheVariants as item
 use Rattle.certificate_lines.specs.declared.item.Wanted.TheVariants as want
 use Rattle.certificate_text.proofs.LoopLaws.{run_start, run_step, run_fault}

@@ -1,6 +1,6 @@
 use Rattle.std.proofs.Common.{◌≡◌, ◌-◌, length, map}
 use Rattle.certificate_lines.specs.Items.{groups_wanted}
-use Rattle.certificate_lines.specs.Reads.{ReadsItems}
+use Rattle.certificate_lines.specs.Reading.{ReadsItems}
 use Rattle.certificate_lines.specs.declared.item.Item.TheVariants as item
 use Rattle.board_events.proofs.reading.groups_at.Given as goal
 

@@ -1,6 +1,6 @@
 use Rattle.std.proofs.Common.{◌-◌, length, map, take}
 use Rattle.certificate_lines.specs.Items.{groups_wanted}
-use Rattle.certificate_lines.specs.Writes.{Wrote}
+use Rattle.certificate_lines.specs.Writing.{Wrote}
 use Rattle.certificate_lines.specs.declared.item.Item.TheVariants as item
 use Rattle.board_events.proofs.writing.push_groups.Given as goal
 

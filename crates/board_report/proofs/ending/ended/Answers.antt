@@ -2,7 +2,7 @@ use Rattle.std.proofs.Common.{◌++◌, None, Some, option_map, refl, sym, ap, �
 use Rattle.county_problem.specs.ProblemValue.{problem_of}
 use Rattle.certificate_data.specs.Round.{Round}
 use Rattle.certificate_data.specs.TreeValue.{certificate_of}
-use Rattle.board_report.specs.Shared.{left_lines}
+use Rattle.board_report.specs.BoardOutcome.{left_lines}
 use Rattle.board_report.proofs.Ends.{ended_joined, ended_left}
 use Rattle.board_report.proofs.ending.ended.Goals as goal
 

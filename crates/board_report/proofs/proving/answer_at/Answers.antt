@@ -4,11 +4,11 @@ use Rattle.grouping_laws.specs.GroupsFrom.{IsOrder}
 use Rattle.certificate_data.specs.Round.{Round}
 use Rattle.certificate_data.specs.RoundValue.{round_of}
 use Rattle.certificate_laws.specs.State.{IsState, empty_state}
-use Rattle.state_groups.specs.Placed.{state_at, IsPlaced}
+use Rattle.state_groups.specs.PlacedValues.{state_at, IsPlaced}
 use Rattle.board_laws.specs.Standing.{StandsAt}
-use Rattle.share_board.specs.Spelled.{HasFiveDigits}
+use Rattle.share_board.specs.Spelling.{HasFiveDigits}
 use Rattle.branch_bound.specs.Pieces.{IsPiece}
-use Rattle.board_report.specs.Proved.{IsStateHeld}
+use Rattle.board_report.specs.PieceAnswers.{IsStateHeld}
 use Rattle.board_report.specs.PieceText.{HasText}
 use Rattle.board_report.proofs.PieceEvents.{has_text}
 use Rattle.board_report.proofs.proving.answer_at.Goals as goal

@@ -1,7 +1,7 @@
 use Rattle.std.proofs.Common.{map, length, refl, ap, ◌∙◌}
 use Rattle.county_problem.specs.ProblemValue.{problem_of}
 use Rattle.share_board.specs.Events.{event_of}
-use Rattle.board_report.specs.Proved.{piece_budget}
+use Rattle.board_report.specs.PieceAnswers.{piece_budget}
 use Rattle.board_report.specs.Rounds.{round_by_code}
 use Rattle.board_report.proofs.FirstRounds.{as_many}
 use Rattle.board_report.proofs.Courses.{answered_so, language_so, text_so}

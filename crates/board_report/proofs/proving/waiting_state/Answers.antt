@@ -1,7 +1,7 @@
 use Rattle.std.proofs.Common.{length, ap, subst, Contains}
 use Rattle.county_problem.specs.ProblemValue.{problem_of}
 use Rattle.certificate_laws.specs.State.{empty_state}
-use Rattle.state_groups.specs.Placed.{state_at}
+use Rattle.state_groups.specs.PlacedValues.{state_at}
 use Rattle.board_laws.specs.Skeleton.{waiting}
 use Rattle.board_laws.specs.Standing.{StandsAt}
 use Rattle.share_board.specs.BoardValue.{reply_of, HandsPlaced}

@@ -4,7 +4,7 @@ use Rattle.std.proofs.lemmas.List.{length-map, length-take-le}
 use Rattle.county_problem.specs.ProblemValue.{problem_of}
 use Rattle.certificate_data.specs.RoundValue.{round_of, target_of}
 use Rattle.certificate_data.specs.TreeValue.{allowance_of}
-use Rattle.state_groups.specs.Placed.{state_at}
+use Rattle.state_groups.specs.PlacedValues.{state_at}
 use Rattle.bound_proofs.proofs.CountSteps.{first_lists}
 use Rattle.bound_proofs.proofs.bound.bounding_lines.Goals as goal
 

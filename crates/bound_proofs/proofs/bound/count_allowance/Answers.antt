@@ -3,7 +3,7 @@ use Rattle.county_problem.specs.ProblemValue.{problem_of}
 use Rattle.place_laws.specs.PlaceSets.{places_of}
 use Rattle.certificate_laws.specs.BoundLines.{room_at}
 use Rattle.certificate_data.specs.RoundValue.{round_of}
-use Rattle.state_groups.specs.Placed.{state_at}
+use Rattle.state_groups.specs.PlacedValues.{state_at}
 use Rattle.bound_proofs.specs.CountLeaves.{has_county}
 use Rattle.bound_proofs.proofs.CountWeights.{count_allowed}
 use Rattle.bound_proofs.proofs.CountedPlaces.{region_of_set, all_below, counted_tests}

@@ -4,7 +4,7 @@ use Rattle.county_codes.specs.Limits.{most_counties}
 use Rattle.grouping_laws.specs.Grouping.{counts, sets_of}
 use Rattle.county_problem.specs.ProblemValue.{problem_of}
 use Rattle.certificate_data.specs.RoundValue.{round_of}
-use Rattle.state_groups.specs.Placed.{state_at}
+use Rattle.state_groups.specs.PlacedValues.{state_at}
 use Rattle.bound_proofs.proofs.CountBounds.{reached_first, reached_next, bound_at_loss, none_at_more}
 use Rattle.bound_proofs.proofs.CountSteps.{list_here}
 use Rattle.bound_proofs.proofs.bound.lines_to_bound.Goals as goal

@@ -3,7 +3,7 @@ use Rattle.county_codes.specs.Limits.{most_counties}
 use Rattle.grouping_laws.specs.Grouping.{counts, sets_of}
 use Rattle.county_problem.specs.ProblemValue.{problem_of}
 use Rattle.certificate_data.specs.RoundValue.{round_of}
-use Rattle.state_groups.specs.Placed.{state_at}
+use Rattle.state_groups.specs.PlacedValues.{state_at}
 use Rattle.bound_proofs.proofs.CountBounds.{ReachedBy}
 use Rattle.bound_proofs.proofs.bound.lines_to_bound.Given as goal
 

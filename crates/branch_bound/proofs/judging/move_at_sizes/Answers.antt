@@ -1,7 +1,7 @@
 use Rattle.std.proofs.Common.{◌+◌, subst, refl, ◌∙◌, arith}
 use Rattle.certificate_laws.specs.Leaves.{IsStuck}
 use Rattle.certificate_laws.specs.Groups.{AreGroupsOf}
-use Rattle.state_groups.specs.Placed.{codes_of_sets}
+use Rattle.state_groups.specs.PlacedValues.{codes_of_sets}
 use Rattle.branch_bound.specs.Searching.{search_problem, search_round, search_state, IsEnd, IsBetter, IsNextSize, IsNextMove}
 use Rattle.branch_bound.proofs.Searches.{own}
 use Rattle.branch_bound.proofs.NextMoves.{sized_at}

@@ -1,7 +1,7 @@
 use Rattle.std.proofs.Common.{refl, subst}
-use Rattle.state_groups.specs.Placed.{codes_of_sets}
+use Rattle.state_groups.specs.PlacedValues.{codes_of_sets}
 use Rattle.certificate_laws.specs.Fitting.{IsLive}
-use Rattle.search_groups.specs.Known.{AreThose}
+use Rattle.search_groups.specs.KnownGroups.{AreThose}
 use Rattle.branch_bound.specs.Searching.{search_problem, search_state}
 use Rattle.branch_bound.proofs.NextMoves.{live_at}
 use Rattle.branch_bound.proofs.judging.without_dead.Goals as goal

@@ -1,7 +1,7 @@
 use Rattle.std.proofs.Common.{subst, arith}
-use Rattle.state_groups.specs.Placed.{codes_of_sets}
+use Rattle.state_groups.specs.PlacedValues.{codes_of_sets}
 use Rattle.certificate_laws.specs.Fitting.{IsLive}
-use Rattle.search_groups.specs.Known.{AreThose}
+use Rattle.search_groups.specs.KnownGroups.{AreThose}
 use Rattle.branch_bound.specs.Searching.{search_problem, search_state}
 use Rattle.branch_bound.proofs.NextMoves.{none_at, larger_fit}
 use Rattle.branch_bound.proofs.larger_groups.next_groups.Goals as goal

@@ -1,8 +1,8 @@
 use Rattle.std.proofs.Common.{subst}
 use Rattle.county_problem.specs.OrderedValue.{code_at}
-use Rattle.state_groups.specs.Placed.{codes_of_sets}
+use Rattle.state_groups.specs.PlacedValues.{codes_of_sets}
 use Rattle.certificate_laws.specs.Fitting.{IsLive}
-use Rattle.search_groups.specs.Known.{AreThose, Has}
+use Rattle.search_groups.specs.KnownGroups.{AreThose, Has}
 use Rattle.branch_bound.specs.Searching.{search_problem, search_state}
 use Rattle.branch_bound.proofs.Positions.{taken_groups}
 use Rattle.branch_bound.proofs.moves.groups_to_take.Goals as goal

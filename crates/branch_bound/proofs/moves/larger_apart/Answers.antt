@@ -1,6 +1,6 @@
 use Rattle.std.proofs.Common.{subst}
-use Rattle.state_groups.specs.Placed.{codes_of_set, codes_of_sets}
-use Rattle.search_groups.specs.Known.{AreThose, IsApart}
+use Rattle.state_groups.specs.PlacedValues.{codes_of_set, codes_of_sets}
+use Rattle.search_groups.specs.KnownGroups.{AreThose, IsApart}
 use Rattle.branch_bound.proofs.Positions.{closed_larger}
 use Rattle.branch_bound.specs.Searching.{search_state}
 use Rattle.branch_bound.proofs.moves.larger_apart.Goals as goal

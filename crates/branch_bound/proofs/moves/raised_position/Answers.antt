@@ -1,6 +1,6 @@
 use Rattle.std.proofs.Common.{refl, subst}
-use Rattle.state_groups.specs.Placed.{codes_of_sets}
-use Rattle.search_groups.specs.Known.{AreThose, Lacks}
+use Rattle.state_groups.specs.PlacedValues.{codes_of_sets}
+use Rattle.search_groups.specs.KnownGroups.{AreThose, Lacks}
 use Rattle.county_problem.specs.OrderedValue.{code_at}
 use Rattle.branch_bound.specs.Searching.{search_state}
 use Rattle.branch_bound.proofs.Positions.{raised_at}

@@ -2,8 +2,8 @@ use Rattle.branch_bound.proofs.pieces.begun.Goals as goal
 use Rattle.search_groups.proofs.KnownGroups.{known_serves}
 use Rattle.std.proofs.Common.{length, subst, sym, arith}
 use Rattle.branch_bound.specs.Searching.{search_problem, search_round, search_state}
-use Rattle.state_groups.specs.Placed.{codes_of_sets}
-use Rattle.search_groups.specs.Known.{IsKnown}
+use Rattle.state_groups.specs.PlacedValues.{codes_of_sets}
+use Rattle.search_groups.specs.KnownGroups.{IsKnown}
 use Rattle.connected_laws.specs.Listing.{AreBelow}
 
 pub returns : goal.returns

@@ -5,7 +5,7 @@ use Rattle.certificate_data.specs.TreeValue.{tree_of}
 use Rattle.certificate_data.specs.declared.tree.Tree.{roll-Tree}
 use Rattle.certificate_data.proofs.TreeLists.{list_onto}
 use Rattle.certificate_text.proofs.TreeViews.{items_of_branches}
-use Rattle.list_laws.specs.Complete.{IsComplete}
+use Rattle.list_laws.specs.Completeness.{IsComplete}
 use Rattle.certificate_laws.specs.Proving.{Proves}
 use Rattle.certificate_text.specs.TreeItems.{FitsInTree}
 use Rattle.branch_bound.specs.Searching.{search_problem, search_round, search_state, IsNextMove}

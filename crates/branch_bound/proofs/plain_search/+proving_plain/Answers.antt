@@ -1,7 +1,7 @@
 use Rattle.std.proofs.Common.{◌≡◌, All, Ok, IfOk, None, sym, ap, ◌∙◌, subst, arith}
 use Rattle.grouping_laws.proofs.Elements.{has_all}
 use Rattle.county_problem.specs.OrderedValue.{code_at}
-use Rattle.state_groups.specs.Placed.{codes_of_set, codes_of_sets, IsClosable}
+use Rattle.state_groups.specs.PlacedValues.{codes_of_set, codes_of_sets, IsClosable}
 use Rattle.certificate_laws.specs.State.{IsState, raise}
 use Rattle.certificate_laws.specs.Groups.{AreGroupsAt}
 use Rattle.certificate_laws.proofs.Branches.{branch_keeps_state}

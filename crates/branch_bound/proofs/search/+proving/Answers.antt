@@ -1,13 +1,13 @@
 use Rattle.std.proofs.Common.{◌≡◌, ◌<◌, ℕ, true, length, Ok, IfOk, Some, sym, ap, ◌∙◌, subst, arith}
 use Rattle.grouping_laws.proofs.Elements.{has_all}
 use Rattle.county_problem.specs.OrderedValue.{code_at}
-use Rattle.state_groups.specs.Placed.{codes_of_set, codes_of_sets}
+use Rattle.state_groups.specs.PlacedValues.{codes_of_set, codes_of_sets}
 use Rattle.connected_laws.specs.Listing.{AreBelow}
 use Rattle.certificate_laws.specs.Agreement.{Agrees}
 use Rattle.certificate_laws.specs.State.{raise}
 use Rattle.certificate_laws.specs.Groups.{AreGroupsAt}
 use Rattle.certificate_laws.specs.Proving.{Proves}
-use Rattle.list_laws.specs.Complete.{IsComplete}
+use Rattle.list_laws.specs.Completeness.{IsComplete}
 use Rattle.branch_bound.specs.Searching.{search_problem, search_round, search_state, IsOutcome, IsTakenGroup, IsNextMove}
 use Rattle.branch_bound.proofs.Joining.{wide_names, wide_fits}
 use Rattle.branch_bound.proofs.Positions.{choice_can}

@@ -1,12 +1,12 @@
 use Rattle.std.proofs.Common.{◌≡◌, ◌≤◌, ◌+◌, ◌*◌, ◌-◌, take}
 use Rattle.std.specs.List.{AllByRecursion}
 use Rattle.grouping_laws.specs.Grouping.{Grouping}
-use Rattle.state_groups.specs.Placed.{codes_of_sets}
+use Rattle.state_groups.specs.PlacedValues.{codes_of_sets}
 use Rattle.certificate_laws.specs.Agreement.{Agrees}
 use Rattle.certificate_data.specs.Tree.{Tree}
 use Rattle.certificate_laws.specs.Proving.{Proves}
 use Rattle.certificate_laws.specs.Certificate.{TargetFits}
-use Rattle.list_laws.specs.Complete.{IsComplete}
+use Rattle.list_laws.specs.Completeness.{IsComplete}
 use Rattle.certificate_data.proofs.TreeLists.{list_onto}
 use Rattle.certificate_text.proofs.TreeViews.{items_of_branches}
 use Rattle.certificate_text.specs.TreeItems.{FitsInTree}

@@ -1,8 +1,8 @@
 use Rattle.std.proofs.Common.{◌≤◌, All, IfOk, refl, sym, subst}
 use Rattle.std.proofs.lemmas.List.Elements.{recursion_from_All}
 use Rattle.certificate_laws.specs.State.{close}
-use Rattle.certificate_lines.specs.Fits.{IsSet}
-use Rattle.state_groups.specs.Placed.{codes_of_set}
+use Rattle.certificate_lines.specs.Fitting.{IsSet}
+use Rattle.state_groups.specs.PlacedValues.{codes_of_set}
 use Rattle.branch_bound.specs.Searching.{search_problem, search_round, IsOutcome}
 use Rattle.branch_bound.proofs.Searches.{better_closed, take_made}
 use Rattle.branch_bound.proofs.search.taken_of.Goals as goal

@@ -2,7 +2,7 @@ use Rattle.std.proofs.Common.{sym, subst, IfOk}
 use Rattle.std.specs.List.Sorted.{IsStrictlyIncreasing}
 use Rattle.county_problem.specs.ProblemValue.{problem_of}
 use Rattle.county_problem.specs.OrderedValue.{OrderedValue}
-use Rattle.branch_bound.specs.Answered.{IsSolveAnswer, HasCompleteTree}
+use Rattle.branch_bound.specs.Answers.{IsSolveAnswer, HasCompleteTree}
 use Rattle.branch_bound.specs.Solving.{IsFirst}
 use Rattle.branch_bound.proofs.solving.solve_ordered.Goals as goal
 

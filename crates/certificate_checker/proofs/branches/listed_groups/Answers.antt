@@ -1,7 +1,7 @@
 use Rattle.std.proofs.Common.{All}
 use Rattle.county_problem.specs.ProblemValue.{problem_of}
 use Rattle.certificate_data.specs.RoundValue.{round_of}
-use Rattle.state_groups.specs.Placed.{state_at, codes_of_sets, IsClosable}
+use Rattle.state_groups.specs.PlacedValues.{state_at, codes_of_sets, IsClosable}
 use Rattle.certificate_checker.specs.Feeding.{feed_at}
 use Rattle.certificate_checker.proofs.Trees.{kept_ok, branch_judged}
 use Rattle.certificate_checker.proofs.branches.listed_groups.Goals as goal

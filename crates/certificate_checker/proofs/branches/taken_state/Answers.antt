@@ -1,4 +1,4 @@
-use Rattle.state_groups.specs.Placed.{IsClosable}
+use Rattle.state_groups.specs.PlacedValues.{IsClosable}
 use Rattle.certificate_checker.proofs.Takes.{first_set}
 use Rattle.certificate_checker.proofs.branches.taken_state.Goals as goal
 

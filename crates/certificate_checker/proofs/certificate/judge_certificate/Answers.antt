@@ -4,7 +4,7 @@ use Rattle.certificate_data.specs.RoundValue.{round_of}
 use Rattle.certificate_lines.specs.declared.item.Item.TheVariants as item
 use Rattle.certificate_text.specs.Trees.{items_of_tree}
 use Rattle.checker_laws.specs.Lines.{window_line, target_lines}
-use Rattle.certificate_checker.specs.Readable.{IsReadable}
+use Rattle.certificate_checker.specs.ReadableTrees.{IsReadable}
 use Rattle.certificate_checker.specs.Feeding.{stream_of, fed_by}
 use Rattle.certificate_checker.proofs.ReadableTexts.{readable_of_fits}
 use Rattle.certificate_checker.proofs.Judged.{round_lines, unread, round_off, end_off, certificate_done}

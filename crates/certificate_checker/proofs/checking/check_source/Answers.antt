@@ -2,7 +2,7 @@ use Rattle.std.proofs.Common.{Ok, Err, IfOk, refl, sym, ◌∙◌, ap, subst}
 use Rattle.county_problem.specs.ProblemValue.{problem_of}
 use Rattle.certificate_lines.specs.ItemsLeft.{course_by}
 use Rattle.certificate_checker.specs.Feeding.{FeedValue, stream_of, fed_by, IsFed}
-use Rattle.certificate_checker.specs.Answered.{IsCheckAnswer}
+use Rattle.certificate_checker.specs.Answers.{IsCheckAnswer}
 use Rattle.certificate_checker.proofs.Answering.{AreJudged, best_found, impossible_found, fault_found, budget_found, unspelled_found, text_found}
 use Rattle.certificate_checker.proofs.checking.check_source.Goals as goal
 

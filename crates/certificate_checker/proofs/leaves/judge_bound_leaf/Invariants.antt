@@ -5,8 +5,8 @@ use Rattle.county_problem.specs.ProblemValue.{problem_of}
 use Rattle.certificate_data.specs.RoundValue.{round_of, target_of}
 use Rattle.certificate_data.specs.Tree.{Allowance as AllowanceValue}
 use Rattle.certificate_lines.specs.declared.item.Item.{Item as ItemValue}
-use Rattle.state_groups.specs.Placed.{state_at}
-use Rattle.certificate_checker.specs.Readable.{AllowancesAreSpelled}
+use Rattle.state_groups.specs.PlacedValues.{state_at}
+use Rattle.certificate_checker.specs.ReadableTrees.{AllowancesAreSpelled}
 use Rattle.certificate_checker.specs.Feeding.{stream_of, CountsSteps, FeedsThrough, ForEach, Fed}
 use Rattle.certificate_checker.specs.Judging.{line_items}
 use Rattle.certificate_checker.proofs.BoundLoop.{LinesLeft}

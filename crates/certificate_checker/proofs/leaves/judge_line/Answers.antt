@@ -1,7 +1,7 @@
 use Rattle.std.proofs.Common.{refl, ◌∙◌, arith}
 use Rattle.certificate_data.specs.RoundValue.{round_of}
 use Rattle.county_problem.specs.ProblemValue.{problem_of}
-use Rattle.state_groups.specs.Placed.{state_at}
+use Rattle.state_groups.specs.PlacedValues.{state_at}
 use Rattle.certificate_data.specs.TreeValue.{allowance_of}
 use Rattle.certificate_checker.specs.Feeding.{stream_of, fed_by}
 use Rattle.certificate_checker.proofs.Lines.{judged_small, line_judged, kept_fed}

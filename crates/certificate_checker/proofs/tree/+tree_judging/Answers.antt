@@ -2,7 +2,7 @@ use Rattle.std.proofs.Common.{◌∷◌, All, length, Ok, Err, refl, sym, ◌∙
 use Rattle.county_problem.specs.ProblemValue.{problem_of}
 use Rattle.certificate_data.specs.RoundValue.{round_of}
 use Rattle.certificate_lines.specs.Items.{taken}
-use Rattle.state_groups.specs.Placed.{state_at, codes_of_sets, IsClosable}
+use Rattle.state_groups.specs.PlacedValues.{state_at, codes_of_sets, IsClosable}
 use Rattle.certificate_laws.specs.State.{close, raise}
 use Rattle.certificate_checker.specs.Judging.{IsTakeStop, AreTakesListed}
 use Rattle.checker_laws.specs.Branches.{IsNextTake}

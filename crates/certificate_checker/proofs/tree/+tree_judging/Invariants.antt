@@ -5,8 +5,8 @@ use Rattle.certificate_data.specs.Tree.{Tree, Takes}
 use Rattle.certificate_text.specs.Trees.{items_of_tree}
 use Rattle.certificate_lines.specs.declared.item.Item.{Item as ItemValue}
 use Rattle.checker_laws.specs.Work.{Open, a_tree, some_takes}
-use Rattle.state_groups.specs.Placed.{state_at, codes_of_sets, IsPlaced, IsClosable}
-use Rattle.certificate_checker.specs.Readable.{IsReadable, AreReadable}
+use Rattle.state_groups.specs.PlacedValues.{state_at, codes_of_sets, IsPlaced, IsClosable}
+use Rattle.certificate_checker.specs.ReadableTrees.{IsReadable, AreReadable}
 use Rattle.certificate_checker.specs.Feeding.{stream_of, CountsSteps, FeedsThrough, ForEach, Fed, Reaches, items_to_mark}
 use Rattle.certificate_checker.proofs.tree.+tree_judging.Given as goal
 

@@ -2,10 +2,10 @@ use Rattle.std.proofs.Common.{◌≡◌, [], None, length, IfOk, refl, sym, ◌�
 use Rattle.county_problem.specs.ProblemValue.{problem_of}
 use Rattle.certificate_data.specs.RoundValue.{round_of}
 use Rattle.certificate_lines.specs.Courses.{Unread, tree_course}
-use Rattle.state_groups.specs.Placed.{state_at}
+use Rattle.state_groups.specs.PlacedValues.{state_at}
 use Rattle.certificate_text.specs.TreeFault.{lines_of_tree}
 use Rattle.certificate_checker.specs.Feeding.{FeedValue, feed_at}
-use Rattle.certificate_checker.specs.TreeAnswered.{IsTreeAnswer}
+use Rattle.certificate_checker.specs.TreeAnswers.{IsTreeAnswer}
 use Rattle.certificate_checker.proofs.TreeAnswering.{tree_said}
 use Rattle.certificate_checker.proofs.tree_checking.check_lines.Goals as goal
 

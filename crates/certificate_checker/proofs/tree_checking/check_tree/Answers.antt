@@ -2,8 +2,8 @@ use Rattle.std.proofs.Common.{IfOk, ◌∙◌, subst}
 use Rattle.county_problem.specs.ProblemValue.{problem_of}
 use Rattle.certificate_data.specs.RoundValue.{round_of}
 use Rattle.certificate_data.specs.TreeValue.{tree_of}
-use Rattle.state_groups.specs.Placed.{state_at}
-use Rattle.certificate_checker.specs.TreeAnswered.{IsTreeAnswer}
+use Rattle.state_groups.specs.PlacedValues.{state_at}
+use Rattle.certificate_checker.specs.TreeAnswers.{IsTreeAnswer}
 use Rattle.certificate_checker.proofs.TreeAnswering.{right_of_trees}
 use Rattle.certificate_checker.proofs.tree_checking.check_tree.Goals as goal
 

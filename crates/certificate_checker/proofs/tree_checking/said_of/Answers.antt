@@ -1,5 +1,5 @@
 use Rattle.std.proofs.Common.{Ok, refl, sym, subst}
-use Rattle.certificate_checker.specs.TreeAnswered.{IsSaid}
+use Rattle.certificate_checker.specs.TreeAnswers.{IsSaid}
 use Rattle.certificate_checker.specs.declared.verdict.TreeVerdict.TheVariants.{Proof}
 use Rattle.certificate_checker.proofs.tree_checking.said_of.Goals as goal
 

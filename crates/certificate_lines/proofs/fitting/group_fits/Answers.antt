@@ -1,7 +1,7 @@
 use Rattle.std.proofs.Common.{◌≡◌, ◌∙◌, true, sym, subst}
 use Rattle.std.specs.Prelude.{nat_le}
 use Rattle.std.proofs.lemmas.Bool.{le-leb, leb-true}
-use Rattle.certificate_lines.specs.Fits.{IsSet}
+use Rattle.certificate_lines.specs.Fitting.{IsSet}
 use Rattle.certificate_lines.proofs.fitting.group_fits.Goals as goal
 
 pub returns-then-not-are_seats : goal.returns-then-not-are_seats

@@ -1,4 +1,4 @@
-use Rattle.field_lines.specs.Raw.{RawLine}
+use Rattle.field_lines.specs.RawPieces.{RawLine}
 use Rattle.certificate_lines.proofs.StackLaws.{top_room, rest_bounded, taken_bounded}
 use Rattle.certificate_lines.proofs.items.next_at.Goals as goal
 

@@ -1,7 +1,7 @@
 use Rattle.std.proofs.Common.{◌+◌, ◌∷◌, reverse, Option, Some, Result, Ok, Err, ◌∙◌, ap, sym, subst}
 use Rattle.field_lines.specs.Piece.{raw_of}
 use Rattle.field_lines.specs.PiecesFrom.{IsRawRead}
-use Rattle.field_lines.specs.declared.raw.Piece.{Piece}
+use Rattle.field_lines.specs.declared.raw_pieces.Piece.{Piece}
 use Rattle.field_lines.specs.declared.fault.LineFault.{LineFault}
 use Rattle.certificate_lines.specs.ItemsLeft.{left_at, ReadsItem}
 use Rattle.certificate_lines.specs.declared.fault.TextFault.{TextFault}

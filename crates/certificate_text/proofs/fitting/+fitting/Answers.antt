@@ -1,8 +1,8 @@
 use Rattle.std.proofs.Common.{◌≡◌, ◌∙◌, ◌+◌, ◌-◌, ◌++◌, ◌∷◌, [], ℕ, List, take, ap, sym, subst, arith, take_all}
 use Rattle.std.specs.List.{flat_map}
 use Rattle.certificate_laws.specs.Depth.{after_raise}
-use Rattle.certificate_lines.specs.Fits.{IsSet}
-use Rattle.certificate_lines.specs.Writes.{DontFit}
+use Rattle.certificate_lines.specs.Fitting.{IsSet}
+use Rattle.certificate_lines.specs.Writing.{DontFit}
 use Rattle.certificate_data.specs.TreeValue.{tree_of, leaf_of, list_of_takes}
 use Rattle.certificate_text.specs.Trees.{leaf_items, items_of_tree, items_of_takes}
 use Rattle.certificate_text.specs.Tests.{Fitting}

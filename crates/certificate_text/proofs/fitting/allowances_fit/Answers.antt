@@ -1,5 +1,5 @@
 use Rattle.std.proofs.Common.{◌-◌, ℕ, true, false, length, refl}
-use Rattle.certificate_lines.specs.Fits.{IsWanted}
+use Rattle.certificate_lines.specs.Fitting.{IsWanted}
 use Rattle.certificate_data.specs.declared.allowance.Allowance.{Allowance}
 use Rattle.certificate_data.specs.declared.allowance.Allowance.TheVariants.{Room, Weigh}
 use Rattle.certificate_lines.specs.declared.item.Item.TheVariants as item

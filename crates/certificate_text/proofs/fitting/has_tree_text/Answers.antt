@@ -5,7 +5,7 @@ use Rattle.certificate_lines.specs.Spelling.{text_of_items}
 use Rattle.certificate_lines.specs.declared.item.Wanted.TheVariants as want
 use Rattle.certificate_data.specs.TreeValue.{tree_of}
 use Rattle.certificate_text.specs.Trees.{items_of_tree}
-use Rattle.certificate_text.specs.Spelled.{IsTreeSpelling}
+use Rattle.certificate_text.specs.Spelling.{IsTreeSpelling}
 use Rattle.certificate_text.specs.Tests.{Tests}
 use Rattle.certificate_text.proofs.FitLaws.{whole, unfit_whole}
 use Rattle.certificate_text.proofs.fitting.has_tree_text.Goals as goal

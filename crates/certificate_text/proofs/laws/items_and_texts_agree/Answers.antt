@@ -1,4 +1,4 @@
-use Rattle.field_lines.specs.Raw.{raw_lines_from}
+use Rattle.field_lines.specs.RawPieces.{raw_lines_from}
 use Rattle.certificate_text.proofs.TextBack.{items_back}
 use Rattle.certificate_lines.proofs.FitsLaws.{items_fit}
 use Rattle.certificate_lines.proofs.TextLaws.{text_ok}

@@ -8,7 +8,7 @@ use Rattle.certificate_text.specs.Trees.{leaf_items, items_of_tree}
 use Rattle.certificate_data.specs.declared.tree.Tree.{out-Tree}
 use Rattle.certificate_data.specs.declared.tree.Branch.{Branch, out-Branch}
 use Rattle.certificate_data.specs.declared.tree.Take.{Take}
-use Rattle.certificate_text.specs.Added.{branch_items, take_items}
+use Rattle.certificate_text.specs.Writing.{branch_items, take_items}
 use Rattle.certificate_text.proofs.AddedLaws.{adds_after, adds_as}
 use Rattle.certificate_text.proofs.Parts.{takes_are, tree_is}
 use Rattle.certificate_text.proofs.lines.+push_lines.Goals as goal

@@ -3,7 +3,7 @@ use Rattle.std.specs.List.{flat_map}
 use Rattle.certificate_lines.specs.declared.item.Opening.TheVariants as opening
 use Rattle.certificate_lines.specs.declared.item.Item.TheVariants as item
 use Rattle.certificate_data.specs.declared.tree.Branch.{out-Branch}
-use Rattle.certificate_text.specs.Added.{Added, branch_items, take_items}
+use Rattle.certificate_text.specs.Writing.{Added, branch_items, take_items}
 use Rattle.certificate_text.proofs.lines.+push_lines.Given as goal
 
 abbrev pub invariant-push_branch-taking : goal.invariant-push_branch-taking

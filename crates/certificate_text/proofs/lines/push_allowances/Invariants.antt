@@ -1,6 +1,6 @@
 use Rattle.std.proofs.Common.{map, take}
 use Rattle.certificate_lines.specs.declared.item.Item.TheVariants as item
-use Rattle.certificate_text.specs.Added.{Added}
+use Rattle.certificate_text.specs.Writing.{Added}
 use Rattle.certificate_text.proofs.lines.push_allowances.Given as goal
 
 abbrev pub invariant-loop-allowance : goal.invariant-loop-allowance

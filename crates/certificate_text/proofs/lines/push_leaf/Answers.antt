@@ -6,7 +6,7 @@ use Rattle.certificate_data.specs.Tree.{bound}
 use Rattle.certificate_data.specs.TreeValue.{allowance_of}
 use Rattle.certificate_text.specs.Trees.{leaf_items}
 use Rattle.certificate_text.proofs.TreeViews.{bound_items}
-use Rattle.certificate_text.specs.Added.{Added}
+use Rattle.certificate_text.specs.Writing.{Added}
 use Rattle.certificate_text.proofs.AddedLaws.{added_line, adds_after, adds_as}
 use Rattle.certificate_text.proofs.lines.push_leaf.Goals as goal
 

@@ -3,7 +3,7 @@ use Rattle.certificate_lines.specs.Items.{by_words}
 use Rattle.certificate_laws.specs.Depth.{after_raise}
 use Rattle.certificate_lines.specs.Lines as line
 use Rattle.certificate_lines.specs.Rest.{TakesTextLine}
-use Rattle.certificate_lines.specs.Reads.{ReadsItems}
+use Rattle.certificate_lines.specs.Reading.{ReadsItems}
 use Rattle.certificate_data.specs.TreeValue.{tree_of, list_of_takes}
 use Rattle.certificate_text.specs.Trees.{items_of_tree, items_of_takes}
 use Rattle.certificate_lines.specs.declared.item.Opening.{Opening}

@@ -4,10 +4,10 @@ use Rattle.std.proofs.lemmas.Result.{err_from_is_err_and}
 use Rattle.certificate_data.specs.declared.language.Language.{Language}
 use Rattle.certificate_data.specs.Tree.{Tree as TreeValue}
 use Rattle.certificate_lines.specs.Rest.{Rest}
-use Rattle.certificate_lines.specs.Reads.{ReadsItems, items_at}
+use Rattle.certificate_lines.specs.Reading.{ReadsItems, items_at}
 use Rattle.certificate_lines.specs.Spelling.{text_of_items}
-use Rattle.certificate_text.specs.Spelled.{IsTreeSpelling}
-use Rattle.certificate_lines.specs.Fits.{AllFit}
+use Rattle.certificate_text.specs.Spelling.{IsTreeSpelling}
+use Rattle.certificate_lines.specs.Fitting.{AllFit}
 use Rattle.certificate_data.specs.TreeValue.{tree_of}
 use Rattle.certificate_text.specs.Trees.{items_of_tree}
 use Rattle.certificate_lines.specs.declared.item.Item.{Item}

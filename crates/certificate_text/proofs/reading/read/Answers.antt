@@ -1,5 +1,5 @@
 use Rattle.std.proofs.Common.{[], ◌∷◌}
-use Rattle.certificate_text.specs.Spelled.{IsSpelling}
+use Rattle.certificate_text.specs.Spelling.{IsSpelling}
 use Rattle.certificate_data.specs.TreeValue.{certificate_of}
 use Rattle.certificate_text.specs.Trees.{items_of_certificate}
 use Rattle.certificate_lines.specs.declared.item.Wanted.TheVariants as want

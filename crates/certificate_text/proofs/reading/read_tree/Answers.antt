@@ -1,5 +1,5 @@
 use Rattle.std.proofs.Common.{[], ◌∷◌}
-use Rattle.certificate_text.specs.Spelled.{IsTreeSpelling}
+use Rattle.certificate_text.specs.Spelling.{IsTreeSpelling}
 use Rattle.certificate_data.specs.TreeValue.{tree_of}
 use Rattle.certificate_text.specs.Trees.{items_of_tree}
 use Rattle.certificate_lines.specs.declared.item.Wanted.TheVariants as want

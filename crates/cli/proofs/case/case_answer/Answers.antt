@@ -1,5 +1,5 @@
 use Rattle.std.proofs.Common.{◌≡◌, true, rules}
-use Rattle.field_lines.specs.Raw.{raw_lines}
+use Rattle.field_lines.specs.RawPieces.{raw_lines}
 use Rattle.cli_shelves.specs.Memory.{files_of}
 use Rattle.cli.specs.Case.{case_files, first_case_line, is_case}
 use Rattle.cli.proofs.CaseLemmas.{case_over}

@@ -1,5 +1,5 @@
 use Rattle.std.proofs.Common.{List, ℕ, [], inl, inr, refl, subst}
-use Rattle.cli_record.specs.Recorded.{IsRecord, sums_between}
+use Rattle.cli_record.specs.RunRecord.{IsRecord, sums_between}
 use Rattle.cli.specs.Delivery.{texts}
 use Rattle.cli_runs.proofs.StoreLemmas.{none_stored}
 use Rattle.cli.proofs.recording.store_composed.Goals as goal

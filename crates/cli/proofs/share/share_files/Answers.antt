@@ -2,7 +2,7 @@ use Rattle.std.proofs.Common.{◌≡◌, Option, map, subst, length}
 use Rattle.std.specs.Prelude.{Ok, Err}
 use Rattle.county_problem.specs.ProblemValue.{ProblemValue}
 use Rattle.grouping_laws.specs.Grouping.{Grouping}
-use Rattle.board_report.specs.declared.shared.Shared.{Shared}
+use Rattle.board_report.specs.declared.board_outcome.Shared.{Shared}
 use Rattle.share_board.specs.Events.{event_of}
 use Rattle.cli_words.specs.declared.words.ShareWords.{ShareWords}
 use Rattle.cli_shelves.specs.Files.{Files}

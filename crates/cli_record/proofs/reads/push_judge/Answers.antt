@@ -1,7 +1,7 @@
 use Rattle.std.proofs.Common.{map}
 use Rattle.cli_shelves.specs.Sums.{sum_value}
 use Rattle.cli_record_text.specs.declared.run.ReadFile.TheVariants as files
-use Rattle.cli_record.specs.Recorded.{read_line_of}
+use Rattle.cli_record.specs.RunRecord.{read_line_of}
 use Rattle.cli_record.specs.RecordFiles.{if_named, problem_and}
 use Rattle.cli_record.proofs.LineLemmas.{on_ok, read_on}
 use Rattle.cli_record.proofs.reads.push_judge.Goals as goal

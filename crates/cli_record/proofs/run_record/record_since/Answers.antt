@@ -1,6 +1,6 @@
 use Rattle.std.proofs.Common.{List, map, subst}
 use Rattle.cli_shelves.specs.Sums.{SumOfEvent}
-use Rattle.cli_record.specs.Recorded.{IsRecord}
+use Rattle.cli_record.specs.RunRecord.{IsRecord}
 use Rattle.cli_record.proofs.run_record.record_since.Goals as goal
 
 pub returns-in-Ok : goal.returns-in-Ok

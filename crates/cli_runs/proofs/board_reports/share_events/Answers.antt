@@ -1,7 +1,7 @@
 use Rattle.std.proofs.Common.{map}
 use Rattle.county_problem.specs.ProblemValue.{problem_of}
 use Rattle.share_board.specs.Events.{event_of}
-use Rattle.board_report.specs.Shared.{IsShared}
+use Rattle.board_report.specs.BoardOutcome.{IsShared}
 use Rattle.cli_runs.specs.BoardCourse.{depth_of}
 use Rattle.cli_runs.proofs.Boards.{no_board}
 use Rattle.cli_runs.proofs.board_reports.share_events.Goals as goal

@@ -1,7 +1,7 @@
 use Rattle.std.proofs.Common.{ℕ, List, [], refl, subst}
 use Rattle.std.proofs.lemmas.List.{append-nil}
 use Rattle.county_problem.specs.ProblemValue.{problem_of}
-use Rattle.certificate_checker.specs.Answered.{IsCheckAnswer}
+use Rattle.certificate_checker.specs.Answers.{IsCheckAnswer}
 use Rattle.cli_runs.proofs.checker_report.check_from_and_say.Goals as goal
 
 pub returns-in-Ok-say : goal.returns-in-Ok-say

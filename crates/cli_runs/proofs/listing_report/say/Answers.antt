@@ -2,7 +2,7 @@ use Rattle.std.proofs.Common.{◌≤◌, List, length, subst, sym}
 use Rattle.county_codes.specs.declared.group.Grouping.{Grouping}
 use Rattle.county_problem.specs.ProblemValue.{problem_of}
 use Rattle.list_groupings.specs.declared.listing.Listing.{Listing}
-use Rattle.list_groupings.specs.Answered.{IsListing, ListsAllBest}
+use Rattle.list_groupings.specs.Answers.{IsListing, ListsAllBest}
 use Rattle.cli_runs.proofs.Listings.{lists_one}
 use Rattle.cli_runs.proofs.listing_report.say.Goals as goal
 

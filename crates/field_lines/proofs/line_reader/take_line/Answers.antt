@@ -1,7 +1,7 @@
 use Rattle.std.proofs.Common.{◌≡◌, ◌≤◌, ap, ◌∙◌, arith}
 use Rattle.field_lines.specs.Fault.{most_lines}
 use Rattle.field_lines.specs.Cut.{line_bytes}
-use Rattle.field_lines.specs.Taken.{taken_bytes}
+use Rattle.field_lines.specs.TakenPieces.{taken_bytes}
 use Rattle.field_lines.proofs.ReadLineLemmas.{skips_blank, takes_line}
 use Rattle.field_lines.proofs.line_reader.take_line.Goals as goal
 

@@ -5,7 +5,7 @@ use Rattle.certificate_laws.specs.State.{empty_state}
 use Rattle.certificate_data.specs.TreeValue.{tree_of, certificate_of}
 use Rattle.list_groupings.specs.Gaps.{IsFirstGap, first_gap_line}
 use Rattle.checker_laws.specs.Lines.{tree_lines}
-use Rattle.list_laws.specs.Complete.{IsComplete}
+use Rattle.list_laws.specs.Completeness.{IsComplete}
 use Rattle.list_laws.specs.Ends.{ends}
 use Rattle.list_groupings.proofs.WalkLemmas.{opened}
 use Rattle.list_groupings.proofs.Whole.{begins, line_is, few_lines, listed}

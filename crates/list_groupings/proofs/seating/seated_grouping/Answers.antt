@@ -10,7 +10,7 @@ use Rattle.grouping_laws.proofs.Seated.{seated_sets}
 use Rattle.county_problem.specs.ProblemValue.{problem_of}
 use Rattle.county_problem.specs.Building.{people_in}
 use Rattle.county_problem.proofs.PeopleLemmas.{people_within}
-use Rattle.county_problem.specs.Allot.{SuitEach}
+use Rattle.county_problem.specs.Allotting.{SuitEach}
 use Rattle.search_ends.proofs.SeatLemmas.{as_many}
 use Rattle.list_laws.specs.AllBest.{SameSets}
 use Rattle.list_groupings.proofs.SeatingLemmas.{suit_sets, ascending, sets_once, all_people, seated_is_lawful, can_seat, same_sets, are_in_order, none_suit}

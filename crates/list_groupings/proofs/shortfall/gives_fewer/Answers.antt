@@ -3,7 +3,7 @@ use Rattle.grouping_laws.specs.Grouping.{counts}
 use Rattle.county_problem.specs.CountList.{count_at}
 use Rattle.certificate_laws.specs.BoundLines.{allowance}
 use Rattle.certificate_data.specs.TreeValue.{allowance_of}
-use Rattle.list_laws.specs.Told.{still_wanted}
+use Rattle.list_laws.specs.Shortfalls.{still_wanted}
 use Rattle.list_groupings.proofs.ShortfallLemmas.{fewer_allowed}
 use Rattle.list_groupings.proofs.shortfall.gives_fewer.Goals as goal
 

@@ -1,7 +1,7 @@
 use Rattle.std.proofs.Common.{◌≡◌, ◌+◌, ◌-◌, ◌*◌, ◌≤◌, List, ℕ, ap, ◌∙◌, arith}
 use Rattle.grouping_laws.specs.Grouping.{counts}
 use Rattle.county_problem.specs.CountList.{count_at}
-use Rattle.list_laws.specs.Told.{still_wanted}
+use Rattle.list_laws.specs.Shortfalls.{still_wanted}
 use Rattle.list_groupings.proofs.ShortfallLemmas.{still_more, small_product}
 use Rattle.list_groupings.proofs.shortfall.still_wanted.Goals as goal
 

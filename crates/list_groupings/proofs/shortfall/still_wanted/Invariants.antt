@@ -1,7 +1,7 @@
 use Rattle.std.proofs.Common.{◌≡◌, ◌≤◌, ◌*◌}
 use Rattle.county_problem.specs.CountList.{count_at}
 use Rattle.certificate_laws.specs.State.{State}
-use Rattle.list_laws.specs.Told.{still_wanted}
+use Rattle.list_laws.specs.Shortfalls.{still_wanted}
 use Rattle.list_groupings.proofs.shortfall.still_wanted.Given as goal
 
 abbrev pub invariant-loop-before : goal.invariant-loop-before

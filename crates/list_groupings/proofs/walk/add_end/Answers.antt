@@ -12,10 +12,10 @@ use Rattle.certificate_data.specs.RoundValue.{round_of}
 use Rattle.list_laws.specs.Ends.{wanted, falls_short}
 use Rattle.grouping_laws.specs.Grouping.{Lawful, sets_of}
 use Rattle.grouping_laws.specs.Ranges.{SuitAll}
-use Rattle.search_ends.specs.Finished.{CanSeat}
+use Rattle.search_ends.specs.FinishedStates.{CanSeat}
 use Rattle.list_laws.specs.AllBest.{SameSets}
 use Rattle.list_laws.proofs.LeafEnds.{bound_end}
-use Rattle.list_groupings.specs.InOrder.{IsInOrder}
+use Rattle.list_groupings.specs.ListOrder.{IsInOrder}
 use Rattle.list_groupings.proofs.WalkLemmas.{none_given, few_waiting, none_left, some_left, covered, bounds_of, short_of, walked_short, walked_end}
 use Rattle.list_groupings.proofs.walk.add_end.Goals as goal
 

@@ -1,7 +1,7 @@
 use Rattle.std.proofs.Common.{◌≡◌, ◌∙◌, ℕ, List, ap, subst}
 use Rattle.std.proofs.Common.{IfOk}
 use Rattle.county_codes.specs.Counties.{codes_of}
-use Rattle.list_report.specs.Shared.{unshared_sets}
+use Rattle.list_report.specs.SharedSets.{unshared_sets}
 use Rattle.list_report.specs.Regions.{unshared_counties, regions}
 use Rattle.list_report.specs.Alternatives.{with_alternatives}
 use Rattle.list_report.proofs.listings.found_regions.Goals as goal

@@ -3,7 +3,7 @@ use Rattle.grouping_report.proofs.Appends.{first, after}
 use Rattle.county_codes.specs.declared.group.Grouping.{Grouping}
 use Rattle.grouping_laws.specs.Grouping.{sets_of}
 use Rattle.grouping_report.specs.Report.{head_lines, answer_line, counts_line}
-use Rattle.list_report.specs.Shared.{first_sets}
+use Rattle.list_report.specs.SharedSets.{first_sets}
 use Rattle.list_report.specs.Listing.{body_text}
 use Rattle.list_report.proofs.listings.listing.Goals as goal
 

@@ -3,7 +3,7 @@ use Rattle.std.proofs.Common.{OnOk}
 use Rattle.grouping_report.proofs.Appends.{first, after, last}
 use Rattle.county_codes.specs.Counties.{codes_of}
 use Rattle.county_codes.specs.declared.county.County.{County}
-use Rattle.list_report.specs.Shared.{shared_sets}
+use Rattle.list_report.specs.SharedSets.{shared_sets}
 use Rattle.list_report.specs.declared.alternatives.Region.{Region}
 use Rattle.list_report.specs.Listing.{shared_text, regions_text, choices_text, regions_found}
 use Rattle.list_report.proofs.listings.push_body.Goals as goal

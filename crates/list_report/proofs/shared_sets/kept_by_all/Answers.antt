@@ -1,6 +1,6 @@
 use Rattle.std.proofs.Common.{◌≡◌, ◌++◌, ◌∷◌, [], ℕ, true, false, List, rules}
 use Rattle.std.specs.List.{list_all}
-use Rattle.list_report.specs.Shared.{has_set}
+use Rattle.list_report.specs.SharedSets.{has_set}
 use Rattle.list_report.proofs.Loops.{kept_same, left_out_same}
 use Rattle.list_report.proofs.shared_sets.kept_by_all.Goals as goal
 use Rattle.list_report.proofs.shared_sets.kept_by_all.Goals.{then-all_have+in_ok-copy+in_ok-push, else-all_have}

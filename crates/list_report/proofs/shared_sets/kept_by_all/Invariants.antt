@@ -1,6 +1,6 @@
 use Rattle.std.proofs.Common.{◌≡◌, ◌++◌, filter, drop}
 use Rattle.std.specs.List.{list_all}
-use Rattle.list_report.specs.Shared.{has_set}
+use Rattle.list_report.specs.SharedSets.{has_set}
 use Rattle.list_report.proofs.shared_sets.kept_by_all.Given as goal
 
 abbrev pub invariant-loop-set : goal.invariant-loop-set

@@ -1,5 +1,5 @@
 use Rattle.std.proofs.Common.{◌∙◌, ◌+◌, ◌++◌, ℕ, not, List, drop, filter, ap}
-use Rattle.list_report.specs.Shared.{has_set, unshared_sets}
+use Rattle.list_report.specs.SharedSets.{has_set, unshared_sets}
 use Rattle.list_report.proofs.Loops.{read, more}
 use Rattle.list_report.proofs.shared_sets.not_shared.Goals as goal
 

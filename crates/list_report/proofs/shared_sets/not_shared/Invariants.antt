@@ -1,5 +1,5 @@
 use Rattle.std.proofs.Common.{◌≡◌, ◌++◌, drop}
-use Rattle.list_report.specs.Shared.{unshared_sets}
+use Rattle.list_report.specs.SharedSets.{unshared_sets}
 use Rattle.list_report.proofs.shared_sets.not_shared.Given as goal
 
 abbrev pub invariant-loop-sets : goal.invariant-loop-sets

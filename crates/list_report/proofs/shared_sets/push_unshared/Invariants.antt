@@ -1,5 +1,5 @@
 use Rattle.std.proofs.Common.{◌≡◌, ◌++◌, not, filter, drop}
-use Rattle.list_report.specs.Shared.{has_set}
+use Rattle.list_report.specs.SharedSets.{has_set}
 use Rattle.list_report.proofs.shared_sets.push_unshared.Given as goal
 
 abbrev pub invariant-loop-set : goal.invariant-loop-set

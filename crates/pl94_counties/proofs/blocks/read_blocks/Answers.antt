@@ -5,7 +5,7 @@ use Rattle.field_lines.specs.Cut.{cut}
 use Rattle.pl94_counties.specs.declared.blocks.Block.{Block}
 use Rattle.pl94_counties.specs.declared.geo.Area.TheVariants as areas
 use Rattle.pl94_counties.specs.Counties.{block_of}
-use Rattle.pl94_counties.specs.Joined.{IsJoined, IsListedArea}
+use Rattle.pl94_counties.specs.JoinedLines.{IsJoined, IsListedArea}
 use Rattle.pl94_counties.proofs.ListLemmas.{codes_made, listed_made, blocks_small}
 use Rattle.pl94_counties.proofs.blocks.read_blocks.Goals as goal
 

@@ -9,7 +9,7 @@ use Rattle.pl94_counties.specs.declared.geo.Area.TheVariants as areas
 use Rattle.pl94_counties.specs.Counties.{county_of, county_in}
 use Rattle.pl94_counties.specs.Areas.{area_list}
 use Rattle.pl94_counties.specs.declared.fault.Pl94Fault.{Pl94Fault}
-use Rattle.pl94_counties.specs.Joined.{IsJoined, IsListedArea}
+use Rattle.pl94_counties.specs.JoinedLines.{IsJoined, IsListedArea}
 use Rattle.pl94_counties.proofs.ListLemmas.{codes_made, listed_made, counties_kept, codes_small}
 use Rattle.pl94_counties.proofs.counties.read_counties.Goals as goal
 

@@ -2,7 +2,7 @@ use Rattle.std.proofs.Common.{refl, map}
 use Rattle.county_problem.specs.ProblemValue.{problem_of}
 use Rattle.certificate_data.specs.RoundValue.{round_of}
 use Rattle.certificate_data.specs.TreeValue.{allowance_of}
-use Rattle.state_groups.specs.Placed.{state_at}
+use Rattle.state_groups.specs.PlacedValues.{state_at}
 use Rattle.search_ends.proofs.Endings.{given_empty}
 use Rattle.search_ends.proofs.ShortLines.{complete_empty}
 use Rattle.search_ends.proofs.empty_leaves.empty_leaf.Goals as goal

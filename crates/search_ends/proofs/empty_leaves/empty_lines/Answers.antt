@@ -1,6 +1,6 @@
 use Rattle.county_problem.specs.ProblemValue.{problem_of}
 use Rattle.certificate_data.specs.TreeValue.{allowance_of}
-use Rattle.state_groups.specs.Placed.{state_at}
+use Rattle.state_groups.specs.PlacedValues.{state_at}
 use Rattle.search_ends.proofs.EmptyBounds.{pushed_empty}
 use Rattle.search_ends.proofs.empty_leaves.empty_lines.Goals as goal
 

@@ -1,7 +1,7 @@
 use Rattle.std.proofs.Common.{map}
 use Rattle.county_problem.specs.ProblemValue.{problem_of}
 use Rattle.certificate_data.specs.TreeValue.{allowance_of}
-use Rattle.state_groups.specs.Placed.{state_at}
+use Rattle.state_groups.specs.PlacedValues.{state_at}
 use Rattle.search_ends.specs.EmptyLines.{AreEmptyThrough}
 use Rattle.search_ends.proofs.empty_leaves.empty_lines.Given as goal
 

@@ -4,8 +4,8 @@ use Rattle.grouping_laws.specs.Ranges.{seated, SuitAll}
 use Rattle.county_problem.specs.ProblemValue.{problem_of}
 use Rattle.connected_laws.specs.Listing.{AreBelow}
 use Rattle.certificate_data.specs.RoundValue.{round_of}
-use Rattle.state_groups.specs.Placed.{state_at, codes_of_set, codes_of_sets}
-use Rattle.search_ends.specs.Finished.{CoverOnce, CanSeat}
+use Rattle.state_groups.specs.PlacedValues.{state_at, codes_of_set, codes_of_sets}
+use Rattle.search_ends.specs.FinishedStates.{CoverOnce, CanSeat}
 use Rattle.search_ends.proofs.SeatLemmas.{as_many}
 use Rattle.search_ends.proofs.Finishing.{IsEnd, cover_once, can_seat}
 use Rattle.search_ends.proofs.WholeParts.{sets_differ, groups_found, groups_in_turn, groups_in_order, groups_lines}

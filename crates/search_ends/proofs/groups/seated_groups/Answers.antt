@@ -1,6 +1,6 @@
 use Rattle.std.proofs.Common.{◌<◌, get_or, refl, length, arith}
 use Rattle.grouping_laws.specs.Ranges.{seated}
-use Rattle.state_groups.specs.Placed.{codes_of_set, codes_of_sets}
+use Rattle.state_groups.specs.PlacedValues.{codes_of_set, codes_of_sets}
 use Rattle.search_ends.proofs.GroupLemmas.{seated_more, seated_end, numbers_more}
 use Rattle.search_ends.proofs.groups.seated_groups.Goals as goal
 

@@ -1,7 +1,7 @@
 use Rattle.std.proofs.Common.{◌≡◌, ◌++◌, drop, All}
 use Rattle.grouping_laws.specs.Ranges.{seated}
-use Rattle.state_groups.specs.Placed.{codes_of_sets}
-use Rattle.search_ends.specs.Finished.{HasNumbers}
+use Rattle.state_groups.specs.PlacedValues.{codes_of_sets}
+use Rattle.search_ends.specs.FinishedStates.{HasNumbers}
 use Rattle.search_ends.proofs.groups.seated_groups.Given as goal
 
 abbrev pub invariant-loop-i : goal.invariant-loop-i

@@ -1,7 +1,7 @@
 use Rattle.county_problem.specs.ProblemValue.{problem_of}
 use Rattle.certificate_data.specs.RoundValue.{round_of}
 use Rattle.certificate_data.specs.declared.allowance.Allowance.TheVariants.{Room}
-use Rattle.state_groups.specs.Placed.{state_at}
+use Rattle.state_groups.specs.PlacedValues.{state_at}
 use Rattle.search_ends.proofs.Endings.{given_end, room_fewer}
 use Rattle.search_ends.proofs.ShortLines.{complete_end}
 use Rattle.search_ends.proofs.room.room_leaf.Goals as goal

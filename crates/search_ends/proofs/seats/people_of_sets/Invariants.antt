@@ -1,7 +1,7 @@
 use Rattle.std.proofs.Common.{◌≡◌, map, take}
 use Rattle.county_problem.specs.ProblemValue.{problem_of}
 use Rattle.grouping_laws.specs.Problem.{people_of}
-use Rattle.state_groups.specs.Placed.{codes_of_set}
+use Rattle.state_groups.specs.PlacedValues.{codes_of_set}
 use Rattle.search_ends.proofs.seats.people_of_sets.Given as goal
 
 abbrev pub invariant-loop-set : goal.invariant-loop-set

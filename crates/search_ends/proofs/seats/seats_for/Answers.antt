@@ -1,7 +1,7 @@
 use Rattle.std.proofs.Common.{◌≡◌, ℕ, List, map, subst, sym, ap, ◌∙◌, arith}
 use Rattle.grouping_laws.specs.Sets.{total}
 use Rattle.county_problem.specs.ProblemValue.{ProblemValue, problem_of}
-use Rattle.county_problem.specs.Allot.{SuitEach}
+use Rattle.county_problem.specs.Allotting.{SuitEach}
 use Rattle.search_ends.proofs.SeatLemmas.{people, suit_sets, suit_people, all_people}
 use Rattle.search_ends.proofs.seats.seats_for.Goals as goal
 

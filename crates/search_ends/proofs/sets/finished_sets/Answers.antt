@@ -2,7 +2,7 @@ use Rattle.std.proofs.Common.{◌≡◌, ℕ, ◌<◌, true, length}
 use Rattle.grouping_laws.proofs.PlaceProblem.{order_once}
 use Rattle.county_problem.specs.ProblemValue.{problem_of}
 use Rattle.connected_laws.proofs.Keys.{all_moved}
-use Rattle.state_groups.specs.Placed.{state_at}
+use Rattle.state_groups.specs.PlacedValues.{state_at}
 use Rattle.search_ends.proofs.SetLemmas.{finished_moved, sorted_codes}
 use Rattle.search_ends.proofs.sets.finished_sets.Goals as goal
 

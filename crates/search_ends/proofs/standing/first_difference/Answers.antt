@@ -1,7 +1,7 @@
 use Rattle.std.proofs.Common.{◌≡◌, ◌+◌, sym, ◌∙◌, subst, arith, ⊎_elim}
 use Rattle.std.proofs.lemmas.Bool.{cases_lt}
 use Rattle.grouping_laws.specs.Grouping.{counts, sets_of}
-use Rattle.state_groups.specs.Placed.{state_at}
+use Rattle.state_groups.specs.PlacedValues.{state_at}
 use Rattle.search_ends.proofs.standing.first_difference.Goals as goal
 
 pub returns-then-closed-groups_of_size : goal.returns-then-closed-groups_of_size

@@ -1,5 +1,5 @@
 use Rattle.grouping_laws.specs.Grouping.{counts, sets_of}
-use Rattle.state_groups.specs.Placed.{state_at}
+use Rattle.state_groups.specs.PlacedValues.{state_at}
 use Rattle.search_groups.specs.Standing.{IsLevel}
 use Rattle.search_ends.proofs.standing.first_difference.Given as goal
 

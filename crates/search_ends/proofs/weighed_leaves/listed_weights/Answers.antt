@@ -3,7 +3,7 @@ use Rattle.std.proofs.lemmas.List.Elements.{All-push}
 use Rattle.std.proofs.lemmas.List.Kept.{AllPairs-from_increasing}
 use Rattle.county_codes.specs.Counties.{codes_of}
 use Rattle.county_problem.specs.ProblemValue.{ProblemValue, problem_of}
-use Rattle.certificate_lines.specs.Fits.{FitsWeight}
+use Rattle.certificate_lines.specs.Fitting.{FitsWeight}
 use Rattle.search_ends.specs.PlacedWeights.{placed_weight, weights_above}
 use Rattle.search_ends.proofs.WeightSteps.{made_weights, weights_on, weights_past}
 use Rattle.search_ends.proofs.weighed_leaves.listed_weights.Goals as goal

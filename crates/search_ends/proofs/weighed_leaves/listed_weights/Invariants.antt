@@ -1,6 +1,6 @@
 use Rattle.std.proofs.Common.{◌≡◌, ◌++◌, drop, All}
 use Rattle.county_codes.specs.Counties.{codes_of}
-use Rattle.certificate_lines.specs.Fits.{FitsWeight}
+use Rattle.certificate_lines.specs.Fitting.{FitsWeight}
 use Rattle.search_ends.specs.PlacedWeights.{placed_weight, weights_above}
 use Rattle.search_ends.proofs.weighed_leaves.listed_weights.Given as goal
 

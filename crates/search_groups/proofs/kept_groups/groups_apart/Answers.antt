@@ -3,8 +3,8 @@ use Rattle.std.proofs.lemmas.Result.{IfOk-weaker}
 use Rattle.place_laws.specs.PlaceSets.{Meets}
 use Rattle.grouping_laws.proofs.PlaceProblem.{order_once}
 use Rattle.county_problem.specs.ProblemValue.{problem_of}
-use Rattle.state_groups.specs.Placed.{codes_of_set, codes_of_sets}
-use Rattle.search_groups.specs.Known.{AreThose, IsApart}
+use Rattle.state_groups.specs.PlacedValues.{codes_of_set, codes_of_sets}
+use Rattle.search_groups.specs.KnownGroups.{AreThose, IsApart}
 use Rattle.search_groups.proofs.KeptSteps.{has_none, apart_none, none_apart, apart_told, those_as}
 use Rattle.search_groups.proofs.kept_groups.groups_apart.Goals as goal
 

@@ -4,8 +4,8 @@ use Rattle.grouping_laws.proofs.PlaceProblem.{order_once}
 use Rattle.grouping_laws.specs.Sets.{member}
 use Rattle.county_problem.specs.ProblemValue.{problem_of}
 use Rattle.county_problem.specs.OrderedValue.{code_at}
-use Rattle.state_groups.specs.Placed.{codes_of_sets}
-use Rattle.search_groups.specs.Known.{AreThose, Lacks}
+use Rattle.state_groups.specs.PlacedValues.{codes_of_sets}
+use Rattle.search_groups.specs.KnownGroups.{AreThose, Lacks}
 use Rattle.search_groups.proofs.KeptSteps.{lacking_told, not_true, true_not, those_as}
 use Rattle.search_groups.proofs.kept_groups.groups_lacking.Goals as goal
 

@@ -4,8 +4,8 @@ use Rattle.std.proofs.lemmas.Result.{IfOk-from_err}
 use Rattle.std.specs.Fn.{FnReturnsAt}
 use Rattle.connected_laws.specs.Listing.{AreBelow}
 use Rattle.std.proofs.lemmas.Bool.{false≢true}
-use Rattle.state_groups.specs.Placed.{codes_of_sets}
-use Rattle.search_groups.specs.Known.{AreThose}
+use Rattle.state_groups.specs.PlacedValues.{codes_of_sets}
+use Rattle.search_groups.specs.KnownGroups.{AreThose}
 use Rattle.search_groups.proofs.KeptSteps.{kept_low, kept_in, kept_out, item_below}
 use Rattle.search_groups.proofs.kept_groups.groups_passing.Goals as goal
 use Rattle.search_groups.proofs.kept_groups.groups_passing.Goals.{then-passes+in_ok-copy+in_ok-push, else-passes}

@@ -1,8 +1,8 @@
 use Rattle.std.proofs.Common.{ℕ, ◌≡◌, Bool, true, List, take, length}
 use Rattle.std.specs.Fn.{FnReturnsAt}
 use Rattle.connected_laws.specs.Listing.{AreBelow}
-use Rattle.state_groups.specs.Placed.{codes_of_sets}
-use Rattle.search_groups.specs.Known.{AreThose, Tells}
+use Rattle.state_groups.specs.PlacedValues.{codes_of_sets}
+use Rattle.search_groups.specs.KnownGroups.{AreThose, Tells}
 use Rattle.search_groups.proofs.kept_groups.groups_passing.Given as goal
 
 abbrev pub invariant-loop-group : goal.invariant-loop-group

@@ -7,7 +7,7 @@ use Rattle.place_laws.specs.PlaceSets.{places_of}
 use Rattle.connected_laws.proofs.PlaceLists.{placed_below}
 use Rattle.certificate_laws.specs.Fitting.{IsLive}
 use Rattle.state_groups.specs.StateValue.{state_of}
-use Rattle.state_groups.specs.Placed.{state_at, codes_of_set}
+use Rattle.state_groups.specs.PlacedValues.{state_at, codes_of_set}
 use Rattle.search_groups.proofs.KeptSteps.{kept_in, kept_out}
 use Rattle.search_groups.proofs.LivePlaces.{live_codes, live_places}
 use Rattle.search_groups.proofs.kept_groups.live_groups.Goals as goal

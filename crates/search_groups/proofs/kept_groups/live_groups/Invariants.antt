@@ -2,8 +2,8 @@ use Rattle.std.proofs.Common.{◌≡◌, ◌+◌, ◌≤◌, take, length}
 use Rattle.county_problem.specs.ProblemValue.{problem_of}
 use Rattle.connected_laws.specs.Listing.{AreBelow}
 use Rattle.certificate_laws.specs.Fitting.{IsLive}
-use Rattle.state_groups.specs.Placed.{state_at, codes_of_sets}
-use Rattle.search_groups.specs.Known.{AreThose}
+use Rattle.state_groups.specs.PlacedValues.{state_at, codes_of_sets}
+use Rattle.search_groups.specs.KnownGroups.{AreThose}
 use Rattle.search_groups.proofs.kept_groups.live_groups.Given as goal
 
 abbrev pub invariant-loop-group : goal.invariant-loop-group

@@ -3,7 +3,7 @@ use mathlib.Core.Path.{fun_ext}
 use Rattle.county_problem.specs.OrderedValue.{problem_at}
 use Rattle.connected_laws.specs.Listing.{lists_of}
 use Rattle.certificate_laws.specs.Groups.{AreGroupsOf}
-use Rattle.search_groups.specs.Alone.{alone}
+use Rattle.search_groups.specs.PartGroups.{alone}
 use Rattle.search_groups.proofs.part_lists.list_part.Goals as goal
 
 pub returns-clause-list : goal.returns-clause-list

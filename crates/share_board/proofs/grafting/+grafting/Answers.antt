@@ -8,7 +8,7 @@ use Rattle.certificate_data.specs.declared.tree.Take.{out-Take, roll-Take}
 use Rattle.certificate_data.proofs.TreeLists.{list_onto}
 use Rattle.certificate_data.proofs.CopyLaws.{takes_onto}
 use Rattle.board_laws.specs.Skeleton.{joined, joined_parts}
-use Rattle.share_board.specs.Held.{ShowsAbove, PartsShowAbove}
+use Rattle.share_board.specs.HeldSkeleton.{ShowsAbove, PartsShowAbove}
 use Rattle.share_board.proofs.Onto.{takes_all, made_take}
 use Rattle.share_board.proofs.Joins.{both_none, one_take, one_branch}
 use Rattle.share_board.proofs.Grafts.{take_falls, branch_falls, next_take, next_branch, begun_above, none_taken, shows_inside}

@@ -6,7 +6,7 @@ use Rattle.certificate_data.specs.declared.tree.Branch.{out-Branch}
 use Rattle.share_board.proofs.Grafts.{deep, deep_in}
 use Rattle.certificate_data.proofs.TreeLists.{list_onto}
 use Rattle.certificate_data.proofs.CopyLaws.{takes_onto}
-use Rattle.share_board.specs.Held.{ShowsAbove, PartsShowAbove}
+use Rattle.share_board.specs.HeldSkeleton.{ShowsAbove, PartsShowAbove}
 use Rattle.share_board.proofs.grafting.+grafting.Given as goal
 
 abbrev pub decreases-grafted_takes : goal.decreases-grafted_takes

@@ -2,8 +2,8 @@ use Rattle.std.proofs.Common.{◌-◌, ◌+◌, Err, length, drop, sym, ap, subs
 use Rattle.certificate_data.specs.TreeValue.{tree_of, list_of_takes}
 use Rattle.certificate_data.specs.declared.tree.Take.{roll-Take}
 use Rattle.county_problem.specs.OrderedValue.{code_at}
-use Rattle.state_groups.specs.Placed.{codes_of_set, codes_of_sets, IsClosable}
-use Rattle.share_board.specs.Opened.{IsOpened, AreOpened, board_problem, board_round, board_state, IsHalted, AreHalted}
+use Rattle.state_groups.specs.PlacedValues.{codes_of_set, codes_of_sets, IsClosable}
+use Rattle.share_board.specs.Openings.{IsOpened, AreOpened, board_problem, board_round, board_state, IsHalted, AreHalted}
 use Rattle.share_board.proofs.Onto.{made_take}
 use Rattle.share_board.proofs.Openings.{are_opened_kept, branch_opened}
 use Rattle.share_board.proofs.Branching.{plain_names, OpenOn, MoreOn, take_halted, takes_halted, raised_halted, line_halted, open_more, more_more, open_end, left_sets, no_sets_left}

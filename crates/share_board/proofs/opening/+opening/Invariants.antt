@@ -1,7 +1,7 @@
 use Rattle.std.proofs.Common.{◌+◌, ◌*◌, ◌≤◌, length, drop}
-use Rattle.state_groups.specs.Placed.{codes_of_sets}
+use Rattle.state_groups.specs.PlacedValues.{codes_of_sets}
 use Rattle.share_board.specs.Replies.{most_opening}
-use Rattle.share_board.specs.Opened.{StatesAreKept, board_problem, board_round, board_state}
+use Rattle.share_board.specs.Openings.{StatesAreKept, board_problem, board_round, board_state}
 use Rattle.share_board.proofs.Branching.{OpenOn, MoreOn}
 use Rattle.share_board.proofs.opening.+opening.Given as goal
 

@@ -3,8 +3,8 @@ use Rattle.county_problem.specs.ProblemValue.{problem_of}
 use Rattle.county_problem.specs.OrderedValue.{OrderedValue}
 use Rattle.certificate_data.specs.RoundValue.{round_of}
 use Rattle.certificate_laws.specs.State.{empty_state}
-use Rattle.state_groups.specs.Placed.{state_at}
-use Rattle.share_board.specs.Opened.{IsHalted}
+use Rattle.state_groups.specs.PlacedValues.{state_at}
+use Rattle.share_board.specs.Openings.{IsHalted}
 use Rattle.share_board.proofs.Branching.{opening_halted}
 use Rattle.share_board.proofs.opening.opened.Goals as goal
 

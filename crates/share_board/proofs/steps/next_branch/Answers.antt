@@ -1,7 +1,7 @@
 use Rattle.std.proofs.Common.{Err, ap, ◌∙◌, sym, subst, arith}
 use Rattle.certificate_laws.specs.Groups.{IsSetAt}
 use Rattle.checker_laws.specs.Cost.{AreSoMany}
-use Rattle.share_board.specs.Opened.{board_problem, board_round, board_state}
+use Rattle.share_board.specs.Openings.{board_problem, board_round, board_state}
 use Rattle.share_board.proofs.Shares.{share_below}
 use Rattle.share_board.proofs.steps.next_branch.Goals as goal
 

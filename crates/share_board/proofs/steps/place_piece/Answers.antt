@@ -1,6 +1,6 @@
 use Rattle.std.proofs.Common.{length, arith}
 use Rattle.certificate_data.specs.TreeValue.{tree_of}
-use Rattle.share_board.specs.Opened.{board_problem, board_round, board_state}
+use Rattle.share_board.specs.Openings.{board_problem, board_round, board_state}
 use Rattle.share_board.proofs.Branching.{placed}
 use Rattle.share_board.proofs.Openings.{piece_more}
 use Rattle.share_board.proofs.steps.place_piece.Goals as goal

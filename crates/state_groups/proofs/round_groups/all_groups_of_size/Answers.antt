@@ -13,7 +13,7 @@ use Rattle.state_groups.specs.StateValue.{state_of}
 use Rattle.certificate_laws.specs.Groups.{AreGroupsOf}
 use Rattle.certificate_laws.specs.Places.{IsStateAt, in_codes}
 use Rattle.certificate_laws.proofs.PlaceStates.{states_have_codes}
-use Rattle.state_groups.specs.Placed.{codes_of_sets}
+use Rattle.state_groups.specs.PlacedValues.{codes_of_sets}
 use Rattle.state_groups.proofs.OpenCounties.{groups_by_codes}
 use Rattle.state_groups.proofs.round_groups.all_groups_of_size.Goals as goal
 

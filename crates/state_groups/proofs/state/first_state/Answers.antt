@@ -7,7 +7,7 @@ use Rattle.certificate_laws.specs.State.{empty_state}
 use Rattle.state_groups.specs.StateValue.{state_of}
 use Rattle.certificate_laws.specs.Places.{in_codes}
 use Rattle.certificate_laws.proofs.PlaceStates.{states_have_codes}
-use Rattle.state_groups.specs.Placed.{state_at, IsPlaced}
+use Rattle.state_groups.specs.PlacedValues.{state_at, IsPlaced}
 use Rattle.state_groups.proofs.PlacedLemmas.{both_ok, first_placed}
 use Rattle.state_groups.proofs.state.first_state.Goals as goal
 

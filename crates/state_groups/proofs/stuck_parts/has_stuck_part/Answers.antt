@@ -1,7 +1,7 @@
 use Rattle.std.proofs.Common.{◌≡◌, ℕ, ◌<◌, true, false, refl, sym, ◌∙◌, length, arith}
 use Rattle.std.proofs.lemmas.Bool.{false≢true}
 use Rattle.grouping_laws.specs.Sets.{member}
-use Rattle.certificate_laws.specs.Stuck.{CannotFill}
+use Rattle.certificate_laws.specs.StuckParts.{CannotFill}
 use Rattle.place_laws.specs.PlaceSets.{places_of}
 use Rattle.connected_laws.proofs.PlaceLists.{placed, placed_test}
 use Rattle.county_problem.specs.OrderedValue.{problem_at}

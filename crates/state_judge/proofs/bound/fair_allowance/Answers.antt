@@ -6,7 +6,7 @@ use Rattle.certificate_laws.specs.BoundLines.{allowance, IsFair}
 use Rattle.certificate_data.specs.TreeValue.{allowance_of}
 use Rattle.certificate_data.specs.declared.allowance.Allowance.{Allowance}
 use Rattle.checker_laws.specs.Cost.{AreSoMany, LineLooks}
-use Rattle.state_groups.specs.Placed.{state_at}
+use Rattle.state_groups.specs.PlacedValues.{state_at}
 use Rattle.state_judge.proofs.Allowances.{weighed}
 use Rattle.state_judge.proofs.bound.fair_allowance.Goals as goal
 

@@ -1,6 +1,6 @@
 use Rattle.std.proofs.Common.{arith}
 use Rattle.std.proofs.lemmas.Bool.{false≢true}
-use Rattle.state_groups.specs.Placed.{codes_of_set}
+use Rattle.state_groups.specs.PlacedValues.{codes_of_set}
 use Rattle.state_judge.proofs.TakeLemmas.{none_listed}
 use Rattle.state_judge.proofs.branch.is_listed.Goals as goal
 

@@ -1,5 +1,5 @@
 use Rattle.std.proofs.Common.{◌≡◌, ℕ, ◌<◌, get_or, length}
-use Rattle.state_groups.specs.Placed.{codes_of_set}
+use Rattle.state_groups.specs.PlacedValues.{codes_of_set}
 use Rattle.state_judge.proofs.branch.is_listed.Given as goal
 
 abbrev pub invariant-loop-set : goal.invariant-loop-set

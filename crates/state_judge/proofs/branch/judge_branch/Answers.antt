@@ -8,7 +8,7 @@ use Rattle.certificate_data.specs.RoundValue.{round_of}
 use Rattle.certificate_laws.specs.State.{open_to}
 use Rattle.state_groups.specs.StateValue.{state_of}
 use Rattle.certificate_laws.specs.Proving.{limit_of, CanBranch}
-use Rattle.state_groups.specs.Placed.{state_at}
+use Rattle.state_groups.specs.PlacedValues.{state_at}
 use Rattle.state_judge.proofs.TurnLemmas.{open_at}
 use Rattle.state_judge.proofs.GroupLemmas.{steps_within, only_steps, groups_codes, groups_closable}
 use Rattle.state_judge.proofs.branch.judge_branch.Goals as goal

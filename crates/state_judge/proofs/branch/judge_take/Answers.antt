@@ -2,7 +2,7 @@ use Rattle.std.proofs.Common.{◌≡◌, Some, refl, sym, ap, ◌∙◌, inl, in
 use Rattle.std.specs.List.{slice_get}
 use Rattle.std.proofs.lemmas.Bool.{false≢true}
 use Rattle.checker_laws.specs.Fault.{MissingGroup, StrayGroup}
-use Rattle.state_groups.specs.Placed.{codes_of_set}
+use Rattle.state_groups.specs.PlacedValues.{codes_of_set}
 use Rattle.state_judge.proofs.TakeLemmas.{none_next}
 use Rattle.state_judge.proofs.branch.judge_take.Goals.{in-Some+else-has_codes, in_default}
 use Rattle.state_judge.proofs.branch.judge_take.Goals as goal

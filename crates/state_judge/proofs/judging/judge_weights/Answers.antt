@@ -8,7 +8,7 @@ use Rattle.county_problem.specs.ProblemValue.{problem_of}
 use Rattle.certificate_data.specs.RoundValue.{round_of}
 use Rattle.checker_laws.specs.Fault.{WrongCounty, LightGroup}
 use Rattle.state_groups.specs.StateValue.{state_of}
-use Rattle.state_groups.specs.Placed.{state_at, codes_of_sets}
+use Rattle.state_groups.specs.PlacedValues.{state_at, codes_of_sets}
 use Rattle.state_judge.specs.Weights.{county_weight}
 use Rattle.state_judge.proofs.FairLines.{foreign, fair, light, all_heavy, one_light, same_test}
 use Rattle.state_judge.proofs.Counting.{steps_of_size}

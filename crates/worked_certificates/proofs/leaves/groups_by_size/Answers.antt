@@ -2,7 +2,7 @@ use Rattle.std.proofs.Common.{arith}
 use Rattle.std.specs.Vec.{vec_items}
 use Rattle.county_problem.specs.ProblemValue.{problem_of}
 use Rattle.certificate_data.specs.RoundValue.{round_of}
-use Rattle.state_groups.specs.Placed.{state_at}
+use Rattle.state_groups.specs.PlacedValues.{state_at}
 use Rattle.worked_certificates.proofs.GroupLists.{pushed_list}
 use Rattle.worked_certificates.proofs.leaves.groups_by_size.Goals as goal
 

@@ -1,7 +1,7 @@
 use Rattle.std.proofs.Common.{◌≡◌, ◌≤◌, ◌+◌, ℕ, List, None, Ok, Some, length, refl, sym, ap, subst, ◌∙◌, arith}
 use Rattle.field_lines.specs.Fault.{most_lines, most_bytes}
 use Rattle.field_lines.specs.Cut.{Line, line_bytes, line_of}
-use Rattle.field_lines.specs.Taken.{line_at}
+use Rattle.field_lines.specs.TakenPieces.{line_at}
 use Rattle.field_lines.specs.LinesFrom.{LinesHeld, IsNextRead}
 use Rattle.field_lines.specs.ReadLine.{TakesLine}
 use Rattle.field_lines.proofs.ReadLineLemmas.{reads_line, reads_none}

@@ -1,5 +1,5 @@
 use Rattle.std.proofs.Common.{◌∙◌, ◌+◌, sym, arith}
-use Rattle.field_lines.specs.Raw.{raw_lines_from}
+use Rattle.field_lines.specs.RawPieces.{raw_lines_from}
 use Rattle.field_lines.proofs.CutLemmas.{cut_of-line_next, cut_of-blank_next}
 use Rattle.field_lines.proofs.lines.Lines.next_line.Goals as goal
 

@@ -1,5 +1,5 @@
 use Rattle.std.proofs.Common.{◌≡◌, ◌+◌, ◌-◌, ◌≤◌, false, length, take, if◌then◌else◌}
-use Rattle.field_lines.specs.Held.{Pulls}
+use Rattle.field_lines.specs.HeldBytes.{Pulls}
 use Rattle.field_lines.specs.Front.{HasNoLf}
 use Rattle.field_lines.proofs.pulled_bytes.PulledBytes.front.Given as goal
 

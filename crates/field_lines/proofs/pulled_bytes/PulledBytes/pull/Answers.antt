@@ -1,7 +1,7 @@
 use Rattle.std.proofs.Common.{◌≡◌, ℕ, true, false, ◌++◌, ◌+◌, ◌≤◌, List, length, take, drop, slice_range, sym, ap, ◌∙◌, arith}
 use Rattle.std.proofs.Math.Seq.{take-append_seam}
 use Rattle.std.proofs.lemmas.Bool.{false≢true}
-use Rattle.field_lines.specs.Held.{Pulled}
+use Rattle.field_lines.specs.HeldBytes.{Pulled}
 use Rattle.field_lines.proofs.PulledLemmas.{held_more}
 use Rattle.field_lines.proofs.pulled_bytes.PulledBytes.pull.Goals as goal
 

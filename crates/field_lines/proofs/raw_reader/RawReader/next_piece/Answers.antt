@@ -1,8 +1,8 @@
 use Rattle.std.proofs.Common.{◌≡◌, ◌≤◌, ◌+◌, ℕ, List, None, Ok, Some, length, refl, sym, ap, subst}
 use Rattle.field_lines.specs.Fault.{most_bytes}
 use Rattle.field_lines.specs.Piece.{raw_of}
-use Rattle.field_lines.specs.declared.raw.Piece.{Piece}
-use Rattle.field_lines.specs.Taken.{piece_at}
+use Rattle.field_lines.specs.declared.raw_pieces.Piece.{Piece}
+use Rattle.field_lines.specs.TakenPieces.{piece_at}
 use Rattle.field_lines.specs.LinesFrom.{LinesHeld}
 use Rattle.field_lines.specs.PiecesFrom.{IsRawRead}
 use Rattle.field_lines.specs.ReadPiece.{TakesRaw}

@@ -4,7 +4,7 @@ use Rattle.certificate_data.specs.declared.language.Language.{Language}
 use Rattle.certificate_lines.specs.declared.fault.WriteFault.{WriteFault}
 use Rattle.certificate_lines.specs.declared.fault.WriteFault.TheVariants.{NoSpelling}
 use Rattle.board_laws.specs.Content.{Event}
-use Rattle.board_events.specs.Spelled.{text_of_event, HasSpelling}
+use Rattle.board_events.specs.Spelling.{text_of_event, HasSpelling}
 
 -- the text of an event was written, which has a spelling
 pub record WroteEvent (language : Language) (counties : ℕ) (event : Event) (old new : List ℕ) : Type 0 where

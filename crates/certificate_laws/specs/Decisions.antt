@@ -9,7 +9,7 @@ use Rattle.grouping_laws.specs.Ranges.{IsLeast, IsMost, SuitAll}
 use Rattle.certificate_data.specs.Round.{Round}
 use Rattle.certificate_laws.specs.Regions.{without}
 use Rattle.certificate_laws.specs.State.{State, close}
-use Rattle.certificate_laws.specs.Stuck.{CannotFill}
+use Rattle.certificate_laws.specs.StuckParts.{CannotFill}
 use Rattle.certificate_laws.specs.Fitting.{IsDead, Fits}
 use Rattle.certificate_laws.specs.Leaves.{IsStuck, IsOffSeats}
 use Rattle.certificate_laws.specs.Groups.{AreGroupsAt, AreGroupsOf}

@@ -9,10 +9,10 @@ use Rattle.certificate_data.specs.declared.language.Language.{Language}
 use Rattle.certificate_data.specs.declared.language.Language.TheVariants.{Plain, Wide}
 use Rattle.certificate_laws.specs.State.{empty_state}
 use Rattle.certificate_laws.specs.Certificate.{IsCertificate}
-use Rattle.list_laws.specs.Complete.{IsComplete}
+use Rattle.list_laws.specs.Completeness.{IsComplete}
 use Rattle.certificate_data.specs.declared.certificate.Certificate.{Certificate as CertificateHeld}
 use Rattle.certificate_data.specs.TreeValue.{certificate_of}
-use Rattle.certificate_text.specs.Spelled.{IsSpelling}
+use Rattle.certificate_text.specs.Spelling.{IsSpelling}
 use Rattle.branch_bound.specs.declared.answer.Answer.{Answer}
 use Rattle.branch_bound.specs.declared.answer.Answer.TheVariants.{Best, Impossible, Open}
 

@@ -11,7 +11,7 @@ use Rattle.certificate_laws.specs.State.{State, IsState, open_to, close, raise}
 use Rattle.certificate_laws.specs.Fitting.{Fits, IsLive}
 use Rattle.certificate_laws.specs.Groups.{IsGroupOf, AreGroupsOf, AreGroupsAt}
 use Rattle.certificate_laws.specs.Proving.{CanBranch}
-use Rattle.state_groups.specs.Placed.{codes_of_set}
+use Rattle.state_groups.specs.PlacedValues.{codes_of_set}
 
 -- A lawful group of i counties, each of them open to a group of i, its codes in the order of places. It fits the state
 -- where it is kept: in a wide round it may be dead.

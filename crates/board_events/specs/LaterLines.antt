@@ -1,10 +1,10 @@
 -- What stands behind the first line of an event.
 use Rattle.std.specs.Prelude.{◌≡◌, ℕ, List}
 use Rattle.certificate_data.specs.declared.language.Language.{Language}
-use Rattle.certificate_lines.specs.Fits.{AllFit}
+use Rattle.certificate_lines.specs.Fitting.{AllFit}
 use Rattle.certificate_lines.specs.Spelling.{text_of_items}
 use Rattle.board_laws.specs.Content.{Event}
-use Rattle.board_events.specs.Spelled.{line_of_event, items_of, wanted_by}
+use Rattle.board_events.specs.Spelling.{line_of_event, items_of, wanted_by}
 use Rattle.board_events.specs.declared.line.EventLine.{EventLine}
 
 -- the text is that of the lines behind the first line of the event, and their items fit there

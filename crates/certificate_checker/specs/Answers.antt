@@ -2,7 +2,7 @@
 use Rattle.std.specs.Prelude.{ℕ, ◌≡◌, ◌<◌, Bool, true, false, List, ◌++◌, Some, Result, Err, IfOk, ◌⊎◌, ⊤}
 use Rattle.grouping_laws.specs.Problem.{Problem}
 use Rattle.grouping_laws.specs.Grouping.{IsBest, IsImpossible}
-use Rattle.field_lines.specs.Held.{MayCome}
+use Rattle.field_lines.specs.HeldBytes.{MayCome}
 use Rattle.certificate_lines.specs.Courses.{certificate_course}
 use Rattle.certificate_lines.specs.ItemsLeft.{ItemsLeft, Foresees, course_by}
 use Rattle.certificate_lines.specs.declared.fault.TextFault.{TextFault}

@@ -1,7 +1,7 @@
 -- What a call writes at the end of a text.
 use Rattle.std.specs.Prelude.{◌≡◌, ℕ, List, ◌++◌, Result, Ok, Err}
 use Rattle.certificate_lines.specs.Spelling.{item_line, text_of_items}
-use Rattle.certificate_lines.specs.Fits.{AllFit}
+use Rattle.certificate_lines.specs.Fitting.{AllFit}
 use Rattle.certificate_lines.specs.declared.fault.WriteFault.{WriteFault}
 use Rattle.certificate_lines.specs.declared.fault.WriteFault.TheVariants.{NoSpelling}
 use Rattle.certificate_lines.specs.declared.item.Item.{Item}

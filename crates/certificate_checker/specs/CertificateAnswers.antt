@@ -4,8 +4,8 @@ use Rattle.grouping_laws.specs.Problem.{Problem}
 use Rattle.grouping_laws.specs.Grouping.{Grouping}
 use Rattle.certificate_laws.specs.Certificate.{IsCertificate}
 use Rattle.certificate_data.specs.TreeValue.{Certificate}
-use Rattle.certificate_text.specs.Spelled.{IsSpelling}
-use Rattle.certificate_checker.specs.Answered.{IsCheckAnswer}
+use Rattle.certificate_text.specs.Spelling.{IsSpelling}
+use Rattle.certificate_checker.specs.Answers.{IsCheckAnswer}
 use Rattle.certificate_checker.specs.declared.verdict.Verdict.{Verdict}
 use Rattle.certificate_checker.specs.declared.verdict.Verdict.TheVariants.{Best, Impossible, No, Budget}
 

@@ -6,7 +6,7 @@ use Rattle.certificate_laws.specs.State.{State}
 use Rattle.certificate_data.specs.Tree.{Tree}
 use Rattle.certificate_laws.specs.Proving.{Proves}
 use Rattle.certificate_lines.specs.declared.fault.TextFault.{TextFault}
-use Rattle.certificate_text.specs.Spelled.{IsTreeSpelling}
+use Rattle.certificate_text.specs.Spelling.{IsTreeSpelling}
 use Rattle.certificate_text.specs.TreeFault.{lines_of_tree, HasTreeFault}
 use Rattle.checker_laws.specs.Fault.{Fault}
 use Rattle.checker_laws.specs.End.{faulty}

@@ -1,9 +1,9 @@
 -- What is taken of the bytes that were pulled.
 use Rattle.std.specs.Prelude.{◌≡◌, ℕ, ◌+◌, ◌≤◌, List, ◌∷◌, ◌++◌, slice_range, length, Option, Some, None, Result}
 use Rattle.std.specs.Prelude.{Ok, Err}
-use Rattle.field_lines.specs.Raw.{RawLine, raw_lines_from}
+use Rattle.field_lines.specs.RawPieces.{RawLine, raw_lines_from}
 use Rattle.field_lines.specs.Cut.{Line, line_bytes}
-use Rattle.field_lines.specs.Held.{Pulled, MayCome}
+use Rattle.field_lines.specs.HeldBytes.{Pulled, MayCome}
 use Rattle.field_lines.specs.declared.fault.LineFault.{LineFault}
 use Rattle.field_lines.specs.declared.taken_pieces.TakenPiece.{TakenPiece}
 use Rattle.field_lines.specs.declared.taken_pieces.TakenLine.{TakenLine}

@@ -9,15 +9,15 @@ use Rattle.certificate_laws.specs.State.{empty_state}
 use Rattle.certificate_laws.specs.Certificate.{IsCertificate}
 use Rattle.certificate_data.specs.declared.certificate.Certificate.{Certificate as CertificateHeld}
 use Rattle.certificate_data.specs.TreeValue.{Certificate, certificate_of}
-use Rattle.certificate_text.specs.Spelled.{IsSpelling}
-use Rattle.certificate_checker.specs.Answered.{IsCheckAnswer}
+use Rattle.certificate_text.specs.Spelling.{IsSpelling}
+use Rattle.certificate_checker.specs.Answers.{IsCheckAnswer}
 use Rattle.certificate_checker.specs.declared.verdict.Verdict.TheVariants as verdict
 use Rattle.list_laws.specs.AllBest.{AreAllBest}
-use Rattle.list_laws.specs.Complete.{IsComplete}
+use Rattle.list_laws.specs.Completeness.{IsComplete}
 use Rattle.list_groupings.specs.declared.listing.Listing.{Listing}
 use Rattle.list_groupings.specs.declared.listing.Listing.TheVariants.{All, Open, Impossible, No, Budget}
 use Rattle.list_groupings.specs.Gaps.{IsFirstGap, first_gap_line}
-use Rattle.list_groupings.specs.InOrder.{AreInOrder}
+use Rattle.list_groupings.specs.ListOrder.{AreInOrder}
 use Rattle.list_groupings.specs.Walking.{sets_held}
 
 -- the text spells this certificate of the problem, which has a target

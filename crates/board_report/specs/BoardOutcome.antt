@@ -8,13 +8,13 @@ use Rattle.grouping_laws.specs.Grouping.{Grouping, IsBest}
 use Rattle.certificate_data.specs.Round.{Round}
 use Rattle.certificate_data.specs.Tree.{Tree}
 use Rattle.certificate_laws.specs.Certificate.{IsCertificate}
-use Rattle.certificate_text.specs.Spelled.{IsSpelling}
+use Rattle.certificate_text.specs.Spelling.{IsSpelling}
 use Rattle.board_laws.specs.Skeleton.{joined}
 use Rattle.board_laws.specs.Content.{Content, Event, Reply}
 use Rattle.share_board.specs.OpenPieces.{AreOpen}
 use Rattle.board_events.specs.Replies.{reply_line}
 use Rattle.board_report.specs.Taking.{EventsAreTaken}
-use Rattle.board_report.specs.declared.shared.Shared.{Shared}
+use Rattle.board_report.specs.declared.board_outcome.Shared.{Shared}
 
 -- a piece that waits, with the number of its round
 abbrev pub open_line : ℕ → ℕ → List ℕ

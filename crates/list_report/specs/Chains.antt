@@ -3,7 +3,7 @@ use Rattle.std.specs.Prelude.{ℕ, ◌≡◌, ◌≤◌, ◌↔◌, true, List, 
 use Rattle.grouping_laws.specs.Sets.{member}
 use Rattle.grouping_laws.specs.Problem.{Problem}
 use Rattle.grouping_laws.specs.Grouping.{Grouping, Lawful, sets_of}
-use Rattle.list_report.specs.Shared.{shared_sets, unshared_sets}
+use Rattle.list_report.specs.SharedSets.{shared_sets, unshared_sets}
 use Rattle.list_report.specs.Regions.{unshared_counties, first_county, regions}
 
 -- a chain of the sets from one county to another: each set has the county where the next begins

@@ -6,7 +6,7 @@ use Rattle.county_codes.specs.declared.county.County.{County}
 use Rattle.pl94_counties.specs.declared.blocks.Block.{Block}
 use Rattle.pl94_counties.specs.declared.geo.Area.TheVariants as areas
 use Rattle.pl94_counties.specs.Counties.{county_of, block_of}
-use Rattle.pl94_counties.specs.Joined.{IsJoined, IsListedArea}
+use Rattle.pl94_counties.specs.JoinedLines.{IsJoined, IsListedArea}
 
 -- The counties of the state by code, each once. Each comes from a line of geo and has the people of the record with the
 -- line's LOGRECNO, and no line of geo for a county of the state is left out.

@@ -5,7 +5,7 @@ use Rattle.county_problem.specs.ProblemValue.{problem_of}
 use Rattle.certificate_data.specs.Round.{Round}
 use Rattle.certificate_laws.specs.State.{State, empty_state}
 use Rattle.state_groups.specs.declared.state.State.{State as StateHeld}
-use Rattle.state_groups.specs.Placed.{state_at, IsPlaced}
+use Rattle.state_groups.specs.PlacedValues.{state_at, IsPlaced}
 use Rattle.board_laws.specs.Skeleton.{waiting}
 use Rattle.board_laws.specs.Standing.{StandsAt}
 use Rattle.board_laws.specs.Content.{Content, Event, Reply}

@@ -12,9 +12,9 @@ use Rattle.pl94_counties.specs.declared.blocks.Block.{Block}
 use Rattle.baf_auditor.specs.declared.assignments.Assignment.{Assignment}
 use Rattle.baf_auditor.specs.Findings.{AreFindings}
 use Rattle.baf_auditor.specs.declared.finding.Finding.{Finding}
-use Rattle.certificate_checker.specs.Answered.{IsCheckAnswer}
+use Rattle.certificate_checker.specs.Answers.{IsCheckAnswer}
 use Rattle.list_laws.specs.AllBest.{AreAllBest}
-use Rattle.list_groupings.specs.InOrder.{AreInOrder}
+use Rattle.list_groupings.specs.ListOrder.{AreInOrder}
 use Rattle.list_report.specs.Listing.{listing_text}
 use Rattle.state_judge.specs.declared.fault.CheckFault.{CheckFault}
 use Rattle.certificate_checker.specs.declared.verdict.Verdict.TheVariants.{No}

@@ -3,7 +3,7 @@ use Rattle.std.specs.Prelude.{◌≡◌, List, [], ◌++◌, Result, Ok, Err}
 use Rattle.certificate_lines.specs.Rest.{Rest, lines_of, IsTextMemory}
 use Rattle.certificate_lines.specs.Items.{items_in_front, items_from}
 use Rattle.certificate_lines.specs.Spelling.{text_of_items}
-use Rattle.certificate_lines.specs.Fits.{AllFit}
+use Rattle.certificate_lines.specs.Fitting.{AllFit}
 use Rattle.certificate_lines.specs.declared.fault.TextFault.{TextFault}
 use Rattle.certificate_lines.specs.declared.item.Item.{Item}
 use Rattle.certificate_lines.specs.declared.item.Wanted.{Wanted}

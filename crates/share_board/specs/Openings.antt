@@ -12,7 +12,7 @@ use Rattle.certificate_laws.specs.Groups.{AreGroupsAt}
 use Rattle.certificate_laws.specs.Proving.{CanBranch}
 use Rattle.certificate_data.specs.Tree.{Tree, Takes}
 use Rattle.checker_laws.specs.Cost.{AreSoMany}
-use Rattle.state_groups.specs.Placed.{state_at, codes_of_sets, IsClosable}
+use Rattle.state_groups.specs.PlacedValues.{state_at, codes_of_sets, IsClosable}
 use Rattle.state_judge.specs.declared.branch.Branching.{Branching}
 use Rattle.board_laws.specs.Skeleton.{Skeleton, Parts, groups_in}
 use Rattle.board_laws.specs.Standing.{StandsAt, StandsIn}
@@ -24,7 +24,7 @@ use Rattle.share_board.specs.declared.stop.OpeningStop.{OpeningStop}
 use Rattle.share_board.specs.declared.stop.OpeningStop.TheVariants as stop
 use Rattle.share_board.specs.declared.reply.Reply.{Reply as ReplyHeld}
 use Rattle.share_board.specs.declared.reply.Reply.TheVariants as held
-use Rattle.share_board.specs.Held.{IsFateAt, ShowsAbove, PartsShowAbove}
+use Rattle.share_board.specs.HeldSkeleton.{IsFateAt, ShowsAbove, PartsShowAbove}
 use Rattle.share_board.specs.Replies.{most_opening, IsSmallSet, OpensWithMore, IsBelowOpening}
 use Rattle.share_board.specs.BoardValue.{IsPieceState}
 

@@ -4,7 +4,7 @@ use Rattle.certificate_data.specs.declared.language.Language.{Language}
 use Rattle.certificate_data.specs.Tree.{Allowance, Leaf, stuck, seats, bound, Tree, leaf, branch, Takes, no_take, take}
 use Rattle.certificate_laws.specs.Proving.{NamesLimit}
 use Rattle.certificate_data.specs.TreeValue.{declared_allowance}
-use Rattle.state_judge.specs.Allowed.{AllowanceIsSpelled}
+use Rattle.state_judge.specs.AllowanceVerdicts.{AllowanceIsSpelled}
 
 -- no quota is 0, and weights ascend
 abbrev pub AllowancesAreSpelled : List Allowance → Type 0
