@@ -22,7 +22,7 @@ IsWholeReader name given now (Ok true) = given.answer ≡ Ok Whole
 IsWholeReader name given now (Ok false) = Unit {0}
 IsWholeReader name given now (Err refusal) = AnswerMeets refusal (λ a. whole_step name given now now (Err a))
 
--- the same of two readers
+-- whether two readers stood at the ends of their files, or the answer to the failure of one
 abbrev pub AreWhole : List ℕ → List ℕ → GivenBack × GivenBack → History → Result Bool Refusal → Type 0
 AreWhole first second given now (Ok true) = (given.0.answer ≡ Ok Whole) × (given.1.answer ≡ Ok Whole)
 AreWhole first second given now (Ok false) = Unit {0}

@@ -27,7 +27,7 @@ use Rattle.cli_shelves.specs.Files.{Files}
 abbrev pub IsReadAs : {X F : Type 0} → (List ℕ → Result X F) → Files → List ℕ → X → Type 0
 IsReadAs read files name value = (text : List ℕ) × (files name ≡ Some text) × (read text ≡ Ok value)
 
--- the same of a file that need not be named: without one the list is empty
+-- The bytes under a name are read as this list. If no file is named, the list is empty.
 abbrev pub IsReadAsIfNamed : {X F : Type 0} → (List ℕ → Result (List X) F) → Files → Option (Bor (List ℕ)) → List X
     → Type 0
 IsReadAsIfNamed read files None list = list ≡ []

@@ -23,7 +23,7 @@ use Rattle.cli_runs.specs.Run.{CommandRun}
 abbrev pub HoldsSame : Files → Files → Bor (List ℕ) → Bor (List ℕ) → Type 0
 HoldsSame files others name other = files name.now ≡ others other.now
 
--- the same of two files that need not be named: both are, or neither is
+-- two files that need not be named: both are named and hold the same bytes, or neither is named
 abbrev pub HoldsSameIfNamed : Files → Files → Option (Bor (List ℕ)) → Option (Bor (List ℕ)) → Type 0
 HoldsSameIfNamed files others None None = Unit {0}
 HoldsSameIfNamed files others (Some name) (Some other) = HoldsSame files others name other
@@ -77,7 +77,7 @@ pub record ShowsBest (files : Files) (words : SolveWords) (stored : List NamedFi
   pub proof : IsStoredProof files words stored a
   pub table : IsStoredAs words.table (IsTableOfFiles files words.problem v grouping.groups.items) stored
 
--- and one that ends with status 1: no grouping is lawful
+-- what a run shows that ends with status 1: no grouping is lawful
 pub record RunShowsImpossible (files : Files) (words : SolveWords) (stored : List NamedFile)
     (a : Answered) : Type 0 where
   pub v : ProblemValue

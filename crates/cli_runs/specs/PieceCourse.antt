@@ -39,7 +39,7 @@ piece_step v g words events =
     (AnswersOnBoard v g words.board.round piece_budget
     (λ round. IsAnswered (problem_of v) (depth_of words.board.round) round events words.number))
 
--- and what is said of it
+-- the step in which a desk proves a piece, and what is said of the piece
 abbrev pub said_step : ProblemValue → Grouping → PieceWords → List Event → Course Answered
 said_step v g words events =
     piece_step v g words events >>= λ piece. value_step (λ a. a ≡ piece_said words.round words.number piece)

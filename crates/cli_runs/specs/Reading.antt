@@ -59,7 +59,7 @@ abbrev pub whole_pair : List ℕ → List ℕ → GivenBack × GivenBack → Cou
 whole_pair first second given =
     whole_step second given.1 >>= λ y. whole_step first given.0 >>= λ x. value_step (λ pair. pair ≡ (x, y))
 
--- the same of two files that are loaded
+-- the whole texts of two files that are loaded
 abbrev pub load_pair : Option Files → List ℕ → List ℕ → Course (List ℕ × List ℕ)
 load_pair files first second =
     load_step files first >>= λ x. load_step files second >>= λ y. value_step (λ pair. pair ≡ (x, y))

@@ -46,7 +46,7 @@ abbrev pub HasItsValue : List Row → Rule → Type 0
 HasItsValue rows option =
     takes_value (filled option) ≡ true → HasValue rows (filled option) ⊎ HasNone rows (filled option)
 
--- and of each of the options
+-- the rows have the value of each of the options, as clap completes it, or rightly none
 abbrev pub HasValues : List Rule → List Row → Type 0
 HasValues options rows = All (HasItsValue rows) options
 
