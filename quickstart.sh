@@ -44,7 +44,7 @@ top=$(cd "$(dirname "$0")" && pwd)
 cd "$top"
 data=data/nc2020
 stored=results
-for file in nc2020geo.pl nc000012020.pl county_adjacency2023.txt county_outlines.geojson; do
+for file in nc2020geo.pl nc000012020.pl county_borders.txt county_outlines.geojson; do
     [ -r "$data/$file" ] || refuse "$data/$file can't be read"
 done
 mkdir -p "$stored"
@@ -122,7 +122,7 @@ else
 fi
 
 problem() { # SEATS
-    words=(--geo "$data/nc2020geo.pl" --segment "$data/nc000012020.pl" --chamber "$1" --adjacency "$data/county_adjacency2023.txt")
+    words=(--geo "$data/nc2020geo.pl" --segment "$data/nc000012020.pl" --chamber "$1" --adjacency "$data/county_borders.txt")
 }
 
 # Lists every best grouping, and makes a page of table, list and record.

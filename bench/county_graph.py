@@ -17,7 +17,7 @@ def main(folder):
     codes = sorted(counties)
     place = {code: i for i, code in enumerate(codes)}
     pairs = set()
-    for f in fields(folder + "/county_adjacency2023.txt"):
+    for f in fields(folder + "/county_borders.txt"):
         if len(f) >= 4 and f[1] in place and f[3] in place and f[1] != f[3]:
             pairs.add(tuple(sorted((place[f[1]], place[f[3]]))))
     print(len(codes), len(pairs))

@@ -13,7 +13,7 @@ import tempfile
 import time
 
 DATA = "data/nc2020"
-GEO, SEGMENT, ADJACENCY = "nc2020geo.pl", "nc000012020.pl", "county_adjacency2023.txt"
+GEO, SEGMENT, ADJACENCY = "nc2020geo.pl", "nc000012020.pl", "county_borders.txt"
 PATIENCE = 600
 
 

@@ -11,7 +11,7 @@ import sys
 import tempfile
 
 DATA = os.path.abspath("data/nc2020")
-FILES = ["--geo", "nc2020geo.pl", "--segment", "nc000012020.pl", "--adjacency", "county_adjacency2023.txt"]
+FILES = ["--geo", "nc2020geo.pl", "--segment", "nc000012020.pl", "--adjacency", "county_borders.txt"]
 PROBLEM = [word if word.startswith("--") else os.path.join(DATA, word) for word in FILES]
 ENOUGH = 10_000_000
 

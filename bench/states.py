@@ -13,7 +13,7 @@ import tempfile
 
 from chambers import DATA, DEFAULT_STEPS, solve_and_check, words_of
 
-CAROLINA = [f"{DATA}/nc2020/{name}" for name in ("nc2020geo.pl", "nc000012020.pl", "county_adjacency2023.txt")]
+CAROLINA = [f"{DATA}/nc2020/{name}" for name in ("nc2020geo.pl", "nc000012020.pl", "county_borders.txt")]
 STATES = [
     ("Alabama", 1, 35, 105),
     ("Florida", 12, 40, 120),

@@ -178,7 +178,7 @@ def both_checkers(program, words, folder):
 
 def compare_chamber(program, chamber, asked, tally):
     common = ["--geo", f"{cases.DATA}/nc2020geo.pl", "--segment", f"{cases.DATA}/nc000012020.pl"]
-    common += ["--adjacency", f"{cases.DATA}/county_adjacency2023.txt", "--chamber", str(chamber), "--certificate", "certificate"]
+    common += ["--adjacency", f"{cases.DATA}/county_borders.txt", "--chamber", str(chamber), "--certificate", "certificate"]
     with tempfile.TemporaryDirectory(prefix="compare-") as room:
         _, status = ran(program, ["solve", *common], room)
         if status != 0:

@@ -13,7 +13,7 @@ import page as county_page  # noqa: E402
 from test_map import DATA, OUTLINES, TOP, Room, table_of, written  # noqa: E402
 
 CHAMBERS = {"senate": 50, "house": 120}
-FILES = {"geo": "nc2020geo.pl", "segment1": "nc000012020.pl", "adjacency": "county_adjacency2023.txt"}
+FILES = {"geo": "nc2020geo.pl", "segment1": "nc000012020.pl", "adjacency": "county_borders.txt"}
 PAGES = {}
 SIX = """people 600
 chamber 6
@@ -48,7 +48,7 @@ def lists_of_carolina():
 def record_of(chamber, *more, withdrawn=None):
     """A record of a run of `list` over the files of data/nc2020, perhaps with more words and with withdrawn sets."""
     words = ["list", "--geo", "nc2020geo.pl", "--segment", "nc000012020.pl", f"--chamber={chamber}"]
-    words += ["--adjacency", "county_adjacency2023.txt", "--certificate", "my certificate", *more]
+    words += ["--adjacency", "county_borders.txt", "--certificate", "my certificate", *more]
     lines = ["countygroups record 1", "version 1.0 (a kit)", *(f"word {word}" for word in words)]
     for option, name in FILES.items():
         with open(os.path.join(DATA, name), "rb") as file:

@@ -49,7 +49,7 @@ fn load_counties(rt: &HostRuntime) -> Result<Vec<County>> {
 
 /// The pairs of counties that are adjacent, of the file.
 fn load_pairs(rt: &HostRuntime, counties: &[County]) -> Result<Vec<(CountyCode, CountyCode)>> {
-    let adjacency = fs::read(rt, "county_adjacency2023.txt")?;
+    let adjacency = fs::read(rt, "county_borders.txt")?;
     let listed = listed_codes(rt.alloc(), counties)?;
     Ok(read_pairs(rt.alloc(), &adjacency, &listed)?)
 }

@@ -16,7 +16,7 @@ fn problem(rt: &HostRuntime, chamber: u16) -> Result<Problem> {
     let alloc = rt.alloc();
     let geo = fs::read(rt, "nc2020geo.pl")?;
     let segment = fs::read(rt, "nc000012020.pl")?;
-    let adjacency = fs::read(rt, "county_adjacency2023.txt")?;
+    let adjacency = fs::read(rt, "county_borders.txt")?;
     let counties = read_counties(alloc, &geo, &segment, STATE)?;
     let pairs = read_pairs(alloc, &adjacency, &listed_codes(alloc, &counties)?)?;
     Ok(Problem::build(alloc, &counties, &pairs, &[], chamber)?)
