@@ -1,6 +1,8 @@
 """The sweeps over a case: each run again with one allocation or one call of input or output refused. `cases.py --help` says what is promised then.
 """
 import hashlib
+import os
+import random
 import re
 import types
 
@@ -64,16 +66,40 @@ def without_places(events, places):
     return b"".join(it for i, it in enumerate(events) if i not in places)
 
 
+# ---- which calls are refused ----
+
+# Of a run that is sampled, how many calls at either end are refused, and how many between them.
+AT_AN_END, BETWEEN = 20, 60
+
+
+def sampled(numbers, seed):
+    """The first and the last of these numbers, and some between them that the seed picks; all, where there are no more of them."""
+    if len(numbers) <= 2 * AT_AN_END + BETWEEN:
+        return numbers
+    picked = random.Random(seed).sample(numbers[AT_AN_END:-AT_AN_END], BETWEEN)
+    return numbers[:AT_AN_END] + sorted(picked) + numbers[-AT_AN_END:]
+
+
 class Sweep:
     """What the runs of one case with refusals gave."""
 
-    def __init__(self, case, program, room, most):
+    def __init__(self, case, program, room, most, sample=None):
         self.case, self.program, self.room, self.faults, self.tried, self.met, self.cut = case, program, room, [], 0, 0, 0
         self.most = min(it for it in (most, case.most, 1 << 60) if it)
+        self.sample = sample
         # the files that lie there before each run
         self.earlier = {}
         # the ordinary runs of `share` without some events: by the run, and the places of these events
         self.shorter = {}
+
+    def refused_of(self, numbers, upto, how):
+        """Which of the calls or allocations of a run, by these numbers, are refused in such a way; the others are counted."""
+        chosen = [it for it in numbers if it <= self.most]
+        if self.sample is not None:
+            folder, name = os.path.split(self.case.stem)
+            chosen = sampled(chosen, f"{self.sample} {os.path.basename(folder)}/{name} {upto} {how}")
+        self.cut += len(numbers) - len(chosen)
+        return chosen
 
     def left_behind(self, found, before, after, plain, calls=0, allocations=0):
         """What is wrong with the files that were found: each is as before or as after, or as the ordinary run stored it first; each that was
@@ -161,8 +187,7 @@ class Sweep:
         for upto, words in enumerate(self.case.runs):
             before, after, plain = self.reference(upto)
             count = plain.allocations
-            self.cut += max(0, count - self.most)
-            for number in range(1, min(count, self.most) + 1):
+            for number in self.refused_of(range(1, count + 1), upto, "memory"):
                 folder = self.prepare(upto)
                 made = run(self.program, words, folder, self.case.given, follow="memory", refuse=(number, "memory"))
                 # (what is asked of `share` below runs in the same folder)
@@ -186,10 +211,9 @@ class Sweep:
             before, after, plain = self.reference(upto)
             ways = [(EIO, "refused", False), (EINTR, "interrupted", True), ("short", "of one byte", True)]
             for how, said, only_moves in ways:
-                self.cut += max(0, len(plain.calls) - self.most)
-                for number, (call, moves) in enumerate(plain.calls[: self.most], 1):
-                    if only_moves and not moves:
-                        continue
+                numbers = [i for i, (_, moves) in enumerate(plain.calls, 1) if moves or not only_moves]
+                for number in self.refused_of(numbers, upto, said):
+                    call = plain.calls[number - 1][0]
                     folder = self.prepare(upto)
                     made = run(self.program, words, folder, self.case.given, follow="calls", refuse=(number, how))
                     self.tried += 1
@@ -218,7 +242,7 @@ class ToyShare(Sweep):
 
     def __init__(self, events):
         given = b"share --events e\nfile e\n" + events
-        super().__init__(types.SimpleNamespace(runs=[[]], given=given, files={}, most=0), "", "", 0)
+        super().__init__(types.SimpleNamespace(stem="cases/toy", runs=[[]], given=given, files={}, most=0), "", "", 0)
 
     def run_with_events(self, upto, name, text):
         made, total = Followed(), 0
@@ -237,7 +261,7 @@ class ToyShare(Sweep):
 
 
 def tests():
-    """What is tested of the rule for refused events: a name, what is found, and what is wanted."""
+    """What is tested of the rule for refused events and of samples: a name, what is found, and what is wanted."""
     text = b"hand 1\nresult 1 2\nbound 1\nroom\nbetter 1 1\ngroup 1 37001\nwider 2\nsplit 1 1 37001 2\nresult 1 1\nseats\n"
     events = events_in(text)
     case = b"share --events e --geo=x\nfile e\nhand 1\nfile f\nhand 2\nfile e\nhand 3\nhand 4"
@@ -265,11 +289,17 @@ def tests():
     yield "later lines follow", toy.wanted(b"sum 1\nmemory\nsum 9\n"), b"sum 1\nmemory\nsum 3\nsum 4\nsum 5\nsum 7\nleft 7\n"
     yield "two events are refused", toy.wanted(b"memory\nsum 3\nsum 5\nsum 6\nmemory\n"), b"memory\nsum 3\nsum 5\nsum 6\nmemory\nsum 8\nleft 8\n"
     yield "none is refused", toy.wanted(b"sum 1\nsum 4\n"), None
+    yield "a sample of a short run", sampled([*range(100)], "1"), [*range(100)]
+    sample = sampled([*range(1000)], "1")
+    yield "the ends of a sample", (sample[:20], sample[-20:]), ([*range(20)], [*range(980, 1000)])
+    yield "a sample is in order, with no call twice", (len({*sample}), sample), (100, sorted(sample))
+    yield "a seed picks the same again", sampled([*range(1000)], "1"), sample
+    yield "another seed picks others", sampled([*range(1000)], "2") != sample, True
     yield "an events file without events", ToyShare(b"").events_of(0), ("e", [])
 
 
 def test():
-    """Tries the rule for refused events."""
+    """Tries the rule for refused events, and samples."""
     passed = failed = 0
     for name, found, wanted in tests():
         passed, failed = passed + (found == wanted), failed + (found != wanted)

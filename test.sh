@@ -1,0 +1,152 @@
+#!/usr/bin/env bash
+# Runs the tests of the built program, or proves and builds it first. See `./test.sh --help`.
+set -euo pipefail
+
+usage() {
+    cat <<'TEXT'
+usage: ./test.sh [--program FILE]
+       ./test.sh --proved [--all]
+
+Without a word: runs all tests with the program of dist/, in minutes. It needs Linux on x86-64 and
+python3. The tests are those of the scripts and pages, all cases, the second checker, and cases that
+are changed at random for a minute.
+--program FILE: the same with another build of the program.
+--proved: the gate. It proves every crate from nothing, tries the must-fail edits that are due, and
+runs these tests with the two programs that were proved and built. Then it refuses allocations and
+calls of each case: of each run the first 20, the last 20 and 60 between them. It needs the Rattle
+kit, and takes hours on two processors.
+--all: with --proved, tries all edits, those of `tried/` too, changes cases for ten minutes, and
+refuses all allocations and calls.
+Statuses: 0 all passed, 1 something failed, 2 it can't be run.
+TEXT
+}
+
+refuse() {
+    echo "test.sh: $1" >&2
+    exit 2
+}
+
+heading() {
+    printf '\n== %s\n' "$1"
+}
+
+program=dist/countygroups-x86_64-linux
+is_proved=no
+is_all=no
+is_given=no
+while [ $# -gt 0 ]; do
+    case $1 in
+        --program)
+            [ $# -gt 1 ] || refuse "--program takes a file"
+            program=$(realpath -m "$2")
+            is_given=yes
+            shift
+            ;;
+        --proved) is_proved=yes ;;
+        --all) is_all=yes ;;
+        --help | -h) usage; exit 0 ;;
+        *) usage >&2; refuse "it takes no word \`$1\`" ;;
+    esac
+    shift
+done
+[ "$is_proved$is_given" != yesyes ] || refuse "--proved tests the program that it builds"
+[ "$is_all$is_proved" != yesno ] || refuse "--all goes with --proved"
+command -v python3 >/dev/null || refuse "there is no \`python3\` on the path"
+cd "$(dirname "$0")"
+
+processors=$(nproc)
+jobs=$((processors < 4 ? processors : 4))
+room=$(mktemp -d)
+found=$(mktemp -d)
+finish() {
+    rm -rf "$room"
+    rmdir "$found" 2>/dev/null || echo "test.sh: what was found is kept in $found" >&2
+}
+trap finish EXIT
+
+# Tests the scripts, which need no program.
+test_scripts() {
+    heading "the scripts"
+    python3 cases/cases.py --test
+    python3 cases/fuzz.py --test
+    python3 tools/trust_lines.py
+    python3 tools/crate_table.py
+    python3 tools/test_gate_room.py
+    python3 tools/test_map.py
+    python3 tools/test_page.py
+}
+
+# Tests programs that are built.
+test_programs() { # FUZZER_SECONDS SEED PROGRAM ..
+    local seconds=$1 seed=$2 words=() one
+    shift 2
+    for one in "$@"; do
+        words+=(--program "$one")
+    done
+    heading "all cases"
+    python3 cases/cases.py --jobs "$jobs" "${words[@]}"
+    heading "the second checker"
+    python3 tools/compare_checkers.py
+    heading "pages in a browser"
+    python3 tools/test_page_browser.py --program "$1"
+    heading "cases changed at random, $seconds seconds with seed $seed"
+    python3 cases/fuzz.py --seconds "$seconds" --seed "$seed" --program "$1" --keep "$found"
+}
+
+# Copies each program that was proved and built, and what it wrote, to its crate here.
+take_programs() { # FOLDER
+    local crate name
+    for crate in "$1"/crates/*; do
+        name=${crate##*/}
+        if [ -x "$crate/out/$name" ]; then
+            mkdir -p "crates/$name/out"
+            rm -f "crates/$name/out/$name" "crates/$name/out/$name.by-rattle"
+            cp "$crate/out/$name" "crates/$name/out/"
+            if [ -x "$crate/out/$name.by-rattle" ]; then
+                cp "$crate/out/$name.by-rattle" "crates/$name/out/"
+            fi
+        fi
+    done
+}
+
+# Refuses allocations and calls of the proved program and of the programs of worked calls.
+sweep() { # [OPTION ..]
+    local swept
+    mapfile -t swept < <(find cases -mindepth 1 -maxdepth 1 -type d ! -name carolina ! -name huge ! -name __pycache__ | sort)
+    heading "each case with allocations and calls refused ${*:-}"
+    python3 cases/cases.py --jobs "$jobs" --sweep all "$@" "${swept[@]}"
+}
+
+prove_and_test() {
+    local built=crates/countygroups/out/countygroups programs edits=() seconds=60 seed=1
+    if [ "$is_all" = yes ]; then
+        edits=(--all-edits)
+        seconds=600
+        seed=$(date +%-j)
+    fi
+    heading "every crate is proved from nothing"
+    tools/prove.sh "$room/proved" "$room/log" "${edits[@]}"
+    take_programs "$room/proved"
+    programs=("$built")
+    if [ -x "$built.by-rattle" ]; then
+        programs+=("$built.by-rattle")
+    fi
+    test_programs "$seconds" "$seed" "${programs[@]}"
+    if [ "$is_all" = yes ]; then
+        sweep
+        heading "the real files, with the first calls refused"
+        python3 cases/cases.py --jobs "$jobs" --sweep all --most 100 cases/carolina
+    else
+        sweep --sample "$RANDOM"
+    fi
+}
+
+if [ "$is_proved" = yes ]; then
+    test_scripts
+    prove_and_test
+else
+    [ -x "$program" ] || refuse "there is no program $program; --program names another build"
+    test_scripts
+    test_programs 60 1 "$program"
+fi
+heading "all passed"
