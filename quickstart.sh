@@ -131,7 +131,8 @@ list_and_page() { # NAME
     "$program" list "${words[@]}" --certificate "$stored/$1.certificate" >"$stored/$1.list"
     cat "$stored/$1.list"
     if [ "$has_python" = yes ]; then
-        python3 tools/page.py "$stored/$1.csv" "$stored/$1.list" "$data/county_outlines.geojson" "$stored/$1.record" "$stored/$1.html"
+        python3 tools/page.py "$stored/$1.csv" "$stored/$1.list" "$data/county_outlines.geojson" "$stored/$1.record" "$stored/$1.html" \
+            --enacted 2023 "$data/${1}2023.grouping" --borders "$data/borders_source.txt"
         pages+=("$top/$stored/$1.html")
     fi
 }
