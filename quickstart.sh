@@ -44,7 +44,7 @@ top=$(cd "$(dirname "$0")" && pwd)
 cd "$top"
 data=data/nc2020
 stored=results
-for file in nc2020geo.pl nc000012020.pl county_borders.txt county_outlines.geojson; do
+for file in nc2020geo.pl nc000012020.pl county_borders.txt county_outlines.geojson borders_source.txt {senate,house}2023.grouping; do
     [ -r "$data/$file" ] || refuse "$data/$file can't be read"
 done
 mkdir -p "$stored"
