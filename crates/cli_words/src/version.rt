@@ -5,7 +5,7 @@ ghost use Rattle.cli_words.specs.Version.{program_version};
 
 /// What `--version` says after the program's name.
 pub(crate) const VERSION: &str =
-    "0.1.0 (Rattle kit 13f, logic dac8208d650f15bf; the program can't tell whether its build was proved: `rt run` proves it first, `rt try` doesn't)";
+    "0.1.0 (logic dac8208d650f15bf; the program can't tell whether its build was proved: `rt run` proves it first, `rt try` doesn't)";
 
 /// The version of the program, and the kit that the program is proved with.
 #[tactic(auto, unfolding(crate::specs::Version::program_version))]
