@@ -52,7 +52,7 @@ top=$(cd "$(dirname "$0")" && pwd)
 cd "$top"
 data=data/nc2020
 stored=results
-for file in nc2020geo.pl nc000012020.pl county_borders.txt county_outlines.geojson; do
+for file in nc2020geo.pl nc000012020.pl county_borders.txt county_outlines.geojson borders_source.txt {senate,house}2023.grouping; do
     [ -r "$data/$file" ] || refuse "$data/$file can't be read"
 done
 mkdir -p "$stored"
@@ -162,7 +162,8 @@ list_and_page() { # NAME
     "$program" list "${words[@]}" --certificate "$stored/$1.certificate" >"$stored/$1.list"
     cat "$stored/$1.list"
     if [ "$has_python" = yes ]; then
-        python3 tools/page.py "$stored/$1.csv" "$stored/$1.list" "$data/county_outlines.geojson" "$stored/$1.record" "$stored/$1.html"
+        python3 tools/page.py "$stored/$1.csv" "$stored/$1.list" "$data/county_outlines.geojson" "$stored/$1.record" "$stored/$1.html" \
+            --enacted 2023 "$data/${1}2023.grouping" --borders "$data/borders_source.txt"
         pages+=("$top/$stored/$1.html")
     fi
 }

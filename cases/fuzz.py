@@ -25,11 +25,16 @@ turn is short. The same seed and turn make the same case: --turn N runs one turn
 Without --runs it goes on for --seconds (60). Each find is printed, and kept as the case FOLDER/SEED-TURN/found (--keep, ./fuzz-finds): its `found.txt` says
 what was found, and its `found.out` what the second checker wants, where it wants something. --test tries the parts of this script, and runs no program.
 
-Statuses: 0 no find, 1 finds, 2 these words can't be run. The last line is `N runs, M finds`.
+An error of this script itself is no find: the line `ERROR seed S turn T` names it, standard error has where it was, and the next turn goes on.
+
+Statuses: 0 no find, 1 finds, 2 these words can't be run, 3 errors of this script and no find, 4 both. The last line is
+`N runs, M finds, K errors of this script`.
 """
 import argparse
 import collections
+import contextlib
 import dataclasses
+import io
 import os
 import random
 import re
@@ -38,6 +43,7 @@ import subprocess
 import sys
 import tempfile
 import time
+import traceback
 
 HERE = os.path.dirname(os.path.realpath(__file__))
 sys.path[:0] = [HERE, f"{HERE}/../tools"]
@@ -213,8 +219,13 @@ def changed_words(words, chance):
     elif way == 6:
         words += [chance.choice(("--state", "--part", "--of", "--limit", "--depth", "--budget", "--number", "--round", "--steps")), chance.choice(NUMBERS)]
     elif options:
-        words += [chance.choice(("--links", "--withdrawn", "--certificate", "--out", "--events")), words[chance.choice(options) + 1] if words[-1] else ""]
+        words += [chance.choice(("--links", "--withdrawn", "--certificate", "--out", "--events")), word_behind(words, chance.choice(options)) if words[-1] else ""]
     return words
+
+
+def word_behind(words, place):
+    """The word behind an option, or an empty one if the option is the last word."""
+    return words[place + 1] if place + 1 < len(words) else ""
 
 
 def changed_word(word, chance):
@@ -436,12 +447,20 @@ def second_answer(words, files):
         raise TooSlow
 
     signal.signal(signal.SIGALRM, give_up)
+    try:
+        return timed_answer(words, files)
+    except TooSlow:
+        return None
+
+
+def timed_answer(words, files):
+    """What the second checker answers, or `TooSlow` if it isn't quick."""
     signal.alarm(QUICK_SECONDS)
     try:
         made = compare_checkers.second_checker(words, files)
         return made.wrote, made.status
     except TooSlow:
-        return None
+        raise
     except Exception as error:
         return repr(error).encode(), None
     finally:
@@ -512,9 +531,10 @@ def faults_of(run, runs, asked):
 
 def keep(folder, run, faults, wanted, how):
     """Keeps a run as a case that repeats it."""
-    os.makedirs(folder)
+    os.makedirs(folder, exist_ok=True)
     files = {"found.txt": "".join(f"{it}\n" for it in [how, *faults]).encode()}
-    files["found.out"] = wanted[0] + b"exit %d\n" % wanted[1] if wanted else b"an answer of the formats\n"
+    has_answer = wanted is not None and wanted[1] is not None
+    files["found.out"] = wanted[0] + b"exit %d\n" % wanted[1] if has_answer else b"an answer of the formats\n"
     if run.is_told:
         files["found.case"] = run.text()
     else:
@@ -590,6 +610,7 @@ def tests():
     yield "words without an option", words_without(run.words, "--geo"), ["solve", "--certificate", "c", "--out", "o"]
     yield from tests_of_outputs()
     yield from tests_of_changes()
+    yield from tests_of_errors()
 
 
 def tests_of_outputs():
@@ -637,10 +658,51 @@ def tests_of_changes():
     yield "a file without a name is in no folder", fits_folder(nameless), False
     yield "a folder's words stay in it", all(it.is_told or is_plain(it.words) for it in turns), True
     yield "both kinds of run", {it.is_told for it in turns}, {True, False}
+    bare = ["check", "--geo", "g", "--certificate"]
+    made = [changed_words(bare, random.Random(turn)) for turn in range(300)]
+    yield "words that end with an option", [*bare, "--links", ""] in made, True
+    yield "they get the words of other options", [*bare, "--links", "g"] in made, True
     for change in dict.fromkeys(CHANGES):
         made = [change(text, random.Random(turn)) for turn in range(200) for text in (b"", b"\n", b"take 37001 37003\nmark\n")]
         yield f"{change.__name__} gives bytes", all(isinstance(it, bytes) for it in made), True
         yield f"{change.__name__} changes something", len(set(made)) > 3, True
+
+
+class Stand:
+    """Stands for the sources of a turn: it gives one run, or ends by an error."""
+
+    def __init__(self, run=None):
+        self.run = run
+
+    def changed(self, chance):
+        if self.run is None:
+            raise IndexError("no word")
+        return self.run
+
+
+def turn_of(sources, programs, keep_folder):
+    """The tally of one turn, what it printed, and its status."""
+    asked, tally, said = argparse.Namespace(seed=5, limit=20, memory=1024, keep=keep_folder), Tally(), io.StringIO()
+    with tempfile.TemporaryDirectory(prefix="fuzz-") as room, contextlib.redirect_stdout(said), contextlib.redirect_stderr(io.StringIO()):
+        tally.turn(asked, sources, programs, [], os.path.realpath(room), 7)
+        tally.told()
+    return tally.status(), said.getvalue().splitlines()
+
+
+def tests_of_errors():
+    """Errors of this script and finds, which never pass for one another. The program of these turns is `false`, whose text is none of a command."""
+    run = Given(["size", "--geo", "g"], {"g": b"x"}, b"", False)
+    found = "FOUND seed 5 turn 7: format: status 1, ``"
+    yield "an error is no find", turn_of(Stand(), [], ""), (3, ["ERROR seed 5 turn 7: IndexError: no word", "0 runs, 0 finds, 1 error of this script"])
+    with tempfile.TemporaryDirectory(prefix="fuzz-") as room:
+        yield "a find is no error", turn_of(Stand(run), ["/bin/false"], room), (1, [found, "status 1: 1 runs", "1 runs, 1 finds, 0 errors of this script"])
+        yield "it is kept", sorted(os.listdir(f"{room}/5-7")), ["found.case", "found.files", "found.out", "found.txt", "found.words"]
+        yield "it is kept again", turn_of(Stand(run), ["/bin/false"], room)[0], 1
+        keep(f"{room}/8", run, ["checker: x"], (b"KeyError()", None), "seed 5 turn 8")
+        yield "an error of the second checker is kept", "found.out" in os.listdir(f"{room}/8"), True
+    status, lines = turn_of(Stand(run), ["/bin/false"], "/dev/null")
+    yield "a find that can't be kept is told", (status, lines[0]), (4, found)
+    yield "and so is the error", (lines[1][:27], lines[-1]), ("ERROR seed 5 turn 7: NotADi", "1 runs, 1 finds, 1 error of this script")
 
 
 def test():
@@ -671,27 +733,43 @@ def stores(program, option):
 
 
 class Tally:
-    """How many runs ended with each status, and how many finds there were."""
+    """How many runs ended with each status, and how many finds and errors of this script there were."""
 
     def __init__(self):
-        self.statuses, self.finds = collections.Counter(), 0
+        self.statuses, self.finds, self.errors = collections.Counter(), 0, 0
 
     def turn(self, asked, sources, programs, options, room, turn):
+        """Runs one turn. If this script itself ends by an error, the error is told and counted, and is no find."""
+        try:
+            self.tried_turn(asked, sources, programs, options, room, turn)
+        except Exception as error:
+            self.errors += 1
+            print(f"ERROR seed {asked.seed} turn {turn}: {type(error).__name__}: {error}", flush=True)
+            traceback.print_exc()
+
+    def tried_turn(self, asked, sources, programs, options, room, turn):
+        """Runs one turn. What was found is told before it is kept."""
         run = sources.changed(random.Random(f"{asked.seed} {turn}"))
         add_outputs(run, options, random.Random(f"{asked.seed} {turn} outputs"))
         runs = [made_by(program, run, room, asked) for program in programs]
         faults, wanted = faults_of(run, runs, asked)
         self.statuses.update(it.status for it in runs)
         self.finds += bool(faults)
-        if faults:
-            keep(f"{asked.keep}/{asked.seed}-{turn}", run, faults, wanted, f"seed {asked.seed} turn {turn}")
         for why in faults:
             print(f"FOUND seed {asked.seed} turn {turn}: {why}", flush=True)
+        if faults:
+            keep(f"{asked.keep}/{asked.seed}-{turn}", run, faults, wanted, f"seed {asked.seed} turn {turn}")
 
     def told(self):
+        """Prints how many runs ended with each status, and how many finds and errors there were."""
         for status, count in sorted(self.statuses.items()):
             print(f"status {status}: {count} runs")
-        print(f"{sum(self.statuses.values())} runs, {self.finds} finds")
+        errors = f"{self.errors} error{'' if self.errors == 1 else 's'} of this script"
+        print(f"{sum(self.statuses.values())} runs, {self.finds} finds, {errors}")
+
+    def status(self):
+        """The exit status: 0 nothing, 1 finds, 3 errors of this script, 4 both."""
+        return (1 if self.finds else 0) + (3 if self.errors else 0)
 
 
 def interrupt(*_):
@@ -714,7 +792,7 @@ def fuzz(asked, room):
     except KeyboardInterrupt:
         print(f"ended before turn {turn} was over")
     tally.told()
-    return 1 if tally.finds else 0
+    return tally.status()
 
 
 def main():
@@ -734,8 +812,12 @@ def main():
     asked = parser.parse_args()
     if asked.test:
         return test()
-    with tempfile.TemporaryDirectory(prefix="fuzz-") as room:
-        return fuzz(asked, os.path.realpath(room))
+    try:
+        with tempfile.TemporaryDirectory(prefix="fuzz-") as room:
+            return fuzz(asked, os.path.realpath(room))
+    except Exception:
+        traceback.print_exc()
+        return 3
 
 
 if __name__ == "__main__":

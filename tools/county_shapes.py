@@ -2,29 +2,36 @@
 
 The outlines are for pictures alone. Which counties are adjacent for the program is in its adjacency file.
 """
+from __future__ import annotations
+
 import json
 import math
 from collections import defaultdict
+from typing import Any, Collection, Dict, Iterator, List, Optional, Tuple
 
 from county_table import Refused
+
+Spot = Tuple[float, float]
+Ring = List[Spot]
+Outlines = Dict[str, List[Ring]]
 
 # If a corner of one outline lies so near to a side of another (in units of the sheet), it lies on the side.
 NEAR = 0.3
 
 
-def read_outlines(path, geoids):
-    """The rings of each wanted county, in longitude and latitude."""
-    found = {}
+def read_outlines(path: str, geoids: Optional[Collection[str]] = None) -> Outlines:
+    """The rings of each wanted county, or of each county if none is named, in longitude and latitude."""
+    found: Outlines = {}
     for geoid, geometry in _features(path):
-        if geoid in geoids:
+        if geoids is None or geoid in geoids:
             found[geoid] = found.get(geoid, []) + _rings(path, geoid, geometry)
-    for geoid in sorted(geoids):
+    for geoid in sorted(found if geoids is None else geoids):
         if not found.get(geoid):
             raise Refused(f"The outlines {path} have no county {geoid}.")
     return found
 
 
-def _features(path):
+def _features(path: str) -> Iterator[Tuple[str, Any]]:
     """The GEOID and the geometry of each feature."""
     not_geojson = Refused(f"The outlines {path} aren't GeoJSON with a list of features.")
     try:
@@ -43,7 +50,7 @@ def _features(path):
         yield properties["GEOID"], feature.get("geometry")
 
 
-def _rings(path, geoid, geometry):
+def _rings(path: str, geoid: str, geometry: Any) -> List[Ring]:
     """The rings of a polygon or of several, each as a list of positions without the last, which is the first."""
     try:
         polygons = {"Polygon": lambda: [geometry["coordinates"]], "MultiPolygon": lambda: geometry["coordinates"]}[geometry["type"]]()

@@ -1,11 +1,15 @@
 """Makes a page of the groups of a table and of the choices of a list: one HTML file that needs no network.
 
-usage: python3 tools/page.py TABLE LIST OUTLINES RECORD OUT.html
+usage: python3 tools/page.py TABLE LIST OUTLINES RECORD OUT.html [--enacted YEAR GROUPING] [--borders FILE]
 
 TABLE is a table of the counties, LIST the text that `countygroups list` wrote, OUTLINES GeoJSON with a GEOID for each county, and
 RECORD the record of a run (docs/formats.md). If a file can't be used, one sentence on standard error says why, and
-the status is 1. Without the five words the status is 2.
+the status is 1. If the words are others, the status is 2.
+
+--enacted YEAR GROUPING has the page say which of the best groupings was enacted in that year: GROUPING is a grouping text.
+--borders FILE is a text which says where the adjacency file comes from. It stands below the files of the run.
 """
+import argparse
 import json
 import math
 import os
@@ -17,6 +21,7 @@ from urllib.parse import quote
 import county_shapes
 import map as county_map
 import page_choices
+import page_notes
 import page_record
 from county_table import Refused, read_table
 from page_inputs import read_list, read_record
@@ -32,6 +37,7 @@ class Page:
 
     def __init__(self, listing, choice, groups, record):
         self.listing, self.choice, self.groups, self.record = listing, choice, groups, record
+        self.enacted, self.borders = [], []
         self.title = county_map.title_of(groups)
         self.withdrawn = [group for group in groups if group.is_withdrawn]
         self.county = {county.geoid: county for group in groups for county in group.counties}
@@ -274,6 +280,7 @@ def html_of(page, outlines):
         f"<p>{page.rule}</p>",
         f'<p id="counts">{escape(county_map.counts_in_words(page.groups))}.</p>',
         f'<p id="which" role="status">{page.which}</p>',
+        *page.enacted,
         '<p class="skip"><a href="#choices">To the choices</a></p>',
         "</header><section>",
         *figure_parts(page, sheet),
@@ -290,23 +297,34 @@ def html_of(page, outlines):
     ])
 
 
-def made_page(table, listed, recorded):
-    """The page of a table, a list and a record, if they agree."""
-    groups, listing, record = read_table(table), read_list(listed), read_record(recorded)
-    page_choices.check_numbers(table, listed, listing, groups)
-    choice = page_choices.choice_of(table, listing, groups)
-    page_record.check_record(recorded, record, table, groups, listing)
-    return Page(listing, choice, groups, record)
+def made_page(asked):
+    """The page of a table, a list and a record, if they agree, with what it is to say besides."""
+    groups, listing, record = read_table(asked.table), read_list(asked.list), read_record(asked.record)
+    page_choices.check_numbers(asked.table, asked.list, listing, groups)
+    choice = page_choices.choice_of(asked.table, listing, groups)
+    page_record.check_record(asked.record, record, asked.table, groups, listing)
+    page = Page(listing, choice, groups, record)
+    page.enacted = page_notes.enacted_parts(page, *(asked.enacted or (None, None)))
+    page.borders = page_notes.border_parts(asked.borders)
+    return page
+
+
+def asked_words(words):
+    """The files and options that the words name."""
+    usage = __doc__.split("usage: ")[1].split("\n")[0]
+    parser = argparse.ArgumentParser(usage=usage, description=__doc__, formatter_class=argparse.RawDescriptionHelpFormatter)
+    for name in ("table", "list", "outlines", "record", "out"):
+        parser.add_argument(name)
+    parser.add_argument("--enacted", nargs=2)
+    parser.add_argument("--borders")
+    return parser.parse_args(words)
 
 
 def main(words):
-    if len(words) != 5:
-        print(__doc__.strip(), file=sys.stderr)
-        return 2
-    table, listed, outlines, recorded, out = words
+    asked = asked_words(words)
     try:
-        page = made_page(table, listed, recorded)
-        county_map.store(out, html_of(page, county_shapes.read_outlines(outlines, set(page.county))))
+        page = made_page(asked)
+        county_map.store(asked.out, html_of(page, county_shapes.read_outlines(asked.outlines, set(page.county))))
     except Refused as fault:
         print(fault, file=sys.stderr)
         return 1

@@ -1,6 +1,9 @@
 """The choices of a page: the groups of a list with their seats and colours, and the number of each best grouping."""
+from __future__ import annotations
+
 import itertools
 import math
+from typing import Any, List, Sequence
 
 from county_table import Refused
 from map import counted
@@ -10,7 +13,7 @@ from map_colours import colour_numbers
 MOST_NUMBERED = 20_000
 
 
-def in_order(groups):
+def in_order(groups: Any) -> List[Any]:
     """Groups as a grouping text has them: by size, and groups of one size by their codes."""
     return sorted(groups, key=lambda group: (len(group.codes), group.codes))
 
@@ -31,7 +34,7 @@ def seats_of(groups, seats_left):
     return seats
 
 
-def grouping_of(listing, choice):
+def grouping_of(listing: Any, choice: Sequence[int]) -> List[Any]:
     """The groups of a choice of alternatives, in order."""
     return in_order([*listing.shared, *(group for region, one in zip(listing.regions, choice) for group in region[one])])
 

@@ -123,8 +123,8 @@ def number_class(head):
     return ' class="number"' if head == "Bytes" else ""
 
 
-def run_parts(record):
-    """Which run the page was made of, and which build said so."""
+def run_parts(record, borders):
+    """Which run the page was made of, which build said so, and where its borders come from."""
     words = " ".join(marked(word) for word in ["countygroups", *record.words])
     version = escape(record.version if record.version.startswith("countygroups ") else f"countygroups {record.version}")
     return [
@@ -132,6 +132,7 @@ def run_parts(record):
         f'<pre id="run">{words}</pre>',
         f'<p id="build">Its answer is <code>{escape(record.answer)}</code>. This build said so: <code>{version}</code>.</p>',
         *file_table(record),
+        *borders,
         "<p>Compare the files that you have with these by <code>sha256sum FILE</code>. An extract of a public file has another sum than "
         "the public file. Then run the commands with the public file.</p>",
     ]
@@ -157,7 +158,7 @@ def check_parts(page):
     """How anybody checks the answer."""
     return [
         "<h2>How to check it</h2>",
-        *run_parts(page.record),
+        *run_parts(page.record, page.borders),
         "<h3>The commands</h3>",
         *commands(page.record, page.file_name, page.number),
         "<h3>What is proved, and what isn&#8217;t</h3>",

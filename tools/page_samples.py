@@ -57,6 +57,11 @@ def record_of(chamber, *more, withdrawn=None):
     return "\n".join([*lines, file_line("read", "certificate", b"a certificate\n", "my certificate"), "status 0", "answer all", ""])
 
 
+def notes_of(chamber):
+    """The words by which a page of North Carolina 2020 says what was enacted in 2023, and where its borders come from."""
+    return ["--enacted", "2023", os.path.join(DATA, f"{chamber}2023.grouping"), "--borders", os.path.join(DATA, "borders_source.txt")]
+
+
 def file_line(kind, option, text, name):
     """The line of a record for a file."""
     return f"{kind} {option} {len(text)} {hashlib.sha256(text).hexdigest()} {name}"
@@ -164,18 +169,18 @@ class Read(html.parser.HTMLParser):
 class PageRoom(Room):
     """A folder in which pages are made."""
 
-    def made(self, table, listed, record, outlines=OUTLINES):
-        """The status of a run, what it said, and the path of the page."""
+    def made(self, table, listed, record, outlines=OUTLINES, more=()):
+        """The status of a run, what it said, and the path of the page. Further words may stand behind."""
         out = os.path.join(self.room, "page.html")
         paths = [self.file("table.csv", table), self.file("list.txt", listed), outlines, self.file("run.record", record)]
         said = io.StringIO()
         with contextlib.redirect_stderr(said):
-            status = county_page.main([*paths, out])
+            status = county_page.main([*paths, out, *more])
         return status, said.getvalue(), out
 
-    def page(self, *inputs):
+    def page(self, *inputs, more=()):
         """The page, if nothing was refused."""
-        status, said, out = self.made(*inputs)
+        status, said, out = self.made(*inputs, more=more)
         self.assertEqual((status, said), (0, ""))
         with open(out, encoding="utf-8") as file:
             return file.read()

@@ -7,6 +7,7 @@ import hashlib
 import io
 import json
 import os
+import re
 import shlex
 import sys
 import unittest
@@ -14,8 +15,8 @@ import unittest
 sys.path.insert(0, os.path.dirname(os.path.abspath(__file__)))
 import page as county_page  # noqa: E402
 from page_readback import ReadBack  # noqa: E402
-from page_samples import CHAMBERS, DATA, FILES, GROUPS, OUTLINES, PEOPLE, SIX, TOP, PageRoom, Read  # noqa: E402
-from page_samples import file_line, lists_of_carolina, record_of, small_table  # noqa: E402
+from page_samples import CHAMBERS, DATA, FILES, GROUPS, OUTLINES, PEOPLE, SIX, TOP, Facts, PageRoom, Read  # noqa: E402
+from page_samples import file_line, lists_of_carolina, notes_of, record_of, small_table  # noqa: E402
 from test_map import COUNTS, squares, table_of, written  # noqa: E402
 
 WITHDRAWN = {1: (1, ["37001"]), 2: (2, ["37003", "37005"]), 3: (2, ["37007", "37009"]), "W1": (1, ["37011"])}
@@ -57,7 +58,7 @@ class Carolina(ReadBack):
                 self.assertEqual(files[option], [option, f"data/nc2020/{name}", f"{len(data):,}", hashlib.sha256(data).hexdigest()])
             inputs = table_of(page.words("text")), lists_of_carolina()[chamber], self.record_of_page(page)
             self.check_page(text, *inputs)
-            self.assertEqual(self.page(*inputs), text, f"docs/pages/{chamber}.html is another page than tools/page.py makes now")
+            self.assertEqual(self.page(*inputs, more=notes_of(chamber)), text, f"docs/pages/{chamber}.html is another page than tools/page.py makes now")
 
     def record_of_page(self, page):
         """The record that a page tells."""
@@ -75,6 +76,47 @@ class Carolina(ReadBack):
         self.assertEqual((status, os.path.exists(out)), (1, False))
         sentence = "The table table.csv has a chamber of 50, and the list list.txt has a chamber of 120.\n"
         self.assertEqual(said.replace(self.room + os.sep, ""), sentence)
+
+
+class Notes(ReadBack):
+    """What a page says besides."""
+
+    def test_the_enacted_groupings(self):
+        """The numbers are those of a list whose groupings are made here, each from its alternatives."""
+        for chamber in CHAMBERS:
+            with open(os.path.join(DATA, f"{chamber}2023.grouping"), encoding="ascii") as file:
+                enacted = sorted(line.split("|", 1)[1].replace("|", " ") for line in file.read().splitlines())
+            facts = Facts(lists_of_carolina()[chamber])
+            number = [sorted(grouping) for grouping in facts.groupings()].index(enacted) + 1
+            told = Read(self.page(*self.inputs(chamber), more=notes_of(chamber))).words("enacted")
+            self.assertEqual(told.split(".")[0], f"The grouping enacted in 2023 is number {number} in the list")
+            chosen = [int(one) - 1 for one in re.findall(r"(\d+) of region", told)]
+            self.assertEqual(sorted(facts.grouping(chosen)), enacted)
+
+    def test_where_the_borders_come_from(self):
+        page = Read(self.page(*self.inputs("senate"), more=notes_of("senate")))
+        self.assertIn("it isn't the Census Bureau's file", page.words("borders"))
+
+    def test_another_grouping(self):
+        record, outlines = record_of(6), self.file("squares", squares(*((code, place, 0) for place, code in enumerate(PEOPLE))))
+        for text, told in {
+            "1|37001\n1|37011\n2|37003|37005\n2|37007|37009\n": "is number 1 in the list. It has alternative 1 of region 1.",
+            "2|37003|37001\n1|37005\n1|37011\n2|37009|37007\n": "is number 2 in the list. It has alternative 2 of region 1.",
+            "6|37001|37003|37005|37007|37009|37011\n": "is none of the best groupings.",
+        }.items():
+            more = ["--enacted", "2001", self.file("enacted", text.encode())]
+            page = Read(self.page(small_table(GROUPS), SIX, record, outlines, more=more))
+            self.assertEqual(page.words("enacted"), f"The grouping enacted in 2001 {told}")
+        sentence = "The grouping {} doesn't have each county of the page once.\n"
+        for text in ("6|37001\n", "x|37001|37003|37005|37007|37009|37011\n"):
+            path = self.file("enacted", text.encode())
+            status, said, _ = self.made(small_table(GROUPS), SIX, record, outlines, ["--enacted", "2001", path])
+            self.assertEqual((status, said), (1, sentence.format(path)))
+        path = self.file("enacted", b"5|37001|37003|37005|37007|37009|37011\n")
+        status, said, _ = self.made(small_table(GROUPS), SIX, record, outlines, ["--enacted", "2001", path])
+        self.assertEqual((status, said), (1, f"The grouping {path} has 5 seats, and the list has 6 seats left.\n"))
+        status, said, _ = self.made(small_table(GROUPS), SIX, record, outlines, ["--borders", os.path.join(self.room, "none")])
+        self.assertEqual((status, said), (1, f"The file {os.path.join(self.room, 'none')} can't be read: No such file or directory.\n"))
 
 
 class Small(ReadBack):
@@ -255,7 +297,7 @@ class Refusals(PageRoom):
     def test_the_words(self):
         said = io.StringIO()
         with contextlib.redirect_stderr(said):
-            self.assertEqual(county_page.main([]), 2)
+            self.assertRaisesRegex(SystemExit, "2", county_page.main, [])
         self.assertIn("usage: python3 tools/page.py TABLE LIST OUTLINES RECORD OUT.html", said.getvalue())
 
 

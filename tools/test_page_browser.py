@@ -23,6 +23,14 @@ from test_map import squares  # noqa: E402
 
 PROGRAM = PICTURES = None
 
+# How many regions there are, each of two alternatives: the groupings published for 2020 are 16 and 8.
+REGIONS = {"senate": 4, "house": 3}
+
+
+def all_choices(chamber):
+    """Each choice of an alternative in each region of a chamber."""
+    return itertools.product((0, 1), repeat=REGIONS[chamber])
+
 
 class InBrowser(ReadBack):
     """Pages in a real browser."""
@@ -82,14 +90,14 @@ class Choices(InBrowser):
             texts = Facts(inputs[1]).texts()
             self.open_carolina(chamber)
             seen = []
-            for choice in itertools.product((0, 1), repeat=3):
+            for choice in all_choices(chamber):
                 self.choose(choice)
                 seen.append(self.check_page(self.html(), *inputs))
                 self.assertEqual(self.each("input:checked", "Number(one.value)"), list(choice))
                 name = f"chamber-{CHAMBERS[chamber]}-grouping-{seen[-1] + 1}.txt"
                 self.assertEqual(self.downloaded(), (name, texts[seen[-1]]))
                 self.check_map(texts[seen[-1]])
-            self.assertEqual(sorted(seen), list(range(8)))
+            self.assertEqual(sorted(seen), list(range(2 ** REGIONS[chamber])))
             self.check_quiet()
 
     def check_map(self, text):
@@ -126,11 +134,11 @@ class Choices(InBrowser):
         self.open_carolina("senate")
         shown = "[...document.querySelectorAll('.region')].map((one) => getComputedStyle(one).display !== 'none')"
         wait = "new Promise((done) => requestAnimationFrame(() => requestAnimationFrame(done)))"
-        self.assertEqual(self.browser.value(shown), [False] * 3)
+        self.assertEqual(self.browser.value(shown), [False] * 4)
         self.browser.value(f"document.querySelector('input[data-region=\"1\"]').focus(); {wait}")
-        self.assertEqual(self.browser.value(shown), [False, True, False])
+        self.assertEqual(self.browser.value(shown), [False, True, False, False])
         self.browser.value(f"document.querySelector('#download').focus(); {wait}")
-        self.assertEqual(self.browser.value(shown), [False] * 3)
+        self.assertEqual(self.browser.value(shown), [False] * 4)
 
 
 class Counties(InBrowser):
@@ -234,7 +242,7 @@ class Forms(InBrowser):
             headings = self.each("h1, h2, h3", "one.tagName + ' ' + one.textContent")
             self.assertEqual(headings[1:5], ["H2 The choices", "H2 The groups", "H2 How to check it", "H3 The commands"])
             self.assertEqual(roles.count("heading"), len(headings))
-            self.assertEqual(len([name for role, name in told if role == "radio" and name.startswith("Alternative ")]), 6)
+            self.assertEqual(len([name for role, name in told if role == "radio" and name.startswith("Alternative ")]), 2 * REGIONS["senate"])
             self.assertIn(("combobox", "Find a county:"), told)
 
     def test_it_is_printed(self):
@@ -287,7 +295,7 @@ class OfProgram(InBrowser):
             self.assertIn("\nanswer best\n", report)
             self.assertEqual(self.answer("python3", "tools/check.py", *commands["tools/check.py"]), report)
             self.open()
-            for choice in itertools.product((0, 1), repeat=3):
+            for choice in all_choices(chamber):
                 self.choose(choice)
                 page = self.html()
                 self.check_page(page, *inputs)
