@@ -5,13 +5,19 @@ set -euo pipefail
 
 usage() {
     cat <<'TEXT'
-usage: ./quickstart.sh [--proved]
+usage: ./quickstart.sh [--build | --proved]
 
-Without a word: builds the program without proof (some two minutes), solves House and Senate by the files in data/nc2020, checks both
-certificates, lists every best grouping of each, and makes a page of each to look at.
---proved: proves the program and all that it stands on first, as many crates side by side as there are processors (half an hour to an
-hour on four), and does the same by the proved program. The second time that takes seconds. Without python3 it makes no page.
-Programs, certificates, groupings, tables, lists, records, pages and the log are stored in results/.
+Solves House and Senate by the files in data/nc2020, checks both certificates, lists every best
+grouping of each, and makes a page of each to look at. Without python3 it makes no page.
+Without a word: takes the proved program of dist/, once its bytes are those of dist/SHA256SUMS. It
+needs Linux on x86-64, and takes seconds.
+--build: builds the program without proof, and takes that. It needs the Rattle kit, and takes some
+two minutes the first time.
+--proved: proves the program and all that it stands on, as many crates side by side as there are
+processors, and takes the program that was proved. It needs the Rattle kit, and takes half an hour to
+an hour on four processors the first time.
+Built programs, certificates, groupings, tables, lists, records, pages and the log are stored in
+results/.
 TEXT
 }
 
@@ -24,19 +30,21 @@ heading() {
     printf '\n== %s\n' "$1" >&2
 }
 
-is_proved=no
+way=dist
 for word in "$@"; do
     case $word in
-        --proved) is_proved=yes ;;
+        --build | --proved)
+            [ "$way" = dist ] || refuse "it takes one of --build and --proved"
+            way=${word#--}
+            ;;
         --help | -h) usage; exit 0 ;;
         *) usage >&2; refuse "it takes no word \`$word\`" ;;
     esac
 done
 has_python=yes
 command -v python3 >/dev/null || has_python=no
-command -v rt >/dev/null || refuse "there is no \`rt\` on the path; it comes with the Rattle kit that the README names under \"What is trusted\""
-if [ "$is_proved" = no ] && [ "$has_python" = no ]; then
-    refuse "there is no \`python3\` on the path, and only --proved builds without it"
+if [ "$way" != dist ]; then
+    command -v rt >/dev/null || refuse "there is no \`rt\` on the path; it comes with the Rattle kit that the README names under \"What is trusted\""
 fi
 
 # The names of files are relative, so that no record and no page has a path of this machine.
@@ -108,18 +116,41 @@ prove() { # PROGRAM
     cp "$room/crates/countygroups/out/countygroups" "$1"
 }
 
-if [ "$is_proved" = yes ]; then
-    program=$stored/countygroups
-    is_built "$program" || prove "$program"
-    what="the program is proved"
-else
-    program=$stored/unproved.countygroups
-    if ! is_built "$program"; then
-        heading "building the program without proof (some two minutes)"
-        python3 "$top/cases/cases.py" --build "$program" >&2
-    fi
-    what="THIS BUILD ISN'T PROVED"
-fi
+# Says what to do where the program of dist/ can't run, and ends.
+refuse_machine() { # WHY
+    refuse "$1. The same program as WebAssembly runs wherever Node 24 does: \`node dist/countygroups.mjs --help\`"
+}
+
+# Checks that the program of dist/ is what was built, and that it runs here.
+take_program_of_dist() {
+    local system
+    system="$(uname -s) on $(uname -m)"
+    [ "$system" = "Linux on x86_64" ] || refuse_machine "the program of dist/ is for Linux on x86-64, and this is $system"
+    [ -r dist/SHA256SUMS ] || refuse "there is no dist/SHA256SUMS; \`./quickstart.sh --build\` builds the program"
+    (cd dist && sha256sum --quiet -c SHA256SUMS) >&2 || refuse "a file of dist/ isn't what dist/SHA256SUMS says"
+    "$program" --version >/dev/null || refuse_machine "the program of dist/ needs the C library of GNU, and doesn't start here"
+}
+
+case $way in
+    dist)
+        program=dist/countygroups-x86_64-linux
+        take_program_of_dist
+        what="the program is proved"
+        ;;
+    proved)
+        program=$stored/countygroups
+        is_built "$program" || prove "$program"
+        what="the program is proved"
+        ;;
+    build)
+        program=$stored/unproved.countygroups
+        if ! is_built "$program"; then
+            heading "building the program without proof (some two minutes)"
+            tools/build_unproved.sh "$program"
+        fi
+        what="THIS BUILD ISN'T PROVED"
+        ;;
+esac
 
 problem() { # SEATS
     words=(--geo "$data/nc2020geo.pl" --segment "$data/nc000012020.pl" --chamber "$1" --adjacency "$data/county_borders.txt")
@@ -150,8 +181,8 @@ for chamber in house:120 senate:50; do
 done
 
 heading "certificates, groupings, tables, lists and records are in $top/$stored, and the program is $top/$program"
-if [ "$is_proved" = no ]; then
-    heading "this build isn't proved: \`./quickstart.sh --proved\` proves and builds the program"
+if [ "$way" = build ]; then
+    heading "this build isn't proved: \`./quickstart.sh\` takes the proved program of dist/"
 fi
 if [ "$has_python" = yes ]; then
     heading "pages to look at, which a browser opens:"

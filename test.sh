@@ -72,8 +72,26 @@ test_scripts() {
     python3 tools/trust_lines.py
     python3 tools/crate_table.py
     python3 tools/test_gate_room.py
+    python3 tools/test_compare_dist.py
+    python3 tools/test_release.py
     python3 tools/test_map.py
     python3 tools/test_page.py
+}
+
+# Tests what dist/ says of itself, and that it is what was proved and built.
+compare_dist() { # [OPTION ..]
+    if [ -d dist ]; then
+        heading "dist/"
+        python3 tools/compare_dist.py "$@"
+    fi
+}
+
+# Tests the WebAssembly build and what calls it.
+test_web() {
+    if [ -x web/test.sh ]; then
+        heading "the program as WebAssembly"
+        web/test.sh
+    fi
 }
 
 # Tests programs that are built.
@@ -112,26 +130,43 @@ take_programs() { # FOLDER
 # Refuses allocations and calls of the proved program and of the programs of worked calls.
 sweep() { # [OPTION ..]
     local swept
-    mapfile -t swept < <(find cases -mindepth 1 -maxdepth 1 -type d ! -name carolina ! -name huge ! -name __pycache__ | sort)
+    mapfile -t swept < <(find cases -mindepth 1 -maxdepth 1 -type d \
+        ! -name carolina ! -name huge ! -name __pycache__ | sort)
     heading "each case with allocations and calls refused ${*:-}"
     python3 cases/cases.py --jobs "$jobs" --sweep all "$@" "${swept[@]}"
 }
 
+# Compares dist/ with the proved program, and with what is compiled of its module if that was kept.
+compare_proved() { # PROGRAM
+    local wasm=()
+    if [ -f "$room/module.bc" ]; then
+        tools/wasm.sh "$room/module.bc" "$room/countygroups.wasm"
+        wasm=(--wasm "$room/countygroups.wasm")
+    fi
+    compare_dist --program "$1" "${wasm[@]}"
+}
+
 prove_and_test() {
-    local built=crates/countygroups/out/countygroups programs edits=() seconds=60 seed=1
+    local built=crates/countygroups/out/countygroups
+    local programs edits=() module=() seconds=60 seed=1
     if [ "$is_all" = yes ]; then
         edits=(--all-edits)
         seconds=600
         seed=$(date +%-j)
     fi
+    if [ -f dist/countygroups.wasm ] && python3 tools/compare_dist.py --is-current; then
+        module=(--module "$room/module.bc")
+    fi
     heading "every crate is proved from nothing"
-    tools/prove.sh "$room/proved" "$room/log" "${edits[@]}"
+    tools/prove.sh "$room/proved" "$room/log" "${edits[@]}" "${module[@]}"
     take_programs "$room/proved"
+    compare_proved "$built"
     programs=("$built")
     if [ -x "$built.by-rattle" ]; then
         programs+=("$built.by-rattle")
     fi
     test_programs "$seconds" "$seed" "${programs[@]}"
+    test_web
     if [ "$is_all" = yes ]; then
         sweep
         heading "the real files, with the first calls refused"
@@ -146,7 +181,9 @@ if [ "$is_proved" = yes ]; then
     prove_and_test
 else
     [ -x "$program" ] || refuse "there is no program $program; --program names another build"
+    compare_dist
     test_scripts
     test_programs 60 1 "$program"
+    test_web
 fi
 heading "all passed"

@@ -133,15 +133,16 @@ class Browser:
         self.ask("Input.dispatchTouchEvent", type="touchEnd", touchPoints=[])
 
     def download(self, script, folder):
-        """The path of the one file that a script downloads to a folder."""
+        """The path of the one file that a script downloads to a folder. The file isn't empty."""
         os.makedirs(folder, exist_ok=True)
         self.ask("Browser.setDownloadBehavior", behavior="allow", downloadPath=folder)
         self.value(script)
         end = time.monotonic() + SECONDS
         while time.monotonic() < end:
-            names = [name for name in os.listdir(folder) if not name.endswith(".crdownload") and not name.startswith(".")]
-            if names:
-                return os.path.join(folder, names[0])
+            paths = [os.path.join(folder, name) for name in os.listdir(folder) if not name.startswith(".")]
+            # (an empty file has the name until the file beside it, which is written, is renamed)
+            if len(paths) == 1 and not paths[0].endswith(".crdownload") and os.path.getsize(paths[0]):
+                return paths[0]
             time.sleep(0.02)
         raise RuntimeError("nothing was downloaded")
 

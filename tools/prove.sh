@@ -4,40 +4,95 @@ set -euo pipefail
 
 usage() {
     cat <<'TEXT'
-usage: tools/prove.sh FOLDER LOG [--all-edits]
+usage: tools/prove.sh FOLDER LOG [--all-edits] [--module FILE]
 
 Copies the crates to FOLDER, which is empty or missing, with the must-fail edits that are due, and
-runs `rt ci` there: it proves each crate, tries the edits, and runs the programs. With --all-edits it
-tries all edits, those of `tried/` too (`tools/gate_room.py`). The built programs are in
-FOLDER/crates/NAME/out, and what `rt ci` said is in LOG. As many checks run side by side as there are
-processors, four at most, each with one job: a check with several jobs takes more processor time.
+runs `rt ci` there: it proves each crate, tries the edits, and runs the programs. The built programs
+are in FOLDER/crates/NAME/out, and what `rt ci` said is in LOG. As many checks run side by side as
+there are processors, four at most, each with one job: a check with several jobs takes more time of
+the processors.
+--all-edits: tries all edits, those of `tried/` too (`tools/gate_room.py`).
+--module FILE: stores the LLVM module of which the kit's clang made the program as FILE.
 Statuses: 0 all is proved and refused as it must be, 1 something isn't, 2 it can't be run.
 TEXT
 }
 
-refuse() {
-    echo "prove.sh: $1" >&2
-    exit 2
+refuse() { # STATUS WHY
+    echo "prove.sh: $2" >&2
+    exit "$1"
 }
 
-case ${1:-} in
-    --help | -h) usage; exit 0 ;;
-esac
-if [ $# -lt 2 ] || [ $# -gt 3 ] || { [ $# = 3 ] && [ "$3" != --all-edits ]; }; then
+module=
+edits=()
+names=()
+while [ $# -gt 0 ]; do
+    case $1 in
+        --help | -h) usage; exit 0 ;;
+        --all-edits) edits=(--all-edits) ;;
+        --module)
+            [ $# -gt 1 ] || refuse 2 "--module takes a file"
+            module=$(realpath -m "$2")
+            shift
+            ;;
+        -*) usage >&2; refuse 2 "it takes no word \`$1\`" ;;
+        *) names+=("$1") ;;
+    esac
+    shift
+done
+if [ ${#names[@]} != 2 ]; then
     usage >&2
-    refuse "it takes a folder, a log, and --all-edits if wanted"
+    refuse 2 "it takes a folder and a log"
 fi
-command -v rt >/dev/null || refuse "there is no \`rt\` on the path: docs/gate.md says what the proof needs"
+rt=$(command -v rt) || refuse 2 "there is no \`rt\` on the path; it comes with the Rattle kit"
 top=$(cd "$(dirname "$0")/.." && pwd)
-folder=$1
-log=$2
-: >"$log"
-log=$(realpath "$log")
+folder=${names[0]}
+: >"${names[1]}"
+log=$(realpath "${names[1]}")
 processors=$(nproc)
+kept=$(mktemp -d)
+trap 'rm -rf "$kept"' EXIT
 
-python3 "$top/tools/gate_room.py" "${@:3}" "$folder"
-(cd "$folder" && env RT_JOBS=$((processors < 4 ? processors : 4)) rt ci) 2>&1 | tee "$log"
+# Makes a kit whose clang keeps each module that it compiles, beside the sum of its object.
+keep_modules() {
+    cat >"$kept/clang" <<SCRIPT
+#!/usr/bin/env bash
+clang=$(printf %q "$(dirname "$(rt doc)")/toolchain/bin/clang")
+kept=$(printf %q "$kept")
+SCRIPT
+    cat >>"$kept/clang" <<'SCRIPT'
+module=
+object=
+previous=
+for word in "$@"; do
+    case $word in *.bc) module=$word ;; esac
+    [ "$previous" != -o ] || object=$word
+    previous=$word
+done
+[ -f "$module" ] || exec -a "$0" "$clang" "$@"
+(exec -a "$0" "$clang" "$@") || exit
+name=$kept/$(sha256sum <"$object" | cut -c1-64)
+cp "$module" "$name.part.$$" && mv "$name.part.$$" "$name.bc"
+SCRIPT
+    "$top/tools/kit_links.sh" "$kept/kit" "$kept/clang"
+    rt=$kept/kit/bin/rt
+}
+
+# Stores the module whose object is the one that the program was linked of.
+store_module() {
+    local object=$folder/crates/countygroups/out/countygroups.o name
+    name=$(sha256sum <"$object" | cut -c1-64)
+    [ -f "$kept/$name.bc" ] || refuse 1 "no module was kept of which $object was made"
+    cp "$kept/$name.bc" "$module"
+}
+
+if [ -n "$module" ]; then
+    keep_modules
+fi
+python3 "$top/tools/gate_room.py" "${edits[@]}" "$folder"
+(cd "$folder" && env RT_JOBS=$((processors < 4 ? processors : 4)) "$rt" ci) 2>&1 | tee "$log"
 if grep -q 'BAD EDIT' "$log"; then
-    echo "prove.sh: an edit can't be applied, compiled or read, so that it shows nothing" >&2
-    exit 1
+    refuse 1 "an edit can't be applied, compiled or read, so that it shows nothing"
+fi
+if [ -n "$module" ]; then
+    store_module
 fi

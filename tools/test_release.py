@@ -1,0 +1,182 @@
+#!/usr/bin/env python3
+"""Tries `tools/prove.sh` and `tools/release.sh` in a small repository, with a stand-in for the kit.
+
+usage: python3 tools/test_release.py
+
+It needs git, and says so where git isn't there. Nothing is proved. The stand-in's `rt ci` has its
+clang compile two modules, links one of them, and says what the test wants.
+"""
+import os
+import shutil
+import subprocess
+import tempfile
+import unittest
+
+import dist_folder
+
+TOOLS = os.path.join(dist_folder.TOP, "tools")
+NEEDED = ("compare_dist.py", "dist_folder.py", "gate_room.py", "kit_links.sh", "prove.sh",
+          "release.sh")
+RT = """#!/usr/bin/env bash
+set -e
+kit=$(cd "$(dirname "$0")/.." && pwd)
+case $1 in
+    doc) echo "$kit/START-HERE.md" ;;
+    version) echo "rattle-kit-0 logic 0" ;;
+    ci)
+        room=$(mktemp -d)
+        for name in other countygroups; do
+            mkdir -p "crates/$name/out"
+            echo "module of $name" >"$room/module.bc"
+            (cd "$room" && env -i "$kit/toolchain/bin/clang" -x ir module.bc -o module.o)
+            cp "$room/module.o" "crates/$name/out/$name.o"
+            (echo "#!/bin/sh"; cat "crates/$name/out/$name.o") >"crates/$name/out/$name"
+            chmod +x "crates/$name/out/$name"
+        done
+        cat "$kit/said"
+        ;;
+esac
+"""
+CLANG = """#!/usr/bin/env bash
+sed 's/^/# object of /' "$3" >"$5"
+"""
+WASM = """#!/usr/bin/env bash
+sed 's/^/wasm of /' "$1" >"$2"
+"""
+LAUNCHER = """import sys
+for name in ("countygroups.mjs", "countygroups.cmd"):
+    open(f"{sys.argv[1]}/{name}", "w").close()
+"""
+
+
+def write(path: str, text: str, is_program: bool = False) -> None:
+    """Writes `text` to the file at `path`, and makes the folders above it."""
+    os.makedirs(os.path.dirname(path), exist_ok=True)
+    with open(path, "w", encoding="utf-8") as file:
+        file.write(text)
+    if is_program:
+        os.chmod(path, 0o755)
+
+
+def read(path: str) -> str:
+    """Returns the text of the file at `path`."""
+    with open(path, encoding="utf-8") as file:
+        return file.read()
+
+
+@unittest.skipUnless(shutil.which("git"), "git isn't there")
+class TestRelease(unittest.TestCase):
+    """A repository with two programs and their edits, and a kit that stands beside it."""
+
+    def setUp(self) -> None:
+        self.room = tempfile.mkdtemp(prefix="test-release-")
+        self.addCleanup(shutil.rmtree, self.room)
+        self.top, self.kit = f"{self.room}/top", f"{self.room}/kit"
+        write(f"{self.kit}/bin/rt", RT, True)
+        write(f"{self.kit}/bin/rtlib.py", "")
+        write(f"{self.kit}/toolchain/bin/clang", CLANG, True)
+        write(f"{self.kit}/toolchain/lib/libc.so", "")
+        write(f"{self.kit}/said", "rt: ok\n9 passed, 0 failed\n")
+        for name in NEEDED:
+            shutil.copy(f"{TOOLS}/{name}", self.folder("tools"))
+        write(f"{self.top}/tools/wasm.sh", WASM, True)
+        write(f"{self.top}/tools/launcher.py", LAUNCHER)
+        write(f"{self.top}/test.sh", "#!/bin/sh\n", True)
+        for name in ("countygroups", "other"):
+            write(f"{self.top}/crates/{name}/src/main.rt", name)
+        write(f"{self.top}/crates/other/must-fail/a.edit", "a")
+        write(f"{self.top}/crates/other/tried/b.edit", "b")
+        write(f"{self.top}/crates.txt", "countygroups:\nother:\n")
+        write(f"{self.top}/HANDLES", "Handles allowed: none.\n")
+        write(f"{self.top}/.gitignore", "out/\n__pycache__\n")
+        self.run_words("git", "init", "-q", "-b", "main")
+        self.commit()
+
+    def folder(self, name: str) -> str:
+        """Makes a folder of the repository, and returns its path."""
+        os.makedirs(f"{self.top}/{name}", exist_ok=True)
+        return f"{self.top}/{name}"
+
+    def run_words(self, *words: str) -> subprocess.CompletedProcess[str]:
+        """Runs words in the repository, with the kit on the path."""
+        who = {f"GIT_{role}_{part}": "tester" for role in ("AUTHOR", "COMMITTER")
+               for part in ("NAME", "EMAIL")}
+        path = f"{self.kit}/bin:{os.environ['PATH']}"
+        how = {**os.environ, **who, "PATH": path}
+        return subprocess.run(words, cwd=self.top, env=how, capture_output=True, text=True)
+
+    def commit(self) -> None:
+        """Commits all files."""
+        self.run_words("git", "add", ".")
+        self.run_words("git", "commit", "-q", "-m", "a change")
+
+    def prove(self, *words: str) -> subprocess.CompletedProcess[str]:
+        """Proves into the folder `proved` beside the repository."""
+        places = (f"{self.room}/proved", f"{self.room}/log")
+        return self.run_words("tools/prove.sh", *places, "--module", f"{self.room}/m.bc", *words)
+
+    def release(self) -> subprocess.CompletedProcess[str]:
+        """Releases what was proved into that folder."""
+        places = ("--room", f"{self.room}/proved", "--log", f"{self.room}/log")
+        return self.run_words("tools/release.sh", *places, "--module", f"{self.room}/m.bc")
+
+    def test_the_module_of_the_program_is_kept(self) -> None:
+        self.assertEqual(self.prove().returncode, 0)
+        self.assertEqual(read(f"{self.room}/m.bc"), "module of countygroups\n")
+        self.assertEqual(read(f"{self.room}/log"), "rt: ok\n9 passed, 0 failed\n")
+
+    def test_an_edit_that_shows_nothing_fails(self) -> None:
+        write(f"{self.kit}/said", "rt: other: BAD EDIT\n9 passed, 0 failed\n")
+        ran = self.prove()
+        self.assertEqual(ran.returncode, 1)
+        self.assertIn("shows nothing", ran.stderr)
+
+    def test_a_release_proves_and_makes_all_files(self) -> None:
+        write(f"{self.top}/dist/old", "old")
+        ran = self.run_words("tools/release.sh")
+        self.assertEqual(ran.returncode, 0, ran.stderr)
+        names = ["BUILD", "SHA256SUMS", "countygroups-x86_64-linux", "countygroups.cmd",
+                 "countygroups.mjs", "countygroups.wasm"]
+        self.assertEqual(sorted(os.listdir(f"{self.top}/dist")), names)
+        wasm = read(f"{self.top}/dist/countygroups.wasm")
+        self.assertEqual(wasm, "wasm of module of countygroups\n")
+        tree = self.run_words("git", "rev-parse", "HEAD:crates").stdout
+        wanted = f"crates {tree}kit rattle-kit-0 logic 0\nproof 9 passed, 0 failed\n"
+        self.assertEqual(read(f"{self.top}/dist/BUILD"), wanted)
+        sums = self.run_words("sh", "-c", "cd dist && sha256sum --strict -c SHA256SUMS")
+        self.assertEqual(sums.returncode, 0, sums.stdout)
+
+    def test_a_finished_proof_is_taken(self) -> None:
+        self.prove("--all-edits")
+        ran = self.release()
+        self.assertEqual(ran.returncode, 0, ran.stderr)
+        self.assertIn("byte for byte", ran.stdout)
+
+    def test_a_proof_without_all_edits_is_refused(self) -> None:
+        self.prove()
+        ran = self.release()
+        self.assertEqual(ran.returncode, 1)
+        self.assertIn("crates/other/must-fail/b.edit differs", ran.stderr)
+        self.assertFalse(os.path.exists(f"{self.top}/dist"))
+
+    def test_a_proof_of_other_crates_is_refused(self) -> None:
+        self.prove("--all-edits")
+        write(f"{self.top}/crates/other/src/main.rt", "changed")
+        self.assertIn("as it is committed", self.release().stderr)
+        self.commit()
+        self.assertIn("crates/other/src/main.rt differs", self.release().stderr)
+
+    def test_a_proof_that_failed_is_refused(self) -> None:
+        write(f"{self.kit}/said", "rt: FAILED\n8 passed, 1 failed\n")
+        self.prove("--all-edits")
+        self.assertIn("isn't that all passed", self.release().stderr)
+
+    def test_tests_that_fail_are_no_release(self) -> None:
+        write(f"{self.top}/test.sh", "#!/bin/sh\nexit 1\n", True)
+        self.prove("--all-edits")
+        self.assertEqual(self.release().returncode, 1)
+        self.assertFalse(os.path.exists(f"{self.top}/dist"))
+
+
+if __name__ == "__main__":
+    unittest.main()
