@@ -1,0 +1,55 @@
+/** What the hosts use of Node. Debian has no package with all of Node's types. */
+
+interface NodeBytes extends Uint8Array {
+  subarray(begin?: number, end?: number): NodeBytes;
+}
+
+declare const Buffer: {
+  from(bytes: Uint8Array): NodeBytes;
+};
+
+interface ImportMeta {
+  url: string;
+}
+
+declare module "node:fs" {
+  interface Status {
+    mode: bigint;
+    size: bigint;
+  }
+  const fs: {
+    constants: { O_RDONLY: number; O_RDWR: number; O_CREAT: number; O_EXCL: number };
+    openSync(name: Uint8Array, flags: number, mode?: number): number;
+    closeSync(file: number): void;
+    fsyncSync(file: number): void;
+    readSync(file: number, into: Uint8Array, at: number, length: number, place: null): number;
+    writeSync(file: number, bytes: Uint8Array, at: number, length: number, place: null): number;
+    writeSync(file: number, text: string): number;
+    renameSync(from: Uint8Array, to: Uint8Array): void;
+    unlinkSync(name: Uint8Array): void;
+    statSync(name: Uint8Array, options: { bigint: true }): Status;
+    fstatSync(file: number, options: { bigint: true }): Status;
+    readFileSync(name: string | URL): NodeBytes;
+  };
+  export default fs;
+}
+
+declare module "node:process" {
+  const process: {
+    argv: string[];
+    platform: string;
+    versions: { node: string };
+    exit(status: number): never;
+  };
+  export default process;
+}
+
+declare module "node:tty" {
+  const tty: { isatty(file: number): boolean };
+  export default tty;
+}
+
+declare module "node:v8" {
+  const v8: { setFlagsFromString(flags: string): void };
+  export default v8;
+}
