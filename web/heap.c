@@ -123,17 +123,17 @@ void __multi3(struct wide *result, word low, word high, word by_low, word by_hig
 }
 
 /* Stands for the compiler's quotient, bit by bit as on paper: each round shifts the dividend into
- * the rest, and a bit of the quotient into the dividend. The program never divides by 0. */
+ * the rest, which is less than 2^127 before, and a bit of the quotient into the dividend. The
+ * program never divides by 0. */
 void __udivti3(struct wide *result, word low, word high, word by_low, word by_high) {
     word rest_low = 0, rest_high = 0;
     for (int round = 0; round < 128; round++) {
-        _Bool is_carried = rest_high >> 63;
         rest_high = rest_high << 1 | rest_low >> 63;
         rest_low = rest_low << 1 | high >> 63;
         _Bool is_less = rest_high < by_high || (rest_high == by_high && rest_low < by_low);
         high = high << 1 | low >> 63;
         low <<= 1;
-        if (is_less && !is_carried) continue;
+        if (is_less) continue;
         rest_high -= by_high + (rest_low < by_low);
         rest_low -= by_low;
         low |= 1;
