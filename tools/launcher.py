@@ -3,8 +3,8 @@
 
 usage: python3 tools/launcher.py FOLDER
 
-FOLDER/countygroups.mjs is the launcher, packed of web/host/launcher.mjs, and FOLDER/countygroups.cmd
-calls it on Windows. Both need FOLDER/countygroups.wasm beside them, which tools/wasm.sh makes.
+FOLDER/countygroups.mjs is the launcher, packed of web/host/launcher.mjs. On Windows it is called by
+FOLDER/countygroups.cmd. Both need FOLDER/countygroups.wasm beside them, which tools/wasm.sh makes.
 """
 import sys
 from pathlib import Path

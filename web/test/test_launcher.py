@@ -152,7 +152,9 @@ class Streams(Launched):
         for number in (signal.SIGTERM, signal.SIGINT, signal.SIGKILL, signal.SIGHUP):
             os.mkfifo(self.folder / f"fifo{number}")
             words = ["size", "--geo", f"fifo{number}", *PROBLEM[2:], "--chamber", "50"]
-            process = subprocess.Popen([str(self.program), *words], cwd=self.folder, env={})
+            environment: dict[str, str] = {}
+            called = [str(self.program), *words]
+            process = subprocess.Popen(called, cwd=self.folder, env=environment)
             with open(self.folder / f"fifo{number}", "wb"):
                 time.sleep(0.1)
                 process.send_signal(number)
@@ -210,7 +212,8 @@ class Memory(Launched):
         self.assertGreater(held, 360_000_000)
         alone = self.peak("--version")
         used = self.peak("size", "--geo", files[0], "--segment", files[1], "--chamber", "50")
-        print(f"full state of {held} bytes: {(used - alone) >> 20} MB beside Node's own", flush=True)
+        megabytes = (used - alone) >> 20
+        print(f"full state of {held} bytes: {megabytes} MB beside Node's own", flush=True)
         self.assertLess(used - alone, MOST_BESIDE_NODE)
 
 

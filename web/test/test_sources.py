@@ -1,4 +1,5 @@
 """What the sources of web/ are held to: types, lengths, and one list of the host calls."""
+import os
 import re
 import subprocess
 import unittest
@@ -42,6 +43,21 @@ class Sources(unittest.TestCase):
         words = [program_there("tsc"), "-p", str(WEB / "jsconfig.json")]
         done = subprocess.run(words, capture_output=True, text=True, check=False)
         self.assertEqual((done.returncode, done.stdout), (0, ""))
+
+    def test_types_of_the_tests(self) -> None:
+        folders = ":".join(str(path) for path in (TOP / "tools", TOP / "cases", WEB / "test"))
+        words = [program_there("mypy"), "--strict", "--follow-imports=silent", "--cache-dir=/dev/null"]
+        files = [TOP / "tools" / name for name in ("bundle.py", "launcher.py", "test_web.py")]
+        called = [*words, *map(str, [*files, *(WEB / "test").glob("*.py")])]
+        done = subprocess.run(
+            called,
+            cwd=TOP,
+            env={**os.environ, "MYPYPATH": folders},
+            capture_output=True,
+            text=True,
+            check=False,
+        )
+        self.assertEqual(done.returncode, 0, done.stdout)
 
     def test_functions_are_short(self) -> None:
         seen = 0

@@ -1,4 +1,4 @@
-"""What the tests of web/ work on: the program's WebAssembly, the launcher, and what is installed."""
+"""What the tests of web/ work on: the program's WebAssembly, the launcher, what is installed."""
 import random
 import shutil
 import subprocess
@@ -63,7 +63,8 @@ def program_there(*names: str) -> str:
     raise NotThere(f"there is no `{names[0]}`: Debian has it as the package {PACKAGES[names[0]]}")
 
 
-PACKAGES = {"node": "nodejs", "tsc": "node-typescript", "chromium": "chromium", "cc": "gcc"}
+PACKAGES = {name: name for name in ("chromium", "mypy")}
+PACKAGES.update(node="nodejs", tsc="node-typescript")
 
 
 def run_node(*words: str | Path, timeout: float = SECONDS) -> "subprocess.CompletedProcess[str]":
@@ -73,7 +74,7 @@ def run_node(*words: str | Path, timeout: float = SECONDS) -> "subprocess.Comple
 
 
 def chosen(among: Sequence[str], count: int, what: str) -> list[str]:
-    """Returns `count` of these by the seed, or all of them with `--all`. `what` varies the choice."""
+    """Returns `count` of these by the seed and by `what`, or all of them with `--all`."""
     if SETTING.is_all or count >= len(among):
         return list(among)
     return sorted(random.Random(f"{SETTING.seed} {what}").sample(sorted(among), count))
