@@ -16,7 +16,7 @@ FOR_WINDOWS = '@node "%~dp0countygroups.mjs" %*\r\n@exit /b %errorlevel%\r\n'
 
 
 def write_launchers(folder: Path, entry: Path = ENTRY) -> None:
-    """Writes both launchers to `folder`, which has to be there. `entry` is what Node's is packed of."""
+    """Writes both launchers to `folder`, which has to be there. Node's is packed of `entry`."""
     launcher = folder / "countygroups.mjs"
     launcher.write_text(bundle.node_module(entry), encoding="utf-8", newline="\n")
     launcher.chmod(0o755)

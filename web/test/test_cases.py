@@ -22,8 +22,8 @@ FAULTS = {
     ),
     "rename does nothing": (
         "solve_files",
-        "(store.rename(nameAt(process, from), nameAt(process, to)), 0)",
-        "(nameAt(process, from), nameAt(process, to), 0)",
+        "store.rename(nameAt(process, from), nameAt(process, to))",
+        "[nameAt(process, from), nameAt(process, to)]",
     ),
     "each error is EIO": ("files", "process.errno = error.errno;", "process.errno = 5;"),
     "statx finds no file": (

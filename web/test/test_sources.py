@@ -46,9 +46,9 @@ class Sources(unittest.TestCase):
 
     def test_types_of_the_tests(self) -> None:
         folders = ":".join(str(path) for path in (TOP / "tools", TOP / "cases", WEB / "test"))
-        words = [program_there("mypy"), "--strict", "--follow-imports=silent", "--cache-dir=/dev/null"]
+        words = [program_there("mypy"), "--strict", "--follow-imports=silent"]
         files = [TOP / "tools" / name for name in ("bundle.py", "launcher.py", "test_web.py")]
-        called = [*words, *map(str, [*files, *(WEB / "test").glob("*.py")])]
+        called = [*words, "--cache-dir=/dev/null", *map(str, [*files, *(WEB / "test").glob("*.py")])]
         done = subprocess.run(
             called,
             cwd=TOP,
