@@ -1,14 +1,14 @@
 #!/usr/bin/env python3
-"""Makes the completions of bash, zsh and fish, in `completions/`, of what a program's `--help` says.
+"""Makes the completions of bash, zsh and fish, in `completions/`, of what `--help` says.
 
 usage: completions.py [--program FILE] [--out FOLDER]
 
 --program FILE: a build of the program; by default that of `dist/`.
 --out FOLDER: where the three files are stored; by default `completions/`.
 
-A shell then completes the commands, the options of each, and the names of files behind those options
-that take a file. `completions/README.md` says where each shell wants its file. Statuses: 0 the files
-are stored, 1 what the program says can't be read, 2 these words can't be followed.
+A shell then completes the commands, the options of each, and the names of files behind those
+options that take a file. `completions/README.md` says where each shell wants its file. Statuses: 0
+the files are stored, 1 what the program says can't be read, 2 these words can't be followed.
 """
 import argparse
 import os
