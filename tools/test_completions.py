@@ -6,9 +6,9 @@ usage: python3 tools/test_completions.py [--program FILE]
 --program FILE: a build of the program; by default that of `dist/`.
 
 The files have to be those that `tools/completions.py` makes of what the program says. Then each
-shell that is installed is asked what it offers: the commands, the options of each command, and names
-of files behind the options that take one. A shell that isn't installed is named and passed over.
-On Debian the shells are the packages `bash`, `zsh` and `fish`.
+shell that is installed is asked what it offers: the commands, the options of each command, and
+names of files behind the options that take one. A shell that isn't installed is named and passed
+over. On Debian the shells are the packages `bash`, `zsh` and `fish`.
 """
 import argparse
 import os
