@@ -41,7 +41,6 @@ function withErrno(call) {
  * @returns {T}
  */
 function withPatience(call) {
-  const clock = new Int32Array(new SharedArrayBuffer(4));
   for (;;) {
     try {
       return withErrno(call);
@@ -49,7 +48,7 @@ function withPatience(call) {
       if (!(error instanceof HostError) || error.errno !== ERRNO.EAGAIN) {
         throw error;
       }
-      Atomics.wait(clock, 0, 0, PAUSE);
+      Atomics.wait(new Int32Array(new SharedArrayBuffer(4)), 0, 0, PAUSE);
     }
   }
 }
