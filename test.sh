@@ -61,6 +61,9 @@ done
 [ -z "$wasm$refusing" ] || [ "$is_given" = yes ] || refuse "--wasm and --refusing go with --program"
 [ "$is_all$is_proved" != yesno ] || refuse "--all goes with --proved"
 command -v python3 >/dev/null || refuse "there is no \`python3\` on the path"
+if [ "$is_proved" = yes ]; then
+    command -v rt >/dev/null || refuse "there is no \`rt\` on the path; it comes with the Rattle kit"
+fi
 cd "$(dirname "$0")"
 
 processors=$(nproc)
