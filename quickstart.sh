@@ -118,7 +118,8 @@ prove() { # PROGRAM
 
 # Says what to do where the program of dist/ can't run, and ends.
 refuse_machine() { # WHY
-    refuse "$1. The same program as WebAssembly runs wherever Node 24 does: \`node dist/countygroups.mjs --help\`"
+    echo "the same program runs by Node 20 or later: \`node dist/countygroups.mjs --help\`" >&2
+    refuse "$1 (docs/guide.md says how to run it, system by system)"
 }
 
 # Checks that the program of dist/ is what was built, and that it runs here.

@@ -4,17 +4,18 @@ set -euo pipefail
 
 usage() {
     cat <<'TEXT'
-usage: ./test.sh [--program FILE]
+usage: ./test.sh [--program FILE [--wasm FILE [--refusing FILE]]]
        ./test.sh --proved [--all]
 
-Without a word: runs all tests with the program of dist/, in minutes. It needs Linux on x86-64 and
-python3. The tests are those of the scripts and pages, all cases, the second checker, and cases that
-are changed at random for a minute.
---program FILE: the same with another build of the program.
+Without a word: runs all tests with the programs of dist/, in minutes. It needs Linux on x86-64 and
+python3. The tests are those of the scripts and pages, all cases, the second checker, cases that are
+changed at random for a minute, and those of the WebAssembly build, which need Node.
+--program FILE: the same with another build of the program. The WebAssembly build is tested if it
+is named too (--wasm; --refusing: the one over a heap that refuses, which tools/wasm.sh makes).
 --proved: the gate. It proves every crate from nothing, tries the must-fail edits that are due, and
-runs these tests with the two programs that were proved and built. Then it refuses allocations and
-calls of each case: of each run the first 20, the last 20 and 60 between them. It needs the Rattle
-kit, and takes hours on two processors.
+runs these tests with the programs that were proved and built. Then it refuses allocations and calls
+of each case: of each run the first 20, the last 20 and 60 between them. It needs the Rattle kit,
+and takes hours on two processors.
 --all: with --proved, tries all edits, those of `tried/` too, changes cases for ten minutes, and
 refuses all allocations and calls.
 Statuses: 0 all passed, 1 something failed, 2 it can't be run.
@@ -34,12 +35,19 @@ program=dist/countygroups-x86_64-linux
 is_proved=no
 is_all=no
 is_given=no
+wasm=
+refusing=
 while [ $# -gt 0 ]; do
     case $1 in
         --program)
             [ $# -gt 1 ] || refuse "--program takes a file"
             program=$(realpath -m "$2")
             is_given=yes
+            shift
+            ;;
+        --wasm | --refusing)
+            [ $# -gt 1 ] || refuse "$1 takes a file"
+            declare "${1#--}=$(realpath -m "$2")"
             shift
             ;;
         --proved) is_proved=yes ;;
@@ -50,8 +58,12 @@ while [ $# -gt 0 ]; do
     shift
 done
 [ "$is_proved$is_given" != yesyes ] || refuse "--proved tests the program that it builds"
+[ -z "$wasm$refusing" ] || [ "$is_given" = yes ] || refuse "--wasm and --refusing go with --program"
 [ "$is_all$is_proved" != yesno ] || refuse "--all goes with --proved"
 command -v python3 >/dev/null || refuse "there is no \`python3\` on the path"
+if [ "$is_proved" = yes ]; then
+    command -v rt >/dev/null || refuse "there is no \`rt\` on the path; it comes with the Rattle kit"
+fi
 cd "$(dirname "$0")"
 
 processors=$(nproc)
@@ -74,6 +86,7 @@ test_scripts() {
     python3 tools/test_gate_room.py
     python3 tools/test_compare_dist.py
     python3 tools/test_release.py
+    python3 tools/test_border_check.py
     python3 tools/test_map.py
     python3 tools/test_page.py
 }
@@ -87,11 +100,9 @@ compare_dist() { # [OPTION ..]
 }
 
 # Tests the WebAssembly build and what calls it.
-test_web() {
-    if [ -x web/test.sh ]; then
-        heading "the program as WebAssembly"
-        web/test.sh
-    fi
+test_web() { # [OPTION ..]
+    heading "the program as WebAssembly"
+    python3 tools/test_web.py --jobs "$jobs" "$@"
 }
 
 # Tests programs that are built.
@@ -136,37 +147,28 @@ sweep() { # [OPTION ..]
     python3 cases/cases.py --jobs "$jobs" --sweep all "$@" "${swept[@]}"
 }
 
-# Compares dist/ with the proved program, and with what is compiled of its module if that was kept.
-compare_proved() { # PROGRAM
-    local wasm=()
-    if [ -f "$room/module.bc" ]; then
-        tools/wasm.sh "$room/module.bc" "$room/countygroups.wasm"
-        wasm=(--wasm "$room/countygroups.wasm")
-    fi
-    compare_dist --program "$1" "${wasm[@]}"
-}
-
 prove_and_test() {
     local built=crates/countygroups/out/countygroups
-    local programs edits=() module=() seconds=60 seed=1
+    local programs edits=() all=() seconds=60 seed=1
     if [ "$is_all" = yes ]; then
         edits=(--all-edits)
+        all=(--all)
         seconds=600
         seed=$(date +%-j)
     fi
-    if [ -f dist/countygroups.wasm ] && python3 tools/compare_dist.py --is-current; then
-        module=(--module "$room/module.bc")
-    fi
     heading "every crate is proved from nothing"
-    tools/prove.sh "$room/proved" "$room/log" "${edits[@]}" "${module[@]}"
+    tools/prove.sh "$room/proved" "$room/log" "${edits[@]}" --module "$room/module.bc"
     take_programs "$room/proved"
-    compare_proved "$built"
+    wasm=$room/countygroups.wasm
+    refusing=$room/refusing.wasm
+    tools/wasm.sh "$room/module.bc" "$wasm" "$refusing"
+    compare_dist --program "$built" --wasm "$wasm"
     programs=("$built")
     if [ -x "$built.by-rattle" ]; then
         programs+=("$built.by-rattle")
     fi
     test_programs "$seconds" "$seed" "${programs[@]}"
-    test_web
+    test_web --native "$built" --wasm "$wasm" --refusing "$refusing" "${all[@]}"
     if [ "$is_all" = yes ]; then
         sweep
         heading "the real files, with the first calls refused"
@@ -184,6 +186,10 @@ else
     compare_dist
     test_scripts
     test_programs 60 1 "$program"
-    test_web
+    if [ "$is_given" = no ]; then
+        test_web --native "$program"
+    elif [ -n "$wasm" ]; then
+        test_web --native "$program" --wasm "$wasm" ${refusing:+--refusing "$refusing"}
+    fi
 fi
 heading "all passed"

@@ -2,18 +2,15 @@
 """Compares `dist/` with its sums, and with a program that was just proved and built.
 
 usage: compare_dist.py [--program FILE] [--wasm FILE]
-       compare_dist.py --is-current
 
 The files of `dist/` have to be those of `dist/SHA256SUMS`. If `crates/` is no longer the tree that
 `dist/BUILD` names, the commits by which `dist/` is behind are told, and nothing more is compared.
 If the kit is another one, that is told, and nothing more is compared.
 --program FILE, --wasm FILE: else the program that was proved and built here, and what was compiled
 of its module for WebAssembly, have to be the files of `dist/` byte for byte.
---is-current: compares nothing, and tells by the status whether `crates/` and the kit are those of
-`dist/BUILD`.
 
-Statuses: 0 nothing differs, or `dist/` is behind; 1 something differs, or `dist/` isn't current;
-2 these words can't be followed.
+Statuses: 0 nothing differs, or `dist/` is behind; 1 something differs; 2 these words can't be
+followed.
 """
 import argparse
 import os
@@ -107,12 +104,9 @@ def main(words: list[str]) -> int:
     parser = argparse.ArgumentParser(description="Compares dist/ with what was proved and built.")
     parser.add_argument("--program")
     parser.add_argument("--wasm")
-    parser.add_argument("--is-current", action="store_true")
     asked = parser.parse_args(words)
     top = dist_folder.TOP
     try:
-        if asked.is_current:
-            return 1 if why_not_current(top, dist_folder.read_build(f"{top}/{DIST}")) else 0
         wrong = compare(top, asked.program, asked.wasm)
     except (dist_folder.Refused, OSError) as error:
         wrong = [str(error)]

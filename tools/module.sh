@@ -28,40 +28,21 @@ fi
 command -v rt >/dev/null || refuse 2 "there is no \`rt\` on the path; it comes with the Rattle kit"
 module=$1
 shift
+tools=$(cd "$(dirname "$0")" && pwd)
 kit=$(dirname "$(rt doc)")
 room=$(mktemp -d)
 trap 'rm -rf "$room"' EXIT
-mkdir -p "$room/kit/bin" "$room/toolchain/bin" "$room/modules"
-
-# Links to all that lies in one folder, but to the names that follow.
-link_all() { # FROM TO NAME..
-    local from=$1 to=$2 file
-    shift 2
-    for file in "$from"/*; do
-        case " $* " in
-            *" $(basename "$file") "*) ;;
-            *) ln -s "$file" "$to/" ;;
-        esac
-    done
-}
-
-link_all "$kit" "$room/kit" bin toolchain
-link_all "$kit/bin" "$room/kit/bin" rt rtlib.py
-# (these two look for the kit beside their own file, behind any link)
-cp "$kit/bin/rt" "$kit/bin/rtlib.py" "$room/kit/bin/"
-link_all "$kit/toolchain" "$room/toolchain" bin
-link_all "$kit/toolchain/bin" "$room/toolchain/bin" clang
-ln -s "$room/toolchain" "$room/kit/toolchain"
+mkdir "$room/modules"
 
 # (clang is called without an environment, so the paths are written into the script)
-cat >"$room/toolchain/bin/clang" <<SCRIPT
+cat >"$room/clang" <<SCRIPT
 #!/usr/bin/env bash
 for word in "\$@"; do
     case \$word in *.bc) [ ! -f "\$word" ] || cp "\$word" "$room/modules/\$(date +%s%N).bc" ;; esac
 done
 exec -a "\$0" "$kit/toolchain/bin/clang" "\$@"
 SCRIPT
-chmod +x "$room/toolchain/bin/clang"
+"$tools/kit_links.sh" "$room/kit" "$room/clang"
 
 python3 "$room/kit/bin/rt" "$@" || refuse 1 "\`rt $*\` ended with status $?"
 last=$(find "$room/modules" -name '*.bc' | sort | tail -n 1)

@@ -59,19 +59,17 @@ if [ -z "$room" ]; then
 fi
 python3 tools/dist_folder.py check-proof "$room" "$log"
 program=$room/crates/countygroups/out/countygroups
-./test.sh --program "$program"
+wasm=$made/dist/countygroups.wasm
 
 mkdir "$made/dist"
 cp "$program" "$made/dist/countygroups-x86_64-linux"
-# The WebAssembly build and its launchers, by the scripts that make them.
-if [ -x tools/wasm.sh ]; then
-    tools/wasm.sh "$module" "$made/dist/countygroups.wasm"
-    python3 tools/launcher.py "$made/dist"
-fi
+tools/wasm.sh "$module" "$wasm" "$made/refusing.wasm"
+python3 tools/launcher.py "$made/dist"
+./test.sh --program "$program" --wasm "$wasm" --refusing "$made/refusing.wasm"
 python3 tools/dist_folder.py seal "$made/dist" "$log"
 mkdir -p dist
 find dist -mindepth 1 -delete
 cp -p "$made/dist/"* dist/
-python3 tools/compare_dist.py --program "$program"
+python3 tools/compare_dist.py --program "$program" --wasm "$wasm"
 echo "dist/ is made:"
 cat dist/BUILD

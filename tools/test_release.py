@@ -42,6 +42,7 @@ sed 's/^/# object of /' "$3" >"$5"
 """
 WASM = """#!/usr/bin/env bash
 sed 's/^/wasm of /' "$1" >"$2"
+cp "$2" "$3"
 """
 LAUNCHER = """import sys
 for name in ("countygroups.mjs", "countygroups.cmd"):
