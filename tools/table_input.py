@@ -84,7 +84,7 @@ def full_rows(
     for number, fields in rows:
         if len(fields) != width:
             if len(fields) < width or any(fields[width:]):
-                told = f"has {len(fields)} fields, and the first has {width}"
+                told = f"has another number of fields ({len(fields)}) than the first ({width})"
                 raise Refused(f"{unit.capitalize()} {number} of {source.name} {told}.")
             fields = fields[:width]
         yield number, fields
