@@ -36,7 +36,7 @@ from dataclasses import dataclass, field
 from typing import Collection, Dict, List, Optional
 
 from county_table import Refused
-from storing import store
+from storing import put
 from table_columns import CodeColumn, Wanted, key_and_value
 from table_input import SCIENTIFIC, Table, is_digits, plain, plain_code, read_table, shown
 
@@ -229,11 +229,7 @@ def main(words: List[str]) -> int:
     try:
         table = read_table(asked.file, asked.member, is_block)
         plan = read_plan(table, asked.block, asked.district, asked.unassigned)
-        text = assignment_text(plan)
-        if asked.out is None:
-            sys.stdout.write(text)
-        else:
-            store(asked.out, text)
+        put(asked.out, assignment_text(plan))
     except Refused as fault:
         print(fault, file=sys.stderr)
         return 1

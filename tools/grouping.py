@@ -44,7 +44,7 @@ from census_counties import read_counties, read_people
 from county_names import CODE_DIGITS, CountyNames, is_county
 from county_table import HEADER, Refused
 from seat_numbers import Chamber, choose_seats
-from storing import store
+from storing import put
 from table_columns import CodeColumn, Wanted, key_and_value
 from table_input import Table, is_digits, plain, read_table, shown
 
@@ -316,10 +316,7 @@ def main(words: List[str]) -> int:
         made.error("the allowance --part/--of may be a half at most")
     try:
         text, notes = made_groups(asked)
-        if asked.out is None:
-            sys.stdout.write(text)
-        else:
-            store(asked.out, text)
+        put(asked.out, text)
     except Refused as fault:
         print(fault, file=sys.stderr)
         return 1

@@ -4,6 +4,7 @@ from __future__ import annotations
 import gzip
 import io
 import os
+import struct
 import zipfile
 import zlib
 from dataclasses import dataclass
@@ -23,6 +24,18 @@ OTHER_KINDS = {
     b"PAR1": "a Parquet file: export it as CSV",
     b"%PDF": "a PDF: ask for the table itself",
 }
+
+# What Python's modules raise for a zip or a gzip that is damaged, or packed in another way.
+DAMAGED = (
+    zipfile.BadZipFile,
+    zlib.error,
+    struct.error,
+    OSError,
+    EOFError,
+    KeyError,
+    RuntimeError,
+    ValueError,
+)
 
 
 @dataclass(frozen=True)
@@ -74,7 +87,7 @@ def unpacked_gzip(path: str, data: bytes) -> bytes:
     try:
         with gzip.GzipFile(fileobj=io.BytesIO(data)) as file:
             return limited(path, file)
-    except (OSError, EOFError, zlib.error) as fault:
+    except DAMAGED as fault:
         raise Refused(f"The file {path} is packed by gzip, and it is damaged.") from fault
 
 
@@ -89,9 +102,9 @@ def unzipped(path: str, data: bytes, member: Optional[str]) -> Source:
             name = member_of(path, packed.namelist(), member)
             with packed.open(name) as file:
                 return Source(f"{name} in {path}", limited(f"{name} in {path}", file))
-    except (zipfile.BadZipFile, OSError, EOFError, zlib.error, RuntimeError) as fault:
-        told = "is encrypted" if "encrypted" in str(fault) else "is damaged"
-        raise Refused(f"The file {path} is a zip, and it {told}.") from fault
+    except DAMAGED as fault:
+        told = "encrypted" if "encrypted" in str(fault) else "damaged, or packed in another way"
+        raise Refused(f"The file {path} is a zip, and it is {told}.") from fault
 
 
 def member_of(path: str, names: List[str], member: Optional[str]) -> str:

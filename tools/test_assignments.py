@@ -190,7 +190,7 @@ class Packed(Made):
     def test_packed_files_that_are_refused(self) -> None:
         packed = self.zip_of({"plan.csv": text_of(",")})
         damaged = packed.replace(b"plan.csv", b"plan.csx")[:-30]
-        self.refused(damaged, "The file plan is a zip, and it is damaged.")
+        self.refused(damaged, "The file plan is a zip, and it is damaged, or packed in another way.")
         self.refused(self.zip_of({"a.pdf": "."}), "The zip plan has no table: it has a.pdf.")
         workbook = self.zip_of({"xl/workbook.xml": ".", "a.csv": "."})
         self.refused(workbook, "The file plan is a workbook: save its sheet as CSV.")

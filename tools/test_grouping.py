@@ -67,14 +67,6 @@ class Made(Room):
         """Returns the run over a table that holds a text or bytes."""
         return self.run_tool(grouping.main, self.file("table", held), *words)
 
-    def refused(self, held: Union[str, bytes], sentence: str, *words: str) -> None:
-        """Wants one sentence, and nothing else."""
-        self.assertEqual(self.made(held, *words), Ran(1, "", [sentence]), held)
-
-
-class Enacted(Made):
-    """The enacted groupings of data/nc2020 come back from tables."""
-
     def rows(self, name: str) -> List[List[str]]:
         """Returns a row for each county: its code, its name, the label of its group, its seats."""
         names = county_names()
@@ -88,6 +80,14 @@ class Enacted(Made):
     def table(self, header: str, rows: List[List[str]]) -> str:
         """Returns rows as a table with quotes."""
         return example_plan.csv_text([header.split(","), *rows])
+
+    def refused(self, held: Union[str, bytes], sentence: str, *words: str) -> None:
+        """Wants one sentence, and nothing else."""
+        self.assertEqual(self.made(held, *words), Ran(1, "", [sentence]), held)
+
+
+class Enacted(Made):
+    """The enacted groupings of data/nc2020 come back from tables."""
 
     def same(self, name: str, held: Union[str, bytes], *words: str) -> None:
         """Wants the groups of `name` in their order."""
@@ -143,7 +143,7 @@ class Enacted(Made):
         self.assertEqual(next(csv.reader(io.StringIO(text))), ["County", "Cluster"])
 
 
-class Judged(Enacted):
+class Judged(Made):
     """What the tool makes is judged by the program."""
 
     def setUp(self) -> None:
@@ -162,17 +162,20 @@ class Judged(Enacted):
             self.assertIn("\nanswer lawful\n", report)
 
     def test_a_group_that_suits_no_seats(self) -> None:
-        """Wants the fault that `docs/definitions.md` has for people that don't suit the seats."""
+        """Bladen County has 29,606 people, too few for a seat, and too many for its old group."""
         rows = [[row[0], row[2]] for row in self.rows("senate2023.grouping")]
         rows = [[code, "30" if code == "37017" else label] for code, label in rows]
         problem = ["--geo", GEO, "--segment", SEGMENT, "--chamber", "50"]
         made = self.made(self.table("GEOID,Group", rows), *problem)
-        self.assertIn("suit no number of seats: 1 is the nearest.", "\n".join(made.told))
-        path = self.file("made", made.text)
-        words = ["judge", *problem, "--adjacency", BORDERS, "--grouping", path]
-        status, report = self.run_program(*words)
-        self.assertEqual(status, 1)
-        self.assertTrue(report.startswith("fault "))
+        suits = "suit no number of seats:"
+        self.assertEqual(made.told[1:], [
+            f"The 373,979 people of the group of county 37061 {suits} 2 is the nearest.",
+            f"The 29,606 people of the group of county 37017 {suits} 1 is the nearest.",
+            "The groups have 51 seats in all, and the chamber has 50.",
+        ])
+        words = ["--adjacency", BORDERS, "--grouping", self.file("made", made.text)]
+        judged = self.run_program("judge", *problem, *words)
+        self.assertEqual(judged, (1, "fault OutOfWindow group 23\n"))
 
 
 class Tables(Made):
