@@ -24,8 +24,8 @@ and districts there are.
 Statuses: 0 made, 1 the file can't be used, 2 these are no words of the tool.
 
 Example, over files that the first command makes:
-  python3 tools/example_plan.py example
-  python3 tools/assignments.py example/plan.zip --out example/plan.txt
+  python3 tools/example_plan.py results/example
+  python3 tools/assignments.py results/example/plan.zip --out results/example/plan.txt
 """
 from __future__ import annotations
 

@@ -27,9 +27,9 @@ their labels, numbers by their value.
 Statuses: 0 made, 1 a file can't be used, 2 these are no words of the tool.
 
 Example, over files that the first command makes:
-  python3 tools/example_plan.py example
-  python3 tools/grouping.py example/groups.csv --geo data/nc2020/nc2020geo.pl \\
-      --segment data/nc2020/nc000012020.pl --chamber 50 --out example/senate.grouping
+  python3 tools/example_plan.py results/example
+  python3 tools/grouping.py results/example/groups.csv --geo data/nc2020/nc2020geo.pl \\
+      --segment data/nc2020/nc000012020.pl --chamber 50 --out results/example/senate.grouping
 """
 from __future__ import annotations
 
@@ -249,8 +249,8 @@ def parser() -> argparse.ArgumentParser:
     made.add_argument("file", metavar="FILE")
     for name in ("county", "group", "seats"):
         made.add_argument(f"--{name}", metavar="COLUMN")
-    for name in ("geo", "segment", "member", "out"):
-        made.add_argument(f"--{name}", metavar="FILE")
+    for name, word in (("geo", "GEO"), ("segment", "SEGMENT"), ("member", "NAME"), ("out", "OUT")):
+        made.add_argument(f"--{name}", metavar=word)
     made.add_argument("--state", metavar="CODE", type=number_from(0, 99))
     made.add_argument("--chamber", metavar="SEATS", type=number_from(1, 1000))
     made.add_argument("--part", metavar="PART", type=number_from(0, 500), default=1)
