@@ -64,17 +64,20 @@ def read_layout(source: Source) -> Layout:
 def record_fields(layout: Layout, record: bytes) -> List[bytes]:
     """Returns the fields of a record without the blanks and zero bytes around them."""
     return [
-        whole_number(field) if column.is_number else field
+        number_field(field) if column.is_number else field
         for column in layout.columns
         for field in [record[column.start : column.start + column.width].strip(b" \0")]
     ]
 
 
-def whole_number(field: bytes) -> bytes:
-    """Returns a number with an exponent in plain digits, if it is a small whole number.
+def number_field(field: bytes) -> bytes:
+    """Returns a number without its exponent, if it is a small whole number.
 
-    Else returns `field` as it is. Some programs store 12 as `1.20000000000e+001`.
+    Some programs store 12 as `1.20000000000e+001`. A field of `*` alone has no number, and is
+    returned empty. Any other field is returned as it is.
     """
+    if not field.strip(b"*"):
+        return b""
     if b"e" not in field.lower():
         return field
     try:

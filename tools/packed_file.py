@@ -16,13 +16,13 @@ MOST_BYTES = 1_073_741_824
 MOST_NAMED = 20
 TABLE_ENDINGS = (".csv", ".txt", ".tsv", ".tab", ".psv", ".baf", ".dbf")
 
-# What a file that is no table begins with, and what helps.
+# What a file that is no table begins with, and what is said of it.
 OTHER_KINDS = {
-    b"\xd0\xcf\x11\xe0": "an Excel workbook: save its sheet as CSV",
-    b"\x00\x00\x27\x0a": "the shapes of a shapefile: its table is the file that ends in .dbf",
-    b"SQLite format 3": "a database, such as a GeoPackage: export its table as CSV",
-    b"PAR1": "a Parquet file: export it as CSV",
-    b"%PDF": "a PDF: ask for the table itself",
+    b"\xd0\xcf\x11\xe0": "is an Excel workbook: save its sheet as CSV",
+    b"\x00\x00\x27\x0a": "has the shapes of a shapefile: take the file beside it, with .dbf",
+    b"SQLite format 3": "is a database, such as a GeoPackage: export its table as CSV",
+    b"PAR1": "is a Parquet file: export it as CSV",
+    b"%PDF": "is a PDF: ask for the table itself",
 }
 
 # What Python's modules raise for a zip or a gzip that is damaged, or packed in another way.
@@ -78,7 +78,7 @@ def known_kind(source: Source) -> Source:
     """Returns `source`. Raises `Refused` if its first bytes are those of another kind of file."""
     for start, kind in OTHER_KINDS.items():
         if source.data.startswith(start):
-            raise Refused(f"The file {source.name} is {kind}.")
+            raise Refused(f"The file {source.name} {kind}.")
     return source
 
 

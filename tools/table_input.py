@@ -20,6 +20,7 @@ from packed_file import Source, read_source
 
 DELIMITERS = "\t|;,"
 SAMPLE_LINES = 20
+END_OF_FILE = "\x1a"
 SHOWN = 40
 MARKS = {
     codecs.BOM_UTF8: "utf-8",
@@ -66,12 +67,25 @@ def read_table(path: str, member: Optional[str], is_key: Callable[[str], bool]) 
     first = next(rows, None)
     if first is None:
         raise Refused(f"The file {source.name} has no line.")
-    has_header = is_dbf or not any(is_key(plain(field)) for field in first[1])
-    below = rows if has_header else itertools.chain([first], rows)
-    columns = [field.strip() for field in first[1]] if has_header else None
     unit = "record" if is_dbf else "line"
-    rows = full_rows(source, unit, len(first[1]), below)
-    return Table(source.name, unit, columns, first[1], rows)
+    has_header = is_dbf or not any(is_key(plain(field)) for field in first[1])
+    if not has_header:
+        below = full_rows(source, unit, len(first[1]), itertools.chain([first], rows))
+        return Table(source.name, unit, None, first[1], below)
+    second = next(rows, None)
+    columns = named_columns(first[1], second[1] if second else [])
+    following = itertools.chain([second] if second else [], rows)
+    below = full_rows(source, unit, len(columns), following)
+    return Table(source.name, unit, columns, columns, below)
+
+
+def named_columns(names: List[str], fields: List[str]) -> List[str]:
+    """Returns the names of the columns, given those of a header and the fields below it.
+
+    If there is one field more than names, R wrote the table, whose first column is without a name.
+    """
+    has_row_names = len(fields) == len(names) + 1 and fields[-1].strip() != ""
+    return [*([""] if has_row_names else []), *(name.strip() for name in names)]
 
 
 def full_rows(
@@ -117,7 +131,7 @@ def text_rows(source: Source) -> Iterator[NumberedRow]:
 
     Raises `Refused` if the text has zero bytes, is JSON, or has a quote at fault.
     """
-    text = decoded(source.data)
+    text = decoded(source.data).rstrip(END_OF_FILE)
     if "\0" in text:
         raise Refused(f"The file {source.name} is no text: export the table as CSV.")
     if text.lstrip()[:1] in ("{", "["):

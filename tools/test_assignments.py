@@ -63,6 +63,7 @@ class Texts(Made):
             self.same(text.replace("\n", end))
         self.same("\n\n" + text + ",\n,,\n  \n")
         self.same(text[:-1])
+        self.same(text + "\x1a")
 
     def test_encodings(self) -> None:
         header = "GEOID20,Señor,District".split(",")
@@ -81,6 +82,13 @@ class Texts(Made):
         rows = [["", "Name", "District", "GEOID20", "BLOCK"]]
         rows += [["7", 'A, "B"', label, block, block[11:]] for block, label in ROWS]
         self.same(example_plan.csv_text(rows))
+
+    def test_row_names_of_r(self) -> None:
+        """The layout is that of R's `write.table`, whose header lacks the first column's name."""
+        rows = [["GEOID20", "District"], *([block[-2:], block, label] for block, label in ROWS)]
+        self.same("".join("\t".join(f'"{field}"' for field in row) + "\n" for row in rows))
+        trailing = "".join(f"{block},{label},\n" for block, label in ROWS)
+        self.same("GEOID20,District\n" + trailing)
 
     def test_chosen_columns(self) -> None:
         text = text_of(",", header="Where,Plan A")
@@ -165,6 +173,13 @@ class Packed(Made):
         found = self.made(dbf(columns, [*records, [THREE, "1.20000000000e+001"]]))
         wanted = f"BLOCKID|DISTRICT\n{ONE}|1\n{TWO}|1\n{THREE}|12\n"
         self.assertEqual(found, Ran(0, wanted, [SUMMARY]))
+
+    def test_a_number_that_a_dbf_lacks(self) -> None:
+        """GDAL stores asterisks where a record has no number."""
+        columns = [DbfColumn("GEOID20", "C", 80), DbfColumn("DISTRICT", "N", 24, 15)]
+        found = self.made(dbf(columns, [[ONE, "1.000000000000000"], [TWO, "*" * 24]]))
+        told = ["plan: 2 blocks in 1 district.", "Blocks without a district: 1."]
+        self.assertEqual(found, Ran(0, f"BLOCKID|DISTRICT\n{ONE}|1\n{TWO}|\n", told))
 
     def test_a_gzip(self) -> None:
         self.same(gzip.compress(text_of(",").encode()))
@@ -301,8 +316,10 @@ class Refusals(Made):
         self.refused('{"type": "Plan"}', "The file plan is JSON, and no table: export it as CSV.")
         told = "The file plan is no text: export the table as CSV."
         self.refused(b"GEOID20,\0District\n", told)
-        self.refused(b"\xd0\xcf\x11\xe0..", "The file plan is an Excel workbook: save its sheet "
-                     "as CSV.")
+        told = "The file plan is an Excel workbook: save its sheet as CSV."
+        self.refused(b"\xd0\xcf\x11\xe0..", told)
+        told = "The file plan has the shapes of a shapefile: take the file beside it, with .dbf."
+        self.refused(b"\0\0\x27\x0a" + b"\0" * 96, told)
         none = os.path.join(self.room, "none")
         told = "The file none can't be read: No such file or directory."
         self.assertEqual(self.run_tool(assignments.main, none), Ran(1, "", [told]))
