@@ -10,6 +10,8 @@ import contextlib
 import gzip
 import io
 import os
+import subprocess
+import sys
 import zipfile
 from typing import Dict, List, Optional, Union
 
@@ -205,7 +207,8 @@ class Packed(Made):
     def test_packed_files_that_are_refused(self) -> None:
         packed = self.zip_of({"plan.csv": text_of(",")})
         damaged = packed.replace(b"plan.csv", b"plan.csx")[:-30]
-        self.refused(damaged, "The file plan is a zip, and it is damaged, or packed in another way.")
+        told = "The file plan is a zip, and it is damaged, or packed in another way."
+        self.refused(damaged, told)
         self.refused(self.zip_of({"a.pdf": "."}), "The zip plan has no table: it has a.pdf.")
         workbook = self.zip_of({"xl/workbook.xml": ".", "a.csv": "."})
         self.refused(workbook, "The file plan is a workbook: save its sheet as CSV.")
@@ -326,6 +329,15 @@ class Refusals(Made):
         out = os.path.join(none, "out")
         told = "none/out can't be stored: No such file or directory."
         self.assertEqual(self.made(text_of(","), "--out", out), Ran(1, "", [told]))
+
+    def test_an_output_that_is_full(self) -> None:
+        if not os.path.exists("/dev/full"):
+            self.skipTest("there is no /dev/full")
+        words = [sys.executable, assignments.__file__, self.file("plan", text_of(","))]
+        with open("/dev/full", "w", encoding="utf-8") as full:
+            ran = subprocess.run(words, stdout=full, stderr=subprocess.PIPE, check=False)
+        told = b"Standard output can't be written: No space left on device.\n"
+        self.assertEqual((ran.returncode, ran.stderr), (1, told))
 
     def test_words(self) -> None:
         for words in ([], ["a", "b"], ["a", "--blocks", "x"]):

@@ -4,7 +4,7 @@ usage: python3 tools/test_guides.py --program FILE
 
 On a page of `docs`, each block between fences is commands or what they print. A block of commands
 begins with `countygroups` or `python3`. Any other block has to stand in what the commands before it
-printed. The commands run in a folder in which only `data` and `tools` lie. Without a program nothing
+printed. The commands run in a folder in which only `data` and `tools` lie. Without a program none
 is run.
 """
 from __future__ import annotations
@@ -35,14 +35,7 @@ def commands_of(block: str) -> List[List[str]]:
 
 
 class Guides(Room):
-    """The pages, each in a folder of its own."""
-
-    def setUp(self) -> None:
-        super().setUp()
-        if not PROGRAMS:
-            self.skipTest("no program was given")
-        for name in ("data", "tools"):
-            os.symlink(os.path.join(TOP, name), os.path.join(self.room, name))
+    """The pages, whose commands run in one folder."""
 
     def run_command(self, words: List[str]) -> str:
         """Returns what a command prints.
@@ -55,7 +48,11 @@ class Guides(Room):
         self.assertIn(ran.returncode, (0, 1) if is_program else (0,), f"{words}: {ran.stderr}")
         return ran.stdout
 
-    def test_pages(self) -> None:
+    def test_commands(self) -> None:
+        if not PROGRAMS:
+            self.skipTest("no program was given")
+        for name in ("data", "tools"):
+            os.symlink(os.path.join(TOP, name), os.path.join(self.room, name))
         for page in PAGES:
             printed = ""
             for block in blocks_of(page):
