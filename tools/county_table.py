@@ -2,9 +2,12 @@
 
 `docs/formats.md` has the form of a table. A table that isn't of this form is refused with one sentence.
 """
+from __future__ import annotations
+
 import csv
 import re
 from dataclasses import dataclass
+from typing import Dict, List, Set, Tuple
 
 HEADER = ["GEOID", "NAME", "POPULATION", "GROUP", "SEATS", "GROUP_POPULATION"]
 GEOID = re.compile(r"[0-9]{5}")
@@ -33,20 +36,20 @@ class Group:
     label: str
     seats: int
     people: int
-    counties: tuple
+    counties: Tuple[County, ...]
 
     @property
-    def is_withdrawn(self):
+    def is_withdrawn(self) -> bool:
         """If the set was taken out beforehand, it is no group of the grouping."""
         return self.label.startswith("W")
 
     @property
-    def words(self):
+    def words(self) -> str:
         """The group's name in a sentence."""
         return f"withdrawn set {self.label[1:]}" if self.is_withdrawn else f"group {self.label}"
 
 
-def read_table(path):
+def read_table(path: str) -> List[Group]:
     """The groups of a table in their order, and behind them its withdrawn sets."""
     rows = [_checked(path, number, row) for number, row in _rows_below_header(path)]
     if not rows:
@@ -54,7 +57,7 @@ def read_table(path):
     return _groups(path, rows)
 
 
-def _rows_below_header(path):
+def _rows_below_header(path: str) -> List[Tuple[int, List[str]]]:
     """The numbered rows of the table, if its first line is the header."""
     try:
         with open(path, encoding="utf-8", newline="") as file:
@@ -68,7 +71,7 @@ def _rows_below_header(path):
         raise Refused(f"The table {path} isn't a comma-separated text in UTF-8.") from fault
 
 
-def _checked(path, number, row):
+def _checked(path: str, number: int, row: List[str]) -> Tuple[County, int, int]:
     """The row with its numbers, if each field has its form."""
     forms = [GEOID, None, NUMBER, GROUP, NUMBER, NUMBER]
     if len(row) != len(HEADER):
@@ -80,14 +83,16 @@ def _checked(path, number, row):
     return County(geoid, _printable(name), int(people), group), int(seats), int(group_people)
 
 
-def _printable(name):
+def _printable(name: str) -> str:
     """The name with a blank in the place of each run of signs that can't be printed, as a line end."""
     return " ".join("".join(sign if sign.isprintable() else " " for sign in name).split())
 
 
-def _groups(path, rows):
+def _groups(path: str, rows: List[Tuple[County, int, int]]) -> List[Group]:
     """The groups, if no county stands twice and the numbers of each group are those of its counties."""
-    members, numbers, seen = {}, {}, set()
+    members: Dict[str, List[County]] = {}
+    numbers: Dict[str, Tuple[int, int]] = {}
+    seen: Set[str] = set()
     for county, seats, group_people in rows:
         if county.geoid in seen:
             raise Refused(f"The table {path} lists county {county.geoid} twice.")

@@ -5,15 +5,14 @@ usage: python3 tools/map.py TABLE OUTLINES OUT.svg
 TABLE is a table of the counties (docs/formats.md), and OUTLINES is GeoJSON with a GEOID for each county. If a file can't be
 used, one sentence on standard error says why, and the status is 1. Without the three words the status is 2.
 """
-import os
 import sys
-import tempfile
 import textwrap
 from xml.sax.saxutils import escape, quoteattr
 
 import county_shapes
 from county_table import Refused, read_table
 from map_colours import colour_numbers, colour_of
+from storing import store
 
 WIDTH = 1400
 EDGE = 24
@@ -217,17 +216,6 @@ def drawing(groups, outlines):
         "</svg>",
         "",
     ])
-
-
-def store(path, text):
-    """The text is stored whole, or the file stays as it was."""
-    try:
-        with tempfile.NamedTemporaryFile("w", encoding="utf-8", newline="\n", dir=os.path.dirname(path) or ".", delete=False) as file:
-            file.write(text)
-        os.chmod(file.name, 0o644)
-        os.replace(file.name, path)
-    except OSError as fault:
-        raise Refused(f"{path} can't be stored: {fault.strerror}.") from fault
 
 
 def main(words):

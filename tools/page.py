@@ -26,6 +26,7 @@ import page_record
 from county_table import Refused, read_table
 from page_inputs import read_list, read_record
 from page_map import WIDTH, Sheet, map_parts
+from storing import store
 
 HERE = os.path.dirname(os.path.abspath(__file__))
 POLICY = "default-src 'none'; style-src 'unsafe-inline'; script-src 'unsafe-inline'; base-uri 'none'; form-action 'none'"
@@ -324,7 +325,7 @@ def main(words):
     asked = asked_words(words)
     try:
         page = made_page(asked)
-        county_map.store(asked.out, html_of(page, county_shapes.read_outlines(asked.outlines, set(page.county))))
+        store(asked.out, html_of(page, county_shapes.read_outlines(asked.outlines, set(page.county))))
     except Refused as fault:
         print(fault, file=sys.stderr)
         return 1

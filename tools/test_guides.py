@@ -23,7 +23,12 @@ from typing import Optional
 
 from help_texts import PROGRAM_OF_DIST, TOP
 
-PAGES = ("README.md", "docs/guide_plan_desk.md", "docs/guide_staffer.md")
+PAGES = (
+    "README.md",
+    "docs/guide_plan_desk.md",
+    "docs/guide_auditor.md",
+    "docs/guide_staffer.md",
+)
 FOLDERS = ("cases", "data", "docs", "tools")
 BLOCK = re.compile(r"^```\w*\n(.*?)^```$", re.MULTILINE | re.DOTALL)
 COMMAND = re.compile(r"^\$ ((?:.*\\\n)*.*)\n", re.MULTILINE)

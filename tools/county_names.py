@@ -1,0 +1,78 @@
+"""Tells which county a field of a table means: by its code, or by its name in a header."""
+from __future__ import annotations
+
+import unicodedata
+from typing import Dict, List, Optional
+
+from census_counties import CensusCounty
+from county_table import Refused
+from table_columns import joined_name
+from table_input import Table, is_digits, plain_code, shown
+
+CODE_DIGITS = 5
+
+
+def is_county(text: str) -> bool:
+    """Returns whether a field is a county's whole code, so that its row is no header."""
+    return is_digits(plain_code(text), CODE_DIGITS)
+
+
+def joined_county_name(name: str) -> str:
+    """Returns the letters of a county's name up to its first comma, without case and accents."""
+    bare = unicodedata.normalize("NFKD", name.split(",")[0])
+    return joined_name("".join(sign for sign in bare if not unicodedata.combining(sign)))
+
+
+def codes_by_name(counties: Dict[str, CensusCounty]) -> Dict[str, List[str]]:
+    """Returns the codes of the counties of each name, with and without what they are."""
+    found: Dict[str, List[str]] = {}
+    for code, county in counties.items():
+        for name in {joined_county_name(name) for name in county.names}:
+            found.setdefault(name, []).append(code)
+    return found
+
+
+class CountyNames:
+    """What a county may be called: its code, its code in a state, or its name in a header."""
+
+    def __init__(self, state: Optional[str], counties: Optional[Dict[str, CensusCounty]]) -> None:
+        self.counties = counties
+        self.by_name = codes_by_name(counties or {})
+        self.state = state or (next(iter(counties))[:2] if counties else None)
+
+    def code_of(self, table: Table, number: int, text: str) -> str:
+        """Returns the code of a county: five digits, or four where a leading zero may be lost.
+
+        Raises `Refused` if the field is no county, or if --state or --geo is needed to tell it.
+        """
+        code, place = plain_code(text), table.place(number)
+        if is_digits(code, CODE_DIGITS - 1, CODE_DIGITS):
+            return code
+        if is_digits(code, 1, 2, 3):
+            if self.state is None:
+                told = f"{place} has the county {shown(code)} without its state"
+                raise Refused(f"{told}: give the state's FIPS code by --state.")
+            return self.state + code.zfill(3)
+        if not code:
+            raise Refused(f"{place} has no county.")
+        if self.counties is None:
+            told = f"{place} has {shown(code)}, which is no county's code"
+            raise Refused(f"{told}: if it is a name, give the geographic header by --geo.")
+        return self.code_of_name(place, code)
+
+    def code_of_name(self, place: str, name: str) -> str:
+        """Returns the code of the county of a name. Raises `Refused` if there isn't one only."""
+        codes = self.by_name.get(joined_county_name(name), [])
+        if len(codes) == 1:
+            return codes[0]
+        if codes:
+            several = " and ".join(sorted(codes))
+            raise Refused(f"{place} has {shown(name)}, which is a name of {several}.")
+        raise Refused(f"{place} has {shown(name)}, which the geographic header doesn't have.")
+
+    def check_listed(self, table: Table, rows: Dict[str, int]) -> None:
+        """Raises `Refused` if a county of a table isn't in the geographic header."""
+        for code, number in rows.items():
+            if self.counties is not None and code not in self.counties:
+                told = f"{table.place(number)} has county {code}"
+                raise Refused(f"{told}, which the geographic header doesn't have.")

@@ -1,0 +1,212 @@
+"""Reads tables as other programs export them.
+
+A table is a text with commas, semicolons, tabs or pipes, in UTF-8, UTF-16 or Latin-1, or a DBF. It
+may be packed by gzip or zip. What can't be used is refused with one sentence, which names the file
+and the line.
+"""
+from __future__ import annotations
+
+import codecs
+import csv
+import io
+import itertools
+import re
+from dataclasses import dataclass
+from typing import Callable, Iterable, Iterator, List, Optional, Tuple
+
+from county_table import Refused
+from dbase_table import is_dbase, read_layout, read_records
+from packed_file import Source, read_source
+
+DELIMITERS = "\t|;,"
+SAMPLE_LINES = 20
+END_OF_FILE = "\x1a"
+SHOWN = 40
+MARKS = {
+    codecs.BOM_UTF8: "utf-8",
+    codecs.BOM_UTF16_LE: "utf-16-le",
+    codecs.BOM_UTF16_BE: "utf-16-be",
+}
+PROTECTED = re.compile(r"=\"(.*)\"|'(.*)")
+WHOLE = re.compile(r"([0-9]+)\.0*")
+CENSUS_PREFIX = re.compile(r"[0-9A-Z]{7}US(?=[0-9])")
+SCIENTIFIC = re.compile(r"[0-9]+([.,][0-9]*)?[eE]\+?[0-9]+")
+DIGITS = re.compile(r"[0-9]+")
+
+NumberedRow = Tuple[int, List[str]]
+
+
+@dataclass(frozen=True)
+class Table:
+    """A table: `rows` has the number and the fields of each row below the header.
+
+    `unit` is what the numbers count, `line` or `record`. `columns` has the names of the columns, or
+    is None without a header. `first` has the fields of the first row, header or not.
+    """
+
+    name: str
+    unit: str
+    columns: Optional[List[str]]
+    first: List[str]
+    rows: Iterator[NumberedRow]
+
+    def place(self, number: int) -> str:
+        """Returns the beginning of a sentence on a row."""
+        return f"{self.unit.capitalize()} {number} of {self.name}"
+
+
+def read_table(path: str, member: Optional[str], is_key: Callable[[str], bool]) -> Table:
+    """Returns the table in the file at `path`, or in the member `member` of a zip.
+
+    `is_key` says whether a field is the code of a row: a first row that has one is no header.
+    Raises `Refused` if the file is no table, or has no row.
+    """
+    source = read_source(path, member)
+    is_dbf = is_dbase(source.data)
+    rows = dbase_rows(source) if is_dbf else text_rows(source)
+    first = next(rows, None)
+    if first is None:
+        raise Refused(f"The file {source.name} has no line.")
+    unit = "record" if is_dbf else "line"
+    has_header = is_dbf or not any(is_key(plain(field)) for field in first[1])
+    if not has_header:
+        below = full_rows(source, unit, len(first[1]), itertools.chain([first], rows))
+        return Table(source.name, unit, None, first[1], below)
+    second = next(rows, None)
+    columns = named_columns(first[1], second[1] if second else [])
+    following = itertools.chain([second] if second else [], rows)
+    below = full_rows(source, unit, len(columns), following)
+    return Table(source.name, unit, columns, columns, below)
+
+
+def named_columns(names: List[str], fields: List[str]) -> List[str]:
+    """Returns the names of the columns, given those of a header and the fields below it.
+
+    If there is one field more than names, R wrote the table, whose first column is without a name.
+    """
+    has_row_names = len(fields) == len(names) + 1 and fields[-1].strip() != ""
+    return [*([""] if has_row_names else []), *(name.strip() for name in names)]
+
+
+def full_rows(
+    source: Source, unit: str, width: int, rows: Iterable[NumberedRow]
+) -> Iterator[NumberedRow]:
+    """Yields the rows, each with `width` fields; further empty fields are dropped.
+
+    Raises `Refused` at a row with fewer or more fields.
+    """
+    for number, fields in rows:
+        if len(fields) != width:
+            if len(fields) < width or any(fields[width:]):
+                told = f"has another number of fields ({len(fields)}) than the first ({width})"
+                raise Refused(f"{unit.capitalize()} {number} of {source.name} {told}.")
+            fields = fields[:width]
+        yield number, fields
+
+
+def dbase_rows(source: Source) -> Iterator[NumberedRow]:
+    """Yields the names of the columns of a DBF as row 0, and then each record."""
+    layout = read_layout(source)
+    yield 0, [decoded(column.name) for column in layout.columns]
+    for number, fields in read_records(source, layout):
+        yield number, [decoded(field) for field in fields]
+
+
+def decoded(data: bytes) -> str:
+    """Returns a text by its byte order mark or its zero bytes, else as UTF-8 or Latin-1."""
+    for mark, encoding in MARKS.items():
+        if data.startswith(mark):
+            return data[len(mark) :].decode(encoding, errors="replace")
+    for start, encoding in ((0, "utf-16-be"), (1, "utf-16-le")):
+        if len(data) > 3 and data[start : start + 1] == data[start + 2 : start + 3] == b"\0":
+            return data.decode(encoding, errors="replace")
+    try:
+        return data.decode("utf-8")
+    except UnicodeDecodeError:
+        return data.decode("latin-1")
+
+
+def text_rows(source: Source) -> Iterator[NumberedRow]:
+    """Yields the number and the fields of each row of a text that isn't blank.
+
+    Raises `Refused` if the text has zero bytes, is JSON, or has a quote at fault.
+    """
+    text = decoded(source.data).rstrip(END_OF_FILE)
+    if "\0" in text:
+        raise Refused(f"The file {source.name} is no text: export the table as CSV.")
+    if text.lstrip()[:1] in ("{", "["):
+        raise Refused(f"The file {source.name} is JSON, and no table: export it as CSV.")
+    lines = io.StringIO(text, newline="")
+    delimiter = delimiter_of(text)
+    reader = csv.reader(lines, delimiter=delimiter, skipinitialspace=True, strict=True)
+    while True:
+        before = reader.line_num
+        try:
+            fields = next(reader, None)
+        except csv.Error as fault:
+            told = "has a quote that isn't closed, or that isn't at the end of its field"
+            raise Refused(f"Line {before + 1} of {source.name} {told}.") from fault
+        if fields is None:
+            return
+        if any(field.strip() for field in fields):
+            yield reader.line_num, fields
+
+
+def delimiter_of(text: str) -> str:
+    """Returns the delimiter of a text.
+
+    It is the one by which the first lines have the same number of fields, and most fields.
+    """
+    lines = list(itertools.islice(io.StringIO(text, newline=""), SAMPLE_LINES))
+    best, found = (False, 1), ","
+    for delimiter in DELIMITERS:
+        counts = field_counts(lines, delimiter)
+        if counts and counts[0] > 1:
+            rank = len(set(counts)) == 1, counts[0]
+            if rank > best:
+                best, found = rank, delimiter
+    return found
+
+
+def field_counts(lines: List[str], delimiter: str) -> List[int]:
+    """Returns how many fields each row of some lines has that isn't blank, up to one at fault."""
+    counts: List[int] = []
+    try:
+        for row in csv.reader(lines, delimiter=delimiter, skipinitialspace=True):
+            if any(row):
+                counts.append(len(row))
+    except csv.Error:
+        pass
+    return counts
+
+
+def plain(field: str) -> str:
+    """Returns a field without what spreadsheets put around a code or a label.
+
+    Blanks around it go, `="001"` and `'001` are `001`, and the whole number `12.0` is `12`.
+    """
+    text = field.strip()
+    protected = PROTECTED.fullmatch(text)
+    if protected:
+        text = (protected.group(1) or protected.group(2) or "").strip()
+    whole = WHOLE.fullmatch(text)
+    return whole.group(1) if whole else text
+
+
+def plain_code(field: str) -> str:
+    """Returns a code as `plain` does, and without what the Census Bureau puts before it.
+
+    `1000000US370010201001000` is `370010201001000`.
+    """
+    return CENSUS_PREFIX.sub("", plain(field), count=1)
+
+
+def is_digits(text: str, *lengths: int) -> bool:
+    """Returns whether a text is ASCII digits alone, so many as one of `lengths`."""
+    return len(text) in lengths and DIGITS.fullmatch(text) is not None
+
+
+def shown(text: str) -> str:
+    """Returns a text between backticks, cut at 40 characters, without control characters."""
+    printable = "".join(sign if sign.isprintable() else "?" for sign in text)
+    return f"`{printable}`" if len(printable) <= SHOWN else f"`{printable[:SHOWN]}..`"
