@@ -89,6 +89,8 @@ test_scripts() {
     python3 tools/test_border_check.py
     python3 tools/test_map.py
     python3 tools/test_page.py
+    python3 tools/test_assignments.py
+    python3 tools/test_grouping.py
 }
 
 # Tests what dist/ says of itself, and that it is what was proved and built.
@@ -116,6 +118,12 @@ test_programs() { # FUZZER_SECONDS SEED PROGRAM ..
     python3 cases/cases.py --jobs "$jobs" "${words[@]}"
     heading "the second checker"
     python3 tools/compare_checkers.py
+    heading "tables of other programs, the guides, the man page and the completions"
+    python3 tools/test_assignments.py --program "$1"
+    python3 tools/test_grouping.py --program "$1"
+    python3 tools/test_guides.py --program "$1"
+    python3 tools/test_manual_page.py --program "$1"
+    python3 tools/test_completions.py --program "$1"
     heading "pages in a browser"
     python3 tools/test_page_browser.py --program "$1"
     heading "cases changed at random, $seconds seconds with seed $seed"
