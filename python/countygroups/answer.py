@@ -18,7 +18,7 @@ BEST, IMPOSSIBLE, OPEN = "best", "impossible", "open"
 README = "README.txt"
 
 
-@dataclass(frozen=True)
+@dataclass(frozen=True, eq=False, repr=False)
 class Answer:
     """Is what the program says of a problem.
 
@@ -114,17 +114,9 @@ class Answer:
 
     def _summary(self) -> list[str]:
         """Returns what was asked and what the outcome is, in lines."""
-        problem = self.problem
-        people = sum(county.people for county in problem.counties)
-        size = f"{problem.seats} seats, {len(problem.counties)} counties, {people:,} people"
         counts = " ".join(map(str, self.counts)) or "none"
         told = f"{self.outcome}: {len(self.groups)} groups, counts {counts}"
-        return [
-            f"{size}, tolerance {problem.tolerance}",
-            f"adjacency: {problem.adjacency}",
-            *(f"withdrawn: {tables.group_line(problem, one)}" for one in problem.withdrawn),
-            told if self.groups else self.outcome,
-        ]
+        return [*self.problem.summary(), told if self.groups else self.outcome]
 
     def __repr__(self) -> str:
         """Returns the summary in one line."""
@@ -133,7 +125,7 @@ class Answer:
     def __str__(self) -> str:
         """Returns the summary, each group by its counties' names, and the program's messages."""
         numbered = enumerate(self.groups, 1)
-        lines = [f"{number}: {tables.group_line(self.problem, one)}" for number, one in numbered]
+        lines = [f"{number}: {self.problem.group_line(one)}" for number, one in numbered]
         return "\n".join([*self._summary(), *lines, *self.messages])
 
 

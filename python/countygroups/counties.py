@@ -27,7 +27,7 @@ class County:
     name: str
 
 
-@dataclass(frozen=True)
+@dataclass(frozen=True, eq=False)
 class CountyTable:
     """Has the counties in their order, and what was given beside them.
 

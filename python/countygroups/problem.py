@@ -11,7 +11,7 @@ from typing import Any, Hashable, Iterable, Mapping, Sequence, Union
 
 from . import files
 from .adjacency import Adjacency, adjacency_of
-from .codes import Codes, codes_of, plain
+from .codes import Codes, Label, codes_of, plain
 from .counties import County, CountyTable, People, read_counties
 from .errors import CertificateError, InputError, ProgramError
 from .groups import Group
@@ -35,7 +35,7 @@ class Stored:
     texts: Mapping[str, str]
 
 
-@dataclass(frozen=True)
+@dataclass(frozen=True, eq=False, repr=False)
 class Problem:
     """Is a problem, and the program that is asked."""
 
@@ -51,6 +51,33 @@ class Problem:
     def counties(self) -> tuple[County, ...]:
         """Returns the counties in their order."""
         return self.table.counties
+
+    def __repr__(self) -> str:
+        """Returns the summary in one line."""
+        return f"<countygroups.Problem: {'; '.join(self.summary())}>"
+
+    def group_line(self, group: Group) -> str:
+        """Returns the seats, the people and the counties' names of a group."""
+        seats = "1 seat" if group.seats == 1 else f"{group.seats} seats"
+        return f"{seats}, {group.people:,} people: {self._names(group.counties)}"
+
+    def summary(self) -> list[str]:
+        """Returns what is asked, in lines. Counties without a neighbour are named."""
+        people = sum(county.people for county in self.counties)
+        size = f"{self.seats} seats, {len(self.counties)} counties, {people:,} people"
+        near = self.adjacency.neighbours()
+        alone = [county.label for county in self.counties if county.label not in near]
+        return [
+            f"{size}, tolerance {self.tolerance}",
+            f"adjacency: {self.adjacency}",
+            *([f"without a neighbour: {self._names(alone)}"] if alone else []),
+            *(f"withdrawn: {self.group_line(one)}" for one in self.withdrawn),
+        ]
+
+    def _names(self, labels: Iterable[Label]) -> str:
+        """Returns the names of labels, with commas between."""
+        name_of = {county.label: county.name for county in self.counties}
+        return ", ".join(name_of[label] for label in labels)
 
     def write(self, folder: Path) -> None:
         """Writes the files of the problem to `folder`, in the layouts of the program."""

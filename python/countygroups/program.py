@@ -183,7 +183,7 @@ def find_program(given: str | os.PathLike[str] | None = None) -> Program:
     on_path = shutil.which("countygroups")
     if on_path:
         return _started(on_path)
-    told = f"There is no program in {DIST}, and no countygroups on the path"
+    told = "There is no program in dist/ of the repository, and no countygroups on the path"
     raise ProgramNotFound(f"{told}: {VARIABLE} in the environment, or program=, names one.")
 
 

@@ -30,13 +30,6 @@ def rows_of(problem: Problem, groups: Grouping) -> list[dict[str, Any]]:
     ]
 
 
-def group_line(problem: Problem, group: Group) -> str:
-    """Returns the seats, the people and the counties' names of a group."""
-    names = {county.label: county.name for county in problem.counties}
-    seats = "1 seat" if group.seats == 1 else f"{group.seats} seats"
-    return f"{seats}, {group.people:,} people: {', '.join(names[one] for one in group.counties)}"
-
-
 def grouping_lines(problem: Problem, groups: Iterable[Group]) -> list[str]:
     """Returns the lines of a grouping text."""
     code_of = problem.codes.code_of

@@ -184,6 +184,11 @@ class Problems(unittest.TestCase):
         self.assertNotEqual(colours[1], colours[2])
         self.assertEqual(len(set(colours)), 2)
 
+    def test_summary(self) -> None:
+        told = repr(path_problem(cut=[("C", "D")], withdrawn=[("D", 2)]))
+        self.assertIn("4 seats, 4 counties, 400 people, tolerance 1/20; adjacency: 3 pairs", told)
+        self.assertIn("without a neighbour: D; withdrawn: 2 seats, 200 people: D", told)
+
     def test_no_program(self) -> None:
         with self.assertRaisesRegex(ProgramNotFound, "no program /nowhere/countygroups"):
             find_program("/nowhere/countygroups")

@@ -87,6 +87,13 @@ print.county_groups <- function(x, ...) {
   invisible(x)
 }
 
+# Returns the line that names the counties without a neighbour, or none.
+alone_line <- function(problem) {
+  alone <- setdiff(seq_len(nrow(problem$table)), pairs_that_count(problem$adjacency))
+  if (length(alone) == 0) return(character())
+  paste("without a neighbour:", paste(problem$table$name[alone], collapse = ", "))
+}
+
 # Returns the seats and the people of a group in words.
 group_words <- function(group) {
   seats <- if (group$seats == 1) "1 seat" else paste(group$seats, "seats")
@@ -110,6 +117,6 @@ summary_lines <- function(answer) {
   }
   c(
     paste0(size, ", tolerance ", paste(plain(problem$tolerance), collapse = "/")),
-    paste0("adjacency: ", answer$adjacency$source), told
+    paste0("adjacency: ", answer$adjacency$source), alone_line(problem), told
   )
 }

@@ -85,6 +85,7 @@ if (has_program) {
     expect_equal(as.data.frame(answer)$SEATS, c(1, 1, 1, 2))
     printed <- capture.output(print(answer))
     expect_equal(printed[6], "3: 1 seat, 100 people: Alder, Birch")
+    expect_equal(any(grepl("without a neighbour", printed)), FALSE)
     expect_refusal(as_sf(answer), "no shapes")
     expect_refusal(best_grouping(answer, 2), "no such grouping", "countygroups_program_error")
   })
@@ -117,6 +118,7 @@ if (has_program) {
   test("no lawful grouping, and steps that run out", {
     none <- solved(c(A = 50, B = 50), 1, adjacency = cbind("A", "A"))
     expect_equal(none$outcome, "impossible")
+    expect_equal(capture.output(print(none))[3], "without a neighbour: A, B")
     expect_equal(check_certificate(none)$outcome, "impossible")
     expect_refusal(as.data.frame(none), "no grouping", "countygroups_no_grouping")
     expect_refusal(best_groupings(none), "impossible", "countygroups_no_grouping")
