@@ -7,7 +7,7 @@ from typing import Any, Iterable, Mapping, Sequence, Tuple
 
 from . import shapes
 from .codes import Label, geoid_of, plain
-from .counties import CountyTable, is_graph
+from .counties import CountyTable, is_graph, is_table
 from .errors import InputError
 
 Pair = Tuple[Label, Label]
@@ -62,7 +62,7 @@ class _Order:
         """Returns a pair in order. Raises `InputError` if it isn't one of two counties."""
         if isinstance(given, str) or not hasattr(given, "__len__") or len(given) != 2:
             raise InputError(f"{given!r} is no pair of counties.")
-        one, other = plain(given[0]), plain(given[1])
+        one, other = (plain(label) for label in given)
         for label in (one, other):
             if label not in self.places:
                 raise InputError(f"The pair {one!r}, {other!r}: no county is {label!r}.")
@@ -81,8 +81,9 @@ def adjacency_of(
 
     `given` is "edges" or "points" for the shapes of the table, a path of a file in the layout of
     the Census Bureau's county adjacency file, a graph of labels, a dict from labels to their
-    neighbours, or pairs of labels. If it is `None`, the edges of the graph or the shapes of the
-    table are taken. Raises `InputError` if there are none, or if a pair names no county.
+    neighbours, or pairs of labels, also as a table of two columns. If it is `None`, the edges of
+    the graph or the shapes of the table are taken. Raises `InputError` if there are none, or if a
+    pair names no county.
     """
     order = _Order(table)
     found, source = _pairs_of(given, table)
@@ -99,6 +100,8 @@ def _pairs_of(given: Any, table: CountyTable) -> tuple[Iterable[Any], str]:
     if isinstance(given, (str, os.PathLike)):
         path = os.fspath(given)
         return _pairs_of_file(path, table), f"of {os.path.basename(path)}"
+    if is_table(given):
+        return zip(*(given[column].tolist() for column in given.columns[:2])), "of a table of pairs"
     if is_graph(given):
         return [edge[:2] for edge in given.edges], "of the edges of a graph"
     if isinstance(given, Mapping):

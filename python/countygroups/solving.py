@@ -43,9 +43,9 @@ def solve(
 
     `adjacency` is "edges" (shapes with an edge in common), "points" (also those that touch in a
     point), a path of a file in the layout of the Census Bureau's county adjacency file, a graph of
-    labels, a dict from labels to neighbours, or pairs of labels. If nothing is said, a graph has
-    its edges, and shapes those in common. `added` and `cut` are pairs of labels that are then added
-    and cut. `Answer.adjacency` says what was taken.
+    labels, a dict from labels to neighbours, or pairs of labels, also as a table of two columns. If
+    nothing is said, a graph has its edges, and shapes those in common. `added` and `cut` are pairs
+    of labels that are then added and cut. `Answer.adjacency` says what was taken.
 
     `withdrawn` has for each set that is taken out beforehand its labels, or one label, and its
     seats.

@@ -106,7 +106,7 @@ class Pairs(unittest.TestCase):
 
     def test_forms(self) -> None:
         near = {"B": ["A", "C"], "D": {"C"}}
-        for given in [setting.PATH_PAIRS, near, (("B", "A"), ["C", "B"], ("D", "C"), ("A", "A"))]:
+        for given in [setting.PATH_PAIRS, near, (("B", "A"), ["C", "B"], {"D", "C"}, ("A", "A"))]:
             self.assertEqual(adjacency_of(given, self.table).pairs, set(setting.PATH_PAIRS))
 
     def test_added_and_cut(self) -> None:

@@ -75,6 +75,13 @@ class Tables(unittest.TestCase):
         by_index = read_counties(table, people="TOTPOP")
         self.assertEqual([county.label for county in by_index.counties], [9, 8, 7, 6])
 
+    def test_table_of_pairs(self) -> None:
+        import pandas
+
+        table = read_counties(setting.PATH_PEOPLE)
+        pairs = pandas.DataFrame(setting.PATH_PAIRS, columns=["county", "neighbour"])
+        self.assertEqual(adjacency_of(pairs, table).pairs, set(setting.PATH_PAIRS))
+
     def test_missing_people(self) -> None:
         table = self.table()
         table.loc[8, "TOTPOP"] = None
