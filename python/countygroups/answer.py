@@ -1,0 +1,152 @@
+"""The answer to a problem."""
+from __future__ import annotations
+
+from dataclasses import dataclass
+from functools import cached_property
+from os import PathLike
+from pathlib import Path
+from typing import Any
+
+from . import files, tables, texts
+from .best_groupings import UNBOUNDED, BestGroupings
+from .adjacency import Adjacency
+from .errors import InputError, NoBestGrouping
+from .groups import Group, Grouping
+from .problem import Problem, Stored
+
+BEST, IMPOSSIBLE, OPEN = "best", "impossible", "open"
+README = "README.txt"
+
+
+@dataclass(frozen=True, eq=False, repr=False)
+class Answer:
+    """Is what the program says of a problem.
+
+    `outcome` is "best" if no lawful grouping is greater, "impossible" if none is lawful, and "open"
+    if the steps ran out. `groups` has the groups of the grouping, or none, and `counts` how many of
+    them have one county, two, and so on. `certificate` is the text that proves the outcome, or
+    `None` if it is open. `messages` are the lines of the program's standard error.
+    """
+
+    problem: Problem
+    outcome: str
+    counts: tuple[int, ...]
+    groups: Grouping
+    certificate: str | None
+    messages: tuple[str, ...]
+
+    @property
+    def adjacency(self) -> Adjacency:
+        """Returns which counties are adjacent, and where that comes from."""
+        return self.problem.adjacency
+
+    @cached_property
+    def best_groupings(self) -> BestGroupings:
+        """Returns all best groupings. Raises `NoBestGrouping` if the outcome isn't best."""
+        if self.outcome != BEST or self.certificate is None:
+            raise NoBestGrouping(f"The outcome is {self.outcome}, so no grouping is known as best.")
+        return BestGroupings(self.problem, self.certificate)
+
+    def check(self) -> str:
+        """Checks the certificate and returns its outcome: "best" or "impossible".
+
+        Raises `NoBestGrouping` if there is no certificate, `CertificateError` if it is none of the
+        problem, and `ProgramError` if the program gives no answer.
+        """
+        if self.certificate is None:
+            raise NoBestGrouping("The steps ran out, so there is no certificate.")
+        return checked(self.problem, self.certificate).outcome
+
+    def grouping(self, number: int | None = None) -> Grouping:
+        """Returns the best grouping of a number, from 1, or without a number that of the answer.
+
+        Raises `NoBestGrouping` if there is none, and `InputError` if none has the number.
+        """
+        if number is None:
+            if self.outcome == IMPOSSIBLE or not (self.groups or self.problem.withdrawn):
+                raise NoBestGrouping(f"The outcome is {self.outcome}, and there is no grouping.")
+            return self.groups
+        if not 1 <= number <= len(self.best_groupings):
+            told = f"There are {len(self.best_groupings)} best groupings"
+            raise InputError(f"{told}, numbered from 1, and none has the number {number}.")
+        return self.best_groupings[number - 1]
+
+    def to_rows(self, number: int | None = None) -> list[dict[str, Any]]:
+        """Returns a row for each county, as `to_dataframe` has them, without any other package."""
+        return tables.rows_of(self.problem, self.grouping(number))
+
+    def to_dataframe(self, number: int | None = None) -> Any:
+        """Returns a DataFrame of pandas with a row for each county.
+
+        It is a copy of the table that was given, if one was, with these columns: GROUP ("1" on, and
+        "W1" on for withdrawn sets), SEATS and GROUP_POPULATION of the group, and COLOUR, a number
+        from 0 on that differs for adjacent groups. `number` is as in `grouping`.
+        """
+        return tables.frame_of(self.problem, self.to_rows(number))
+
+    def to_geodataframe(self, number: int | None = None, shapes: Any = None) -> Any:
+        """Returns a GeoDataFrame of geopandas with a row for each county, as `to_dataframe` does.
+
+        `shapes` is a GeoSeries or a dict that has the shape of each label. It may be left out if
+        the counties came as a GeoDataFrame. Raises `InputError` if a county has no shape.
+        """
+        return tables.geo_frame_of(self.problem, self.to_dataframe(number), shapes)
+
+    def save(self, folder: str | PathLike[str]) -> None:
+        """Writes the files of the problem, the certificate and the grouping to `folder`.
+
+        With them anybody can check the certificate: README.txt has the command, and labels.csv has
+        the label of each code. The folder is made if it isn't there.
+        """
+        place = Path(folder)
+        place.mkdir(parents=True, exist_ok=True)
+        self.problem.write(place)
+        files.write_labels(place, self.problem.counties, self.problem.codes)
+        words = " ".join(self.problem.words())
+        lines = [str(self), "", "The files of the problem, as the program reads them."]
+        if self.groups:
+            files.write(place, files.GROUPING, tables.grouping_lines(self.problem, self.groups))
+        if self.certificate is not None:
+            (place / files.CERTIFICATE).write_text(self.certificate, "ascii", newline="\n")
+            lines += ["In this folder the certificate is checked by:", ""]
+            lines += [f"countygroups check {words} --certificate {files.CERTIFICATE}"]
+        files.write(place, README, lines)
+
+    def _summary(self) -> list[str]:
+        """Returns what was asked and what the outcome is, in lines."""
+        counts = " ".join(map(str, self.counts)) or "none"
+        told = f"{self.outcome}: {len(self.groups)} groups, counts {counts}"
+        return [*self.problem.summary(), told if self.groups else self.outcome]
+
+    def __repr__(self) -> str:
+        """Returns the summary in one line."""
+        return f"<countygroups.Answer: {'; '.join(self._summary())}>"
+
+    def __str__(self) -> str:
+        """Returns the summary, each group by its counties' names, and the program's messages."""
+        numbered = enumerate(self.groups, 1)
+        lines = [f"{number}: {self.problem.group_line(one)}" for number, one in numbered]
+        return "\n".join([*self._summary(), *lines, *self.messages])
+
+
+def answer_of(problem: Problem, stored: Stored, certificate: str | None) -> Answer:
+    """Returns the answer of a run whose text is a report."""
+    report = texts.read_report(stored.run.output)
+    label_of = problem.codes.label_of
+    groups = [
+        Group(tuple(label_of[code] for code in one.codes), one.least, one.people)
+        for one in report.groups
+    ]
+    outcome = report.answer.split()[0]
+    return Answer(problem, outcome, report.counts, tuple(groups), certificate, stored.run.messages)
+
+
+def checked(problem: Problem, certificate: str) -> Answer:
+    """Checks a certificate of a problem, whoever wrote it, and returns what it proves.
+
+    Raises `CertificateError` if it is no certificate of the problem, and `ProgramError` if the
+    program gives no answer.
+    """
+    words = ["--certificate", files.CERTIFICATE, "--budget", UNBOUNDED]
+    stored = problem.run("check", words, certificate)
+    return answer_of(problem, stored, certificate)

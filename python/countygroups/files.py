@@ -1,0 +1,72 @@
+"""The files of a problem, in the layouts that the program reads."""
+from __future__ import annotations
+
+import csv
+import io
+from pathlib import Path
+from typing import Iterable, Sequence
+
+from .adjacency import Adjacency, Pair
+from .codes import Codes
+from .counties import County
+
+GEO = "geo.pl"
+SEGMENT = "segment1.pl"
+ADJACENCY = "adjacency.txt"
+LINKS = "links.txt"
+WITHDRAWN = "withdrawn.txt"
+CERTIFICATE = "certificate.txt"
+GROUPING = "grouping.txt"
+LABELS = "labels.csv"
+
+# The fields of a line of a geographic header, from 1, and how many such a line has.
+SUMLEV, GEOCOMP, LOGRECNO, STATE, COUNTY, NAME = 3, 5, 8, 13, 15, 88
+GEO_FIELDS = 97
+
+
+def write(folder: Path, name: str, lines: Iterable[str]) -> None:
+    """Writes lines to a file of `folder`, each with one LF at its end."""
+    text = "".join(f"{line}\n" for line in lines)
+    (folder / name).write_text(text, encoding="utf-8", newline="\n")
+
+
+def cleaned(name: str) -> str:
+    """Returns a name without pipes and control characters, which a field can't have."""
+    return "".join(" " if sign == "|" or not sign.isprintable() else sign for sign in name)
+
+
+def geo_line(record: int, code: str, name: str) -> str:
+    """Returns the line of a county in a geographic header."""
+    fields = {SUMLEV: "050", GEOCOMP: "00", LOGRECNO: f"{record:07d}", NAME: cleaned(name)}
+    fields.update({STATE: code[:2], COUNTY: code[2:]})
+    return "|".join(fields.get(place, "") for place in range(1, GEO_FIELDS + 1))
+
+
+def write_counties(folder: Path, counties: Sequence[County], codes: Codes) -> None:
+    """Writes the geographic header and segment 1."""
+    numbered = list(enumerate(counties, 1))
+    geo = [geo_line(record, codes.code_of[one.label], one.name) for record, one in numbered]
+    write(folder, GEO, geo)
+    write(folder, SEGMENT, [f"||||{record:07d}|{county.people}" for record, county in numbered])
+
+
+def write_adjacency(folder: Path, adjacency: Adjacency, codes: Codes) -> None:
+    """Writes the adjacency file, and the links if pairs were added or cut."""
+
+    def coded(pairs: Iterable[Pair]) -> list[tuple[str, str]]:
+        return sorted((codes.code_of[one], codes.code_of[other]) for one, other in pairs)
+
+    write(folder, ADJACENCY, [f"|{one}||{other}" for one, other in coded(adjacency.listed)])
+    if adjacency.added or adjacency.cut:
+        signs = (("+", coded(adjacency.added)), ("-", coded(adjacency.cut)))
+        lines = [f"{sign}|{one}|{other}" for sign, pairs in signs for one, other in pairs]
+        write(folder, LINKS, lines)
+
+
+def write_labels(folder: Path, counties: Sequence[County], codes: Codes) -> None:
+    """Writes which label and which name each code stands for, as CSV."""
+    text = io.StringIO()
+    table = csv.writer(text, lineterminator="\n")
+    table.writerow(["CODE", "LABEL", "NAME"])
+    table.writerows([codes.code_of[one.label], one.label, one.name] for one in counties)
+    (folder / LABELS).write_text(text.getvalue(), encoding="utf-8", newline="\n")

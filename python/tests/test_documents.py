@@ -1,0 +1,58 @@
+"""Runs the Python of README.md and of the guide as it stands, and compares what it prints."""
+from __future__ import annotations
+
+import contextlib
+import io
+import os
+import re
+import tempfile
+import unittest
+import warnings
+from pathlib import Path
+from typing import Any
+
+from tests.setting import needs_program
+from tests.test_packages import needs
+
+TOP = Path(__file__).resolve().parents[2]
+BLOCK = re.compile(r"^```python\n(.*?)^```\n(?:\n```text\n(.*?)^```\n)?", re.M | re.S)
+
+
+def printed(source: str, names: dict[str, Any]) -> str:
+    """Returns what Python prints that is run with these names."""
+    written = io.StringIO()
+    with contextlib.redirect_stdout(written):
+        exec(compile(source, "a document", "exec"), names)
+    return written.getvalue()
+
+
+@needs_program
+@needs("geopandas", "networkx", "matplotlib")
+class Documents(unittest.TestCase):
+    """Tests each document in a folder that has the data of the repository."""
+
+    def run_document(self, name: str) -> None:
+        """Runs the blocks of a document one after the other."""
+        blocks = BLOCK.findall((TOP / name).read_text(encoding="utf-8"))
+        names: dict[str, Any] = {}
+        here = os.getcwd()
+        with tempfile.TemporaryDirectory() as room, warnings.catch_warnings():
+            warnings.simplefilter("ignore", ResourceWarning)
+            os.symlink(TOP / "data", Path(room) / "data")
+            os.chdir(room)
+            try:
+                for source, wanted in blocks:
+                    self.assertEqual(printed(source, names), wanted)
+            finally:
+                os.chdir(here)
+        self.assertGreaterEqual(len(blocks), 3)
+
+    def test_readme(self) -> None:
+        self.run_document("python/README.md")
+
+    def test_guide(self) -> None:
+        self.run_document("docs/guide_python.md")
+
+
+if __name__ == "__main__":
+    unittest.main()

@@ -1,0 +1,122 @@
+# The answer to a problem. `man/` has what each of these functions takes and returns.
+
+county_groups <- function(counties, seats, people = NULL, adjacency = NULL, added = NULL,
+                          cut = NULL, withdrawn = NULL, tolerance = NULL, label = NULL,
+                          name = NULL, steps = NULL, progress = interactive(), program = NULL) {
+  problem <- problem_of(
+    counties, seats, people, adjacency, added, cut, withdrawn, tolerance, label, name, program
+  )
+  message("adjacency: ", adjacency_words(problem$adjacency))
+  words <- c("--certificate", "certificate.txt")
+  if (!is.null(steps)) words <- c(words, "--steps", plain(steps))
+  run <- run_program(problem, "solve", words, progress = progress)
+  answer_of(problem, run, if (length(run$certificate) > 0) run$certificate)
+}
+
+# Returns the answer of a run whose text is a report.
+answer_of <- function(problem, run, certificate) {
+  structure(list(
+    outcome = strsplit(behind(run$output, "answer"), " ", fixed = TRUE)[[1]][1],
+    counts = counts_of(run$output),
+    groups = groups_of(run$output, problem$codes),
+    certificate = certificate,
+    adjacency = list(
+      pairs = labelled_pairs(problem), source = adjacency_words(problem$adjacency)
+    ),
+    messages = run$messages,
+    problem = problem
+  ), class = "county_groups")
+}
+
+# Returns the pairs that count, by labels.
+labelled_pairs <- function(problem) {
+  pairs <- pairs_that_count(problem$adjacency)
+  label <- problem$table$label
+  data.frame(county = label[pairs[, 1]], neighbour = label[pairs[, 2]])
+}
+
+check_certificate <- function(answer, certificate = answer$certificate) {
+  if (is.null(certificate)) {
+    stop_with("countygroups_no_grouping", "The steps ran out, so there is no certificate.")
+  }
+  words <- c("--certificate", "certificate.txt", "--budget", unbounded)
+  answer_of(answer$problem, run_program(answer$problem, "check", words, certificate), certificate)
+}
+
+best_groupings <- function(answer) {
+  read_list(run_list(answer)$output, answer$problem$codes)
+}
+
+best_grouping <- function(answer, number) {
+  words <- c("--number", plain(number), "--out", "grouping.txt")
+  found <- run_list(answer, words)$grouping
+  read_grouping(found, answer$problem$table, answer$problem$codes)
+}
+
+# Returns the best grouping of a number, or without a number the groups of the answer.
+groups_at <- function(answer, number = NULL) {
+  if (!is.null(number)) return(best_grouping(answer, number))
+  has_none <- nrow(answer$groups) == 0 && length(answer$problem$withdrawn) == 0
+  if (answer$outcome == "impossible" || has_none) {
+    told <- paste0("The outcome is ", answer$outcome, ", and there is no grouping.")
+    stop_with("countygroups_no_grouping", told)
+  }
+  answer$groups
+}
+
+# Runs `list` over the certificate of an answer.
+run_list <- function(answer, words = character()) {
+  if (answer$outcome != "best") {
+    told <- paste0("The outcome is ", answer$outcome, ", so no grouping is known as best.")
+    stop_with("countygroups_no_grouping", told)
+  }
+  first <- c("--certificate", "certificate.txt", "--budget", unbounded)
+  run_program(answer$problem, "list", c(first, words), answer$certificate)
+}
+
+print.county_groups <- function(x, ...) {
+  cat(summary_lines(x), sep = "\n")
+  table <- x$problem$table
+  for (place in seq_len(nrow(x$groups))) {
+    group <- x$groups[place, ]
+    names <- table$name[match(group$counties[[1]], table$label)]
+    told <- paste0(place, ": ", group_words(group), ": ", paste(names, collapse = ", "))
+    cat(strwrap(told, 100, exdent = 4), sep = "\n")
+  }
+  cat(x$messages, sep = if (length(x$messages) > 0) "\n" else "")
+  invisible(x)
+}
+
+# Returns the line that names the counties without a neighbour, or none.
+alone_line <- function(problem) {
+  alone <- setdiff(seq_len(nrow(problem$table)), pairs_that_count(problem$adjacency))
+  if (length(alone) == 0) return(character())
+  paste("without a neighbour:", paste(problem$table$name[alone], collapse = ", "))
+}
+
+# Returns the seats and the people of a group in words.
+group_words <- function(group) {
+  seats <- if (group$seats == 1) "1 seat" else paste(group$seats, "seats")
+  paste0(seats, ", ", with_commas(group$people), " people")
+}
+
+# Returns a number with commas.
+with_commas <- function(number) {
+  format(number, big.mark = ",", scientific = FALSE, trim = TRUE)
+}
+
+# Returns what was asked and what the outcome is, in lines.
+summary_lines <- function(answer) {
+  problem <- answer$problem
+  people <- with_commas(sum(problem$table$people))
+  size <- paste0(problem$seats, " seats, ", nrow(problem$table), " counties, ", people, " people")
+  told <- answer$outcome
+  if (nrow(answer$groups) > 0) {
+    counts <- paste(answer$counts, collapse = " ")
+    told <- paste0(told, ": ", nrow(answer$groups), " groups, counts ", counts)
+  }
+  c(
+    paste0(size, ", tolerance ", paste(plain(problem$tolerance), collapse = "/")),
+    paste0("adjacency: ", answer$adjacency$source), alone_line(problem), told
+  )
+}

@@ -1,0 +1,124 @@
+# A problem: counties, seats, adjacency, withdrawn sets and the tolerance, and its files.
+
+five_percent <- c(1, 20)
+
+# The fields of a line of a geographic header, from 1, and how many such a line has.
+geo_fields <- c(sumlev = 3, geocomp = 5, logrecno = 8, state = 13, county = 15, name = 88)
+most_geo_fields <- 97
+
+# Returns the problem of the words of `county_groups`.
+problem_of <- function(counties, seats, people, adjacency, added, cut, withdrawn, tolerance,
+                       label, name, program) {
+  if (!is.numeric(seats) || length(seats) != 1 || !is.finite(seats) || seats != floor(seats)) {
+    stop_input("`seats` is no whole number.")
+  }
+  table <- read_counties(counties, people, label, name)
+  list(
+    given = counties, table = table, seats = seats, codes = codes_of(table$label),
+    adjacency = adjacency_of(adjacency, counties, table, added, cut),
+    withdrawn = lapply(withdrawn, withdrawn_set, table = table),
+    tolerance = tolerance_of(tolerance), program = find_program(program)
+  )
+}
+
+# Returns the seats and the places of a withdrawn set, given as `list(labels, seats)`.
+withdrawn_set <- function(given, table) {
+  if (!is.list(given) || length(given) != 2) {
+    stop_input("A withdrawn set is a list of its counties and their seats.")
+  }
+  places <- match(as.character(given[[1]]), as.character(table$label))
+  if (anyNA(places)) {
+    stop_input("A withdrawn set names ", given[[1]][is.na(places)][1], ", which is no county.")
+  }
+  seats <- given[[2]]
+  if (!is.numeric(seats) || length(seats) != 1 || !is.finite(seats) || seats != floor(seats)) {
+    stop_input("A withdrawn set has seats that are no whole number.")
+  }
+  list(seats = seats, places = places)
+}
+
+# Returns the tolerance as the part and the whole of a fraction in lowest terms.
+tolerance_of <- function(given) {
+  if (is.null(given)) return(five_percent)
+  if (!is.numeric(given) || length(given) != 1 || !is.finite(given) || given < 0) {
+    stop_input("`tolerance` is no number from 0 on.")
+  }
+  whole <- 1:1000
+  part <- round(given * whole)
+  found <- which(abs(part / whole - given) < 1e-12 & part <= 500)
+  if (length(found) == 0) {
+    stop_input("`tolerance` is no fraction of at most 500 over at most 1000.")
+  }
+  c(part[found[1]], whole[found[1]])
+}
+
+# Returns a whole number as the program reads it.
+plain <- function(number) {
+  sprintf("%.0f", number)
+}
+
+# Writes lines to a file of `folder`, each with one LF at its end, in UTF-8.
+write_lines <- function(lines, folder, name) {
+  file <- file(file.path(folder, name), open = "wb")
+  on.exit(close(file))
+  writeLines(enc2utf8(lines), file, sep = "\n", useBytes = TRUE)
+}
+
+# Returns the line of each county in a geographic header.
+geo_lines <- function(table, codes) {
+  lines <- matrix("", nrow(table), most_geo_fields)
+  lines[, geo_fields["sumlev"]] <- "050"
+  lines[, geo_fields["geocomp"]] <- "00"
+  lines[, geo_fields["logrecno"]] <- sprintf("%07d", seq_len(nrow(table)))
+  lines[, geo_fields["state"]] <- substr(codes$code, 1, 2)
+  lines[, geo_fields["county"]] <- substr(codes$code, 3, 5)
+  lines[, geo_fields["name"]] <- gsub("[[:cntrl:]|]", " ", table$name)
+  apply(lines, 1, paste, collapse = "|")
+}
+
+# Writes the files of a problem to a folder, in the layouts of the program.
+write_problem <- function(problem, folder) {
+  table <- problem$table
+  code <- problem$codes$code
+  write_lines(geo_lines(table, problem$codes), folder, "geo.pl")
+  segment <- sprintf("||||%07d|%s", seq_len(nrow(table)), plain(table$people))
+  write_lines(segment, folder, "segment1.pl")
+  listed <- problem$adjacency$listed
+  write_lines(sprintf("|%s||%s", code[listed[, 1]], code[listed[, 2]]), folder, "adjacency.txt")
+  if (has_links(problem)) write_lines(link_lines(problem), folder, "links.txt")
+  if (length(problem$withdrawn) > 0) {
+    lines <- vapply(problem$withdrawn, function(one) {
+      paste(c(plain(one$seats), code[one$places]), collapse = "|")
+    }, "")
+    write_lines(lines, folder, "withdrawn.txt")
+  }
+}
+
+# Returns whether pairs were added or cut.
+has_links <- function(problem) {
+  nrow(problem$adjacency$added) + nrow(problem$adjacency$cut) > 0
+}
+
+# Returns the lines that add and cut pairs.
+link_lines <- function(problem) {
+  code <- problem$codes$code
+  added <- problem$adjacency$added
+  cut <- problem$adjacency$cut
+  c(
+    sprintf("+|%s|%s", code[added[, 1]], code[added[, 2]]),
+    sprintf("-|%s|%s", code[cut[, 1]], code[cut[, 2]])
+  )
+}
+
+# Returns the words of a problem whose files lie in the working folder.
+problem_words <- function(problem) {
+  words <- c("--geo", "geo.pl", "--segment", "segment1.pl", "--adjacency", "adjacency.txt")
+  words <- c(words, "--state", problem$codes$state, "--chamber", plain(problem$seats))
+  if (has_links(problem)) words <- c(words, "--links", "links.txt")
+  if (length(problem$withdrawn) > 0) words <- c(words, "--withdrawn", "withdrawn.txt")
+  if (!identical(as.numeric(problem$tolerance), five_percent)) {
+    tolerance <- plain(problem$tolerance)
+    words <- c(words, "--part", tolerance[1], "--of", tolerance[2])
+  }
+  words
+}

@@ -1,0 +1,85 @@
+# What the program's reports and lists say. A set of groups is a data frame with the list column
+# `counties`, which has labels.
+
+# The checker counts its steps. A certificate bounds them, so that this number stops nobody.
+unbounded <- "18446744073709551615"
+
+# Returns what stands behind `word` in the first line that begins with it, or "".
+behind <- function(lines, word) {
+  found <- lines[startsWith(lines, paste0(word, " "))]
+  if (length(found) == 0) return("")
+  substring(found[1], nchar(word) + 2)
+}
+
+# Returns the numbers behind the word `counts`.
+counts_of <- function(lines) {
+  words <- behind(lines, "counts")
+  if (words %in% c("", "none")) return(integer())
+  as.integer(strsplit(words, " ", fixed = TRUE)[[1]])
+}
+
+# Returns the groups of lines such as `group 1 seats 2 people 3 counties 37001 37003`.
+groups_of <- function(lines, codes) {
+  pattern <- "^group [0-9]+ seats ([0-9]+) people ([0-9]+) counties ([0-9 ]+)$"
+  lines <- grep("^group ", lines, value = TRUE)
+  parts <- regmatches(lines, regexec(pattern, lines))
+  group_frame(
+    seats = field_of(parts, 2), people = field_of(parts, 3),
+    counties = lapply(parts, function(part) labels_in(part[4], codes))
+  )
+}
+
+# Returns the groups of a list's lines such as `group seats 2 to 3 people 3 counties 37001`.
+listed_groups_of <- function(lines, codes) {
+  pattern <- "^group seats ([0-9]+)( to ([0-9]+))? people ([0-9]+) counties ([0-9 ]+)$"
+  parts <- regmatches(lines, regexec(pattern, lines))
+  most <- vapply(parts, function(part) if (nzchar(part[4])) part[4] else part[2], "")
+  group_frame(
+    least_seats = field_of(parts, 2), most_seats = as.numeric(most), people = field_of(parts, 5),
+    counties = lapply(parts, function(part) labels_in(part[6], codes))
+  )
+}
+
+# Returns a data frame with the list column `counties`.
+group_frame <- function(..., counties) {
+  frame <- data.frame(...)
+  frame$counties <- counties
+  frame
+}
+
+# Returns one part of each match, as numbers.
+field_of <- function(parts, place) {
+  as.numeric(vapply(parts, function(part) part[place], ""))
+}
+
+# Returns the labels of codes with blanks between.
+labels_in <- function(words, codes) {
+  labels_of(codes, strsplit(words, " ", fixed = TRUE)[[1]])
+}
+
+# Returns what a list says: `number`, `shared` and `regions`.
+read_list <- function(lines, codes) {
+  lines <- lines[seq(which(startsWith(lines, "best groupings "))[1], length(lines))]
+  number <- as.numeric(behind(lines, "best groupings"))
+  is_group <- startsWith(lines, "group ")
+  region <- cumsum(startsWith(lines, "region "))
+  alternative <- cumsum(startsWith(lines, "alternative "))
+  shared <- listed_groups_of(lines[is_group & region == 0], codes)
+  regions <- lapply(seq_len(max(region)), function(one) {
+    wanted <- unique(alternative[is_group & region == one])
+    alternatives <- lapply(wanted, function(place) {
+      listed_groups_of(lines[is_group & alternative == place & region == one], codes)
+    })
+    found <- unlist(alternatives[[1]]$counties)
+    list(counties = codes$label[codes$label %in% found], alternatives = alternatives)
+  })
+  list(number = number, shared = shared, regions = regions)
+}
+
+# Returns the groups of a grouping text.
+read_grouping <- function(lines, table, codes) {
+  rows <- strsplit(lines, "|", fixed = TRUE)
+  counties <- lapply(rows, function(row) labels_of(codes, row[-1]))
+  people <- vapply(counties, function(one) sum(table$people[match(one, table$label)]), 0)
+  group_frame(seats = field_of(rows, 1), people = people, counties = counties)
+}
