@@ -124,6 +124,9 @@ test_programs() { # FUZZER_SECONDS SEED PROGRAM ..
     python3 tools/test_guides.py --program "$1"
     python3 tools/test_manual_page.py --program "$1"
     python3 tools/test_completions.py --program "$1"
+    heading "the packages for Python and R"
+    COUNTYGROUPS=$(realpath "$1") python/test.sh
+    COUNTYGROUPS=$(realpath "$1") r/test.sh
     heading "pages in a browser"
     python3 tools/test_page_browser.py --program "$1"
     heading "cases changed at random, $seconds seconds with seed $seed"
