@@ -20,6 +20,7 @@ WITHOUT_SCRIPTS = (".needs, .bar .right, .step, .seg, .noprint, .choice input, .
 PART = re.compile(r"\{([a-z-]+)\}")
 DOC_COMMENT = re.compile(r"^[ \t]*/\*\*(?:(?!\*/).)*\*/[ \t]*\n", re.M | re.S)
 LINE_COMMENT = re.compile(r"^[ \t]*//.*\n", re.M)
+INDENT = re.compile(r"^[ ]+", re.M)
 TYPE_COMMENT = re.compile(r"/\*\* @(?:type|param) [^*]*\*/ ?")
 PROVED = ("<li><b>Proved:</b> for exactly the files that the program read, these groupings are "
           "lawful, none is better, and there are no others as good.</li>")
@@ -73,8 +74,9 @@ def border_lines(adjacency: str, geoids: set[str]) -> str:
 
 
 def without_comments(script: str) -> str:
-    """Returns a script without comments that begin a line, and without types."""
-    return LINE_COMMENT.sub("", TYPE_COMMENT.sub("", DOC_COMMENT.sub("", script)))
+    """Returns a script without comments that begin a line, without types, and without indents."""
+    plain = LINE_COMMENT.sub("", TYPE_COMMENT.sub("", DOC_COMMENT.sub("", script)))
+    return INDENT.sub("", plain)
 
 
 def script_text() -> str:

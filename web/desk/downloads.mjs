@@ -96,7 +96,8 @@ function standAlone(svg) {
     return { element, values: KEPT_STYLES.map((name) => styles.getPropertyValue(name)) };
   });
   for (const { element, values } of styled) {
-    const isPlain = /^(g|defs|pattern|tspan)$/.test(element.tagName) && !element.getAttribute("fill");
+    const isPlain = /^(g|defs|pattern|tspan)$/.test(element.tagName)
+      && !element.getAttribute("fill");
     KEPT_STYLES.forEach((name, at) => {
       const value = values[at].replace(/url\("?[^#]*(#[^")]+)"?\)/, "url($1)");
       if (!isPlain && value) element.setAttribute(name, value);

@@ -74,8 +74,9 @@ export function mapSvg(geography, drawing) {
  */
 export function shapesSvg(sheet) {
   const shapes = sheet.countyPaths.map((path, at) => `<path id="${sheet.id}${at}" d="${path}"/>`);
-  return `<svg class="shapes" width="0" height="0" aria-hidden="true"><defs>${shapes.join("")}`
-    + "</defs></svg>";
+  const lines = sheet.linePaths.map((path, at) => `<path id="${sheet.id}l${at}" d="${path}"/>`);
+  return '<svg class="shapes" width="0" height="0" aria-hidden="true"><defs>'
+    + `${shapes.join("")}${lines.join("")}</defs></svg>`;
 }
 
 /**
@@ -168,25 +169,23 @@ function countyShapes(canvas) {
  * @param {Canvas} canvas
  */
 function borderLines(canvas) {
-  const { sheet, drawing, id, px } = canvas;
-  /** @type {Record<string, string>} */
-  const paths = { county: "", group: "", coast: "", area: "", areaCoast: "" };
+  const { sheet, drawing, px } = canvas;
+  /** @type {Record<string, number[]>} */
+  const lines = { county: [], group: [], coast: [], area: [], areaCoast: [] };
   sheet.owners.forEach((own, line) => {
     if (drawing.isMini && !own.some((county) => isNear(canvas, county))) return;
-    for (const kind of lineKinds(canvas, own)) paths[kind] += sheet.linePaths[line];
+    for (const kind of lineKinds(canvas, own)) lines[kind].push(line);
   });
-  const line = (/** @type {string} */ kind, /** @type {number} */ width,
-    /** @type {string} */ path) => (
-    path ? `<path class="line ${kind}" style="stroke-width:${px(width)}" d="${path}"/>` : "");
-  const cased = (/** @type {string} */ kind, /** @type {number[]} */ [casing, width],
-    /** @type {string} */ path) => (path
-    ? `<defs><path id="${id}${kind}" d="${path}"/></defs>`
-      + `<use class="line casing" style="stroke-width:${px(casing)}" href="#${id}${kind}"/>`
-      + `<use class="line ${kind}" style="stroke-width:${px(width)}" href="#${id}${kind}"/>` : "");
-  const widths = drawing.isMini ? [3.2, 1.1] : [4.4, 1.25];
-  return line("county-line", 0.7, paths.county) + line("coast", 0.9, paths.coast)
-    + cased("group-line", widths, paths.group) + line("area-line", 1.2, paths.areaCoast)
-    + cased("area-line", [5.6, 2], paths.area);
+  const drawnLines = (/** @type {string} */ kind, /** @type {number} */ width,
+    /** @type {number[]} */ some) => {
+    const uses = some.map((line) => `<use href="#${sheet.id}l${line}"/>`).join("");
+    return uses ? `<g class="line ${kind}" style="stroke-width:${px(width)}">${uses}</g>` : "";
+  };
+  const [casing, width] = drawing.isMini ? [3.2, 1.1] : [4.4, 1.25];
+  return drawnLines("county-line", 0.7, lines.county) + drawnLines("coast", 0.9, lines.coast)
+    + drawnLines("casing", casing, lines.group) + drawnLines("group-line", width, lines.group)
+    + drawnLines("area-line", 1.2, lines.areaCoast)
+    + drawnLines("casing", 5.6, lines.area) + drawnLines("area-line", 2, lines.area);
 }
 
 /**

@@ -1,6 +1,6 @@
 // The program and the files that the page carries, packed, with their sums.
 
-import { reasonAgainstRunning, startProcess } from "../host/browser_process.mjs";
+import { ProcessError, reasonAgainstRunning, startProcess } from "../host/browser_process.mjs";
 import { unpackModule } from "../host/packed_module.mjs";
 import { find } from "./dom.mjs";
 
@@ -120,4 +120,12 @@ function textsOf({ status, output, errors, stored }) {
  */
 export function withFile(files, name, bytes) {
   return new Map(files).set(name, new Blob([bytes]));
+}
+
+/**
+ * Returns whether a run was rejected because it was stopped.
+ * @param {unknown} fault
+ */
+export function wasStopped(fault) {
+  return fault instanceof ProcessError && fault.wasStopped;
 }

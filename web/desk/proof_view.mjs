@@ -229,6 +229,7 @@ export async function paintProof(desk, state) {
   find("#sums").innerHTML = sumsTable();
   find("#commands").innerHTML = commandsHtml(desk, answer, shownOption(state, answer.key));
   find("#run").innerHTML = runHtml(desk, answer);
+  if (!reason) compiledProgram().catch(() => null);
   await paintCertificate(answer);
 }
 
