@@ -14,7 +14,7 @@ import { cellPoint, clearanceOf } from "./sheet.mjs";
 /**
  * The seats of a group: a pill by its middle and size. `name` stands above it, if there is one.
  * @typedef {{group: number, x: number, y: number, wide: number, high: number, name: string,
- *   nameY: number}} Badge
+ *   nameY: number, nameWide: number}} Badge
  */
 /**
  * What badges are placed by. `ownerAt` gives the number of the group of a cell, or -1.
@@ -68,11 +68,11 @@ export function placeBadges(geography, sheet, scale, box, groups, given) {
  * @param {Badge} badge
  * @returns {Place}
  */
-function areaOfBadge({ x, y, wide, high, name, nameY }) {
+function areaOfBadge({ x, y, wide, high, name, nameY, nameWide }) {
   if (!name) return { x, y, w: wide, h: high };
   const top = nameY - high * 0.55;
   const bottom = y + high / 2;
-  return { x, y: (top + bottom) / 2, w: Math.max(wide, high * 2.4), h: bottom - top };
+  return { x, y: (top + bottom) / 2, w: Math.max(wide, nameWide), h: bottom - top };
 }
 
 /**
@@ -93,7 +93,7 @@ function pillWidth(seats, scale) {
  */
 function bareBadge({ scale, groups }, group, [x, y]) {
   const wide = pillWidth(groups[group].seats, scale);
-  return { group, x, y, wide, high: HIGH / scale, name: "", nameY: 0 };
+  return { group, x, y, wide, high: HIGH / scale, name: "", nameY: 0, nameWide: 0 };
 }
 
 /**
@@ -142,14 +142,15 @@ function namedBadge(room, at, middle) {
   for (const [least, some] of tries) {
     for (const county of some) {
       const name = countyName(geography, county);
-      const wide = Math.max(pill, textWidth(name, NAME_SIZE, true) / scale);
+      const nameWide = textWidth(name, NAME_SIZE, true) / scale;
+      const wide = Math.max(pill, nameWide);
       const tall = high + 12.5 / scale;
       const cells = middleCells(sheet, scale, county);
       const found = bestPlace(room, at, cells, middle, [wide, tall], least);
       if (!found) continue;
       const [x, y] = found;
       const nameY = y - tall / 2 + (11 / scale) * 0.82;
-      return { group: at, x, y: y + tall / 2 - high / 2, wide: pill, high, name, nameY };
+      return { group: at, x, y: y + tall / 2 - high / 2, wide: pill, high, name, nameY, nameWide };
     }
   }
   return null;
