@@ -75,6 +75,10 @@ class Sweep:
         # the ordinary runs of `share` without some events: by the run, and the places of these events
         self.shorter = {}
 
+    def run_once(self, words, folder, given, follow="", refuse=None):
+        """One run of the program: the one place that says how it is run and how something is refused."""
+        return run(self.program, words, folder, given, follow=follow, refuse=refuse)
+
     def left_behind(self, found, before, after, plain, calls=0, allocations=0):
         """What is wrong with the files that were found: each is as before or as after, or as the ordinary run stored it first; each that was
         there is there, and each that was stored before this call or allocation."""
@@ -93,7 +97,7 @@ class Sweep:
         if upto not in self.earlier:
             folder = fresh_folder(self.room, self.case.files)
             for words in self.case.runs[:upto]:
-                run(self.program, words, folder, self.case.given)
+                self.run_once(words, folder, self.case.given)
             self.earlier[upto] = files_below(folder)
         return fresh_folder(self.room, self.earlier[upto])
 
@@ -104,7 +108,7 @@ class Sweep:
     def reference(self, upto):
         folder = self.prepare(upto)
         before = files_below(folder)
-        plain = run(self.program, self.case.runs[upto], folder, self.case.given, follow="calls memory")
+        plain = self.run_once(self.case.runs[upto], folder, self.case.given, follow="calls memory")
         return before, files_below(folder), plain
 
     def events_of(self, upto):
@@ -131,7 +135,7 @@ class Sweep:
         else:
             begin, end = file_in_case(given, name)
             given = given[:begin] + text + given[end:]
-        made, left = run(self.program, self.case.runs[upto], folder, given, follow="calls memory"), files_below(folder)
+        made, left = self.run_once(self.case.runs[upto], folder, given, follow="calls memory"), files_below(folder)
         if self.case.runs[upto] and left.get(name) == text:
             left[name] = self.case.files[name]
         return made, left
@@ -164,7 +168,7 @@ class Sweep:
             self.cut += max(0, count - self.most)
             for number in range(1, min(count, self.most) + 1):
                 folder = self.prepare(upto)
-                made = run(self.program, words, folder, self.case.given, follow="memory", refuse=(number, "memory"))
+                made = self.run_once(words, folder, self.case.given, follow="memory", refuse=(number, "memory"))
                 # (what is asked of `share` below runs in the same folder)
                 found = files_below(folder)
                 self.tried += 1
@@ -191,7 +195,7 @@ class Sweep:
                     if only_moves and not moves:
                         continue
                     folder = self.prepare(upto)
-                    made = run(self.program, words, folder, self.case.given, follow="calls", refuse=(number, how))
+                    made = self.run_once(words, folder, self.case.given, follow="calls", refuse=(number, how))
                     self.tried += 1
                     what = f"call {number} of {len(plain.calls)}, `{call}`, {said}"
                     ordinary = (made.wrote, made.status) == (plain.wrote, plain.status)

@@ -19,7 +19,6 @@ from collections.abc import Callable
 from pathlib import Path
 
 HOST = Path(__file__).resolve().parent.parent / "web" / "host"
-WORKER, WORKER_SOURCE = HOST / "worker.mjs", HOST / "worker_source.mjs"
 
 IMPORT = re.compile(r'^import\s+(?P<names>[^"\';]+?)\s+from\s+"(?P<source>[^"]+)";\n', re.M)
 NAMED = re.compile(r"\{(?P<names>[^{}]*)\}")
@@ -90,13 +89,14 @@ def script(entry: Path, texts: dict[Path, str] | None = None) -> str:
     return f'"use strict";\n(() => {{\n{"".join(bundle.parts)}}})();\n'
 
 
-def page_script(entry: Path) -> str:
-    """Returns the same, with the text of the worker's script in it.
+def page_script(entry: Path, host: Path = HOST) -> str:
+    """Returns the same, with the text of the worker's script in it, which `host` has.
 
     No text of it ends a script of HTML.
     """
-    worker = json.dumps(script(WORKER)).replace("</", "<\\/")
-    text = script(entry, {WORKER_SOURCE: f"export const workerSource = {worker};\n"})
+    worker = json.dumps(script(host / "worker.mjs")).replace("</", "<\\/")
+    source = (host / "worker_source.mjs").resolve()
+    text = script(entry, {source: f"export const workerSource = {worker};\n"})
     if "</script" in text.lower():
         raise BundleError(f"{entry.name} has the text `</script`, which would end it in a page")
     return text

@@ -3,8 +3,8 @@
 
 usage: python3 tools/launcher.py FOLDER
 
-FOLDER/countygroups.mjs is the launcher, packed of web/host/launcher.mjs, and FOLDER/countygroups.cmd
-calls it on Windows. Both need FOLDER/countygroups.wasm beside them, which tools/wasm.sh makes.
+FOLDER/countygroups.mjs is the launcher, packed of web/host/launcher.mjs. On Windows it is called by
+FOLDER/countygroups.cmd. Both need FOLDER/countygroups.wasm beside them, which tools/wasm.sh makes.
 """
 import sys
 from pathlib import Path
@@ -15,10 +15,10 @@ ENTRY = bundle.HOST / "launcher.mjs"
 FOR_WINDOWS = '@node "%~dp0countygroups.mjs" %*\r\n@exit /b %errorlevel%\r\n'
 
 
-def write_launchers(folder: Path) -> None:
-    """Writes both launchers to `folder`, which has to be there."""
+def write_launchers(folder: Path, entry: Path = ENTRY) -> None:
+    """Writes both launchers to `folder`, which has to be there. Node's is packed of `entry`."""
     launcher = folder / "countygroups.mjs"
-    launcher.write_text(bundle.node_module(ENTRY), encoding="utf-8", newline="\n")
+    launcher.write_text(bundle.node_module(entry), encoding="utf-8", newline="\n")
     launcher.chmod(0o755)
     (folder / "countygroups.cmd").write_text(FOR_WINDOWS, encoding="ascii", newline="")
 

@@ -98,6 +98,21 @@ function answer(process, failed, call) {
 }
 
 /**
+ * Runs `call`, and returns 0. If it throws a `HostError`, its number is left in `process`, and -1
+ * is returned.
+ *
+ * @param {Process} process
+ * @param {() => void} call
+ * @returns {number}
+ */
+function perform(process, call) {
+  return answer(process, -1, () => {
+    call();
+    return 0;
+  });
+}
+
+/**
  * Opens a file of `store` as `flags` say, to read it or to create it, and returns its number.
  *
  * @param {FileStore} store
@@ -144,9 +159,9 @@ function byteCalls(process) {
 function numberCalls(process) {
   const { store } = process;
   /** @type {(file: number) => number} */
-  const close = (file) => answer(process, -1, () => (store.close(file), 0));
+  const close = (file) => perform(process, () => store.close(file));
   /** @type {(file: number) => number} */
-  const fsync = (file) => answer(process, -1, () => (store.sync(file), 0));
+  const fsync = (file) => perform(process, () => store.sync(file));
   const lseek = () =>
     answer(process, -1n, () => {
       throw new HostError(ERRNO.ESPIPE);
@@ -179,9 +194,9 @@ function nameCalls(process) {
     });
   /** @type {(from: bigint, to: bigint) => number} */
   const rename = (from, to) =>
-    answer(process, -1, () => (store.rename(nameAt(process, from), nameAt(process, to)), 0));
+    perform(process, () => store.rename(nameAt(process, from), nameAt(process, to)));
   /** @type {(name: bigint) => number} */
-  const unlink = (name) => answer(process, -1, () => (store.unlink(nameAt(process, name)), 0));
+  const unlink = (name) => perform(process, () => store.unlink(nameAt(process, name)));
   return { open, rename, unlink };
 }
 
@@ -194,7 +209,7 @@ function statusCalls(process) {
   const { store } = process;
   /** @type {(file: number, name: bigint, flags: number, mask: number, at: bigint) => number} */
   const statx = (file, name, flags, _mask, at) =>
-    answer(process, -1, () => {
+    perform(process, () => {
       const path = nameAt(process, name);
       const isOfFile = flags === STATX.OF_FILE && path.length === 0;
       if (!isOfFile && (flags !== 0 || file !== STATX.FROM_FOLDER)) {
@@ -202,12 +217,11 @@ function statusCalls(process) {
       }
       const { mode, size } = isOfFile ? store.statusOfFile(file) : store.statusOfName(path);
       const { LENGTH, MASK, MODE, SIZE, FILLED } = STATX_FIELDS;
-      const fields = new DataView(bufferOf(process), Number(at), LENGTH);
       bytesAt(process, at, BigInt(LENGTH)).fill(0);
+      const fields = new DataView(bufferOf(process), Number(at), LENGTH);
       fields.setUint32(MASK, FILLED, true);
       fields.setUint16(MODE, mode, true);
       fields.setBigUint64(SIZE, size, true);
-      return 0;
     });
   return { statx };
 }
@@ -262,7 +276,7 @@ function startCalls(process) {
 function clockCalls(process) {
   /** @type {(clock: number, at: bigint) => number} */
   const clock_gettime = (clock, at) =>
-    answer(process, -1, () => {
+    perform(process, () => {
       if (clock !== CLOCK.REAL_TIME && clock !== CLOCK.MONOTONIC) {
         throw new HostError(ERRNO.EINVAL, "there is no such clock");
       }
@@ -272,7 +286,6 @@ function clockCalls(process) {
       const time = new DataView(bufferOf(process), Number(at), 16);
       time.setBigInt64(0, BigInt(seconds), true);
       time.setBigInt64(8, BigInt(nanoseconds), true);
-      return 0;
     });
   return { clock_gettime };
 }

@@ -1,4 +1,4 @@
-/** The worker's side of a process: runs what the page asks for, once, and tells what comes of it. */
+/** The worker's side of a process: runs what the page asks for, and tells what comes of it. */
 
 import { BrowserFiles } from "./browser_files.mjs";
 import { runProcess } from "./process.mjs";

@@ -1,11 +1,14 @@
-/** What the hosts use of Node. Debian has no package with all of Node's types. */
+/** What the hosts and their tests use of Node. Debian has no package with all of Node's types. */
 
 interface NodeBytes extends Uint8Array {
   subarray(begin?: number, end?: number): NodeBytes;
+  toString(encoding?: "base64"): string;
 }
 
 declare const Buffer: {
   from(bytes: Uint8Array): NodeBytes;
+  from(text: string, encoding?: "base64"): NodeBytes;
+  concat(parts: Uint8Array[]): NodeBytes;
 };
 
 interface ImportMeta {
@@ -29,7 +32,7 @@ declare module "node:fs" {
     unlinkSync(name: Uint8Array): void;
     statSync(name: Uint8Array, options: { bigint: true }): Status;
     fstatSync(file: number, options: { bigint: true }): Status;
-    readFileSync(name: string | URL): NodeBytes;
+    readFileSync(name: string | Uint8Array | URL): NodeBytes;
   };
   export default fs;
 }
@@ -39,14 +42,27 @@ declare module "node:process" {
     argv: string[];
     platform: string;
     versions: { node: string };
+    stdin: AsyncIterable<Uint8Array>;
+    chdir(folder: string): void;
     exit(status: number): never;
   };
   export default process;
 }
 
+declare module "node:readline" {
+  const readline: {
+    createInterface(from: { input: AsyncIterable<Uint8Array> }): AsyncIterable<string>;
+  };
+  export default readline;
+}
+
 declare module "node:tty" {
   const tty: { isatty(file: number): boolean };
   export default tty;
+}
+
+declare module "node:url" {
+  export function pathToFileURL(path: string): URL;
 }
 
 declare module "node:v8" {

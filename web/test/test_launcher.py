@@ -1,0 +1,219 @@
+"""The launcher by Node beside what docs/formats.md says, and beside the program of this machine."""
+import os
+import signal
+import subprocess
+import sys
+import tempfile
+import threading
+import time
+import unittest
+from pathlib import Path
+
+from web_setting import DATA, SETTING, TOP, NotThere, make_launcher, native
+
+PROBLEM = ["--geo", "nc2020geo.pl", "--segment", "nc000012020.pl"]
+BORDERS = ["--adjacency", "county_borders.txt"]
+MOST_BESIDE_NODE = 64 << 20
+
+
+class Launched(unittest.TestCase):
+    """Runs by the launcher, in a folder with the files of North Carolina 2020."""
+
+    room: Path
+    program: Path
+
+    @classmethod
+    def setUpClass(cls) -> None:
+        room = tempfile.TemporaryDirectory()
+        cls.addClassCleanup(room.cleanup)
+        cls.room = Path(room.name)
+        cls.program = make_launcher(cls.room)
+
+    def setUp(self) -> None:
+        self.folder = self.fresh_folder()
+
+    def fresh_folder(self) -> Path:
+        folder = Path(tempfile.mkdtemp(dir=self.room))
+        for name in ("nc2020geo.pl", "nc000012020.pl", "county_borders.txt"):
+            (folder / name).write_bytes((DATA / name).read_bytes())
+        return folder
+
+    def run_in(
+        self, folder: Path, program: Path, *words: str | bytes, **how: object
+    ) -> "subprocess.CompletedProcess[bytes]":
+        """Runs a program in a folder, and returns what it wrote and its status."""
+        streams: dict[str, object] = {"stdout": subprocess.PIPE, "stderr": subprocess.PIPE}
+        streams = {"stdin": subprocess.DEVNULL, **streams, **how}
+        called = [str(program), *words]
+        return subprocess.run(called, cwd=folder, env={}, check=False, **streams)  # type: ignore
+
+    def launch(self, *words: str | bytes, **how: object) -> "subprocess.CompletedProcess[bytes]":
+        """Runs the launcher in the folder of this test."""
+        return self.run_in(self.folder, self.program, *words, **how)
+
+
+class Natively(Launched):
+    """The same words by the launcher and by the program of this machine."""
+
+    def runs(self, chamber: str) -> list[list[str]]:
+        problem = [*PROBLEM, *BORDERS, "--chamber", chamber]
+        given = ["--certificate", "certificate"]
+        stored = ["--out", "grouping", "--table", "table", "--record"]
+        return [
+            ["solve", *problem, *given, *stored, "solve.record"],
+            ["check", *problem, *given, "--table", "check.table", "--record", "check.record"],
+            ["list", *problem, *given, "--record", "list.record"],
+            ["judge", *problem, "--grouping", "grouping", *given],
+            ["size", *PROBLEM, "--chamber", chamber],
+        ]
+
+    def test_both_chambers_have_the_same_bytes(self) -> None:
+        for chamber in ("120", "50"):
+            folders = [self.fresh_folder(), self.fresh_folder()]
+            programs = [self.program, native()]
+            for words in self.runs(chamber):
+                both = [self.run_in(*pair, *words) for pair in zip(folders, programs)]
+                one, other = [(done.returncode, done.stdout, done.stderr) for done in both]
+                self.assertEqual(one, other, words)
+                self.assertEqual(one[0], 0, words)
+            held = [{path.name: path.read_bytes() for path in it.iterdir()} for it in folders]
+            self.assertEqual(held[0], held[1])
+            self.assertEqual(len(held[0]), 10)
+
+
+class Words(Launched):
+    """Words that no case has, since a case is text."""
+
+    def test_a_word_that_is_no_utf8(self) -> None:
+        done = self.launch("size", b"--geo=\xff", "--chamber", "50")
+        self.assertEqual((done.returncode, done.stdout), (2, b""))
+        self.assertIn(b"a word isn't UTF-8", done.stderr)
+
+    def test_a_word_with_the_mark_for_no_utf8(self) -> None:
+        (self.folder / "nc2020geo.pl").rename(self.folder / "\ufffd.pl")
+        done = self.launch("size", "--geo", "\ufffd.pl", *PROBLEM[2:], "--chamber", "50")
+        self.assertEqual((done.returncode, done.stdout[:7]), (0, b"people "))
+
+    def test_a_name_in_other_letters(self) -> None:
+        name = "Gruppe \u00e4\u03b2\U0001f5fa 'x'\n.pl"
+        (self.folder / "nc2020geo.pl").rename(self.folder / name)
+        done = self.launch("size", "--geo", name, *PROBLEM[2:], "--chamber", "50")
+        self.assertEqual((done.returncode, done.stdout[:7]), (0, b"people "))
+
+    def test_a_name_that_is_too_long(self) -> None:
+        for length in (300, 5_000, 100_000):
+            done = self.launch("size", "--geo", "a" * length, *PROBLEM[2:], "--chamber", "50")
+            self.assertEqual(done.returncode, 5)
+            told = b"device %s Device\n" % (b"a" * length)
+            self.assertTrue(done.stdout == told, f"{len(done.stdout)}: {done.stdout[-40:]!r}")
+            self.assertTrue(b"the name is too long or not allowed" in done.stderr)
+
+    def test_options_of_node_are_no_words(self) -> None:
+        done = self.launch("--version")
+        self.assertEqual((done.returncode, done.stdout[:13]), (0, b"countygroups "))
+
+
+class Streams(Launched):
+    """Pipes, devices and signals."""
+
+    def size(self, geo: str, **how: object) -> "subprocess.CompletedProcess[bytes]":
+        return self.launch("size", "--geo", geo, *PROBLEM[2:], "--chamber", "50", **how)
+
+    def test_pipes_are_read_as_files(self) -> None:
+        wanted = self.size("nc2020geo.pl").stdout
+        self.assertEqual(wanted.count(b"\n"), 103)
+        held = (self.folder / "nc2020geo.pl").read_bytes()
+        self.assertEqual(self.size("/dev/stdin", stdin=None, input=held).stdout, wanted)
+        os.mkfifo(self.folder / "fifo")
+        writer = threading.Thread(target=(self.folder / "fifo").write_bytes, args=(held,))
+        writer.start()
+        self.assertEqual(self.size("fifo").stdout, wanted)
+        writer.join()
+
+    def test_a_closed_pipe(self) -> None:
+        back, to = os.pipe()
+        os.close(back)
+        done = self.size("nc2020geo.pl", stdout=to)
+        os.close(to)
+        self.assertEqual(done.returncode, 5)
+
+    def test_a_full_device(self) -> None:
+        if not os.path.exists("/dev/full"):
+            raise NotThere("this machine has no /dev/full")
+        with open("/dev/full", "wb") as full:
+            self.assertEqual(self.size("nc2020geo.pl", stdout=full).returncode, 5)
+
+    def test_standard_input_that_is_closed(self) -> None:
+        called = f'exec "{self.program}" <&-'
+        done = subprocess.run(["/bin/sh", "-c", called], capture_output=True, check=False)
+        self.assertIn(done.returncode, (2, 5))
+
+    def test_signals_end_it(self) -> None:
+        for number in (signal.SIGTERM, signal.SIGINT, signal.SIGKILL, signal.SIGHUP):
+            os.mkfifo(self.folder / f"fifo{number}")
+            words = ["size", "--geo", f"fifo{number}", *PROBLEM[2:], "--chamber", "50"]
+            environment: dict[str, str] = {}
+            called = [str(self.program), *words]
+            process = subprocess.Popen(called, cwd=self.folder, env=environment)
+            with open(self.folder / f"fifo{number}", "wb"):
+                time.sleep(0.1)
+                process.send_signal(number)
+                self.assertEqual(process.wait(timeout=20), -number)
+
+
+class Alone(Launched):
+    """What the launcher says where the program can't run."""
+
+    def test_without_the_module(self) -> None:
+        module = self.room / "dist" / "countygroups.wasm"
+        held = module.read_bytes()
+        try:
+            module.unlink()
+            self.check_refused()
+            module.write_bytes(held[:-100])
+            self.check_refused()
+        finally:
+            module.write_bytes(held)
+
+    def check_refused(self) -> None:
+        done = self.launch("--version")
+        self.assertEqual((done.returncode, done.stdout), (126, b""))
+        self.assertRegex(done.stderr, b"\\Acountygroups: countygroups.wasm beside .*\n\\Z")
+
+    def test_the_launcher_for_windows(self) -> None:
+        text = (self.room / "dist" / "countygroups.cmd").read_bytes()
+        self.assertIn(b'node "%~dp0countygroups.mjs" %*\r\n', text)
+
+
+class Memory(Launched):
+    """The peak of memory over files of full size, which are read as they come."""
+
+    def peak(self, *words: str) -> int:
+        """Returns the greatest memory in use of a run in bytes, and checks its status."""
+        script = (
+            "import resource, subprocess, sys\n"
+            "done = subprocess.run(sys.argv[1:], stdout=subprocess.DEVNULL)\n"
+            "used = resource.getrusage(resource.RUSAGE_CHILDREN).ru_maxrss\n"
+            "print(done.returncode, used)\n"
+        )
+        called = [sys.executable, "-c", script, str(self.program), *words]
+        done = subprocess.run(called, capture_output=True, text=True, check=True)
+        status, kilobytes = done.stdout.split()
+        self.assertEqual(status, "0")
+        return int(kilobytes) << 10
+
+    def test_a_full_state_is_read_as_it_comes(self) -> None:
+        if not SETTING.is_all:
+            raise NotThere("the files of a full state are made with --all alone")
+        made = [sys.executable, str(TOP / "bench" / "full_state.py"), str(self.folder)]
+        subprocess.run(made, check=True)
+        files = [str(self.folder / name) for name in ("geo.pl", "segment1.pl")]
+        held = sum(os.path.getsize(file) for file in files)
+        self.assertGreater(held, 360_000_000)
+        alone = self.peak("--version")
+        used = self.peak("size", "--geo", files[0], "--segment", files[1], "--chamber", "50")
+        megabytes = (used - alone) >> 20
+        print(f"full state of {held} bytes: {megabytes} MB beside Node's own", flush=True)
+        self.assertLess(used - alone, MOST_BESIDE_NODE)
+
+
