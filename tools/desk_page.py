@@ -25,8 +25,8 @@ TYPE_COMMENT = re.compile(r"/\*\* @(?:type|param) [^*]*\*/ ?")
 PROVED = ("<li><b>Proved:</b> for exactly the files that the program read, these groupings are "
           "lawful, none is better, and there are no others as good.</li>")
 UNPROVED = ("<li><b>This copy was built without proof.</b> A proved build proves, for exactly the "
-            "files that it reads, that its groupings are lawful, that none is better, and that there "
-            "are no others as good.</li>")
+            "files that it reads, that its groupings are lawful, that none is better, and that "
+            "there are no others as good.</li>")
 
 
 def carried_file(name: str, content: bytes) -> dict[str, Any]:
@@ -81,9 +81,14 @@ def without_comments(script: str) -> str:
 
 def script_text() -> str:
     """Returns the page's script: all modules without their comments, and the worker's in them."""
-    worker = json.dumps(without_comments(bundle.script(bundle.WORKER))).replace("</", "<\\/")
-    source = f"export const workerSource = {worker};\n"
-    return without_comments(bundle.script(DESK / "main.mjs", {bundle.WORKER_SOURCE: source}))
+    worker = without_comments(bundle.script(bundle.HOST / "worker.mjs"))
+    source = (bundle.HOST / "worker_source.mjs").resolve()
+    held = json.dumps(worker).replace("</", "<\\/")
+    texts = {source: f"export const workerSource = {held};\n"}
+    script = without_comments(bundle.script(DESK / "main.mjs", texts))
+    if "</script" in script.lower():
+        raise bundle.BundleError("the page's script has the text `</script`, which would end it")
+    return script
 
 
 def page_html(data: dict[str, Any], carried: dict[str, Any], parts: dict[str, str]) -> str:

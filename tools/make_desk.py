@@ -27,17 +27,18 @@ PROBLEM = ["--geo", f"{DATA}/nc2020geo.pl", "--segment", f"{DATA}/nc000012020.pl
            "--adjacency", f"{DATA}/county_borders.txt"]
 CHAMBERS = [("senate", "Senate", 50), ("house", "House", 120)]
 ENACTED_YEAR = 2023
-BORDERS_NOTE = ("Its list was made from the outlines of the counties, with the pairs that meet over "
-                "the sounds and rivers of the coast added. It isn’t the Census Bureau’s own file.")
-SOURCES = ("Counts: 2020 census, P.L. 94-171, table P1. Borders: <code>county_borders.txt</code> of "
-           "this project, the counties that share a line in the outlines, with the pairs over the "
-           "sounds and rivers of the coast added; it isn’t the Census Bureau’s adjacency file. "
+BORDERS_NOTE = ("Its list was made from the outlines of the counties, with the pairs that meet "
+                "over the sounds and rivers of the coast added. It isn’t the Census Bureau’s own "
+                "file.")
+SOURCES = ("Counts: 2020 census, P.L. 94-171, table P1. Borders: <code>county_borders.txt</code> "
+           "of this project, the counties that share a line in the outlines, with the pairs over "
+           "the sounds and rivers of the coast added; it isn’t the Census Bureau’s adjacency file. "
            "Outlines: Census Bureau, generalized, for pictures only. The rule: <i>Stephenson v. "
            "Bartlett</i>, 355 N.C. 354 (2002) and 357 N.C. 301 (2003). What the program says is "
-           "proved, by a proved build, for exactly the files it read; the counts, the borders and a "
-           "court’s reading are not.")
-DESCRIPTION = ("Every best way to group North Carolina’s counties for the Senate and the House, with "
-               "a proof that the page itself can check.")
+           "proved, by a proved build, for exactly the files it read; the counts, the borders and "
+           "a court’s reading are not.")
+DESCRIPTION = ("Every best way to group North Carolina’s counties for the Senate and the House, "
+               "with a proof that the page itself can check.")
 
 
 class Refused(Exception):

@@ -1,5 +1,5 @@
 #!/usr/bin/env python3
-"""Tells which disputed borders matter: solves and lists a chamber with each border added or cut alone.
+"""Tells which disputed borders matter: solves and lists a chamber with each added or cut alone.
 
 usage: python3 tools/what_if.py --program FILE --geo FILE --segment FILE --adjacency FILE
            --chamber SEATS --borders FILE [--links FILE] [--withdrawn FILE] [--state CODE]

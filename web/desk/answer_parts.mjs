@@ -1,5 +1,5 @@
-// The parts of the answer as HTML. The build stores them in the page; the page's script draws the same
-// ones again when a choice is made.
+// The parts of the answer as HTML. The build stores them in the page; the page's script draws the
+// same ones again when a choice is made.
 
 import { choicesOf, groupsOf, movedCounties, optionsWith, seatsOfArea } from "./answers.mjs";
 import { chamberWords } from "./desk.mjs";
@@ -78,7 +78,8 @@ export function optionNoteHtml(desk, answer, option) {
   }
   const [mine, theirs] = [choicesOf(answer, option), choicesOf(answer, answer.enacted)];
   const names = answer.areas.filter((_, area) => mine[area] !== theirs[area]);
-  return `Differs from the ${year} plan in the ${escapeHtml(andList(names.map((one) => one.name)))}. `
+  return `Differs from the ${year} plan in the `
+    + `${escapeHtml(andList(names.map((one) => one.name)))}. `
     + `<button type="button" class="btn quiet" id="back">Back to the ${year} groups</button>`;
 }
 
@@ -89,7 +90,10 @@ export function optionNoteHtml(desk, answer, option) {
  */
 export function shownAreas(answer, choices) {
   return answer.areas.map((area, at) => (
-    { name: area.name, counties: area.counties, choice: choices[at], choices: area.choices.length }));
+    {
+      name: area.name, counties: area.counties, choice: choices[at],
+      choices: area.choices.length,
+    }));
 }
 
 /**
@@ -344,10 +348,12 @@ export function groupTableHtml(geography, answer, groups, sortKey, isUp) {
   };
   order.sort((one, other) => {
     const [first, second] = [values[sortKey](groups[one]), values[sortKey](groups[other])];
-    const bySign = first < second ? -1 : first > second ? 1 : west(groups[one]) - west(groups[other]);
+    const byPlace = west(groups[one]) - west(groups[other]);
+    const bySign = first < second ? -1 : first > second ? 1 : byPlace;
     return isUp ? bySign : -bySign;
   });
-  const head = (/** @type {SortKey} */ key, /** @type {string} */ words, /** @type {string} */ kind) => (
+  const head = (/** @type {SortKey} */ key, /** @type {string} */ words,
+    /** @type {string} */ kind) => (
     `<th scope="col"${kind ? ` class="${kind}"` : ""}`
     + `${key === sortKey ? ` aria-sort="${isUp ? "ascending" : "descending"}"` : ""}>`
     + `<button type="button" data-sort="${key}">${words}</button></th>`);
@@ -417,8 +423,9 @@ export function ladderSvg(counts) {
  */
 export function whyWords(answer) {
   const [one = 0, two = 0] = answer.counts;
-  return `No lawful grouping has more than ${countedInWords(one, "group")} of one county. None that `
-    + `has ${numberWord(one)} has more than ${numberWord(two)} of two counties. And so on down the `
+  return `No lawful grouping has more than ${countedInWords(one, "group")} of one county. None `
+    + `that has ${numberWord(one)} has more than ${numberWord(two)} of two counties. And so on `
+    + `down the `
     + "list:";
 }
 

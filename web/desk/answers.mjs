@@ -18,8 +18,8 @@ import { areaName } from "./area_names.mjs";
 /** @typedef {{label: string, seats: number, counties: number[]}} TakenSet */
 /**
  * The answer for a chamber. `areas` name groups by id; `options` has a choice for each area, in the
- * order of `list --number`, or null if they are too many; `enacted` is the number of the option that
- * the enacted plan uses, or 0.
+ * order of `list --number`, or null if they are too many; `enacted` is the number of the option
+ * that the enacted plan uses, or 0.
  * @typedef {{key: string, name: string, seats: number, seatsLeft: number, counts: number[],
  *   allowance: [number, number], number: number, groups: KnownGroup[], shared: number[],
  *   areas: Area[], options: number[][] | null, isEvery: boolean, first: number[],
@@ -134,7 +134,8 @@ function takenSets(geography, table) {
 }
 
 /**
- * Returns the choices of each best grouping in the order of their numbers, or null if there are too many.
+ * Returns the choices of each best grouping in the order of their numbers, or null if there are
+ * too many.
  * @param {Answer} answer
  * @param {number[][] | null} combinations
  */
@@ -167,8 +168,8 @@ function compareGroupings(answer, some, others) {
 }
 
 /**
- * Returns the groups of a choice for each area, in order, each with its seats: each group has the least
- * number that its people suit, and the rest goes to the first groups that have room.
+ * Returns the groups of a choice for each area, in order, each with its seats: each group has the
+ * least number that its people suit, and the rest goes to the first groups that have room.
  * @param {Answer} answer
  * @param {number[]} choices
  * @returns {Group[]}
@@ -225,8 +226,8 @@ export function optionOfSets(geography, answer, sets) {
 }
 
 /**
- * Returns the choices with another choice in one area. If not every combination is a best grouping, the
- * other areas change as little as can be.
+ * Returns the choices with another choice in one area. If not every combination is a best
+ * grouping, the other areas change as little as can be.
  * @param {Answer} answer
  * @param {number[]} choices
  * @param {number} area
@@ -264,12 +265,14 @@ export function seatsOfArea(answer, area, choice = 0) {
 }
 
 /**
- * Returns a grouping as `list --out` stores it: a line for each group, its seats and then its codes.
+ * Returns a grouping as `list --out` stores it: a line for each group, its seats and then its
+ * codes.
  * @param {Geography} geography
  * @param {{seats: number, counties: number[]}[]} groups
  */
 export function groupingText(geography, groups) {
-  const lines = groups.map(({ seats, counties }) => ({ seats, codes: codesOf(geography, counties) }));
+  const lines = groups.map(({ seats, counties }) => (
+    { seats, codes: codesOf(geography, counties) }));
   lines.sort(inOrder);
   return lines.map(({ seats, codes }) => `${[seats, ...codes].join("|")}\n`).join("");
 }

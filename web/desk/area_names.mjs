@@ -1,4 +1,5 @@
-// The names of areas of choice: a small table for North Carolina, else "Around" and the largest county.
+// The names of areas of choice: a small table for North Carolina, else "Around" and the largest
+// county.
 
 import { byPeople } from "./geography.mjs";
 

@@ -122,8 +122,8 @@ function freeBadge(room, at, isNamed) {
 }
 
 /**
- * Returns a badge with the name of the group's largest county above it, or of one near the middle of a
- * large group; null if no name fits.
+ * Returns a badge with the name of the group's largest county above it, or of one near the middle
+ * of a large group; null if no name fits.
  * @param {Room} room
  * @param {number} at
  * @param {number[]} middle
@@ -185,8 +185,8 @@ function middleCells({ raster }, scale, county) {
 }
 
 /**
- * Returns the middle of the best place for a rectangle, or null: far from the edges of the group and
- * near its middle, free of what is placed already.
+ * Returns the middle of the best place for a rectangle, or null: far from the edges of the group
+ * and near its middle, free of what is placed already.
  * @param {Room} room
  * @param {number} at
  * @param {number[]} cells

@@ -1,4 +1,5 @@
-// Reads a block assignment file as other tools export it, and says what is wrong with one in a sentence.
+// Reads a block assignment file as other tools export it, and says what is wrong with one in a
+// sentence.
 
 import { BLOCK_COLUMNS, DISTRICT_COLUMNS } from "./file_kinds.mjs";
 import { columnOf, decodedText, rowsOf, separatorOf } from "./tables.mjs";
@@ -13,7 +14,8 @@ import { counted, nounFor, numberText } from "./words.mjs";
 const LONGEST_LABEL = 32;
 
 /**
- * Returns the table of a file, with the columns of blocks and districts found by header or by content.
+ * Returns the table of a file, with the columns of blocks and districts found by header or by
+ * content.
  * @param {Blob} file
  * @returns {Promise<PlanTable>}
  */
@@ -60,7 +62,9 @@ function districtColumn(header, block) {
  * @returns {Plan}
  */
 export function planOf({ rows, block, district, header }, state) {
-  if (district < 0) throw new Error("The file has one column: it needs blocks and their districts.");
+  if (district < 0) {
+    throw new Error("The file has one column: it needs blocks and their districts.");
+  }
   let padded = 0;
   /** @type {Map<string, number>} */
   const districts = new Map();
@@ -76,7 +80,8 @@ export function planOf({ rows, block, district, header }, state) {
     districts.set(label, (districts.get(label) ?? 0) + 1);
     return `${code}|${label}\n`;
   });
-  const note = padded ? `${numberText(padded)} codes had lost the zero at their beginning, and have it `
+  const note = padded ? `${numberText(padded)} codes had lost the zero at their beginning, and `
+    + `have it `
     + "again." : "";
   return { lines: lines.join(""), blocks: rows.length, districts, note };
 }
@@ -88,7 +93,8 @@ export function planOf({ rows, block, district, header }, state) {
  */
 function checkLabel(label, at) {
   if (label.length <= LONGEST_LABEL && /^[\x20-\x7b\x7d\x7e]*$/.test(label)) return;
-  throw new Error(`Line ${at + 2}: a district is called “${label.slice(0, 40)}”. A name has at most 32 `
+  throw new Error(`Line ${at + 2}: a district is called “${label.slice(0, 40)}”. A name has at `
+    + `most 32 `
     + "plain letters, digits and signs.");
 }
 
@@ -104,13 +110,14 @@ function codeProblem(rows, block, header, at, code) {
   const where = `The column “${header[block]}”, line ${at + 2}, has “${code.slice(0, 40)}”. `;
   const wanted = "The code of a block has 15 digits, such as 371830501001000.";
   if (/^\d(\.\d+)?E\+\d+$/i.test(code)) {
-    return `${where}Excel wrote the codes as numbers, and their last digits are lost. Export the file `
+    return `${where}Excel wrote the codes as numbers, and their last digits are lost. Export the `
+      + `file `
       + "again, and don’t save it by Excel, or make the column text before.";
   }
   if (/^\d{14}$/.test(code)) {
     const lost = rows.filter((row) => /^\d{14}$/.test(row[block] ?? "")).length;
-    return `${where}${counted(lost, "code")} ${nounFor(lost, "has", "have")} 14 digits: a zero at the `
-      + `beginning is lost, or a digit. ${wanted}`;
+    return `${where}${counted(lost, "code")} ${nounFor(lost, "has", "have")} 14 digits: a zero at `
+      + `the beginning is lost, or a digit. ${wanted}`;
   }
   if (/^\d{12}$/.test(code)) return `${where}These are block groups, not blocks. ${wanted}`;
   if (/^\d{11}$/.test(code)) return `${where}These are tracts or precincts, not blocks. ${wanted}`;

@@ -1,6 +1,6 @@
 // Places the names of counties on a map: inside, else in two lines, else condensed, else beside the
-// land with a line. Where a name stands depends on the scale alone, so that it doesn't move when the
-// choice changes.
+// land with a line. Where a name stands depends on the scale alone, so that it doesn't move when
+// the choice changes.
 
 import { textWidth } from "./letters.mjs";
 import { cellAt, cellPoint, STEP } from "./sheet.mjs";
@@ -285,8 +285,8 @@ function leaderTo(from, { x, y, w, h }) {
 }
 
 /**
- * Returns what a name beside the land costs: the way, other counties on it, and other names; infinite
- * if the place isn't free.
+ * Returns what a name beside the land costs: the way, other counties on it, and other names;
+ * infinite if the place isn't free.
  * @param {Sheet} sheet
  * @param {number} scale
  * @param {number} county

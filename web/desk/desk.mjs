@@ -15,8 +15,8 @@ import { sheetOf } from "./sheet.mjs";
  *   recordText?: string, enacted: string, tried: string}} ChamberTexts
  */
 /**
- * The page's data. `borders` has a line of two codes for each pair of neighbors; `build` says what is
- * known of how the program of the page was made.
+ * The page's data. `borders` has a line of two codes for each pair of neighbors; `build` says what
+ * is known of how the program of the page was made.
  * @typedef {{state: {code: string, name: string}, chambers: ChamberTexts[], outlines: any,
  *   borders: string, enactedYear: number, build: {isProved: boolean, text: string}}} DeskData
  */
@@ -56,7 +56,8 @@ export function answerFor(desk, key) {
 }
 
 /**
- * Returns the number of the option that the page opens on: the enacted one, or the one of its table.
+ * Returns the number of the option that the page opens on: the enacted one, or the one of its
+ * table.
  * @param {Answer} answer
  */
 export function firstOption(answer) {

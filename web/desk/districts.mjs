@@ -1,4 +1,5 @@
-// The people of each district, by the Census files that the reader gave: read line by line as they come.
+// The people of each district, by the Census files that the reader gave: read line by line as they
+// come.
 
 /** @typedef {{label: string, people: number, counties: Set<string>}} District */
 

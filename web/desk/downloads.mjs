@@ -87,7 +87,9 @@ function standAlone(svg) {
   for (const use of svg.querySelectorAll("use")) {
     const path = document.createElementNS(SVG, "path");
     const shape = document.querySelector(use.getAttribute("href") ?? "");
-    for (const { name, value } of use.attributes) if (name !== "href") path.setAttribute(name, value);
+    for (const { name, value } of use.attributes) {
+      if (name !== "href") path.setAttribute(name, value);
+    }
     path.setAttribute("d", shape?.getAttribute("d") ?? "");
     use.replaceWith(path);
   }
@@ -196,7 +198,9 @@ async function download(desk, state, kind) {
   const { answer, option, groups } = current(desk, state);
   const texts = desk.data.chambers.find((one) => one.key === answer.key);
   const name = `${answer.key}-option-${option}`;
-  if (kind === "csv") saveFile(`${name}.csv`, tableText(desk, texts?.table ?? "", groups), "text/csv");
+  if (kind === "csv") {
+    saveFile(`${name}.csv`, tableText(desk, texts?.table ?? "", groups), "text/csv");
+  }
   if (kind === "grouping") {
     saveFile(`${name}.grouping`, groupingText(desk.geography, groups), "text/plain");
   }

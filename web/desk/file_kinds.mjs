@@ -90,8 +90,9 @@ function byText(text) {
   if (lines[0].includes("|")) return byBars(lines);
   const tabs = lines[0].split("\t");
   if (tabs.length >= 4 && /^"?\d{5}"?$/.test(tabs[1])) {
-    return refused("This is the Census Bureau’s file of borders as it was until 2022, with tabs. Take "
-      + "the one of 2023 or later, whose fields stand between bars: county_adjacency2023.txt.");
+    return refused("This is the Census Bureau’s file of borders as it was until 2022, with tabs. "
+      + "Take the one of 2023 or later, whose fields stand between bars: "
+      + "county_adjacency2023.txt.");
   }
   return byTable(text, lines);
 }
@@ -105,8 +106,8 @@ function byJson(text) {
     return refused("This is JSON, but no GeoJSON with a list of features.");
   }
   if (!/"GEOID(20)?"/.test(text)) {
-    return refused("The GeoJSON has no GEOID for its features: outlines of counties are wanted, each "
-      + "with its five-digit code.");
+    return refused("The GeoJSON has no GEOID for its features: outlines of counties are wanted, "
+      + "each with its five-digit code.");
   }
   return known("outlines");
 }
@@ -129,10 +130,12 @@ function byBars(lines) {
     return known("adjacency");
   }
   if (/^0[2-9]$/.test(first[3])) {
-    return refused(`This is segment ${Number(first[3])} of the counts. The people are in segment 1, `
+    return refused(`This is segment ${Number(first[3])} of the counts. The people are in segment `
+      + `1, `
       + "whose name has 00001.");
   }
-  if (first.length >= 6 && /^\d+$/.test(first[4]) && /^\d+$/.test(first[5])) return known("segment");
+  const isSegment = first.length >= 6 && /^\d+$/.test(first[4]) && /^\d+$/.test(first[5]);
+  if (isSegment) return known("segment");
   return byTable(lines.join("\n"), lines);
 }
 

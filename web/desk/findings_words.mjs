@@ -59,7 +59,8 @@ export function findingKinds(against, findings) {
     + `${countedInWords(Number(seats), "seat")}.`));
   const sizes = of("DistrictSize").slice(0, 2).map(({ words }) => {
     const people = Number(words[words.length - 1]);
-    const needed = people < least ? `it needs ${numberText(least)}` : `${numberText(most)} are allowed`;
+    const needed = people < least
+      ? `it needs ${numberText(least)}` : `${numberText(most)} are allowed`;
     return `District ${words.slice(0, -2).join(" ")} has ${numberText(people)} people; ${needed}.`;
   });
   const kind = (/** @type {number} */ count, /** @type {string} */ one, /** @type {string} */ many,

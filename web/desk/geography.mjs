@@ -8,7 +8,8 @@
  *   id: number}} Group
  */
 /**
- * The counties of a state. `borders` are the pairs that count as neighbors, the smaller place first.
+ * The counties of a state. `borders` are the pairs that count as neighbors, the smaller place
+ * first.
  * @typedef {{code: string, name: string, counties: County[], total: number,
  *   placeOf: Map<string, number>, borders: [number, number][],
  *   sheet: import('./sheet.mjs').Sheet | null}} Geography

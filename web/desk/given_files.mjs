@@ -17,8 +17,8 @@ export const KIND_WORDS = new Map([
 const SKIPPED = /\.(pdf|docx?|txt\.md|html?|xml|prj|shx|cpg|sbn|sbx)$|^__MACOSX|\/\./i;
 
 /**
- * Returns the files that a dropped file gives, and what is wrong with it: itself, or those of an archive
- * that are recognized.
+ * Returns the files that a dropped file gives, and what is wrong with it: itself, or those of an
+ * archive that are recognized.
  * @param {File} file
  * @returns {Promise<{placed: Placed[], problem: string}>}
  */

@@ -42,7 +42,8 @@ export function groupSentence(geography, group, chamber) {
   const people = numberText(peopleOf(geography, group.counties));
   const off = deviationWords(deviationOf(geography, group, chamber));
   const seats = `${group.seats} ${nounFor(group.seats, "seat")}`;
-  const rest = group.counties.length > 3 ? ` ${namesOf(geography, group.counties).join(", ")}.` : "";
+  const names = namesOf(geography, group.counties).join(", ");
+  const rest = group.counties.length > 3 ? ` ${names}.` : "";
   return `${groupName(geography, group)}: ${seats}, ${people} people, ${off}.${rest}`;
 }
 
@@ -70,7 +71,8 @@ export function allowanceWords([part, whole]) {
 }
 
 /**
- * Returns for each county that leads a group which counties go with it by choice A, and by choice B.
+ * Returns for each county that leads a group which counties go with it by choice A, and by choice
+ * B.
  * @param {Geography} geography
  * @param {Group[]} some
  * @param {Group[]} others

@@ -1,5 +1,5 @@
-// Reads a grouping that a reader pasted or dropped: the program's text, lines with names, or any table
-// with a column of counties and one of groups.
+// Reads a grouping that a reader pasted or dropped: the program's text, lines with names, or any
+// table with a column of counties and one of groups.
 
 import { peopleOf, shortName } from "./geography.mjs";
 import { COUNTY_COLUMNS, GROUP_COLUMNS } from "./file_kinds.mjs";
@@ -36,7 +36,9 @@ function countyOf(geography, text) {
  */
 export function readGivenGrouping(geography, text, chamber) {
   const lines = text.split(/\r?\n/).map((line) => line.trim()).filter(Boolean);
-  if (!lines.length) throw new Error("There is no grouping yet: paste one, or drop a file on the box.");
+  if (!lines.length) {
+    throw new Error("There is no grouping yet: paste one, or drop a file on the box.");
+  }
   const separator = separatorOf(text);
   const rows = rowsOf(text, separator);
   const county = columnOf(rows[0], COUNTY_COLUMNS);
@@ -58,7 +60,8 @@ export function readGivenGrouping(geography, text, chamber) {
 function groupOfLine(geography, line, at) {
   const parts = line.match(/^(\d{1,3})[\s|:,;]+(.*)$/);
   if (!parts) {
-    throw new Error(`Line ${at + 1} says “${line.slice(0, 60)}”. A line begins with the seats of its `
+    throw new Error(`Line ${at + 1} says “${line.slice(0, 60)}”. A line begins with the seats of `
+      + `its `
       + "group, then its counties.");
   }
   const words = parts[2].split(/[,|;]/).map((word) => word.trim()).filter(Boolean);
@@ -82,8 +85,8 @@ function countiesOf(geography, names) {
 }
 
 /**
- * Returns the grouping of a table. Without a column of seats each group has those that its people come
- * nearest to.
+ * Returns the grouping of a table. Without a column of seats each group has those that its people
+ * come nearest to.
  * @param {Geography} geography
  * @param {string[][]} rows
  * @param {number} county
@@ -109,7 +112,7 @@ function fromTable(geography, rows, county, group, chamber) {
     const likely = peopleOf(geography, counties) ? likelySeats(geography, counties, chamber) : 1;
     return { seats: seats || likely, counties };
   });
-  const note = seatColumn >= 0 ? "" : "The table has no column of seats: each group was given those that "
-    + "its people come nearest to.";
+  const note = seatColumn >= 0 ? "" : "The table has no column of seats: each group was given "
+    + "those that its people come nearest to.";
   return { groups: found, note: capital(note) };
 }

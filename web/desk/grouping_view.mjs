@@ -168,8 +168,9 @@ function showLesser(desk, answer, given, counts) {
   const [best, mine] = [answer.counts[size - 1] ?? 0, counts[size - 1] ?? 0];
   const noun = nounFor(mine, "group");
   find("#judge-result").innerHTML = verdictHtml(false, "Lawful, but not best.",
-    `It has ${numberWord(mine)} ${noun} of ${numberWord(size)} ${nounFor(size, "county", "counties")}; `
-    + `a best grouping has ${numberWord(best)}. Outlined: groups that no best grouping has.`);
+    `It has ${numberWord(mine)} ${noun} of ${numberWord(size)} `
+    + `${nounFor(size, "county", "counties")}; a best grouping has ${numberWord(best)}. `
+    + "Outlined: groups that no best grouping has.");
   const known = new Set(answer.groups.map((group) => setKey(group.counties)));
   const groups = mapGroups(desk, answer, given);
   const fresh = groups.filter((group) => !known.has(setKey(group.counties)));
@@ -193,7 +194,8 @@ async function judge(desk, state) {
     const lines = given.groups.map(({ seats, counties }) => (
       `${[seats, ...counties.map((one) => desk.geography.counties[one].geoid)].join("|")}\n`));
     const certificate = await storedFile(`${answer.key}.certificate`);
-    const files = withFile(withFile(problem, "grouping", lines.join("")), "certificate", certificate);
+    const grouped = withFile(problem, "grouping", lines.join(""));
+    const files = withFile(grouped, "certificate", certificate);
     const words = [...problemWords(desk, answer), "--grouping", "grouping"];
     const run = await runProgram(["judge", ...words, "--certificate", "certificate"], files);
     showVerdict(desk, answer, given, run);
@@ -236,7 +238,8 @@ export async function takeGrouping(file) {
 }
 
 /**
- * Returns the grouping of the box as the program reads it, or null if there is none that can be read.
+ * Returns the grouping of the box as the program reads it, or null if there is none that can be
+ * read.
  * @param {Desk} desk
  * @param {number} chamber
  */

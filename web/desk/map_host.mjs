@@ -1,5 +1,5 @@
-// Draws a map into the page, in one sheet or cut into west and east on a phone, and follows pointer,
-// finger and keyboard on it.
+// Draws a map into the page, in one sheet or cut into west and east on a phone, and follows
+// pointer, finger and keyboard on it.
 
 import { leadersOf } from "./answer_parts.mjs";
 import { find, findAll } from "./dom.mjs";
@@ -11,9 +11,9 @@ import { mapSvg } from "./map_svg.mjs";
 /** @typedef {import("./map_svg.mjs").Drawing} Drawing */
 /** @typedef {import("./sheet.mjs").Sheet} Sheet */
 /**
- * A map in the page. `tell` is called when a group is pointed at, or null when none is; `isLoud` says
- * whether a screen reader should hear it. `turn` is called when a switch is used, `pick` when a county
- * is clicked. Without `tell`, a line behind the host tells of the group.
+ * A map in the page. `tell` is called when a group is pointed at, or null when none is; `isLoud`
+ * says whether a screen reader should hear it. `turn` is called when a switch is used, `pick` when
+ * a county is clicked. Without `tell`, a line behind the host tells of the group.
  * @typedef {{geography: Geography, drawing: Omit<Drawing, "width" | "labels">, chamber: number,
  *   isPrinted?: boolean, hasKeep?: boolean,
  *   tell?: (group: number | null, isLoud: boolean) => void,
@@ -62,7 +62,8 @@ export function showMap(host, shown) {
 function svgTexts({ geography, drawing, hasKeep }, sheet, width) {
   const isCut = width < PHONE && sheet.width > sheet.height * 1.6;
   if (!isCut) {
-    const labels = width >= ALL_NAMES ? /** @type {const} */ ("county") : /** @type {const} */ ("group");
+    /** @type {"county" | "group"} */
+    const labels = width >= ALL_NAMES ? "county" : "group";
     const { width: wide, height: high } = sheet;
     const keep = width >= 1240 && hasKeep
       ? { x: wide * 0.18, y: high * 0.85, w: wide * 0.36, h: high * 0.34 } : null;

@@ -17,11 +17,11 @@ import { escapeHtml, LETTERS, nounFor } from "./words.mjs";
 /** @typedef {import('./county_names.mjs').Place} Place */
 /** @typedef {import('./area_switches.mjs').ShownArea} ShownArea */
 /**
- * What a map shows. `labels` are names of counties, of groups, or seats alone. `leaders` are counties
- * that leave room for the seats of their group in some option. `areas` are hatched and outlined;
- * `hasSwitches` places their switches outside the `keep` rectangle. `only` greys all other counties.
- * `moved` counties have the strong tint, `flash` ones flash, `taken` ones are dotted, and groups with
- * `isNew` have the tint of a change.
+ * What a map shows. `labels` are names of counties, of groups, or seats alone. `leaders` are
+ * counties that leave room for the seats of their group in some option. `areas` are hatched and
+ * outlined; `hasSwitches` places their switches outside the `keep` rectangle. `only` greys all
+ * other counties. `moved` counties have the strong tint, `flash` ones flash, `taken` ones are
+ * dotted, and groups with `isNew` have the tint of a change.
  * @typedef {{groups: Group[], width: number, labels: 'county' | 'group' | 'badge', box?: Box,
  *   leaders?: Set<number>, areas?: ShownArea[], hasSwitches?: boolean, keep?: Place | null,
  *   only?: number[], isMini?: boolean, moved?: Set<number>, flash?: Set<number> | null,
@@ -176,8 +176,8 @@ function borderLines(canvas) {
     if (drawing.isMini && !own.some((county) => isNear(canvas, county))) return;
     for (const kind of lineKinds(canvas, own)) lines[kind].push(line);
   });
-  const drawnLines = (/** @type {string} */ kind, /** @type {number} */ width,
-    /** @type {number[]} */ some) => {
+  /** @type {(kind: string, width: number, some: number[]) => string} */
+  const drawnLines = (kind, width, some) => {
     const uses = some.map((line) => `<use href="#${sheet.id}l${line}"/>`).join("");
     return uses ? `<g class="line ${kind}" style="stroke-width:${px(width)}">${uses}</g>` : "";
   };
@@ -267,7 +267,8 @@ function countyNameText({ scale, px }, name) {
 }
 
 /**
- * Returns the seats of groups, with names of groups and of further counties where counties have none.
+ * Returns the seats of groups, with names of groups and of further counties where counties have
+ * none.
  * @param {Canvas} canvas
  * @param {Name[]} names
  * @param {Place[]} placed

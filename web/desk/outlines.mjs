@@ -103,7 +103,8 @@ function cutSides(outlines) {
 }
 
 /**
- * Returns the sides at each point with the counties that have the side, and the counties at each point.
+ * Returns the sides at each point with the counties that have the side, and the counties at each
+ * point.
  * @param {Outlines} outlines
  */
 function sidesOf(outlines) {
@@ -111,7 +112,8 @@ function sidesOf(outlines) {
   const sides = new Map();
   /** @type {Map<string, Set<number>>} */
   const corners = new Map();
-  const note = (/** @type {string} */ from, /** @type {string} */ to, /** @type {number} */ place) => {
+  /** @type {(from: string, to: string, place: number) => void} */
+  const note = (from, to, place) => {
     let around = sides.get(from);
     if (!around) sides.set(from, (around = new Map()));
     around.set(to, (around.get(to) ?? new Set()).add(place));
@@ -168,7 +170,8 @@ function runsOf(ring, ends) {
 }
 
 /**
- * Returns outlines cut into lines, each kept once. Points lie on a grid, so that equal points are equal.
+ * Returns outlines cut into lines, each kept once. Points lie on a grid, so that equal points are
+ * equal.
  * @param {Outlines} outlines  rings in units of the sheet
  * @param {number} count  how many counties there are
  * @returns {Cuts}

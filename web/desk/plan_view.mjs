@@ -87,7 +87,8 @@ export function paintPlan(desk, state, given) {
   const missing = /** @type {const} */ (["geo", "segment", "adjacency"]).filter(
     (kind) => !given.has(kind));
   if (!table || !missing.length) return;
-  find("#audit-result").innerHTML = '<p class="note">Drop the state’s whole Census files above, too: '
+  find("#audit-result").innerHTML = '<p class="note">Drop the state’s whole Census files above, '
+    + 'too: '
     + "the geographic header and the counts with their blocks, and the file of borders.</p>";
 }
 
@@ -152,8 +153,8 @@ async function audited(given, choice, steps) {
   const [geo, segment, adjacency] = /** @type {const} */ (["geo", "segment", "adjacency"]).map(
     (kind) => given.get(kind));
   if (!geo || !segment || !adjacency) {
-    throw new Error("Drop the state’s Census files above first: the geographic header and the counts "
-      + "with their blocks, and the file of borders.");
+    throw new Error("Drop the state’s Census files above first: the geographic header and the "
+      + "counts with their blocks, and the file of borders.");
   }
   let step = steps.begin("Reading the plan");
   const chosen = {
@@ -240,7 +241,8 @@ function findingsHtml(choice, findings, districts) {
     : `The plan keeps to the groups of ${escapeHtml(choice.words)}.`;
   return verdictHtml(!findings.length, head, more) + `<div class="kinds">${kinds.join("")}</div>`
     + districtTable(choice, findings, districts, groups)
-    + '<p class="note">The findings are the program’s. The people of each district are counted by this '
+    + '<p class="note">The findings are the program’s. The people of each district are counted by '
+    + 'this '
     + "page, which no proof speaks of.</p>";
 }
 
@@ -271,8 +273,9 @@ function districtTable(choice, findings, districts, groups) {
       + `<td class="fault">${escapeHtml(fault.join(", "))}</td></tr>`;
   });
   return `<details class="fold" open><summary>All ${districts.length} districts</summary><div `
-    + 'class="scrolls"><table class="groups"><thead><tr><th class="number">District</th><th>Group</th>'
-    + '<th class="number">People</th><th class="number">From the ideal (percent)</th><th></th>'
+    + 'class="scrolls"><table class="groups"><thead><tr><th '
+    + 'class="number">District</th><th>Group</th><th class="number">People</th><th '
+    + 'class="number">From the ideal (percent)</th><th></th>'
     + `<th>Finding</th></tr></thead><tbody>${rows.join("")}</tbody></table></div></details>`;
 }
 

@@ -30,8 +30,8 @@ function furtherChamber(desk, answer) {
   const option = firstOption(answer);
   const parts = answerParts(desk, answer, option);
   const note = inert(parts.note);
-  return `<h2>${parts.title}</h2><p>${parts.deck}</p><p>${parts.option} ${note}</p>${inert(parts.map)}`
-    + `<h2>${parts.tableHead}</h2>${inert(parts.table)}`;
+  return `<h2>${parts.title}</h2><p>${parts.deck}</p><p>${parts.option} `
+    + `${note}</p>${inert(parts.map)}<h2>${parts.tableHead}</h2>${inert(parts.table)}`;
 }
 
 /** Prints the parts of the page, or the borders that are in dispute. */

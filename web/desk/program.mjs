@@ -5,13 +5,17 @@ import { unpackModule } from "../host/packed_module.mjs";
 import { find } from "./dom.mjs";
 
 /**
- * A file of the page: its name, its bytes packed by gzip in base64, how many they are, and their sum.
+ * A file of the page: its name, its bytes packed by gzip in base64, how many they are, and their
+ * sum.
  * @typedef {{name: string, packed: string, bytes: number, sum: string}} CarriedFile
  */
 /** @typedef {{[key: string]: CarriedFile}} Carried */
 /** @typedef {import("../host/messages.mjs").Ended} Ended */
 /** @typedef {Map<string, Blob>} Files */
-/** @typedef {{status: number, output: string, errors: string, stored: Map<string, Uint8Array>}} Run */
+/**
+ * What a run left, its streams as texts.
+ * @typedef {{status: number, output: string, errors: string, stored: Map<string, Uint8Array>}} Run
+ */
 
 /** @type {Carried | null} */
 let carried = null;

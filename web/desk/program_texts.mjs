@@ -1,9 +1,11 @@
-// Reads the texts that `countygroups` writes (docs/formats.md): list, report, table, record, findings.
+// Reads the texts that `countygroups` writes (docs/formats.md): list, report, table, record,
+// findings.
 
 import { rowsOf } from "./tables.mjs";
 
 /**
- * A group of a list: its codes, and the least and the greatest number of seats that its people suit.
+ * A group of a list: its codes, and the least and the greatest number of seats that its people
+ * suit.
  * @typedef {{codes: string[], least: number, most: number, people: number}} ListedGroup
  */
 /**

@@ -124,7 +124,8 @@ async function checked(desk, answer, steps, isSpoiled) {
     const { bytes, line, text } = spoiled(certificate);
     certificate = bytes;
     const shown = text.length > 40 ? `${text.slice(0, 40)} …` : text;
-    steps.begin("").end(false, `Spoiled line ${line}: it now says <code>${escapeHtml(shown)}</code>`);
+    const says = `<code>${escapeHtml(shown)}</code>`;
+    steps.begin("").end(false, `Spoiled line ${line}: it now says ${says}`);
   }
   files.delete(certificateKey);
   const blobs = new Map([...files].map(([name, bytes]) => [name, new Blob([bytes])]));
@@ -170,7 +171,8 @@ async function runChecks(desk, answer, steps, files, certificate, isSpoiled) {
     const told = escapeHtml(run.output.trim() || `status ${run.status}`);
     const intact = isSpoiled
       ? " So it does read the lines. The certificate that the page carries is untouched." : "";
-    return verdictHtml(false, "The checker says no.", `Its answer was <code>${told}</code>.${intact}`);
+    const answered = `Its answer was <code>${told}</code>.${intact}`;
+    return verdictHtml(false, "The checker says no.", answered);
   }
   step.end(true, `Checked ${numberText(lines)} lines, one by one`);
   step = steps.begin("Listing every best grouping, and comparing with the map");
@@ -260,12 +262,13 @@ function byWhat(desk) {
   const { isProved } = desk.data.build;
   const proved = isProved
     ? "It is proved itself: it says “best” only of a grouping that is best."
-    : "<b>This copy was built without proof.</b> A proved build says “best” only of a grouping that "
-      + "is best.";
+    : "<b>This copy was built without proof.</b> A proved build says “best” only of a grouping "
+      + "that is best.";
   const sum = carriedFiles().program?.sum;
   const copy = sum
     ? `The copy in this page has the sum <code>${sum}</code>. `
-      + "Compare it with the line of <code>countygroups.wasm</code> in <code>dist/SHA256SUMS</code>. "
+      + "Compare it with the line of <code>countygroups.wasm</code> in "
+      + "<code>dist/SHA256SUMS</code>. "
     : "";
   return [
     "By <code>countygroups check</code>, which trusts nothing of the program that found the "
@@ -351,8 +354,9 @@ function runHtml(desk, answer) {
   const files = [...record.read, ...record.stored].map((file) => (
     `<tr><td>${escapeHtml(file.option)}</td><td><code>${escapeHtml(file.name)}</code></td>`
     + `<td class="number">${numberText(file.bytes)}</td><td><code>${file.sum}</code></td></tr>`));
-  return `<pre>${escapeHtml(words)}</pre><p>Its answer is <code>${escapeHtml(record.answer)}</code>. `
-    + `This build said so: <code>countygroups ${escapeHtml(record.version)}</code>.</p>`
+  return `<pre>${escapeHtml(words)}</pre><p>Its answer is `
+    + `<code>${escapeHtml(record.answer)}</code>. This build said so: <code>countygroups `
+    + `${escapeHtml(record.version)}</code>.</p>`
     + '<table><thead><tr><th>File</th><th>Name</th><th class="number">Bytes</th><th>SHA-256</th>'
     + `</tr></thead><tbody>${files.join("")}</tbody></table>`
     + '<p class="note">Compare the files that you have with these by <code>sha256sum FILE</code>. '
@@ -370,8 +374,9 @@ async function paintCertificate(answer) {
   const bytes = await storedFile(key).catch(() => null);
   const lines = bytes ? new TextDecoder().decode(bytes).split("\n") : [];
   const targets = lines.filter((line) => /^group \d+ \d/.test(line)).length;
-  find("#certificate-note").textContent = `${numberText(lines.length - 1)} lines. After the order of `
-    + `the counties come the ${targets} groups that are to be proved best. Then the tree: each branch `
+  find("#certificate-note").textContent = `${numberText(lines.length - 1)} lines. After the order `
+    + `of the counties come the ${targets} groups that are to be proved best. Then the tree: each `
+    + `branch `
     + "takes one county and goes through every group it could be in; each leaf says why nothing "
     + "better can come of it.";
   const shown = lines.slice(0, SHOWN_LINES).map((line, at) => {

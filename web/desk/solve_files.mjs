@@ -158,12 +158,14 @@ async function solvedFiles(desk, given, steps) {
   const files = /** @type {Map<string, Blob>} */ (new Map(given));
   const bytes = [...given.values()].reduce((sum, file) => sum + file.size, 0);
   let step = steps.begin(`Reading ${bytesText(bytes)}`);
-  const sized = await runStep(["size", ...PROBLEM_FILES.slice(0, 4), ...chamber], files, step, "Reading");
+  const counts = ["size", ...PROBLEM_FILES.slice(0, 4), ...chamber];
+  const sized = await runStep(counts, files, step, "Reading");
   const geography = await geographyOfFiles(desk, given, state, sized.output);
   step.end(true, `Read ${counted(geography.counties.length, "county", "counties")} with `
     + `${numberText(geography.total)} people`);
   step = steps.begin("Solving");
-  const run = await runStep(["solve", ...words, "--certificate", "certificate"], files, step, "Solving");
+  const solving = ["solve", ...words, "--certificate", "certificate"];
+  const run = await runStep(solving, files, step, "Solving");
   step.end(true, "Solved");
   const certificate = run.stored.get("certificate") ?? new Uint8Array(0);
   const all = withFile(files, "certificate", certificate);
@@ -208,7 +210,8 @@ function showSolved(desk, { geography, answer }, given) {
     });
   }
   const note = geography.sheet ? "" : given.has("outlines")
-    ? '<p class="note">The outlines don’t have every county of this state, so here is the table.</p>'
+    ? '<p class="note">The outlines don’t have every county of this state, so here is the '
+      + "table.</p>"
     : '<p class="note">No outlines of this state were dropped, so here is the table.</p>';
   find("#files-table").innerHTML = note + groupTableHtml(geography, answer, groups, "west", true)
     .replace(/<\/?button[^>]*>/g, "");

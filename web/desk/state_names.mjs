@@ -5,8 +5,8 @@ const TEXT = "01 Alabama,02 Alaska,04 Arizona,05 Arkansas,06 California,08 Color
   + "21 Kentucky,22 Louisiana,23 Maine,24 Maryland,25 Massachusetts,26 Michigan,27 Minnesota,"
   + "28 Mississippi,29 Missouri,30 Montana,31 Nebraska,32 Nevada,33 New Hampshire,34 New Jersey,"
   + "35 New Mexico,36 New York,37 North Carolina,38 North Dakota,39 Ohio,40 Oklahoma,41 Oregon,"
-  + "42 Pennsylvania,44 Rhode Island,45 South Carolina,46 South Dakota,47 Tennessee,48 Texas,49 Utah,"
-  + "50 Vermont,51 Virginia,53 Washington,54 West Virginia,55 Wisconsin,56 Wyoming";
+  + "42 Pennsylvania,44 Rhode Island,45 South Carolina,46 South Dakota,47 Tennessee,48 Texas,49 "
+  + "Utah,50 Vermont,51 Virginia,53 Washington,54 West Virginia,55 Wisconsin,56 Wyoming";
 
 /** The states by their two digits. */
 export const STATES = new Map(TEXT.split(",").map((one) => (

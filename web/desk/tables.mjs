@@ -1,4 +1,5 @@
-// Reads tables that spreadsheets and other tools write: commas, semicolons, tabs or bars, with quotes.
+// Reads tables that spreadsheets and other tools write: commas, semicolons, tabs or bars, with
+// quotes.
 
 /** @typedef {{header: string[], rows: string[][], separator: string}} Table */
 
@@ -32,7 +33,8 @@ export function separatorOf(text) {
 }
 
 /**
- * Returns the rows of a separated text. A field may stand between quotes; there, a quote is doubled.
+ * Returns the rows of a separated text. A field may stand between quotes; there, a quote is
+ * doubled.
  * @param {string} text
  * @param {string} separator
  * @returns {string[][]}

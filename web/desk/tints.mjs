@@ -70,7 +70,8 @@ function mayMeet(answer) {
 }
 
 /**
- * Returns the groups of other options that share counties with a group, most people in common first.
+ * Returns the groups of other options that share counties with a group, most people in common
+ * first.
  * @param {Geography} geography
  * @param {Answer} answer
  * @param {KnownGroup} group
@@ -153,8 +154,8 @@ function greedy(apart, wishes) {
 }
 
 /**
- * Gives each of `groups` the tint of the group of an answer with which it shares most people, unless a
- * group beside it has that tint.
+ * Gives each of `groups` the tint of the group of an answer with which it shares most people,
+ * unless a group beside it has that tint.
  * @param {Geography} geography
  * @param {{counties: number[]}[]} known
  * @param {import('./geography.mjs').Group[]} groups

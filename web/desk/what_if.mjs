@@ -1,5 +1,5 @@
-// A what-if: counties taken out, borders counted or not, another allowance. What the program is asked,
-// what the address says of it, and how its answer differs from the base answer.
+// A what-if: counties taken out, borders counted or not, another allowance. What the program is
+// asked, what the address says of it, and how its answer differs from the base answer.
 
 import { answerOf, groupsOf } from "./answers.mjs";
 import { codesOf, peopleOf, placesOf, setKey } from "./geography.mjs";
@@ -133,8 +133,8 @@ export async function startWhatIf(desk, base, whatIf, files, onProgress) {
 }
 
 /**
- * Returns the groups that a what-if's map shows. If some best grouping has a group that no base answer
- * has, it is one of those; of these it is the one most like `shown`.
+ * Returns the groups that a what-if's map shows. If some best grouping has a group that no base
+ * answer has, it is one of those; of these it is the one most like `shown`.
  * @param {Geography} geography
  * @param {Answer} base
  * @param {Outcome} outcome
@@ -181,7 +181,8 @@ export function differingSize(some, others) {
  * @param {WhatIf} whatIf
  */
 export function addressOf(geography, { sets, added, cut, percent }) {
-  const pairs = (/** @type {Set<string>} */ some) => [...some].map((pair) => pair.replace(" ", "-"));
+  const pairs = (/** @type {Set<string>} */ some) => (
+    [...some].map((pair) => pair.replace(" ", "-")));
   const filled = sets.filter((set) => set.counties.length);
   const out = filled.map((set) => `${codesOf(geography, set.counties).join("-")}:${set.seats}`);
   return [

@@ -31,9 +31,9 @@ const NOTHING = { verdict: "", table: "", groups: null, newCounties: [], isNew: 
  */
 export function outcomeParts(desk, base, shown, outcome) {
   if (outcome.status === 1) {
-    return { ...NOTHING, verdict: verdictHtml(false, "No grouping is lawful.", "With these changes, "
-      + "no way of grouping the counties meets the rule. The program stored a certificate of that, "
-      + "too.") };
+    return { ...NOTHING, verdict: verdictHtml(false, "No grouping is lawful.", "With these "
+      + "changes, no way of grouping the counties meets the rule. The program stored a certificate "
+      + "of that, too.") };
   }
   if (outcome.status !== 0) return { ...NOTHING, verdict: refusalHtml(outcome) };
   const { geography } = desk;
@@ -88,7 +88,8 @@ function answerVerdict(base, { answer, report }, groups, fresh) {
   const isSame = answer?.number === base.number && !fresh.length && !isGone && !isMore;
   const size = differingSize(base.counts, report.counts);
   const left = answer ? capital(numberWord(answer.number)) : "Some";
-  const ofBase = `${left} of the ${base.number} best groupings ${answer?.number === 1 ? "is" : "are"} `
+  const ofBase = `${left} of the ${base.number} best groupings `
+    + `${answer?.number === 1 ? "is" : "are"} `
     + "left.";
   const wider = `${left} best groupings instead of ${numberWord(base.number)}.`;
   const head = isSame ? "Nothing changes."
@@ -144,7 +145,8 @@ function newGroupsTable({ geography }, base, fresh) {
     `<tr><td class="number"><b>${group.seats}</b></td>`
     + `<td>${escapeHtml(namesOf(geography, group.counties).join(", "))}</td>`
     + `<td class="number">${signedPercent(deviationOf(geography, group, base.seats))}</td></tr>`));
-  return '<div><h2>New groups</h2><p class="note">Those of all best groupings.</p><table><thead><tr><th class="number">Seats</th><th>Counties</th>'
+  return '<div><h2>New groups</h2><p class="note">Those of all best '
+    + 'groupings.</p><table><thead><tr><th class="number">Seats</th><th>Counties</th>'
     + `<th class="number">Per seat</th></tr></thead><tbody>${rows.join("")}</tbody></table>`
     + "</div></div>";
 }

@@ -1,4 +1,5 @@
-// The third view: counties taken out, borders in dispute, another allowance; solved again in the page.
+// The third view: counties taken out, borders in dispute, another allowance; solved again in the
+// page.
 
 import { current } from "./answer_view.mjs";
 import { leadersOf } from "./answer_parts.mjs";
@@ -22,8 +23,8 @@ import { escapeHtml, numberText } from "./words.mjs";
 /** @typedef {import("./border_trials.mjs").Trials} Trials */
 /** @typedef {import("./disputed.mjs").Disputed} Disputed */
 /**
- * The view's own state: the what-if, the set that clicks on the map go to, the outcome shown, what is
- * known of disputed borders, and what stops the work that goes on.
+ * The view's own state: the what-if, the set that clicks on the map go to, the outcome shown, what
+ * is known of disputed borders, and what stops the work that goes on.
  * @typedef {{whatIf: WhatIf, set: number, outcome: Outcome | null, trials: Map<string, Trials>,
  *   stop: (() => void) | null, stopTrials: (() => void) | null}} Work
  */
@@ -118,7 +119,8 @@ function paintBorders(desk, state, names) {
   const disputed = tieKinds(desk.geography);
   const trials = trialsFor(desk, state);
   const isTried = trials.size > 0;
-  find("#borders-note").textContent = "Whether counties that meet at a point or over water count as "
+  find("#borders-note").textContent = "Whether counties that meet at a point or over water count "
+    + "as "
     + `neighbors is a question for a court.${isTried ? " Each of these pairs was tried alone; only "
       + "those with a mark change the list." : ""}`;
   const openBefore = findAll("#disputed details[open]").map((one) => one.dataset.kind);
@@ -228,7 +230,8 @@ function paintBase(desk, state) {
   const { answer, option, groups } = current(desk, state);
   work.outcome = null;
   const shown = answer.options ? `option ${option} of ` : "";
-  find("#whatif-result").innerHTML = `<p class="note">The map shows ${shown}${chamberWords(answer)}. `
+  find("#whatif-result").innerHTML = `<p class="note">The map shows `
+    + `${shown}${chamberWords(answer)}. `
     + "Click a county to take it out, change a border, then solve.</p>";
   find("#whatif-table").innerHTML = "";
   showMap(find("#whatif-map"), {

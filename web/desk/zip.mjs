@@ -64,10 +64,14 @@ export async function unzippedFile(archive, entry) {
   const packed = archive.slice(from, from + entry.packed);
   const name = entry.name.replace(/^.*\//, "");
   if (entry.method === STORED) return new File([packed], name);
-  if (entry.method !== DEFLATED) throw new Error(`${name} is packed in a way that isn’t read here.`);
+  if (entry.method !== DEFLATED) {
+    throw new Error(`${name} is packed in a way that isn’t read here.`);
+  }
   const stream = packed.stream().pipeThrough(new DecompressionStream("deflate-raw"));
   const bytes = await new Response(stream).blob();
-  if (bytes.size !== entry.size) throw new Error(`${name} can’t be unpacked: the archive is damaged.`);
+  if (bytes.size !== entry.size) {
+    throw new Error(`${name} can’t be unpacked: the archive is damaged.`);
+  }
   return new File([bytes], name);
 }
 
