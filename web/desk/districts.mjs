@@ -59,13 +59,13 @@ export async function districtsOf(geo, segment, lines) {
   });
   /** @type {Map<string, District>} */
   const districts = new Map();
-  for (const line of lines.split("\n")) {
+  // (a block that is named twice counts once in each of its districts)
+  for (const line of new Set(lines.split("\n"))) {
     const [block, label] = line.split("|");
-    if (!label || label === "ZZZ") continue;
+    if (!label || label === "ZZZ" || !ofBlock.has(block)) continue;
     const district = districts.get(label) ?? { label, people: 0, counties: new Set() };
     district.people += ofBlock.get(block) ?? 0;
-    if (ofBlock.has(block)) district.counties.add(block.slice(0, 5));
-    ofBlock.delete(block);
+    district.counties.add(block.slice(0, 5));
     districts.set(label, district);
   }
   const natural = new Intl.Collator("en-US", { numeric: true });

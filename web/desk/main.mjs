@@ -40,6 +40,9 @@ function route(desk, state) {
   }
   const { number } = answerFor(desk, state.chamber);
   if (option >= 1 && option <= number) state.option.set(state.chamber, option);
+  if (desk.answers.some((answer) => answer.key === head)) {
+    history.replaceState(null, "", `#${head}/${shownOption(state, head)}`);
+  }
   showView(desk, state, query ?? "");
 }
 

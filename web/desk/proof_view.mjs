@@ -1,6 +1,6 @@
 // The second view: checks the certificate that the page carries, in front of the reader.
 
-import { setKey, placesOf } from "./geography.mjs";
+import { peopleOf, placesOf, setKey } from "./geography.mjs";
 import { answerFor, chamberWords } from "./desk.mjs";
 import { chamberButtons, find, findInput, stepList, verdictHtml } from "./dom.mjs";
 import {
@@ -45,18 +45,26 @@ export function problemWords(desk, answer) {
 }
 
 /**
- * Returns the carried files of a chamber's problem, each with its sum compared.
+ * Returns the carried files of a chamber's problem, each with its sum compared: with the page's own
+ * list, and with the record of the run that the page was made of.
+ * @param {Desk} desk
  * @param {string} key  that of the chamber
  */
-async function comparedFiles(key) {
+async function comparedFiles(desk, key) {
   const names = ["geo", "segment", "adjacency", "links", "withdrawn", `${key}.certificate`];
+  const record = desk.records.get(key);
+  const recorded = new Map([...(record?.read ?? []), ...(record?.stored ?? [])].map((file) => (
+    [file.option, file.sum])));
   /** @type {Map<string, Uint8Array>} */
   const files = new Map();
   for (const name of names.filter((one) => one in carriedFiles())) {
     const { name: told, sum } = carriedFiles()[name];
     const bytes = await storedFile(name).catch(() => null);
     if (!bytes) throw new Refusal(`${told} can’t be unpacked: its bytes were changed.`);
-    if (await sumOf(bytes) !== sum) {
+    const option = name === "segment" ? "segment1" : name.replace(/^.*\./, "");
+    const known = [sum, recorded.get(option) ?? sum];
+    const own = await sumOf(bytes);
+    if (known.some((one) => one !== own)) {
       throw new Refusal(`${told} isn’t the file that the page was made with: its sum is another.`);
     }
     files.set(name, bytes);
@@ -113,7 +121,7 @@ async function checked(desk, answer, steps, isSpoiled) {
   await readyProgram(step);
   step = steps.begin("Comparing the sums of the files");
   await pause();
-  const files = await comparedFiles(answer.key).catch((fault) => {
+  const files = await comparedFiles(desk, answer.key).catch((fault) => {
     step.end(false);
     throw fault;
   });
@@ -192,22 +200,27 @@ async function runChecks(desk, answer, steps, files, certificate, isSpoiled) {
 }
 
 /**
- * Returns whether the page has exactly the groups and options of a list.
+ * Returns whether the page has exactly the groups and options of a list, with the same people.
  * @param {Desk} desk
  * @param {Answer} answer
  * @param {string} text
  */
 function showsTheSame(desk, answer, text) {
+  const { geography } = desk;
   const listing = readList(text);
-  const key = (/** @type {string[]} */ codes) => setKey(placesOf(desk.geography, codes));
+  const words = (/** @type {number} */ least, /** @type {number} */ most,
+    /** @type {number} */ people, /** @type {number[]} */ counties) => (
+    `${least} ${most} ${people} ${setKey(counties)}`);
   const setsOf = (/** @type {import("./program_texts.mjs").ListedGroup[]} */ groups) => (
-    groups.map((group) => `${group.least} ${group.most} ${key(group.codes)}`).sort().join("|"));
+    groups.map(({ least, most, people, codes }) => (
+      words(least, most, people, placesOf(geography, codes)))).sort().join("|"));
   const known = (/** @type {number[]} */ ids) => ids.map((id) => answer.groups[id]).map((group) => (
-    `${group.least} ${group.most} ${setKey(group.counties)}`)).sort().join("|");
+    words(group.least, group.most, peopleOf(geography, group.counties), group.counties)))
+    .sort().join("|");
   const theirs = listing.regions.map((region) => region.map(setsOf).sort().join("||")).sort();
   const mine = answer.areas.map((area) => area.choices.map(known).sort().join("||")).sort();
-  return listing.number === answer.number && setsOf(listing.shared) === known(answer.shared)
-    && theirs.join("|||") === mine.join("|||");
+  return listing.number === answer.number && listing.people === geography.total
+    && setsOf(listing.shared) === known(answer.shared) && theirs.join("|||") === mine.join("|||");
 }
 
 /**
