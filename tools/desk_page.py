@@ -3,7 +3,6 @@ that the page carries."""
 import base64
 import gzip
 import hashlib
-import html
 import json
 import re
 from pathlib import Path
@@ -24,6 +23,8 @@ INDENT = re.compile(r"^[ ]+", re.M)
 TYPE_COMMENT = re.compile(r"/\*\* @(?:type|param) [^*]*\*/ ?")
 PROVED = ("<li><b>Proved:</b> for exactly the files that the program read, these groupings are "
           "lawful, none is better, and there are no others as good.</li>")
+UNKNOWN = ("<li><b>If the program’s build was proved:</b> for exactly the files that it read, "
+           "these groupings are lawful, none is better, and there are no others as good.</li>")
 UNPROVED = ("<li><b>This copy was built without proof.</b> A proved build proves, for exactly the "
             "files that it reads, that its groupings are lawful, that none is better, and that "
             "there are no others as good.</li>")
@@ -99,8 +100,7 @@ def page_html(data: dict[str, Any], carried: dict[str, Any], parts: dict[str, st
         "policy": POLICY.format(sum=total),
         "style": (DESK / "page.css").read_text(encoding="utf-8"),
         "style-without-scripts": WITHOUT_SCRIPTS,
-        "state-name": html.escape(data["state"]["name"]),
-        "proved": PROVED if data["build"]["isProved"] else UNPROVED,
+        "proved": {True: PROVED, False: UNPROVED, None: UNKNOWN}[data["build"]["isProved"]],
         "data": as_script_text(data),
         "carried": as_script_text(carried),
         "script": script,

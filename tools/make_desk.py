@@ -2,13 +2,14 @@
 """Makes docs/desk.html: North Carolina's answer, its proof, and the program, in one page.
 
 usage: python3 tools/make_desk.py --program FILE [--wasm FILE] [--build-file FILE] [--jobs JOBS]
-           [--out FILE]
+           [--out FILE] [--maps FOLDER]
 
 --program is a native build: it makes the certificates, lists, tables and records of both chambers,
 and tries each border in dispute. --wasm is the same program for browsers (dist/countygroups.wasm).
 --build-file says which tree the build was proved of (dist/BUILD). Without one the page says that
-its copy was built without proof. The same inputs give the same bytes. Node draws what stands in the
-page without scripts. If something is missing, one sentence says what, and the status is 1.
+its copy was built without proof. --maps stores senate_map.svg and house_map.svg, too. The same
+inputs give the same bytes. Node draws what stands in the page without scripts. If something is
+missing, one sentence says what, and the status is 1.
 """
 import argparse
 import json
@@ -77,7 +78,7 @@ def page_data(chambers: list[dict[str, str]], build: str | None) -> dict[str, An
     outlines = json.loads((folder / "county_outlines.geojson").read_text(encoding="utf-8"))
     adjacency = (folder / "county_borders.txt").read_text(encoding="utf-8")
     return {
-        "state": {"code": "37", "name": "North Carolina"},
+        "state": {"code": "37"},
         "chambers": chambers,
         "enactedYear": ENACTED_YEAR,
         "outlines": desk_page.slim_outlines(outlines, geoids),
@@ -120,8 +121,13 @@ def made_page(given: argparse.Namespace, room: Path) -> str:
     (room / "disputed.links").write_text(run([*drawing, "disputed"], room), encoding="utf-8")
     for chamber, (_, _, seats) in zip(chambers, CHAMBERS):
         chamber["tried"] = tried_borders(program, room, seats, given.jobs)
+    (room / "data.json").write_text(json.dumps(data), encoding="utf-8")
+    for key, _, _ in CHAMBERS if given.maps else []:
+        drawn = run([*drawing, "map", key], room)
+        (Path(given.maps) / f"{key}_map.svg").write_text(drawn, encoding="utf-8")
     parts = json.loads(run(drawing, room))
-    parts |= {"sources": SOURCES, "borders-note": BORDERS_NOTE, "description": DESCRIPTION}
+    parts |= {"state-name": "North Carolina", "sources": SOURCES, "borders-note": BORDERS_NOTE,
+              "description": DESCRIPTION}
     return desk_page.page_html(data, carried_files(room, Path(given.wasm)), parts)
 
 
@@ -132,6 +138,7 @@ def main(words: list[str]) -> int:
     parser.add_argument("--program", required=True)
     parser.add_argument("--wasm", default=str(TOP / "dist" / "countygroups.wasm"))
     parser.add_argument("--build-file")
+    parser.add_argument("--maps")
     parser.add_argument("--jobs", type=int, default=2)
     parser.add_argument("--out", default=str(TOP / "docs" / "desk.html"))
     given = parser.parse_args(words)

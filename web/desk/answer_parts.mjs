@@ -29,7 +29,7 @@ const CARD_ASPECT = 1.22;
  * @param {Answer} answer
  */
 export function headline(desk, answer) {
-  const place = `${desk.data.state.name}’s ${answer.name}`;
+  const place = `${desk.geography.name}’s ${answer.name}`;
   if (answer.number === 1) return `${place}: the one best way to group the counties`;
   return `${place}: ${numberText(answer.number)}\u00a0best ways to group the counties`;
 }
@@ -450,7 +450,7 @@ export function takenHtml(geography, answer) {
  */
 export function windowTitle(desk, answer, option) {
   const of = answer.options ? `option ${option} of ${answer.number}` : `${answer.number}`;
-  return `${desk.data.state.name} ${answer.name}: ${of} best county groupings`;
+  return `${desk.geography.name} ${answer.name}: ${of} best county groupings`;
 }
 
 /**

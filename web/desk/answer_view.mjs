@@ -28,7 +28,8 @@ const sorting = { key: "west", isUp: true };
 export function current(desk, state) {
   const answer = answerFor(desk, state.chamber);
   const option = shownOption(state, answer.key);
-  const choices = choicesOf(answer, option);
+  const free = state.free.get(answer.key) ?? answer.first;
+  const choices = answer.options ? choicesOf(answer, option) : free;
   return { answer, option, choices, groups: groupsOf(answer, choices) };
 }
 
@@ -132,7 +133,14 @@ function paintTable(desk, state) {
 function turnArea(desk, state, area, choice) {
   const { answer, choices } = current(desk, state);
   if (choices[area] === choice) return;
-  showOption(desk, state, optionNumber(answer, turned(answer, choices, area, choice)));
+  const wanted = turned(answer, choices, area, choice);
+  if (answer.options) {
+    showOption(desk, state, optionNumber(answer, wanted));
+    return;
+  }
+  const before = current(desk, state);
+  state.free.set(answer.key, wanted);
+  showChange(desk, state, before);
 }
 
 /**
@@ -145,9 +153,18 @@ export function showOption(desk, state, option) {
   const before = current(desk, state);
   if (option < 1 || option === before.option) return;
   state.option.set(before.answer.key, option);
-  const after = current(desk, state);
-  const moved = movedCounties(desk.geography, before.groups, after.groups);
-  history.replaceState(null, "", `#${after.answer.key}/${option}`);
+  history.replaceState(null, "", `#${before.answer.key}/${option}`);
+  showChange(desk, state, before);
+}
+
+/**
+ * Draws the view after a change of choices, flashes the counties that moved, and says so.
+ * @param {Desk} desk
+ * @param {ViewState} state
+ * @param {ReturnType<typeof current>} before
+ */
+function showChange(desk, state, before) {
+  const moved = movedCounties(desk.geography, before.groups, current(desk, state).groups);
   const focused = /** @type {HTMLInputElement | null} */ (document.activeElement);
   const name = focused?.name;
   paintAnswer(desk, state, moved);
@@ -182,7 +199,8 @@ function tellChange(desk, state, before, moved) {
   const lines = sentences.slice(0, 5).map((one) => `<p>${escapeHtml(one)}</p>`).join("");
   const more = sentences.length > 5 ? '<p class="note">More below.</p>' : "";
   place.innerHTML = `<h3>${escapeHtml(turnedAreas.join(", "))}</h3>${lines}${more}`;
-  speak(`Option ${option} of ${answer.number}. ${turnedAreas.join(", ")}. ${sentences.join(" ")}`);
+  const numbered = answer.options ? `Option ${option} of ${answer.number}. ` : "";
+  speak(`${numbered}${turnedAreas.join(", ")}. ${sentences.join(" ")}`);
 }
 
 /**

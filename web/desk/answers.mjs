@@ -4,6 +4,7 @@ import { codesOf, peopleOf, placesOf, setKey } from "./geography.mjs";
 import { readGrouping, readList, readTable } from "./program_texts.mjs";
 import { tintsFor } from "./tints.mjs";
 import { areaName } from "./area_names.mjs";
+import { chamberName } from "./state_names.mjs";
 
 /** @typedef {import('./geography.mjs').Geography} Geography */
 /** @typedef {import('./geography.mjs').Group} Group */
@@ -23,7 +24,7 @@ import { areaName } from "./area_names.mjs";
  * @typedef {{key: string, name: string, seats: number, seatsLeft: number, counts: number[],
  *   allowance: [number, number], number: number, groups: KnownGroup[], shared: number[],
  *   areas: Area[], options: number[][] | null, isEvery: boolean, first: number[],
- *   enacted: number, taken: TakenSet[]}} Answer
+ *   enacted: number, ofTable: number, taken: TakenSet[]}} Answer
  */
 
 // If there are more best groupings than this, the page doesn't number them.
@@ -56,15 +57,19 @@ export function answerOf(geography, texts) {
   });
   /** @type {Answer} */
   const answer = {
-    key: texts.key, name: texts.name, seats: listing.chamber, seatsLeft: listing.seatsLeft,
+    key: texts.key, name: texts.name || chamberName(geography.code, listing.chamber),
+    seats: listing.chamber, seatsLeft: listing.seatsLeft,
     counts: listing.counts, allowance: listing.window, number: listing.number, groups,
     shared: idsOf(listing.shared), areas, options: [], isEvery: !listing.combinations,
-    first: areas.map(() => 0), enacted: 0, taken: takenSets(geography, texts.table ?? ""),
+    first: areas.map(() => 0), enacted: 0, ofTable: 0,
+    taken: takenSets(geography, texts.table ?? ""),
   };
   answer.options = optionsOf(answer, listing.combinations);
   answer.first = answer.options?.[0] ?? answer.first;
   const enacted = readGrouping(texts.enacted ?? "").map((group) => group.codes);
   if (enacted.length) answer.enacted = optionOfSets(geography, answer, enacted);
+  const sets = setsOfTable(texts.table ?? "");
+  if (sets.length) answer.ofTable = optionOfSets(geography, answer, sets);
   arrangeAreas(geography, answer);
   tintsFor(geography, answer);
   return answer;
@@ -115,6 +120,19 @@ function knownGroups(geography, listing) {
     { id, codes, counties: placesOf(geography, codes), least, most, tint: 0 }));
   const idOf = (/** @type {string[]} */ codes) => ids.get(codes.join(" ")) ?? 0;
   return { groups, idOf };
+}
+
+/**
+ * Returns the codes of each group of a table.
+ * @param {string} table
+ */
+function setsOfTable(table) {
+  /** @type {Map<string, string[]>} */
+  const sets = new Map();
+  for (const { geoid, group } of readTable(table)) {
+    if (/^\d/.test(group)) sets.set(group, [...(sets.get(group) ?? []), geoid]);
+  }
+  return [...sets.values()];
 }
 
 /**

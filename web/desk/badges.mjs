@@ -24,6 +24,8 @@ import { cellPoint, clearanceOf } from "./sheet.mjs";
 
 const HIGH = 17;
 const NAME_SIZE = 10.5;
+// Of a large group, only so many places are tried.
+const MOST_TRIED = 1500;
 
 /**
  * Returns the seats of each group that has a county in the box, from west to east.
@@ -198,18 +200,20 @@ function bestPlace(room, at, cells, middle, [w, h], least) {
   const { sheet, scale, box: [left, top, wide, tall], placed, ownerAt, clearance } = room;
   let best = null;
   let most = -Infinity;
-  for (const cell of cells) {
+  const stride = Math.ceil(cells.length / MOST_TRIED);
+  for (let tried = 0; tried < cells.length; tried += stride) {
+    const cell = cells[tried];
     const [x, y] = cellPoint(sheet.raster, cell);
     const isIn = x - w / 2 > left + 1 && x + w / 2 < left + wide - 1
       && y - h / 2 > top + 1 && y + h / 2 < top + tall - 1;
-    const place = { x, y, w, h };
-    if (!isIn || placed.some((one) => overlaps(one, place, 1.2 / scale))) continue;
-    const inside = shareOf(sheet, place, (one) => ownerAt(one) === at);
-    if (inside < least) continue;
     const free = Math.min(clearance[cell] * 4 * scale, 26);
-    const away = Math.hypot(x - middle[0], y - middle[1]) * scale;
-    const worth = free + (inside - 1) * 90 - away * 0.08;
-    if (worth > most) [most, best] = [worth, [x, y]];
+    const utmost = free - Math.hypot(x - middle[0], y - middle[1]) * scale * 0.08;
+    if (!isIn || utmost <= most) continue;
+    const place = { x, y, w, h };
+    if (placed.some((one) => overlaps(one, place, 1.2 / scale))) continue;
+    const inside = shareOf(sheet, place, (one) => ownerAt(one) === at);
+    const worth = utmost + (inside - 1) * 90;
+    if (inside >= least && worth > most) [most, best] = [worth, [x, y]];
   }
   return best;
 }

@@ -39,17 +39,19 @@ export function overlaps(one, other, margin = 0) {
 }
 
 /**
- * Returns the share of a rectangle's cells for which a test holds; -1 is a cell beyond the sheet.
+ * Returns the share of a rectangle's cells for which a test holds; -1 is a cell beyond the sheet. Of a
+ * large rectangle only some cells are looked at.
  * @param {Sheet} sheet
  * @param {Place} place
  * @param {(cell: number) => boolean} test
  */
 export function shareOf(sheet, { x, y, w, h }, test) {
   let [count, held] = [0, 0];
+  const stride = Math.max(1, Math.floor(Math.min(w, h) / STEP / 8));
   const bottom = Math.floor((y + h / 2 - 0.01) / STEP);
   const right = Math.floor((x + w / 2 - 0.01) / STEP);
-  for (let row = Math.floor((y - h / 2) / STEP); row <= bottom; row += 1) {
-    for (let column = Math.floor((x - w / 2) / STEP); column <= right; column += 1) {
+  for (let row = Math.floor((y - h / 2) / STEP); row <= bottom; row += stride) {
+    for (let column = Math.floor((x - w / 2) / STEP); column <= right; column += stride) {
       count += 1;
       if (test(cellAt(sheet.raster, (column + 0.5) * STEP, (row + 0.5) * STEP))) held += 1;
     }
@@ -74,7 +76,7 @@ export function placeCountyNames(geography, sheet, scale, leaders, box) {
   geography.counties.forEach((county, place) => {
     const [x] = sheet.raster.centers[place];
     if (x < box[0] || x > box[0] + box[2]) return;
-    const name = nameInside(sheet, scale, place, county.name, leaders.has(place));
+    const name = nameInside(sheet, scale, place, county.name, leaders.has(place), names);
     if (name) names.push(name);
     else beside.push(place);
   });
@@ -126,9 +128,10 @@ function settingsOf(name, scale, isLeader) {
  * @param {number} county
  * @param {string} name
  * @param {boolean} isLeader
+ * @param {Name[]} placed  names so far
  * @returns {Name | null}
  */
-function nameInside(sheet, scale, county, name, isLeader) {
+function nameInside(sheet, scale, county, name, isLeader, placed) {
   const settings = settingsOf(name, scale, isLeader);
   for (const margin of [5, 2.5, 1]) {
     for (const setting of settings) {
@@ -138,14 +141,14 @@ function nameInside(sheet, scale, county, name, isLeader) {
     }
   }
   const badged = settings.filter((setting) => setting.mode !== "none");
-  const lapping = lappingPlace(sheet, scale, county, badged, 0.9);
+  const lapping = lappingPlace(sheet, scale, county, badged, 0.9, placed);
   if (lapping) return lapping;
   const bare = settings.filter((setting) => setting.mode === "none");
   for (const setting of isLeader ? bare : []) {
     const at = roomiest(sheet, county, setting, 2 / scale);
     if (at) return finished(county, setting, at, scale);
   }
-  return lappingPlace(sheet, scale, county, bare.slice(-1), 0.8);
+  return lappingPlace(sheet, scale, county, bare.slice(-1), 0.8, placed);
 }
 
 /**
@@ -180,9 +183,10 @@ function roomiest(sheet, county, setting, room) {
  * @param {number} county
  * @param {Setting[]} settings
  * @param {number} least  the share that has to lie inside
+ * @param {Name[]} placed  names that it may not touch
  * @returns {Name | null}
  */
-function lappingPlace(sheet, scale, county, settings, least) {
+function lappingPlace(sheet, scale, county, settings, least, placed) {
   const { raster } = sheet;
   const [middleX, middleY] = raster.centers[county];
   /** @type {Name | null} */
@@ -195,6 +199,7 @@ function lappingPlace(sheet, scale, county, settings, least) {
       const inside = shareOf(sheet, place, (one) => one >= 0 && raster.county[one] === county);
       const worth = inside - Math.hypot(x - middleX, y - middleY) * scale * 0.005;
       if (inside < least || worth <= most) continue;
+      if (placed.some((one) => overlaps(one, place, 1 / scale))) continue;
       [most, best] = [worth, finished(county, setting, [x, y], scale)];
     }
   }

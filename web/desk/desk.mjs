@@ -4,6 +4,7 @@ import { answerOf } from "./answers.mjs";
 import { geographyOf, pairOf, shortName } from "./geography.mjs";
 import { readRecord, readTable } from "./program_texts.mjs";
 import { sheetOf } from "./sheet.mjs";
+import { stateName } from "./state_names.mjs";
 
 /** @typedef {import("./geography.mjs").Geography} Geography */
 /** @typedef {import("./answers.mjs").Answer} Answer */
@@ -17,8 +18,8 @@ import { sheetOf } from "./sheet.mjs";
 /**
  * The page's data. `borders` has a line of two codes for each pair of neighbors; `build` says what
  * is known of how the program of the page was made.
- * @typedef {{state: {code: string, name: string}, chambers: ChamberTexts[], outlines: any,
- *   borders: string, enactedYear: number, build: {isProved: boolean, text: string}}} DeskData
+ * @typedef {{state: {code: string}, chambers: ChamberTexts[], outlines: any, borders: string,
+ *   enactedYear: number, build: {isProved: boolean | null, text: string}}} DeskData
  */
 /**
  * @typedef {{data: DeskData, geography: Geography, answers: Answer[],
@@ -35,7 +36,7 @@ export function deskOf(data, shapeId) {
   const rows = readTable(data.chambers[0].table);
   const counties = rows.map(({ geoid, name, people }) => (
     { geoid, name: shortName(name) || geoid, people }));
-  const geography = geographyOf(data.state.code, data.state.name, counties);
+  const geography = geographyOf(data.state.code, stateName(data.state.code), counties);
   for (const line of data.borders.split("\n")) {
     const [one, other] = line.split(" ").map((code) => geography.placeOf.get(code));
     if (one !== undefined && other !== undefined) geography.borders.push(pairOf(one, other));
@@ -61,13 +62,13 @@ export function answerFor(desk, key) {
  * @param {Answer} answer
  */
 export function firstOption(answer) {
-  return answer.enacted || 1;
+  return answer.enacted || answer.ofTable || 1;
 }
 
 /**
- * Returns "the Senate", or "the chamber" where it has no name.
+ * Returns "the Senate", or "the chamber of 34" where it has no name.
  * @param {Answer} answer
  */
 export function chamberWords(answer) {
-  return answer.key === "chamber" ? `the chamber of ${answer.seats}` : `the ${answer.name}`;
+  return `the ${answer.name}`;
 }

@@ -115,7 +115,7 @@ function standAlone(svg) {
  */
 function captionLines(desk, state) {
   const { answer, option } = current(desk, state);
-  const { name, code } = desk.data.state;
+  const { name, code } = desk.geography;
   const enacted = option === answer.enacted
     ? `Used for the plan enacted in ${desk.data.enactedYear}. ` : "";
   const source = code === "37" ? "2020 census. " : "";

@@ -31,7 +31,7 @@ const given = new Map();
  * @param {ViewState} state
  */
 export function paintFiles(desk, state) {
-  document.title = `Your files: county groups of ${desk.data.state.name}`;
+  document.title = `Your files: county groups of ${desk.geography.name}`;
   if (!find("#drop-zones").children.length) paintSlots(desk);
   paintGrouping(desk, state);
   paintPlan(desk, state, given);

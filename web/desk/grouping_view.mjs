@@ -10,7 +10,7 @@ import { readGivenGrouping } from "./grouping_input.mjs";
 import { clearMap, showMap } from "./map_host.mjs";
 import { carriedProblem, runProgram, storedFile, whyNoProgram, withFile } from "./program.mjs";
 import { readReport } from "./program_texts.mjs";
-import { problemWords } from "./proof_view.mjs";
+import { problemWords } from "./problem.mjs";
 import { decodedText } from "./tables.mjs";
 import { tintLike } from "./tints.mjs";
 import { differingSize } from "./what_if.mjs";

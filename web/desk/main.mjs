@@ -110,6 +110,7 @@ function begin() {
     document.body.insertAdjacentHTML("beforeend", shapesSvg(desk.geography.sheet));
   }
   find("#figure").hidden = !desk.geography.sheet;
+  find(".brand span").textContent = desk.geography.name;
   for (const link of findAll("nav .needs-program")) link.hidden = !hasProgram();
   followAnswer(desk, state);
   followDownloads(desk, state);

@@ -1,11 +1,14 @@
 // Draws the parts of the page that stand in it without scripts. Node runs it, at the build:
-// `node prerender.mjs DATA.json` reads the page's data and prints the parts as JSON.
+// `node prerender.mjs DATA.json` reads the page's data and prints the parts as JSON;
+// `node prerender.mjs DATA.json disputed` prints the borders in dispute as lines of links, and
+// `node prerender.mjs DATA.json map KEY` a chamber's map as SVG that stands alone.
 
 import fs from "node:fs";
 import process from "node:process";
-import { answerParts } from "./answer_parts.mjs";
+import { answerParts, optionDrawing } from "./answer_parts.mjs";
+import { choicesOf } from "./answers.mjs";
 import { deskOf, firstOption } from "./desk.mjs";
-import { shapesSvg } from "./map_svg.mjs";
+import { mapSvg, shapesSvg } from "./map_svg.mjs";
 import { tieKinds } from "./disputed.mjs";
 
 /** @typedef {import("./desk.mjs").Desk} Desk */
@@ -34,12 +37,39 @@ function furtherChamber(desk, answer) {
     + `${note}</p>${inert(parts.map)}<h2>${parts.tableHead}</h2>${inert(parts.table)}`;
 }
 
-/** Prints the parts of the page, or the borders that are in dispute. */
+/**
+ * Returns the map of a chamber's first option as SVG that stands alone, in light colors.
+ * @param {Desk} desk
+ * @param {import("./answers.mjs").Answer} answer
+ */
+function aloneSvg(desk, answer) {
+  const { sheet } = desk.geography;
+  if (!sheet) return "";
+  const option = firstOption(answer);
+  const { title } = answerParts(desk, answer, option);
+  const drawing = optionDrawing(answer, choicesOf(answer, option));
+  const map = mapSvg(desk.geography, {
+    ...drawing, width: sheet.width, labels: "county", hasSwitches: true,
+  });
+  const style = fs.readFileSync(new URL("page.css", import.meta.url)).toString();
+  const colors = style.match(/^:root \{[^}]*\}/)?.[0] ?? "";
+  const rules = style.match(/\/\* the map \*\/(.*?)\/\* what the pointer/s)?.[1] ?? "";
+  const shapes = shapesSvg(sheet).replace(/^<svg[^>]*>|<\/svg>$/g, "");
+  return `${map.replace("<defs>", `<title>${title}</title><style>${colors}${rules}</style>`
+    + `<rect width="${sheet.width}" height="${sheet.height}" fill="#fff"/>${shapes}<defs>`)}`;
+}
+
+/** Prints the parts of the page, the borders that are in dispute, or a map. */
 function main() {
-  const [path, what] = process.argv.slice(2);
+  const [path, what, key] = process.argv.slice(2);
   const desk = deskOf(JSON.parse(fs.readFileSync(path).toString()), "c");
   if (what === "disputed") {
     console.log(tieKinds(desk.geography).map((one) => one.link).join("\n"));
+    return;
+  }
+  if (what === "map") {
+    const answer = desk.answers.find((one) => one.key === key) ?? desk.answers[0];
+    console.log(aloneSvg(desk, answer));
     return;
   }
   const [first, ...others] = desk.answers;
@@ -51,7 +81,7 @@ function main() {
     "table-head": parts.tableHead, "table": inert(parts.table), "why": parts.why,
     "ladder": parts.ladder, "shapes": shapes,
     "without-scripts": others.map((answer) => furtherChamber(desk, answer)).join(""),
-    "window-title": `County groups of ${desk.data.state.name}`,
+    "window-title": `County groups of ${desk.geography.name}`,
   }));
 }
 

@@ -70,14 +70,15 @@ export function compiledProgram() {
 }
 
 /**
- * Returns the geographic header, the counts and the borders that the page carries.
+ * Returns the files of the problem that the page carries: the geographic header, the counts, the
+ * borders, and links and sets if there are any.
  * @returns {Promise<Files>}
  */
 export async function carriedProblem() {
   /** @type {Files} */
   const files = new Map();
-  for (const key of ["geo", "segment", "adjacency"]) {
-    files.set(key, new Blob([await storedFile(key)]));
+  for (const key of ["geo", "segment", "adjacency", "links", "withdrawn"]) {
+    if (key in carriedFiles()) files.set(key, new Blob([await storedFile(key)]));
   }
   return files;
 }

@@ -3,8 +3,9 @@
 import { peopleOf, placesOf, setKey } from "./geography.mjs";
 import { answerFor, chamberWords } from "./desk.mjs";
 import { chamberButtons, find, findInput, stepList, verdictHtml } from "./dom.mjs";
+import { problemWords } from "./problem.mjs";
 import {
-  PROBLEM_FILES, carriedFiles, compiledProgram, hasProgram, runProgram, storedFile, sumOf,
+  carriedFiles, compiledProgram, hasProgram, runProgram, storedFile, sumOf,
   whyNoProgram, withFile,
 } from "./program.mjs";
 import { readList } from "./program_texts.mjs";
@@ -26,22 +27,6 @@ class Refusal extends Error {}
 /** Lets the page draw a step before the next one begins. */
 function pause() {
   return new Promise((resolve) => setTimeout(resolve, PAUSE));
-}
-
-/**
- * Returns the words of the problem of a chamber: its files, its seats, its allowance.
- * @param {Desk} desk
- * @param {Answer} answer
- */
-export function problemWords(desk, answer) {
-  const [part, whole] = answer.allowance;
-  const words = [...PROBLEM_FILES, "--chamber", String(answer.seats)];
-  words.push("--state", String(Number(desk.data.state.code)));
-  if (part !== 1 || whole !== 20) words.push("--part", String(part), "--of", String(whole));
-  for (const key of ["links", "withdrawn"]) {
-    if (key in carriedFiles()) words.push(`--${key}`, key);
-  }
-  return words;
 }
 
 /**
@@ -230,7 +215,7 @@ function showsTheSame(desk, answer, text) {
  */
 export async function paintProof(desk, state) {
   const answer = answerFor(desk, state.chamber);
-  document.title = `Check the proof: county groups of ${desk.data.state.name}`;
+  document.title = `Check the proof: county groups of ${desk.geography.name}`;
   const buttons = find("#proof-chambers");
   buttons.innerHTML = chamberButtons(desk.answers, answer.key);
   buttons.hidden = desk.answers.length < 2;
@@ -273,7 +258,8 @@ function whatIsChecked(desk, answer) {
  */
 function byWhat(desk) {
   const { isProved } = desk.data.build;
-  const proved = isProved
+  const proved = isProved === null
+    ? "If its build was proved, it says “best” only of a grouping that is best." : isProved
     ? "It is proved itself: it says “best” only of a grouping that is best."
     : "<b>This copy was built without proof.</b> A proved build says “best” only of a grouping "
       + "that is best.";

@@ -298,21 +298,34 @@ export function cellAt(raster, x, y) {
  */
 export function clearanceOf(raster, kindOf) {
   const { wide, high } = raster;
+  const kinds = Int32Array.from({ length: wide * high }, (_, cell) => kindOf(cell));
   const away = new Float32Array(wide * high);
   for (let cell = 0; cell < away.length; cell += 1) {
-    const [x, y] = [cell % wide, Math.floor(cell / wide)];
+    const [x, y, kind] = [cell % wide, Math.floor(cell / wide), kinds[cell]];
     const isEdge = x === 0 || y === 0 || x === wide - 1 || y === high - 1;
-    const near = isEdge ? [] : [cell - 1, cell + 1, cell - wide, cell + wide];
-    const isAlone = isEdge || near.some((one) => kindOf(one) !== kindOf(cell));
+    const isAlone = isEdge || kinds[cell - 1] !== kind || kinds[cell + 1] !== kind
+      || kinds[cell - wide] !== kind || kinds[cell + wide] !== kind;
     away[cell] = isAlone ? 0.5 : 1e6;
   }
-  const relax = (/** @type {number} */ cell, /** @type {number} */ way) => {
-    const steps = [[way, 1], [way * wide, 1], [way * (wide + 1), 1.41], [way * (wide - 1), 1.41]];
-    for (const [step, cost] of steps) away[cell] = Math.min(away[cell], away[cell + step] + cost);
-  };
-  for (let cell = wide + 1; cell < away.length - wide - 1; cell += 1) relax(cell, -1);
-  for (let cell = away.length - wide - 2; cell > wide; cell -= 1) relax(cell, 1);
+  relax(away, wide, -1);
+  relax(away, wide, 1);
   return away;
+}
+
+/**
+ * Lowers distances to those of the cells before (-1) or behind (1) and a step more, in that order.
+ * @param {Float32Array} away
+ * @param {number} wide
+ * @param {-1 | 1} way
+ */
+function relax(away, wide, way) {
+  const [first, last] = [wide + 1, away.length - wide - 2];
+  for (let step = 0; step <= last - first; step += 1) {
+    const cell = way < 0 ? first + step : last - step;
+    const beside = Math.min(away[cell + way], away[cell + way * wide]) + 1;
+    const across = Math.min(away[cell + way * (wide + 1)], away[cell + way * (wide - 1)]) + 1.41;
+    away[cell] = Math.min(away[cell], beside, across);
+  }
 }
 
 /**

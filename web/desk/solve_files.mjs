@@ -9,7 +9,7 @@ import { shapesSvg } from "./map_svg.mjs";
 import { PROBLEM_FILES, runProgram, startProgram, wasStopped, withFile } from "./program.mjs";
 import { readSizes } from "./program_texts.mjs";
 import { sheetOf } from "./sheet.mjs";
-import { stateName } from "./state_names.mjs";
+import { chamberName, chambersOf, stateName } from "./state_names.mjs";
 import { bytesText, counted, escapeHtml, numberText } from "./words.mjs";
 
 /** @typedef {import("./desk.mjs").Desk} Desk */
@@ -25,7 +25,6 @@ import { bytesText, counted, escapeHtml, numberText } from "./words.mjs";
 
 // County names stand near the beginning of a geographic header, before tracts and blocks.
 const NAME_BYTES = 1 << 24;
-const CHAMBERS = new Map([["37", [["Senate", 50], ["House", 120]]]]);
 
 /** @type {Solved | null} */
 let solved = null;
@@ -43,7 +42,7 @@ export function lastSolved() {
  * @param {string} code
  */
 export function chamberOptions(code) {
-  const known = CHAMBERS.get(code) ?? [];
+  const known = chambersOf(code);
   return known.map(([name, seats]) => `<option value="${seats}">${name}</option>`).join("")
     + `<option value="">${known.length ? "Other" : "Any chamber"}</option>`;
 }
@@ -179,7 +178,8 @@ async function solvedFiles(desk, given, steps) {
     : "The certificate doesn’t show which other groupings are best");
   if (listed.status !== 0) throw new Error("the list stayed open");
   const key = `${state}-${seats}`;
-  const answer = answerOf(geography, { key, name: `chamber of ${seats}`, list: listed.output });
+  const name = chamberName(state, Number(seats));
+  const answer = answerOf(geography, { key, name, list: listed.output });
   return { geography, answer, certificate, list: listed.output, words };
 }
 

@@ -19,3 +19,24 @@ export const STATES = new Map(TEXT.split(",").map((one) => (
 export function stateName(code) {
   return STATES.get(code) ?? `State ${code}`;
 }
+
+// The chambers of a state whose names are known, by their seats.
+/** @type {Map<string, [string, number][]>} */
+const CHAMBERS = new Map([["37", [["Senate", 50], ["House", 120]]]]);
+
+/**
+ * Returns the names and seats of a state's chambers, as far as they are known.
+ * @param {string} code
+ */
+export function chambersOf(code) {
+  return CHAMBERS.get(code) ?? [];
+}
+
+/**
+ * Returns the name of a chamber by its seats, or "chamber of" and its seats.
+ * @param {string} code
+ * @param {number} seats
+ */
+export function chamberName(code, seats) {
+  return chambersOf(code).find(([, one]) => one === seats)?.[0] ?? `chamber of ${seats}`;
+}

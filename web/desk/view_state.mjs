@@ -4,8 +4,9 @@ import { firstOption } from "./desk.mjs";
 
 /** @typedef {"answer" | "proof" | "whatif" | "files"} ViewName */
 /**
- * @typedef {{view: ViewName, chamber: string, option: Map<string, number>, isPrinted: boolean}}
- *   ViewState
+ * What the page shows. `free` has the choices of an answer whose options aren't numbered.
+ * @typedef {{view: ViewName, chamber: string, option: Map<string, number>,
+ *   free: Map<string, number[]>, isPrinted: boolean}} ViewState
  */
 
 /**
@@ -15,7 +16,9 @@ import { firstOption } from "./desk.mjs";
  */
 export function firstState(desk) {
   const option = new Map(desk.answers.map((answer) => [answer.key, firstOption(answer)]));
-  return { view: "answer", chamber: desk.answers[0].key, option, isPrinted: false };
+  return {
+    view: "answer", chamber: desk.answers[0].key, option, free: new Map(), isPrinted: false,
+  };
 }
 
 /**

@@ -5,7 +5,7 @@ import { answerOf, groupsOf } from "./answers.mjs";
 import { codesOf, peopleOf, placesOf, setKey } from "./geography.mjs";
 import { runProgram, startProgram, withFile } from "./program.mjs";
 import { readReport } from "./program_texts.mjs";
-import { problemWords } from "./proof_view.mjs";
+import { plainWords } from "./problem.mjs";
 
 /** @typedef {import("./desk.mjs").Desk} Desk */
 /** @typedef {import("./answers.mjs").Answer} Answer */
@@ -26,14 +26,15 @@ import { problemWords } from "./proof_view.mjs";
  * @typedef {{status: number, report: Report, answer: Answer | null, said: string}} Outcome
  */
 
-export const USUAL_PERCENT = 5;
-
 /**
- * Returns a what-if that changes nothing.
+ * Returns a what-if that changes nothing of an answer's problem.
+ * @param {Answer} answer
  * @returns {WhatIf}
  */
-export function nothingChanged() {
-  return { sets: [], added: new Set(), cut: new Set(), percent: USUAL_PERCENT };
+export function nothingChanged({ taken, allowance: [part, whole] }) {
+  const sets = taken.map(({ counties, seats }) => (
+    { counties: [...counties], seats, isOwn: true }));
+  return { sets, added: new Set(), cut: new Set(), percent: (100 * part) / whole };
 }
 
 /**
@@ -61,8 +62,9 @@ export function likelySeats(geography, counties, chamber) {
  * @returns {[number, number]}
  */
 export function fractionOf(percent) {
+  if (percent === 5) return [1, 20];
   const tenths = Math.round(percent * 10);
-  return tenths === 50 ? [1, 20] : [tenths, 1000];
+  return [tenths, 1000];
 }
 
 /**
@@ -83,12 +85,13 @@ export function linksText({ added, cut }) {
  * @param {WhatIf} whatIf
  * @param {Files} files
  */
-function problemOf(desk, base, whatIf, files) {
-  const plain = problemWords(desk, { ...base, allowance: fractionOf(whatIf.percent) });
-  const links = linksText(whatIf);
+async function problemOf(desk, base, whatIf, files) {
+  const usual = (100 * base.allowance[0]) / base.allowance[1];
+  const allowance = whatIf.percent === usual ? base.allowance : fractionOf(whatIf.percent);
+  const words = plainWords(desk, { ...base, allowance });
+  const links = (await files.get("links")?.text() ?? "") + linksText(whatIf);
   const sets = whatIf.sets.filter((set) => set.counties.length).map((set) => (
     `${[set.seats, ...codesOf(desk.geography, set.counties)].join("|")}\n`)).join("");
-  const words = plain.filter((word, at) => !/links|withdrawn/.test(word + (plain[at - 1] ?? "")));
   let all = files;
   if (links) {
     all = withFile(all, "links", links);
@@ -111,7 +114,7 @@ function problemOf(desk, base, whatIf, files) {
  * @returns {Promise<{outcome: Promise<Outcome>, stop: () => void}>}
  */
 export async function startWhatIf(desk, base, whatIf, files, onProgress) {
-  const problem = problemOf(desk, base, whatIf, files);
+  const problem = await problemOf(desk, base, whatIf, files);
   const words = [...problem.words, "--certificate", "certificate"];
   const solving = await startProgram(["solve", ...words], problem.files, onProgress);
   const outcome = solving.result.then(async (solved) => {
@@ -178,9 +181,10 @@ export function differingSize(some, others) {
 /**
  * Returns what the address says of a what-if.
  * @param {Geography} geography
+ * @param {Answer} base
  * @param {WhatIf} whatIf
  */
-export function addressOf(geography, { sets, added, cut, percent }) {
+export function addressOf(geography, base, { sets, added, cut, percent }) {
   const pairs = (/** @type {Set<string>} */ some) => (
     [...some].map((pair) => pair.replace(" ", "-")));
   const filled = sets.filter((set) => set.counties.length);
@@ -189,18 +193,19 @@ export function addressOf(geography, { sets, added, cut, percent }) {
     out.length ? `out=${out.join(",")}` : "",
     added.size ? `add=${pairs(added).join(",")}` : "",
     cut.size ? `cut=${pairs(cut).join(",")}` : "",
-    percent === USUAL_PERCENT ? "" : `percent=${percent}`,
+    percent === nothingChanged(base).percent ? "" : `percent=${percent}`,
   ].filter(Boolean).join("&");
 }
 
 /**
  * Returns the what-if of an address; what can't be read is left out.
  * @param {Geography} geography
+ * @param {Answer} base
  * @param {string} query
  * @returns {WhatIf}
  */
-export function whatIfOf(geography, query) {
-  const whatIf = nothingChanged();
+export function whatIfOf(geography, base, query) {
+  const whatIf = { ...nothingChanged(base), sets: /** @type {OutSet[]} */ ([]) };
   for (const part of decodeURIComponent(query).split("&")) {
     const [name, value = ""] = part.split("=");
     const items = value.split(",").filter(Boolean);

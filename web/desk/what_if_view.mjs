@@ -25,13 +25,14 @@ import { escapeHtml, numberText } from "./words.mjs";
 /**
  * The view's own state: the what-if, the set that clicks on the map go to, the outcome shown, what
  * is known of disputed borders, and what stops the work that goes on.
- * @typedef {{whatIf: WhatIf, set: number, outcome: Outcome | null, trials: Map<string, Trials>,
- *   stop: (() => void) | null, stopTrials: (() => void) | null}} Work
+ * @typedef {{whatIf: WhatIf, set: number, chamber: string, outcome: Outcome | null,
+ *   trials: Map<string, Trials>, stop: (() => void) | null, stopTrials: (() => void) | null}} Work
  */
 
 /** @type {Work} */
 const work = {
-  whatIf: nothingChanged(), set: 0, outcome: null, trials: new Map(), stop: null, stopTrials: null,
+  whatIf: { sets: [], added: new Set(), cut: new Set(), percent: 5 }, set: 0, chamber: "",
+  outcome: null, trials: new Map(), stop: null, stopTrials: null,
 };
 
 const KINDS = /** @type {const} */ ([
@@ -54,9 +55,12 @@ function takenOut() {
  * @param {string} query
  */
 export function openWhatIf(desk, state, query) {
-  document.title = `What if: county groups of ${desk.data.state.name}`;
+  document.title = `What if: county groups of ${desk.geography.name}`;
+  const answer = answerFor(desk, state.chamber);
   work.outcome = null;
-  if (query) work.whatIf = whatIfOf(desk.geography, query);
+  if (!work.chamber || answer.taken.length) work.whatIf = nothingChanged(answer);
+  if (query) work.whatIf = whatIfOf(desk.geography, answer, query);
+  work.chamber = answer.key;
   paintForm(desk, state);
   paintBase(desk, state);
   if (query) solveAgain(desk, state);
@@ -290,7 +294,7 @@ async function solveAgain(desk, state) {
     work.stop = started.stop;
     work.outcome = await started.outcome;
     clearInterval(timer);
-    const query = addressOf(desk.geography, work.whatIf);
+    const query = addressOf(desk.geography, base, work.whatIf);
     history.replaceState(null, "", `#whatif/${base.key}${query ? `/${query}` : ""}`);
     progress.textContent = `Solved in ${seconds()} seconds, in this page.`;
     showOutcome(desk, state, work.outcome);
@@ -398,7 +402,7 @@ export function followWhatIf(desk, state) {
   find("#try-borders").addEventListener("click", () => tryBorders(desk, state));
   find("#stop-borders").addEventListener("click", () => work.stopTrials?.());
   find("#start-over").addEventListener("click", () => {
-    work.whatIf = nothingChanged();
+    work.whatIf = nothingChanged(answerFor(desk, state.chamber));
     work.set = 0;
     find("#whatif-progress").textContent = "";
     history.replaceState(null, "", `#whatif/${state.chamber}`);
