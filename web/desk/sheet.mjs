@@ -44,7 +44,7 @@ function ringsOf(geometry) {
   const polygons = geometry?.type === "Polygon" ? [geometry.coordinates]
     : geometry?.type === "MultiPolygon" ? geometry.coordinates : [];
   return polygons.flat().map((/** @type {number[][]} */ ring) => ring.slice(0, -1).map((at) => (
-    [at[0] > 0 ? at[0] - 360 : at[0], at[1]])));
+    [at[0] > 100 ? at[0] - 360 : at[0], at[1]])));
 }
 
 /**

@@ -130,7 +130,8 @@ class InDesk(unittest.TestCase):
         try:
             self.wait(f"{element}.innerText.includes({quoted})", seconds)
         except AssertionError as fault:
-            raise AssertionError(f"{selector} says {self.text(selector)!r}, not {words!r}") from fault
+            said = f"{selector} says {self.text(selector)!r}, not {words!r}"
+            raise AssertionError(said) from fault
         return self.text(selector)
 
     def give(self, selector: str, *paths: Path) -> None:

@@ -1,5 +1,5 @@
-"""Census files with 20,000 blocks and a plan of 50 districts that keeps to the Senate's groups of 2023:
-the people of the counties are the census's, the blocks are made up."""
+"""Census files with 20,000 blocks, and a plan of 50 districts that keeps to the Senate's groups of
+2023. The people of the counties are the census's, the blocks are made up."""
 import random
 from dataclasses import dataclass, field
 from pathlib import Path

@@ -3,7 +3,7 @@ import subprocess
 import zipfile
 from pathlib import Path
 
-from desk_setting import CENSUS, DATA, STATES, InDesk, native
+from desk_setting import CENSUS, DATA, PROBLEM, STATES, InDesk, native
 from plan_sample import Sample, make_sample, write_census, write_plan
 
 ANY = ".drop-zone[data-kind=geo] input"
@@ -34,8 +34,8 @@ class State(Files):
     def machine(self, name: str, code: str, seats: int) -> tuple[str, int]:
         """Returns the list of a state and the number of its best groupings, by this machine."""
         files = [str(STATES / f"{name}.{kind}") for kind in ("geo", "segment", "adjacency")]
-        problem = ["--geo", files[0], "--segment", files[1], "--adjacency", files[2], "--state", code]
-        problem += ["--chamber", str(seats), "--certificate", str(self.room / "certificate")]
+        problem = ["--geo", files[0], "--segment", files[1], "--adjacency", files[2]]
+        problem += ["--state", code, "--chamber", str(seats), "--certificate", str(self.room / "certificate")]
         subprocess.run([native(), "solve", *problem], capture_output=True, check=True)
         done = subprocess.run([native(), "list", *problem], capture_output=True, check=True)
         listed = done.stdout.decode()
@@ -172,10 +172,9 @@ class Grouping(Files):
 
     def test_a_table_of_the_program_by_file(self) -> None:
         table = self.room / "table.csv"
-        problem = [part for word, name in CENSUS.items() for part in (f"--{word}", str(DATA / name))]
         grouping = str(DATA / "house2023.grouping")
-        words = ["judge", *problem, "--chamber", "120", "--grouping", grouping, "--table", str(table)]
-        subprocess.run([native(), *words], capture_output=True, check=True)
+        words = [*PROBLEM, "--chamber", "120", "--grouping", grouping, "--table", str(table)]
+        subprocess.run([native(), "judge", *words], capture_output=True, check=True)
         self.open("#files")
         self.press_button("#judge-chambers [data-chamber=house]")
         self.give(ANY, table)
@@ -185,10 +184,10 @@ class Grouping(Files):
 
     def test_faults(self) -> None:
         lines = self.enacted("senate").split()
-        moved = [line.replace("2|37067|37169", "2|37067|37169|37197").replace("|37193|37197", "|37193")
-                 for line in lines]
+        text = "\n".join(lines)
+        moved = text.replace("2|37067|37169", "2|37067|37169|37197").replace("|37193|37197", "|37193")
         cases = {
-            "\n".join(moved): "Forsyth, Stokes and Yadkin: 464,324 people are too many for 2 seats",
+            moved: "Forsyth, Stokes and Yadkin: 464,324 people are too many for 2 seats",
             "\n".join(lines[1:]): "No group has Johnston.",
             "\n".join([*lines, "1|37101"]): "Johnston stands in two groups.",
             "\n".join(lines).replace("2|37037|37063", "3|37037|37063"): "too few for 3 seats",
@@ -291,7 +290,8 @@ class Plan(Files):
 
     def test_plans_that_cant_be_read(self) -> None:
         cases = {
-            "Excel wrote the codes as numbers": ["GEOID20,District", "3.71010E+14,1", "3.71011E+14,2"],
+            "Excel wrote the codes as numbers":
+                ["GEOID20,District", "3.71010E+14,1", "3.71011E+14,2"],
             "precincts, not blocks": ["Precinct,District", "01-A East,1", "01-B West,2"],
             "tracts or precincts, not blocks": ["GEOID,District", "37001020100,1", "37001020200,2"],
             "block groups, not blocks": ["GEOID,District", "370010201001,1", "370010201002,2"],
@@ -315,8 +315,10 @@ class Plan(Files):
 
     def test_a_lost_zero_is_mended(self) -> None:
         script = (DATA.parent.parent / "web" / "desk" / "block_plan.mjs").as_uri()
-        words = (f'import {{ planOf }} from "{script}"; const table = {{ header: ["a", "b"], block: 0, '
-                 'district: 1, rows: [["10010201001000", "1"]] }; console.log(planOf(table, "01").lines)')
+        words = (f'import {{ planOf }} from "{script}"; '
+                 'const rows = [["10010201001000", "1"]]; '
+                 'const table = { header: ["a", "b"], block: 0, district: 1, rows }; '
+                 'console.log(planOf(table, "01").lines)')
         done = subprocess.run(["node", "--input-type=module", "-e", words], capture_output=True,
                               check=True)
         self.assertEqual(done.stdout.decode().strip(), "010010201001000|1")

@@ -92,8 +92,9 @@ class Proof(InDesk):
             self.open("#proof/senate")
             self.value("new Promise((done) => setTimeout(done, 1000))")
             self.value("globalThis.clicked = performance.now(); "
-                       "new MutationObserver(() => { globalThis.took ??= performance.now() - clicked; })"
-                       ".observe(document.querySelector('#check-verdict'), { childList: true }); null")
+                       "const noted = () => { globalThis.took ??= performance.now() - clicked; }; "
+                       "new MutationObserver(noted).observe("
+                       "document.querySelector('#check-verdict'), { childList: true }); null")
             self.verdict("senate")
             times.append(self.value("took"))
         print(f"the Senate's check: {min(times) / 1000:.2f} s", flush=True)

@@ -127,15 +127,17 @@ class Borders(InDesk):
 
     wanted = {
         "senate": {"Chowan–Washington": "8 best instead of 16"},
-        "house": {"Chowan–Washington": "4 best instead of 8", "Currituck–Tyrrell": "4 best instead of 8",
+        "house": {"Chowan–Washington": "4 best instead of 8",
+                  "Currituck–Tyrrell": "4 best instead of 8",
                   "Haywood–Henderson": "16 best instead of 8",
                   "Richmond–Stanly": "16 best instead of 8"},
     }
 
     def marks(self) -> dict[str, str]:
         """Returns the pairs with a mark."""
-        script = ("Object.fromEntries([...document.querySelectorAll('#disputed .tag')].map((one) => "
-                  "[one.closest('label').innerText.replace(one.innerText, '').trim(), one.innerText]))")
+        script = ("Object.fromEntries([...document.querySelectorAll('#disputed .tag')].map("
+                  "(one) => [one.closest('label').innerText.replace(one.innerText, '').trim(), "
+                  "one.innerText]))")
         return dict(self.value(script))
 
     def test_stored_marks(self) -> None:
@@ -164,7 +166,8 @@ class Borders(InDesk):
 
     def test_the_pairs_are_those_of_the_data(self) -> None:
         self.open("#whatif/senate")
-        points = self.value("[...document.querySelectorAll('#disputed [data-kind=point][data-pair]')]"
+        points = self.value("[...document.querySelectorAll('#disputed "
+                            "[data-kind=point][data-pair]')]"
                             ".map((one) => one.dataset.pair)")
         lines = (DATA / "point_contacts.links").read_text(encoding="ascii").split()
         listed = {" ".join(sorted(line.split("|")[1:])) for line in lines}
