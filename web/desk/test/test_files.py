@@ -35,7 +35,8 @@ class State(Files):
         """Returns the list of a state and the number of its best groupings, by this machine."""
         files = [str(STATES / f"{name}.{kind}") for kind in ("geo", "segment", "adjacency")]
         problem = ["--geo", files[0], "--segment", files[1], "--adjacency", files[2]]
-        problem += ["--state", code, "--chamber", str(seats), "--certificate", str(self.room / "certificate")]
+        problem += ["--state", code, "--chamber", str(seats)]
+        problem += ["--certificate", str(self.room / "certificate")]
         subprocess.run([native(), "solve", *problem], capture_output=True, check=True)
         done = subprocess.run([native(), "list", *problem], capture_output=True, check=True)
         listed = done.stdout.decode()
@@ -185,7 +186,8 @@ class Grouping(Files):
     def test_faults(self) -> None:
         lines = self.enacted("senate").split()
         text = "\n".join(lines)
-        moved = text.replace("2|37067|37169", "2|37067|37169|37197").replace("|37193|37197", "|37193")
+        moved = text.replace("2|37067|37169", "2|37067|37169|37197")
+        moved = moved.replace("|37193|37197", "|37193")
         cases = {
             moved: "Forsyth, Stokes and Yadkin: 464,324 people are too many for 2 seats",
             "\n".join(lines[1:]): "No group has Johnston.",

@@ -203,7 +203,8 @@ class Page(InDesk):
         self.open("#senate/6")
         told = self.text("#answer")
         for words in ("Stephenson v. Bartlett", "16 groupings do this equally well",
-                      "in four areas", "Used for the plan enacted in 2023", "Not proved:", "No lawful grouping"):
+                      "in four areas", "Used for the plan enacted in 2023", "Not proved:",
+                      "No lawful grouping"):
             self.assertIn(words, told)
         self.assertIn("it isn’t the Census Bureau’s adjacency file", self.text(".foot"))
 
