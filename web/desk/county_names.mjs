@@ -39,8 +39,8 @@ export function overlaps(one, other, margin = 0) {
 }
 
 /**
- * Returns the share of a rectangle's cells for which a test holds; -1 is a cell beyond the sheet. Of a
- * large rectangle only some cells are looked at.
+ * Returns the share of a rectangle's cells for which a test holds; -1 is a cell beyond the sheet.
+ * Of a large rectangle only some cells are looked at.
  * @param {Sheet} sheet
  * @param {Place} place
  * @param {(cell: number) => boolean} test
@@ -97,8 +97,9 @@ export function placeCountyNames(geography, sheet, scale, leaders, box) {
  * @returns {Setting[]}
  */
 function settingsOf(name, scale, isLeader) {
-  const plain = (/** @type {string[]} */ lines, /** @type {number} */ shrink,
-    /** @type {number} */ condensed) => {
+  /** @type {(lines: string[], shrink: number, condensed: number) => Omit<Setting,
+   *   "wide" | "high" | "mode">} */
+  const plain = (lines, shrink, condensed) => {
     const widths = lines.map((line) => textWidth(line, SIZE));
     const w = (Math.max(...widths) / scale) * shrink * condensed;
     const h = ((lines.length === 1 ? 10 : 22) / scale) * shrink;

@@ -1,9 +1,11 @@
 """Pages that tools/page.py makes of a few squares, opened in a browser."""
 from pathlib import Path
+from unittest import mock
 
-from desk_setting import InDesk
+import page as county_page
+from desk_setting import SETTING, STATES, InDesk, NotThere, native, run
 from page_samples import GROUPS, PEOPLE, SIX, SIX_WITHDRAWN, WITHDRAWN, PageRoom
-from page_samples import record_of, small_table, written
+from page_samples import record_of, small_table, squares, written
 
 
 class Small(InDesk, PageRoom):
@@ -107,4 +109,47 @@ class Small(InDesk, PageRoom):
         table = small_table({"W1": (6, list(PEOPLE))})
         self.show(table, listed, record_of(6, "--withdrawn=sets", withdrawn=b"6|..\n"))
         self.assertEqual(self.text("#table-head"), "All 0 groups")
+        self.check_quiet()
+
+
+class Carried(InDesk, PageRoom):
+    """A page of another state that carries its files and the program."""
+
+    def setUp(self) -> None:
+        InDesk.setUp(self)
+        PageRoom.setUp(self)
+
+    def made_of_alabama(self) -> Path:
+        """Returns a page of Alabama's Senate, on a board of squares."""
+        native()
+        if not SETTING.wasm.is_file():
+            raise NotThere("there is no program for browsers (--wasm)")
+        words = [part for kind in ("geo", "segment", "adjacency")
+                 for part in (f"--{kind}", str(STATES / f"alabama.{kind}"))]
+        kinds = ("certificate", "table", "record")
+        stored = {kind: str(Path(self.folder) / kind) for kind in kinds}
+        words += ["--chamber", "35", "--state", "1", "--certificate", stored["certificate"]]
+        run("solve", *words, "--table", stored["table"], "--record", stored["record"])
+        table = Path(stored["table"]).read_text(encoding="utf-8")
+        codes = [line[:5] for line in table.split("\n")[1:] if line]
+        board = squares(*((code, at % 10, 30 + at // 10) for at, code in enumerate(codes)))
+        record = Path(stored["record"]).read_text(encoding="utf-8")
+        with mock.patch.object(county_page, "WASM", SETTING.wasm):
+            status, said, out = self.made(table, run("list", *words), record,
+                                          self.file("board", board))
+        self.assertEqual((status, said), (0, ""))
+        return Path(out)
+
+    def test_the_proof_and_a_what_if(self) -> None:
+        path = self.made_of_alabama()
+        self.open("#proof", path)
+        self.press_button("#check")
+        self.wait("document.querySelector('#check-verdict .verdict') !== null")
+        self.assertIn("better than the 14 on this page", self.text("#check-verdict"))
+        self.go("#whatif")
+        self.press_button("#solve-again")
+        self.wait_words("#whatif-result", "Nothing changes.")
+        self.go("#files")
+        self.press_button("#use-own")
+        self.wait("!document.querySelector('#solve-files').disabled")
         self.check_quiet()
