@@ -353,7 +353,9 @@ function runHtml(desk, answer) {
   const files = [...record.read, ...record.stored].map((file) => (
     `<tr><td>${escapeHtml(file.option)}</td><td><code>${escapeHtml(file.name)}</code></td>`
     + `<td class="number">${numberText(file.bytes)}</td><td><code>${file.sum}</code></td></tr>`));
-  return `<pre>${escapeHtml(words)}</pre><p>Its answer is `
+  const { text } = desk.data.build;
+  const build = text ? `<p>The build of the program:</p><pre>${escapeHtml(text)}</pre>` : "";
+  return `${build}<pre>${escapeHtml(words)}</pre><p>Its answer is `
     + `<code>${escapeHtml(record.answer)}</code>. This build said so: <code>countygroups `
     + `${escapeHtml(record.version)}</code>.</p>`
     + '<table><thead><tr><th>File</th><th>Name</th><th class="number">Bytes</th><th>SHA-256</th>'
