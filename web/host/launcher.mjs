@@ -1,14 +1,19 @@
 /**
  * The program by Node: the same words, files and statuses as the program that is built for a
  * machine. Its module, countygroups.wasm, lies beside this file.
+ *
+ * One thing differs: Node opens the null device in the place of a standard stream that is closed.
+ * So closed standard input is empty, and what is written to closed standard output is lost.
  */
 
 import fs from "node:fs";
 import v8 from "node:v8";
-import process from "node:process";
 import { NodeFiles } from "./node_files.mjs";
 import { runProcess } from "./process.mjs";
 import { hasWasm64 } from "./wasm64.mjs";
+
+// (`process` is the global one: an import of "node:process" would make Node's own standard streams,
+// which set pipes not to wait)
 
 /** The status of a shell for a program that was aborted. No answer has it. */
 const ABORTED = 134;

@@ -2,7 +2,7 @@
 
 import fs from "node:fs";
 import tty from "node:tty";
-import { errnoOf } from "./errno.mjs";
+import { ERRNO, errnoOf } from "./errno.mjs";
 import { HostError } from "./file_store.mjs";
 
 /**
@@ -12,6 +12,9 @@ import { HostError } from "./file_store.mjs";
 
 /** The most bytes that one call of Node moves. */
 const MOST_MOVED = 1 << 30;
+
+/** How many milliseconds pass before a pipe that isn't ready is asked again. */
+const PAUSE = 2;
 
 /**
  * Returns what `call` returns. An error of Node's becomes a `HostError` of the same name.
@@ -26,6 +29,46 @@ function withErrno(call) {
   } catch (error) {
     const { code, message } = /** @type {{ code?: unknown, message?: string }} */ (error);
     throw new HostError(errnoOf(code), message);
+  }
+}
+
+/**
+ * Returns what `call` returns, as above. Another process can have set a pipe not to wait; then this
+ * function waits until the pipe is ready.
+ *
+ * @template T
+ * @param {() => T} call
+ * @returns {T}
+ */
+function withPatience(call) {
+  for (;;) {
+    try {
+      return withErrno(call);
+    } catch (error) {
+      if (!(error instanceof HostError) || error.errno !== ERRNO.EAGAIN) {
+        throw error;
+      }
+      Atomics.wait(new Int32Array(new SharedArrayBuffer(4)), 0, 0, PAUSE);
+    }
+  }
+}
+
+/**
+ * Reads as Node does. On Windows the end of a pipe is an error of Node's, and here it is the end.
+ *
+ * @param {number} file
+ * @param {Uint8Array} into
+ * @param {number} room
+ * @returns {number}
+ */
+function readSync(file, into, room) {
+  try {
+    return fs.readSync(file, into, 0, room, null);
+  } catch (error) {
+    if (/** @type {{ code?: unknown }} */ (error).code === "EOF") {
+      return 0;
+    }
+    throw error;
   }
 }
 
@@ -64,17 +107,7 @@ export class NodeFiles {
    * @param {Uint8Array} into
    */
   read(file, into) {
-    const room = Math.min(into.length, MOST_MOVED);
-    try {
-      return fs.readSync(file, into, 0, room, null);
-    } catch (error) {
-      const { code, message } = /** @type {{ code?: unknown, message?: string }} */ (error);
-      if (code === "EOF") {
-        // (on Windows the end of a pipe is an error of this name)
-        return 0;
-      }
-      throw new HostError(errnoOf(code), message);
-    }
+    return withPatience(() => readSync(file, into, Math.min(into.length, MOST_MOVED)));
   }
 
   /**
@@ -83,7 +116,7 @@ export class NodeFiles {
    */
   write(file, bytes) {
     const length = Math.min(bytes.length, MOST_MOVED);
-    return withErrno(() => fs.writeSync(file, bytes, 0, length, null));
+    return withPatience(() => fs.writeSync(file, bytes, 0, length, null));
   }
 
   /** @param {number} file */

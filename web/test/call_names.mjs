@@ -4,7 +4,6 @@
  * usage: node call_names.mjs CALLS.mjs
  */
 
-import process from "node:process";
 import { pathToFileURL } from "node:url";
 
 const { makeCalls } = await import(pathToFileURL(process.argv[2]).href);

@@ -9,7 +9,6 @@
 
 import fs from "node:fs";
 import v8 from "node:v8";
-import process from "node:process";
 
 v8.setFlagsFromString("--experimental-wasm-memory64");
 

@@ -5,7 +5,6 @@
  */
 
 import fs from "node:fs";
-import process from "node:process";
 import v8 from "node:v8";
 
 v8.setFlagsFromString("--experimental-wasm-memory64");

@@ -8,7 +8,6 @@
  */
 
 import fs from "node:fs";
-import process from "node:process";
 import readline from "node:readline";
 import v8 from "node:v8";
 import { pathToFileURL } from "node:url";

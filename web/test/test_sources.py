@@ -36,6 +36,12 @@ def sources(*patterns: str) -> list[Path]:
     return sorted(path for pattern in patterns for path in TOP.glob(pattern))
 
 
+def python_files() -> list[Path]:
+    """Returns the Python files that serve web/."""
+    others = ("tools/bundle.py", "tools/launcher.py", "tools/test_web.py", "bench/web_speed.py")
+    return sources("web/test/*.py", *others)
+
+
 class Sources(unittest.TestCase):
     """The files themselves."""
 
@@ -47,8 +53,7 @@ class Sources(unittest.TestCase):
     def test_types_of_the_tests(self) -> None:
         folders = ":".join(str(path) for path in (TOP / "tools", TOP / "cases", WEB / "test"))
         words = [program_there("mypy"), "--strict", "--follow-imports=silent"]
-        files = [TOP / "tools" / name for name in ("bundle.py", "launcher.py", "test_web.py")]
-        called = [*words, "--cache-dir=/dev/null", *map(str, [*files, *(WEB / "test").glob("*.py")])]
+        called = [*words, "--cache-dir=/dev/null", *map(str, python_files())]
         done = subprocess.run(
             called,
             cwd=TOP,
@@ -68,8 +73,8 @@ class Sources(unittest.TestCase):
         self.assertGreater(seen, 100)
 
     def test_lines_are_short(self) -> None:
-        own = sources("web/**/*.mjs", "web/**/*.py", "web/*.c", "web/test/*.c", "web/types/*.ts")
-        for path in [*own, TOP / "tools/bundle.py", TOP / "tools/launcher.py"]:
+        own = sources("web/**/*.mjs", "web/**/*.c", "web/types/*.ts")
+        for path in [*own, *python_files()]:
             for number, line in enumerate(path.read_text(encoding="utf-8").split("\n"), 1):
                 self.assertLessEqual(len(line), MOST_COLUMNS, f"{path.name}, line {number}")
 

@@ -8,7 +8,8 @@ from collections.abc import Mapping
 from pathlib import Path
 from typing import Any
 
-from web_setting import HOST, SETTING, TOP, WEB, NotThere, chosen, program_there
+from web_setting import DATA, HOST, SETTING, TOP, WEB
+from web_setting import NotThere, chosen, make_launcher, program_there
 from test_cases import all_cases
 
 from cases import Case
@@ -16,6 +17,11 @@ from program_runs import Followed
 from sweeps import Sweep
 
 FOLDERS = ("size", "judge", "audit", "solve", "check", "list", "share", "piece", "table", "record")
+PROBLEM = ["--geo", str(DATA / "nc2020geo.pl"), "--segment", str(DATA / "nc000012020.pl")]
+PROBLEM += ["--adjacency", str(DATA / "county_borders.txt")]
+# The number of a module's section for its memory, the pages that it begins with, and enough.
+MEMORY_SECTION = 5
+FIRST_PAGES, MOST_PAGES = 260, 400
 SAMPLE = 24
 MOST = 150
 
@@ -75,6 +81,57 @@ class HostSweep(Sweep):
             made.stored.setdefault(name, []).append(base64.b64decode(held))
             made.puts.append((name, 0, requests))
         return made
+
+
+def with_limit(module: bytes, pages: int) -> bytes:
+    """Returns the module, whose memory has at most so many pages of 64 KB."""
+    at = 8
+    while module[at] != MEMORY_SECTION:
+        length, begin = number_at(module, at + 1)
+        at = begin + length
+    length, begin = number_at(module, at + 1)
+    held = module[begin : begin + length]
+    assert held[:2] == b"\1\4", "one memory of 64 bits, without a limit"
+    limit = bytes((pages >> shift & 127) | (128 if shift < 28 else 0) for shift in range(0, 35, 7))
+    new = b"\1\5" + held[2:] + limit
+    return module[: at + 1] + bytes([len(new)]) + new + module[begin + length :]
+
+
+def number_at(module: bytes, at: int) -> tuple[int, int]:
+    """Returns the number in LEB128 at a place of the module, and the place behind it."""
+    number = shift = 0
+    while True:
+        number |= (module[at] & 127) << shift
+        at, shift = at + 1, shift + 7
+        if module[at - 1] < 128:
+            return number, at
+
+
+class LimitedMemory(unittest.TestCase):
+    """The program's own module, with memories that can't grow as far as a run needs."""
+
+    def test_memory_that_cannot_grow_is_refused(self) -> None:
+        room = Path(self.enterContext(tempfile.TemporaryDirectory()))
+        program = make_launcher(room)
+        module = room / "dist" / "countygroups.wasm"
+        whole, ordinary = module.read_bytes(), self.solve(program)
+        self.assertEqual((ordinary[1], len(ordinary[2])), (0, 1))
+        found = []
+        for pages in range(FIRST_PAGES, MOST_PAGES, 64):
+            module.write_bytes(with_limit(whole, pages))
+            found.append(self.solve(program))
+        self.assertEqual((found[0], found[-1]), ((b"memory\n", 5, {}), ordinary))
+        for text, status, stored in found:
+            self.assertIn((text, status), ((b"memory\n", 5), ordinary[:2]))
+            self.assertIn(stored, ({}, ordinary[2]))
+
+    def solve(self, program: Path) -> tuple[bytes, int, dict[str, bytes]]:
+        """Returns the text, the status and the stored files of a run over the House."""
+        with tempfile.TemporaryDirectory() as folder:
+            words = [str(program), "solve", *PROBLEM, "--chamber", "120", "--certificate", "c"]
+            done = subprocess.run(words, cwd=folder, capture_output=True, check=False)
+            stored = {path.name: path.read_bytes() for path in Path(folder).iterdir()}
+            return done.stdout, done.returncode, stored
 
 
 class MemorySweep(unittest.TestCase):

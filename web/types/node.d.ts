@@ -11,6 +11,15 @@ declare const Buffer: {
   concat(parts: Uint8Array[]): NodeBytes;
 };
 
+declare const process: {
+  argv: string[];
+  platform: string;
+  versions: { node: string };
+  stdin: AsyncIterable<Uint8Array>;
+  chdir(folder: string): void;
+  exit(status: number): never;
+};
+
 interface ImportMeta {
   url: string;
 }
@@ -35,18 +44,6 @@ declare module "node:fs" {
     readFileSync(name: string | Uint8Array | URL): NodeBytes;
   };
   export default fs;
-}
-
-declare module "node:process" {
-  const process: {
-    argv: string[];
-    platform: string;
-    versions: { node: string };
-    stdin: AsyncIterable<Uint8Array>;
-    chdir(folder: string): void;
-    exit(status: number): never;
-  };
-  export default process;
 }
 
 declare module "node:readline" {
