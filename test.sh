@@ -87,7 +87,6 @@ test_scripts() {
     python3 tools/test_compare_dist.py
     python3 tools/test_release.py
     python3 tools/test_border_check.py
-    python3 tools/test_map.py
     python3 tools/test_page.py
     python3 tools/test_assignments.py
     python3 tools/test_grouping.py
@@ -105,6 +104,19 @@ compare_dist() { # [OPTION ..]
 test_web() { # [OPTION ..]
     heading "the program as WebAssembly"
     python3 tools/test_web.py --jobs "$jobs" "$@"
+}
+
+# Tests the desk: docs/desk.html, or a desk that is made of a build.
+test_desk() { # PROGRAM [WASM]
+    local words=(--program "$1")
+    heading "the desk in a browser"
+    if [ $# -gt 1 ]; then
+        if [ -f docs/desk.html ]; then
+            python3 tools/test_desk.py --only made_of_these_sources
+        fi
+        words+=(--wasm "$2" --page "$room/desk.html")
+    fi
+    python3 tools/test_desk.py "${words[@]}"
 }
 
 # Tests programs that are built.
@@ -127,8 +139,6 @@ test_programs() { # FUZZER_SECONDS SEED PROGRAM ..
     heading "the packages for Python and R"
     COUNTYGROUPS=$(realpath "$1") python/test.sh
     COUNTYGROUPS=$(realpath "$1") r/test.sh
-    heading "pages in a browser"
-    python3 tools/test_page_browser.py --program "$1"
     heading "cases changed at random, $seconds seconds with seed $seed"
     python3 cases/fuzz.py --seconds "$seconds" --seed "$seed" --program "$1" --keep "$found"
 }
@@ -180,6 +190,7 @@ prove_and_test() {
     fi
     test_programs "$seconds" "$seed" "${programs[@]}"
     test_web --native "$built" --wasm "$wasm" --refusing "$refusing" "${all[@]}"
+    test_desk "$built" "$wasm"
     if [ "$is_all" = yes ]; then
         sweep
         heading "the real files, with the first calls refused"
@@ -199,8 +210,10 @@ else
     test_programs 60 1 "$program"
     if [ "$is_given" = no ]; then
         test_web --native "$program"
+        test_desk "$program"
     elif [ -n "$wasm" ]; then
         test_web --native "$program" --wasm "$wasm" ${refusing:+--refusing "$refusing"}
+        test_desk "$program" "$wasm"
     fi
 fi
 heading "all passed"

@@ -27,7 +27,7 @@ from typing import Dict, Iterator, List, NamedTuple, Tuple
 TOP = os.path.dirname(os.path.dirname(os.path.abspath(__file__)))
 sys.path.insert(0, os.path.join(TOP, "tools"))
 from border_check import Pair, contacts_of, read_borders, read_reasons  # noqa: E402
-from county_shapes import read_outlines  # noqa: E402
+from county_outlines import read_rings  # noqa: E402
 
 DATA = os.path.join(TOP, "data", "nc2020")
 CHAMBERS = {50: "senate", 120: "house"}
@@ -60,7 +60,7 @@ def text_of(path: str) -> str:
 def changes() -> Iterator[Tuple[str, str]]:
     """Yields the name and the links of each run."""
     borders = read_borders(data("county_borders.txt"))
-    contacts = contacts_of(read_outlines(data("county_outlines.geojson")))
+    contacts = contacts_of(read_rings(data("county_outlines.geojson")))
     points = contacts.corners - contacts.edges.keys() - borders.pairs
     added = [*sorted(points), CATAWBA_CLEVELAND]
     cut = [BURKE_LINCOLN, *sorted(read_reasons(data("borders_without_an_edge.txt")))]

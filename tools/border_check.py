@@ -33,7 +33,7 @@ from collections import defaultdict
 from dataclasses import dataclass
 from typing import Dict, Iterator, List, NamedTuple, Set, Tuple
 
-from county_shapes import Outlines, Ring, Spot, read_outlines
+from county_outlines import Outlines, Ring, Spot, read_rings
 from county_table import Refused
 
 EARTH_RADIUS_KM = 6371.0088
@@ -257,7 +257,7 @@ def checked(adjacency: str, outlined: str, listed: str | None) -> Tuple[List[str
 
     Raises `Refused` if a file can't be used.
     """
-    outlines = read_outlines(outlined)
+    outlines = read_rings(outlined)
     borders = kept(read_borders(adjacency), outlines)
     if not borders.pairs:
         raise Refused(f"The file {adjacency} has no pair of counties of the outlines {outlined}.")

@@ -10,41 +10,54 @@ import shutil
 import subprocess
 import tempfile
 import time
+from typing import Any
 
 SECONDS = 180
+NAMES = ("chromium", "chromium-browser", "google-chrome")
+KEYS = {"Tab": 9, "Enter": 13, "Escape": 27, " ": 32, "ArrowLeft": 37, "ArrowUp": 38,
+        "ArrowRight": 39, "ArrowDown": 40}
+NO_WORDS = {" ": "Space"}
 
 
 class Browser:
-    """One page in a headless Chromium. What went wrong on its console is in `faults`."""
+    """One page in a headless Chromium. What went wrong on its console is in `faults`, and each
+    address that the page asked for in `events`."""
 
     @staticmethod
-    def found():
-        return next((path for name in ("chromium", "chromium-browser", "google-chrome") if (path := shutil.which(name))), None)
+    def found() -> str | None:
+        """Returns the path of a Chromium, or None."""
+        return next((path for name in NAMES if (path := shutil.which(name))), None)
 
-    def __init__(self):
+    def __init__(self) -> None:
+        program = self.found()
+        if program is None:
+            raise RuntimeError("no Chromium is installed")
         self.room = tempfile.mkdtemp(prefix="browser-")
         to_browser, self.to = os.pipe()
         self.back, from_browser = os.pipe()
-        words = [self.found(), "--headless=new", "--no-sandbox", "--disable-gpu", "--no-first-run", "--remote-debugging-pipe"]
-        words += [f"--user-data-dir={self.room}", "about:blank"]
+        words = [program, "--headless=new", "--no-sandbox", "--disable-gpu", "--no-first-run"]
+        words += ["--remote-debugging-pipe", f"--user-data-dir={self.room}", "about:blank"]
 
-        def join_pipes():
+        def join_pipes() -> None:
             spare = os.dup(to_browser), os.dup(from_browser)
             os.dup2(spare[0], 3)
             os.dup2(spare[1], 4)
 
-        quiet = {"stdin": subprocess.DEVNULL, "stdout": subprocess.DEVNULL, "stderr": subprocess.DEVNULL}
-        self.process = subprocess.Popen(words, preexec_fn=join_pipes, close_fds=False, **quiet)
+        none = subprocess.DEVNULL
+        self.process = subprocess.Popen(words, preexec_fn=join_pipes, close_fds=False,
+                                        stdin=none, stdout=none, stderr=none)
         os.close(to_browser)
         os.close(from_browser)
-        self.number, self.session, self.buffer = 0, None, b""
-        self.faults, self.events = [], []
+        self.number, self.buffer = 0, b""
+        self.session: str | None = None
+        self.faults: list[str] = []
+        self.events: list[str] = []
         target = self.ask("Target.createTarget", url="about:blank")["targetId"]
         self.session = self.ask("Target.attachToTarget", targetId=target, flatten=True)["sessionId"]
-        for domain in ("Page", "Runtime", "Log", "Network"):
+        for domain in ("Page", "Runtime", "Log", "Network", "DOM"):
             self.ask(f"{domain}.enable")
 
-    def close(self):
+    def close(self) -> None:
         """Ends the browser."""
         os.close(self.to)
         try:
@@ -56,13 +69,13 @@ class Browser:
         time.sleep(0.2)
         shutil.rmtree(self.room, ignore_errors=True)
 
-    def ask(self, method, **values):
-        """The answer to one command of the browser's protocol."""
+    def ask(self, method: str, **values: Any) -> Any:
+        """Returns the answer to one command of the browser's protocol."""
         self.number += 1
         message = {"id": self.number, "method": method, "params": values}
         if self.session:
             message["sessionId"] = self.session
-        os.write(self.to, json.dumps(message).encode() + b"\0")
+        self.send(json.dumps(message).encode() + b"\0")
         end = time.monotonic() + SECONDS
         while time.monotonic() < end:
             answer = self.next_message()
@@ -73,8 +86,13 @@ class Browser:
             self.note(answer)
         raise RuntimeError(f"{method}: no answer")
 
-    def next_message(self):
-        """The next message that the browser sends."""
+    def send(self, message: bytes) -> None:
+        """Writes a whole message."""
+        while message:
+            message = message[os.write(self.to, message):]
+
+    def next_message(self) -> Any:
+        """Returns the next message that the browser sends."""
         while b"\0" not in self.buffer:
             if not select.select([self.back], [], [], SECONDS)[0]:
                 raise RuntimeError("the browser is silent")
@@ -85,12 +103,14 @@ class Browser:
         text, self.buffer = self.buffer.split(b"\0", 1)
         return json.loads(text)
 
-    def note(self, event):
+    def note(self, event: Any) -> None:
         """Keeps what went wrong, and each address that was asked for."""
         method, values = event.get("method"), event.get("params", {})
         if method == "Runtime.exceptionThrown":
-            self.faults.append(values["exceptionDetails"].get("exception", {}).get("description") or values["exceptionDetails"]["text"])
-        elif method == "Runtime.consoleAPICalled" and values["type"] in ("error", "warning", "assert"):
+            details = values["exceptionDetails"]
+            told = details.get("exception", {}).get("description")
+            self.faults.append(told or details["text"])
+        elif method == "Runtime.consoleAPICalled" and values["type"] in ("error", "warning"):
             self.faults.append(str(values["args"]))
         elif method == "Log.entryAdded" and values["entry"]["level"] in ("error", "warning"):
             self.faults.append(values["entry"]["text"])
@@ -99,60 +119,92 @@ class Browser:
         elif method == "Page.loadEventFired":
             self.events.append("loaded")
 
-    def open(self, path, width=1200, height=900, has_scripts=True, dark=False):
-        """Opens a file in a window of this size."""
-        self.ask("Emulation.setDeviceMetricsOverride", width=width, height=height, deviceScaleFactor=1, mobile=width < 600)
+    def open(self, path: str, width: int = 1200, height: int = 900, has_scripts: bool = True,
+             dark: bool = False, mark: str = "") -> None:
+        """Opens a file in a window of this size, at a mark of its address such as `#proof`."""
+        self.ask("Emulation.setDeviceMetricsOverride", width=width, height=height,
+                 deviceScaleFactor=1, mobile=width < 600)
         self.ask("Emulation.setScriptExecutionDisabled", value=not has_scripts)
-        self.ask("Emulation.setEmulatedMedia", features=[{"name": "prefers-color-scheme", "value": "dark" if dark else "light"}])
+        scheme = {"name": "prefers-color-scheme", "value": "dark" if dark else "light"}
+        self.ask("Emulation.setEmulatedMedia", features=[scheme])
+        # (an address that differs by its mark alone would not load the page anew)
+        self.ask("Page.navigate", url="about:blank")
+        self.wait_loaded()
         self.events = []
-        self.ask("Page.navigate", url=f"file://{os.path.abspath(path)}")
+        self.ask("Page.navigate", url=f"file://{os.path.abspath(path)}{mark}")
+        self.wait_loaded()
+
+    def wait_loaded(self) -> None:
+        """Waits until the page is loaded."""
         end = time.monotonic() + SECONDS
         while "loaded" not in self.events and time.monotonic() < end:
             self.note(self.next_message())
+        self.events.remove("loaded")
 
-    def value(self, script):
-        """What a script gives in the page."""
-        answer = self.ask("Runtime.evaluate", expression=script, returnByValue=True, awaitPromise=True)
+    def value(self, script: str) -> Any:
+        """Returns what a script gives in the page."""
+        answer = self.ask("Runtime.evaluate", expression=script, returnByValue=True,
+                          awaitPromise=True, userGesture=True)
         if "exceptionDetails" in answer:
             raise RuntimeError(str(answer["exceptionDetails"]))
         return answer["result"].get("value")
 
-    def press_tab(self):
-        """Presses the Tab key once."""
+    def press(self, key: str) -> None:
+        """Presses a key once."""
+        code = KEYS[key]
+        more = {"text": "\r" if key == "Enter" else key} if key in ("Enter", " ") else {}
         for kind in ("keyDown", "keyUp"):
-            self.ask("Input.dispatchKeyEvent", type=kind, key="Tab", code="Tab", windowsVirtualKeyCode=9)
+            self.ask("Input.dispatchKeyEvent", type=kind, key=key, code=NO_WORDS.get(key, key),
+                     windowsVirtualKeyCode=code, **(more if kind == "keyDown" else {}))
 
-    def point(self, x, y):
+    def press_tab(self) -> None:
+        """Presses the Tab key once."""
+        self.press("Tab")
+
+    def point(self, x: float, y: float) -> None:
         """Moves the pointer to a place of the window."""
         self.ask("Input.dispatchMouseEvent", type="mouseMoved", x=x, y=y)
 
-    def tap(self, x, y):
+    def click(self, x: float, y: float) -> None:
+        """Clicks at a place of the window."""
+        for kind in ("mousePressed", "mouseReleased"):
+            self.ask("Input.dispatchMouseEvent", type=kind, x=x, y=y, button="left", clickCount=1)
+
+    def tap(self, x: float, y: float) -> None:
         """Taps a place of the window with a finger."""
         self.ask("Emulation.setTouchEmulationEnabled", enabled=True)
         self.ask("Input.dispatchTouchEvent", type="touchStart", touchPoints=[{"x": x, "y": y}])
         self.ask("Input.dispatchTouchEvent", type="touchEnd", touchPoints=[])
 
-    def download(self, script, folder):
-        """The path of the one file that a script downloads to a folder. The file isn't empty."""
+    def give_files(self, selector: str, paths: list[str]) -> None:
+        """Has a reader choose files of the disk in the input of a selector."""
+        root = self.ask("DOM.getDocument")["root"]["nodeId"]
+        node = self.ask("DOM.querySelector", nodeId=root, selector=selector)["nodeId"]
+        self.ask("DOM.setFileInputFiles", nodeId=node, files=paths)
+
+    def download(self, script: str, folder: str) -> str:
+        """Returns the path of the one file that a script downloads to a folder."""
         os.makedirs(folder, exist_ok=True)
         self.ask("Browser.setDownloadBehavior", behavior="allow", downloadPath=folder)
         self.value(script)
         end = time.monotonic() + SECONDS
         while time.monotonic() < end:
-            paths = [os.path.join(folder, name) for name in os.listdir(folder) if not name.startswith(".")]
-            # (an empty file has the name until the file beside it, which is written, is renamed)
-            if len(paths) == 1 and not paths[0].endswith(".crdownload") and os.path.getsize(paths[0]):
-                return paths[0]
+            names = [name for name in os.listdir(folder)
+                     if not name.endswith(".crdownload") and not name.startswith(".")]
+            if names and os.path.getsize(path := os.path.join(folder, names[0])):
+                return path
             time.sleep(0.02)
         raise RuntimeError("nothing was downloaded")
 
-    def save_picture(self, path, is_whole=True):
+    def save_picture(self, path: str, is_whole: bool = True) -> None:
         """Stores a picture of the page."""
+        answer = self.ask("Page.captureScreenshot", captureBeyondViewport=is_whole)
         with open(path, "wb") as file:
-            file.write(base64.b64decode(self.ask("Page.captureScreenshot", captureBeyondViewport=is_whole)["data"]))
+            file.write(base64.b64decode(answer["data"]))
 
-    def save_print(self, path, width, height):
+    def save_print(self, path: str, width: float, height: float) -> None:
         """Stores the page as it is printed on paper of this size in inches."""
-        answer = self.ask("Page.printToPDF", paperWidth=width, paperHeight=height, printBackground=True)
+        answer = self.ask("Page.printToPDF", paperWidth=width, paperHeight=height,
+                          printBackground=True, preferCSSPageSize=True)
         with open(path, "wb") as file:
             file.write(base64.b64decode(answer["data"]))

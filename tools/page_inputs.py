@@ -1,4 +1,4 @@
-"""Reads what a page is made of besides a table: the list that `countygroups list` writes, and the record of a run.
+"""Reads what a page is made of besides a table: a list of groupings, and the record of a run.
 
 `docs/formats.md` has the forms of both. A text that isn't of its form is refused with one sentence.
 """
@@ -16,7 +16,7 @@ SHOWN = 60
 class ListedGroup:
     """A group of a list, with the least and the greatest number of seats that its people suit."""
 
-    codes: tuple
+    codes: tuple[str, ...]
     least: int
     most: int
     people: int
@@ -24,22 +24,24 @@ class ListedGroup:
 
 @dataclass
 class Listing:
-    """What `list` says of a problem: each region has its alternatives, and `combinations` those that are listed, or None for all."""
+    """What `list` says of a problem. Each region has its alternatives, and `combinations` those
+    that are listed, or None for all."""
 
     people: int = 0
     chamber: int = 0
-    window: tuple = (1, 20)
+    window: tuple[int, int] = (1, 20)
     seats_left: int = 0
     counties: int = 0
     number: int = 0
-    shared: list = field(default_factory=list)
-    regions: list = field(default_factory=list)
-    combinations: list = None
+    shared: list[ListedGroup] = field(default_factory=list)
+    regions: list[list[list[ListedGroup]]] = field(default_factory=list)
+    combinations: list[tuple[int, ...]] | None = None
 
 
 @dataclass(frozen=True)
 class FileLine:
-    """A file of a run: its word or option, its bytes and sum, its name, and whether it was left before its end."""
+    """A file of a run: its word or option, its bytes and sum, its name, and whether it was left
+    before its end."""
 
     option: str
     size: int
@@ -53,16 +55,16 @@ class Record:
     """The record of a run."""
 
     version: str
-    words: list
-    read: list
-    stored: list
+    words: list[str]
+    read: list[FileLine]
+    stored: list[FileLine]
     answer: str
 
 
 class Lines:
     """The lines of a text, one after the other."""
 
-    def __init__(self, what, path):
+    def __init__(self, what: str, path: str) -> None:
         self.what, self.path, self.place = what, path, 0
         try:
             with open(path, encoding="utf-8", newline="") as file:
@@ -74,26 +76,27 @@ class Lines:
         if self.lines.pop() != "":
             raise Refused(f"The {what} {path} has no end of its last line.")
 
-    def may_take(self, form):
-        """The parts of the next line, if it has this form."""
-        found = re.fullmatch(form, self.lines[self.place]) if self.place < len(self.lines) else None
+    def may_take(self, form: str) -> "re.Match[str] | None":
+        """Returns the parts of the next line, if it has this form."""
+        is_there = self.place < len(self.lines)
+        found = re.fullmatch(form, self.lines[self.place]) if is_there else None
         self.place += 1 if found else 0
         return found
 
-    def take(self, form, wanted):
-        """The parts of the next line, which has this form: `wanted` tells it in words."""
+    def take(self, form: str, wanted: str) -> "re.Match[str]":
+        """Returns the parts of the next line, which has this form: `wanted` tells it in words."""
         found = self.may_take(form)
         if not found:
             raise Refused(f"{self._said()}, where {wanted} has to stand.")
         return found
 
-    def end(self):
-        """Nothing may stand behind the last line."""
+    def end(self) -> None:
+        """Refuses what stands behind the last line."""
         if self.place != len(self.lines):
             raise Refused(f"{self._said()}, where the text has to end.")
 
-    def _said(self):
-        """What the next line says."""
+    def _said(self) -> str:
+        """Returns what the next line says."""
         if self.place == len(self.lines):
             return f"The {self.what} {self.path} ends with line {self.place}"
         line = "".join(sign if sign.isprintable() else " " for sign in self.lines[self.place])
@@ -101,8 +104,8 @@ class Lines:
         return f"Line {self.place + 1} of the {self.what} {self.path} says `{shown}`"
 
 
-def read_list(path):
-    """The list of all best groupings."""
+def read_list(path: str) -> Listing:
+    """Returns the list of all best groupings."""
     lines = Lines("list", path)
     found = Listing()
     found.people = _number(lines, "people")
@@ -122,20 +125,20 @@ def read_list(path):
     return found
 
 
-def _number(lines, word):
-    """The number of a line of a word and a number."""
+def _number(lines: Lines, word: str) -> int:
+    """Returns the number of a line of a word and a number."""
     return int(lines.take(rf"{word} ([0-9]+)", f"`{word}` with a number")[1])
 
 
-def _group(lines):
-    """A group's line."""
+def _group(lines: Lines) -> ListedGroup:
+    """Returns the group of a line."""
     found = lines.take(GROUP, "a group")
     least = int(found[1])
     return ListedGroup(tuple(found[4].split()), least, int(found[2] or least), int(found[3]))
 
 
-def _alternative(lines):
-    """The groups of an alternative."""
+def _alternative(lines: Lines) -> list[ListedGroup]:
+    """Returns the groups of an alternative."""
     lines.take(r"alternative [0-9]+", "an alternative")
     groups = [_group(lines)]
     while lines.place < len(lines.lines) and re.fullmatch(GROUP, lines.lines[lines.place]):
@@ -143,27 +146,35 @@ def _alternative(lines):
     return groups
 
 
-def _combinations(lines, found):
-    """None if each combination of alternatives is listed. Else the alternatives of each listed grouping, counted from 0."""
+def _combinations(lines: Lines, found: Listing) -> list[tuple[int, ...]] | None:
+    """Returns None if each combination of alternatives is listed, else the alternatives of each
+    listed grouping, counted from 0."""
     product = math.prod(len(region) for region in found.regions)
     if lines.may_take(r"every choice"):
         if product != found.number:
-            raise Refused(f"The list {lines.path} says every choice, and has {product} choices and {found.number} groupings.")
+            has = f"{product} choices and {found.number} groupings"
+            raise Refused(f"The list {lines.path} says every choice, and has {has}.")
         return None
     wanted = "`every choice` or the alternatives of a grouping"
-    rows = [lines.take(r"grouping [0-9]+ alternatives((?: [0-9]+)+)", wanted) for _ in range(found.number)]
-    rows = [tuple(int(word) - 1 for word in row[1].split()) for row in rows]
-    if any(len(row) != len(found.regions) or not all(0 <= one < len(region) for one, region in zip(row, found.regions)) for row in rows):
-        raise Refused(f"A grouping of the list {lines.path} names an alternative that isn't there.")
+    form = r"grouping [0-9]+ alternatives((?: [0-9]+)+)"
+    taken = [lines.take(form, wanted) for _ in range(found.number)]
+    rows = [tuple(int(word) - 1 for word in row[1].split()) for row in taken]
+    sizes = [len(region) for region in found.regions]
+    for row in rows:
+        if len(row) != len(sizes) or not all(0 <= one < size for one, size in zip(row, sizes)):
+            named = "names an alternative that isn't there"
+            raise Refused(f"A grouping of the list {lines.path} {named}.")
     return rows
 
 
-def read_record(path):
-    """The record of a run that ended with status 0."""
+def read_record(path: str) -> Record:
+    """Returns the record of a run that ended with status 0."""
     lines = Lines("record", path)
     lines.take(r"countygroups record 1", "`countygroups record 1`")
     version = lines.take(r"version (.*)", "`version`")[1]
-    words, read, stored = [], [], []
+    words: list[str] = []
+    read: list[FileLine] = []
+    stored: list[FileLine] = []
     while word := lines.may_take(r"word (.*)"):
         words.append(plain(word[1]))
     while one := lines.may_take(r"read (\S+) ([0-9]+) ([0-9a-f]{64}) (.*)"):
@@ -174,20 +185,24 @@ def read_record(path):
     answer = lines.take(r"answer (.*)", "`answer`")[1]
     lines.end()
     if status != "0":
-        raise Refused(f"The record {path} is of a run that ended with status {status}, and not with 0.")
+        ended = f"ended with status {status}, and not with 0"
+        raise Refused(f"The record {path} is of a run that {ended}.")
     return Record(plain(version), words, read, stored, plain(answer))
 
 
-def _file_line(found, words):
-    """A file that was read. ` left` behind its name isn't of the name, if the words don't name such a file."""
+def _file_line(found: "re.Match[str]", words: list[str]) -> FileLine:
+    """Returns a file that was read. ` left` behind its name isn't of the name, if the words don't
+    name such a file."""
     name = plain(found[4])
     is_named = any(word == name or word.endswith(f"={name}") for word in words)
     is_left = name.endswith(" left") and not is_named
-    return FileLine(found[1], int(found[2]), found[3], name[: -len(" left")] if is_left else name, is_left)
+    plain_name = name[: -len(" left")] if is_left else name
+    return FileLine(found[1], int(found[2]), found[3], plain_name, is_left)
 
 
-def plain(text):
-    """The text with each escaped byte as it was."""
+def plain(text: str) -> str:
+    """Returns the text with each escaped byte as it was."""
     parts = re.split(r"\\x([0-9A-F]{2})", text)
-    raw = b"".join(bytes.fromhex(part) if place % 2 else part.encode() for place, part in enumerate(parts))
+    raw = b"".join(bytes.fromhex(part) if place % 2 else part.encode()
+                   for place, part in enumerate(parts))
     return raw.decode("utf-8", "replace")

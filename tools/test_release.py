@@ -48,6 +48,13 @@ LAUNCHER = """import sys
 for name in ("countygroups.mjs", "countygroups.cmd"):
     open(f"{sys.argv[1]}/{name}", "w").close()
 """
+DESK = """import os
+os.makedirs("docs", exist_ok=True)
+open("docs/desk.html", "w").close()
+"""
+DESK_TEST = """import os
+assert os.path.exists("docs/desk.html")
+"""
 
 
 def write(path: str, text: str, is_program: bool = False) -> None:
@@ -82,6 +89,8 @@ class TestRelease(unittest.TestCase):
             shutil.copy(f"{TOOLS}/{name}", self.folder("tools"))
         write(f"{self.top}/tools/wasm.sh", WASM, True)
         write(f"{self.top}/tools/launcher.py", LAUNCHER)
+        write(f"{self.top}/tools/make_desk.py", DESK)
+        write(f"{self.top}/tools/test_desk.py", DESK_TEST)
         write(f"{self.top}/test.sh", "#!/bin/sh\n", True)
         for name in ("countygroups", "other"):
             write(f"{self.top}/crates/{name}/src/main.rt", name)
@@ -144,6 +153,7 @@ class TestRelease(unittest.TestCase):
         tree = self.run_words("git", "rev-parse", "HEAD:crates").stdout
         wanted = f"crates {tree}kit rattle-kit-0 logic 0\nproof 9 passed, 0 failed\n"
         self.assertEqual(read(f"{self.top}/dist/BUILD"), wanted)
+        self.assertTrue(os.path.exists(f"{self.top}/docs/desk.html"))
         sums = self.run_words("sh", "-c", "cd dist && sha256sum --strict -c SHA256SUMS")
         self.assertEqual(sums.returncode, 0, sums.stdout)
 

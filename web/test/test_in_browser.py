@@ -51,7 +51,7 @@ class InPage(unittest.TestCase):
         room = tempfile.TemporaryDirectory()
         cls.addClassCleanup(room.cleanup)
         cls.room = Path(room.name)
-        cls.browser = Browser()  # type: ignore[no-untyped-call]
+        cls.browser = Browser()
         cls.addClassCleanup(cls.browser.close)
         cls.open_page(page_of())
 

@@ -1,0 +1,59 @@
+#!/usr/bin/env python3
+"""Opens the desk, docs/desk.html, in a headless Chromium, and compares it with the program.
+
+usage: python3 tools/test_desk.py [--page FILE] [--program FILE] [--wasm FILE] [--pictures FOLDER]
+                                  [--only WORD]
+
+--page FILE        the page; without it docs/desk.html. If it isn't there, one is made of the next two
+--program FILE     the program that is built for this machine, whose bytes are compared
+--wasm FILE        the same for browsers; without it dist/countygroups.wasm
+--pictures FOLDER  leaves pictures of the page there: wide, narrow, dark and printed
+--only WORD        the tests whose names have the word
+
+Where no Chromium is installed, no test runs, and a line says so. Statuses: 0 all is as wanted, 1
+something isn't, 2 these words can't be run.
+"""
+import argparse
+import sys
+import unittest
+from pathlib import Path
+
+TESTS = Path(__file__).resolve().parent.parent / "web" / "desk" / "test"
+sys.path.insert(0, str(TESTS))
+
+from desk_setting import ROOM, SETTING  # noqa: E402
+
+
+def read_words() -> str:
+    """Takes the words of the command into the setting, and returns that of `--only`."""
+    parser = argparse.ArgumentParser(usage=__doc__, add_help=False)
+    parser.add_argument("--page", type=Path, default=SETTING.page)
+    parser.add_argument("--program", type=Path)
+    parser.add_argument("--wasm", type=Path, default=SETTING.wasm)
+    parser.add_argument("--pictures", type=Path)
+    parser.add_argument("--only", default="")
+    asked = parser.parse_args()
+    SETTING.page, SETTING.wasm = asked.page.resolve(), asked.wasm.resolve()
+    SETTING.program = asked.program and asked.program.resolve()
+    SETTING.pictures = asked.pictures
+    return str(asked.only)
+
+
+def main() -> int:
+    """Runs the tests."""
+    if {"-h", "--help"} & {*sys.argv[1:]}:
+        print(__doc__, end="")
+        return 0
+    word = read_words()
+    loader = unittest.TestLoader()
+    loader.testNamePatterns = [f"*{word}*"]
+    tests = loader.discover(str(TESTS), "test_*.py", str(TESTS))
+    result = unittest.TextTestRunner(verbosity=2).run(tests)
+    for what in sorted({why for _, why in result.skipped}):
+        print(f"not run: {what}")
+    ROOM.cleanup()
+    return 0 if result.wasSuccessful() else 1
+
+
+if __name__ == "__main__":
+    sys.exit(main())

@@ -1,0 +1,147 @@
+#!/usr/bin/env python3
+"""Tells which disputed borders matter: solves and lists a chamber with each added or cut alone.
+
+usage: python3 tools/what_if.py --program FILE --geo FILE --segment FILE --adjacency FILE
+           --chamber SEATS --borders FILE [--links FILE] [--withdrawn FILE] [--state CODE]
+           [--part PART --of OF] [--jobs JOBS]
+
+Each line of the borders is one of a links file: `+|CODE|CODE` adds a pair, `-|CODE|CODE` cuts one.
+Standard output is a CSV table: a line for the problem as it is, and then one for each border, with
+the number of best groupings, the number of groups that all of them share, the counts, and what
+differs from the first line. If a file can't be used, a sentence on standard error says why, and the
+status is 1.
+"""
+import argparse
+import csv
+import os
+import re
+import subprocess
+import sys
+import tempfile
+from concurrent.futures import ThreadPoolExecutor
+from dataclasses import dataclass
+from pathlib import Path
+
+HEADER = ["SIGN", "COUNTY", "NEIGHBOR", "BEST_GROUPINGS", "SHARED_GROUPS", "COUNTS", "CHANGES"]
+LINK = re.compile(r"([+-])\|([0-9]{5})\|([0-9]{5})")
+OPTIONS = ["geo", "segment", "adjacency", "chamber", "withdrawn", "state", "part", "of"]
+
+
+class Refused(Exception):
+    """Why a file or an answer can't be used, in one sentence."""
+
+
+@dataclass(frozen=True)
+class Answer:
+    """What the program says of a problem: its list, or the word that stands in its place."""
+
+    best: str
+    shared: str
+    counts: str
+    groups: frozenset[str]
+
+    def changes(self, base: "Answer") -> str:
+        """Returns what differs from `base`, or "nothing"."""
+        parts = [
+            ("counts", self.counts != base.counts),
+            ("best groupings", self.best != base.best),
+            ("shared groups", self.shared != base.shared),
+            ("groups", self.groups != base.groups),
+        ]
+        return "; ".join(name for name, differs in parts if differs) or "nothing"
+
+
+def read_borders(path: str) -> list[tuple[str, str, str]]:
+    """Returns the sign and the two codes of each line of a file of borders."""
+    try:
+        lines = Path(path).read_text(encoding="utf-8").split("\n")
+    except (OSError, UnicodeDecodeError) as fault:
+        raise Refused(f"The borders {path} can't be read: {fault}.") from fault
+    found = []
+    for number, line in enumerate(lines, 1):
+        if not line.strip():
+            continue
+        link = LINK.fullmatch(line.strip())
+        if not link:
+            raise Refused(f"Line {number} of the borders {path} isn't `+` or `-` and two codes.")
+        found.append((link[1], link[2], link[3]))
+    return found
+
+
+def line_of(text: str, word: str) -> str:
+    """Returns what stands behind `word` in the first line of `text` that begins with it."""
+    found = re.search(rf"^{word} (.*)$", text, re.M)
+    return found[1] if found else ""
+
+
+class Runs:
+    """Runs of the program over one problem with different links."""
+
+    def __init__(self, words: argparse.Namespace) -> None:
+        given = vars(words)
+        self.program = str(Path(words.program).resolve())
+        self.problem = [part for name in OPTIONS if given[name] is not None
+                        for part in (f"--{name}", str(given[name]))]
+        self.links = Path(words.links).read_text(encoding="utf-8") if words.links else ""
+
+    def run(self, command: str, words: list[str]) -> tuple[int, str]:
+        """Returns the status and the text of one run."""
+        run = subprocess.run([self.program, command, *words], capture_output=True, check=False)
+        if run.returncode not in (0, 1, 3):
+            told = run.stderr.decode(errors="replace").strip() or run.stdout.decode().strip()
+            raise Refused(f"The program ended with status {run.returncode}: {told}")
+        return run.returncode, run.stdout.decode()
+
+    def answer(self, link: str) -> Answer:
+        """Returns the answer with one more line of links."""
+        with tempfile.TemporaryDirectory() as room:
+            links, certificate = os.path.join(room, "links"), os.path.join(room, "certificate")
+            Path(links).write_text(self.links + link, encoding="utf-8")
+            problem = [*self.problem, *(["--links", links] if self.links + link else [])]
+            status, report = self.run("solve", [*problem, "--certificate", certificate])
+            if status != 0:
+                return Answer("", "", line_of(report, "answer"), frozenset())
+            status, listed = self.run("list", [*problem, "--certificate", certificate])
+            groups = frozenset(re.findall(r"^group .*$", listed, re.M))
+            best, shared = line_of(listed, "best groupings"), line_of(listed, "shared groups")
+            return Answer(best, shared, line_of(report, "counts"), groups)
+
+
+def arguments(words: list[str]) -> argparse.Namespace:
+    """Returns the words of the command."""
+    parser = argparse.ArgumentParser(usage=argparse.SUPPRESS, description=__doc__,
+                                     formatter_class=argparse.RawDescriptionHelpFormatter)
+    for name in ["program", "geo", "segment", "adjacency", "chamber", "borders"]:
+        parser.add_argument(f"--{name}", required=True)
+    for name in ["links", "withdrawn", "state", "part", "of"]:
+        parser.add_argument(f"--{name}")
+    parser.add_argument("--jobs", type=int, default=os.cpu_count() or 1)
+    return parser.parse_args(words)
+
+
+def main(words: list[str]) -> int:
+    """Prints the table. 1 if a file can't be used, 2 if the words are others."""
+    given = arguments(words)
+    try:
+        borders, runs = read_borders(given.borders), Runs(given)
+        links = [""] + [f"{'|'.join(border)}\n" for border in borders]
+        answers: list[Answer] = []
+        with ThreadPoolExecutor(max(1, given.jobs)) as pool:
+            for answer in pool.map(runs.answer, links):
+                answers.append(answer)
+                told = f"\rwhat_if.py: {len(answers)} of {len(links)} problems solved"
+                print(told, end="", file=sys.stderr, flush=True)
+        print(file=sys.stderr)
+    except (Refused, OSError) as fault:
+        print(f"what_if.py: {fault}", file=sys.stderr)
+        return 1
+    table = csv.writer(sys.stdout, lineterminator="\n")
+    table.writerow(HEADER)
+    for border, answer in zip([("", "", ""), *borders], answers):
+        changes = answer.changes(answers[0])
+        table.writerow([*border, answer.best, answer.shared, answer.counts, changes])
+    return 0
+
+
+if __name__ == "__main__":
+    sys.exit(main(sys.argv[1:]))

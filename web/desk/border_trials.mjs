@@ -1,0 +1,118 @@
+// Which borders matter: what becomes of the answer if one border in dispute is changed alone.
+
+import { pairCodes, startWhatIf } from "./what_if.mjs";
+import { rowsOf } from "./tables.mjs";
+import { counted } from "./words.mjs";
+
+/** @typedef {import("./desk.mjs").Desk} Desk */
+/** @typedef {import("./answers.mjs").Answer} Answer */
+/** @typedef {import("./disputed.mjs").Disputed} Disputed */
+/** @typedef {import("./what_if.mjs").WhatIf} WhatIf */
+/** @typedef {import("./what_if.mjs").Outcome} Outcome */
+/**
+ * What becomes of the answer for each link: nothing, if the words are empty.
+ * @typedef {Map<string, string>} Trials
+ */
+
+const WORKERS = 2;
+
+/**
+ * Returns what a table of `tools/what_if.py` says of each link.
+ * @param {string} table
+ * @returns {Trials}
+ */
+export function storedTrials(table) {
+  const [base, ...rows] = rowsOf(table, ",").slice(1);
+  /** @type {Trials} */
+  const trials = new Map();
+  for (const [sign, one, other, best, , counts, changes] of rows) {
+    const words = changes === "nothing" ? "" : changeWords(
+      { best: base[3], counts: base[5] }, { best, counts });
+    trials.set(`${sign}|${one}|${other}`, words);
+  }
+  return trials;
+}
+
+/**
+ * Returns in a few words how an answer differs from the base answer.
+ * @param {{best: string, counts: string}} base
+ * @param {{best: string, counts: string}} other
+ */
+function changeWords(base, other) {
+  if (!other.best) return "no lawful grouping";
+  if (other.counts !== base.counts) return "better groups";
+  if (other.best !== base.best) return `${other.best} best instead of ${base.best}`;
+  return "other groups";
+}
+
+/**
+ * Returns what an outcome says, to be compared.
+ * @param {Outcome} outcome
+ */
+function factsOf({ answer, report }) {
+  const groups = answer ? answer.groups.map((group) => group.codes.join(" ")).sort().join("|") : "";
+  return { best: answer ? String(answer.number) : "", counts: report.counts.join(" "), groups };
+}
+
+/**
+ * Tries each disputed border alone, on top of a what-if without changed borders, and tells of each.
+ * @param {Desk} desk
+ * @param {Answer} base
+ * @param {WhatIf} whatIf
+ * @param {Disputed[]} disputed
+ * @param {import("./program.mjs").Files} files
+ * @param {(done: number, trials: Trials) => void} onTrial
+ * @returns {{finished: Promise<Trials>, stop: () => void}}
+ */
+export function startTrials(desk, base, whatIf, disputed, files, onTrial) {
+  const plain = { ...whatIf, added: new Set(), cut: new Set() };
+  /** @type {Trials} */
+  const trials = new Map();
+  /** @type {Set<() => void>} */
+  const stops = new Set();
+  let isStopped = false;
+  const solve = async (/** @type {WhatIf} */ one) => {
+    const { outcome, stop } = await startWhatIf(desk, base, one, files, () => {});
+    stops.add(stop);
+    if (isStopped) stop();
+    return outcome.then(factsOf).finally(() => stops.delete(stop));
+  };
+  const tryOne = async (/** @type {Disputed} */ { pair, kind, link },
+    /** @type {ReturnType<typeof factsOf>} */ first) => {
+    const codes = new Set([pairCodes(desk.geography, pair)]);
+    const changed = kind === "point" ? { ...plain, added: codes } : { ...plain, cut: codes };
+    const facts = await solve(changed);
+    const isSame = facts.groups === first.groups && facts.best === first.best
+      && facts.counts === first.counts;
+    trials.set(link, isSame ? "" : changeWords(first, facts));
+    onTrial(trials.size, trials);
+  };
+  const all = async () => {
+    const first = await solve(plain);
+    const left = [...disputed];
+    const work = async () => {
+      for (let next = left.shift(); next && !isStopped; next = left.shift()) {
+        await tryOne(next, first);
+      }
+    };
+    await Promise.all(Array.from({ length: WORKERS }, work));
+    return trials;
+  };
+  const stop = () => {
+    isStopped = true;
+    stops.forEach((one) => one());
+  };
+  return { finished: all(), stop };
+}
+
+/**
+ * Returns how many borders matter, in a sentence.
+ * @param {Trials} trials
+ */
+export function trialsWords(trials) {
+  const matter = [...trials.values()].filter(Boolean).length;
+  const rest = matter === 1 ? "it changes" : "they change";
+  if (!matter) return `Each of ${counted(trials.size, "border")} was tried alone: none matters.`;
+  return `Each of ${counted(trials.size, "border")} was tried alone: ${matter} `
+    + `${matter === 1 ? "matters" : "matter"}, ${rest} the list of best groupings.`;
+}

@@ -1,0 +1,291 @@
+// The third part of the files: a reader's plan, audited against a grouping.
+
+import { stripSvg } from "./answer_parts.mjs";
+import { choicesOf, groupingText, groupsOf } from "./answers.mjs";
+import { planOf, planTable } from "./block_plan.mjs";
+import { districtsOf } from "./districts.mjs";
+import { find, findInput, stepList, verdictHtml } from "./dom.mjs";
+import { faultsByDistrict, findingKinds } from "./findings_words.mjs";
+import { placesOf } from "./geography.mjs";
+import { groupName } from "./group_words.mjs";
+import { givenGroupingText } from "./grouping_view.mjs";
+import { PROBLEM_FILES, startProgram, wasStopped, whyNoProgram, withFile } from "./program.mjs";
+import { readFindings, readGrouping } from "./program_texts.mjs";
+import { lastSolved } from "./solve_files.mjs";
+import { shownOption } from "./view_state.mjs";
+import {
+  andList, capital, counted, countedInWords, escapeHtml, numberText, signedPercent,
+} from "./words.mjs";
+
+/** @typedef {import("./desk.mjs").Desk} Desk */
+/** @typedef {import("./view_state.mjs").ViewState} ViewState */
+/** @typedef {import("./given_files.mjs").Given} Given */
+/** @typedef {import("./block_plan.mjs").PlanTable} PlanTable */
+/** @typedef {import("./block_plan.mjs").Plan} Plan */
+/** @typedef {import("./geography.mjs").Geography} Geography */
+/** @typedef {import("./findings_words.mjs").Against} Against */
+/** @typedef {import("./program_texts.mjs").Finding} Finding */
+/**
+ * A grouping that a plan can be compared with.
+ * @typedef {{key: string, words: string, text: string, seats: number, geography: Geography,
+ *   allowance: [number, number]}} Choice
+ */
+
+const MANY_DISTRICTS = 1000;
+
+/** @type {PlanTable | null} */
+let table = null;
+
+/**
+ * Returns the groupings that a plan can be compared with.
+ * @param {Desk} desk
+ * @param {ViewState} state
+ * @returns {Choice[]}
+ */
+function choicesFor(desk, state) {
+  const { geography } = desk;
+  const choices = desk.answers.map((answer) => {
+    const option = shownOption(state, answer.key);
+    const text = groupingText(geography, groupsOf(answer, choicesOf(answer, option)));
+    const words = `${answer.name}, option ${option}`;
+    const { seats, allowance } = answer;
+    return { key: answer.key, words, text, seats, geography, allowance };
+  });
+  for (const answer of desk.answers) {
+    const text = givenGroupingText(desk, answer.seats);
+    const { seats, allowance } = answer;
+    const words = `Your grouping above, of ${seats} seats`;
+    const total = text ? readGrouping(text).reduce((sum, one) => sum + one.seats, 0) : 0;
+    const key = `own-${seats}`;
+    if (text && total === seats) choices.push({ key, words, text, seats, geography, allowance });
+  }
+  const solved = lastSolved();
+  if (solved) {
+    const { answer } = solved;
+    const text = groupingText(solved.geography, groupsOf(answer, answer.first));
+    const words = `${solved.geography.name}, solved above`;
+    const { seats, allowance } = answer;
+    choices.push({ key: "solved", words, text, seats, geography: solved.geography, allowance });
+  }
+  return choices;
+}
+
+/**
+ * Draws the part.
+ * @param {Desk} desk
+ * @param {ViewState} state
+ * @param {Given} given
+ */
+export function paintPlan(desk, state, given) {
+  const select = findInput("#plan-against");
+  const before = select.value;
+  const choices = choicesFor(desk, state);
+  select.innerHTML = choices.map(({ key, words }) => (
+    `<option value="${key}">${escapeHtml(words)}</option>`)).join("");
+  if (choices.some((one) => one.key === before)) select.value = before;
+  findInput("#audit").disabled = !table || whyNoProgram() !== null;
+  const missing = /** @type {const} */ (["geo", "segment", "adjacency"]).filter(
+    (kind) => !given.has(kind));
+  if (!table || !missing.length) return;
+  find("#audit-result").innerHTML = '<p class="note">Drop the state’s whole Census files above, '
+    + 'too: '
+    + "the geographic header and the counts with their blocks, and the file of borders.</p>";
+}
+
+/**
+ * Reads a block assignment file, and offers its columns.
+ * @param {Desk} desk
+ * @param {ViewState} state
+ * @param {File} file
+ * @param {Given} given
+ */
+export async function takePlan(desk, state, file, given) {
+  table = null;
+  find("#plan-columns").hidden = true;
+  const found = await planTable(file);
+  table = found;
+  find("#plan-zone").classList.add("has-file");
+  find("#plan-zone small").textContent = `${file.name}, ${counted(found.rows.length, "line")}`;
+  const options = found.header.map((name, at) => (
+    `<option value="${at}">${escapeHtml(name || `Column ${at + 1}`)}</option>`)).join("");
+  for (const id of ["#block-column", "#district-column"]) find(id).innerHTML = options;
+  findInput("#block-column").value = String(found.block);
+  findInput("#district-column").value = String(found.district);
+  find("#plan-columns").hidden = false;
+  find("#audit-result").innerHTML = "";
+  paintPlan(desk, state, given);
+  const labels = new Set(found.rows.map((row) => row[found.district]));
+  const likely = choicesFor(desk, state).find((one) => one.seats === labels.size);
+  if (likely) findInput("#plan-against").value = likely.key;
+}
+
+/**
+ * Audits the plan, and shows what was found.
+ * @param {Desk} desk
+ * @param {ViewState} state
+ * @param {Given} given
+ */
+async function audit(desk, state, given) {
+  const result = find("#audit-result");
+  const steps = stepList(find("#audit-steps"));
+  const choice = choicesFor(desk, state).find((one) => (
+    one.key === findInput("#plan-against").value));
+  result.innerHTML = "";
+  if (!table || !choice) return;
+  findInput("#audit").disabled = true;
+  try {
+    result.innerHTML = await audited(given, choice, steps);
+  } catch (fault) {
+    const words = wasStopped(fault) ? "It was stopped."
+      : fault instanceof Error ? fault.message : String(fault);
+    result.innerHTML = verdictHtml(false, "The plan can’t be audited.", escapeHtml(words));
+  }
+  findInput("#audit").disabled = false;
+}
+
+/**
+ * Returns what an audit finds, as HTML.
+ * @param {Given} given
+ * @param {Choice} choice
+ * @param {ReturnType<typeof stepList>} steps
+ */
+async function audited(given, choice, steps) {
+  const [geo, segment, adjacency] = /** @type {const} */ (["geo", "segment", "adjacency"]).map(
+    (kind) => given.get(kind));
+  if (!geo || !segment || !adjacency) {
+    throw new Error("Drop the state’s Census files above first: the geographic header and the "
+      + "counts with their blocks, and the file of borders.");
+  }
+  let step = steps.begin("Reading the plan");
+  const chosen = {
+    .../** @type {PlanTable} */ (table), block: Number(findInput("#block-column").value),
+    district: Number(findInput("#district-column").value),
+  };
+  const plan = planOf(chosen, choice.geography.code);
+  if (plan.districts.size > MANY_DISTRICTS) {
+    throw new Error(`The column “${chosen.header[chosen.district]}” has ${plan.districts.size} `
+      + "different districts: choose the column of districts.");
+  }
+  step.end(true, `Read ${counted(plan.blocks, "block")} of the plan. ${plan.note}`);
+  step = steps.begin("Comparing the plan with the groups");
+  const findings = await findingsOf({ geo, segment, adjacency }, choice, plan, step);
+  step.end(true, `Compared: ${counted(findings.length, "finding")}`);
+  step = steps.begin("Counting the people of each district");
+  const districts = await districtsOf(geo, segment, plan.lines);
+  step.end(true, `Counted the people of ${counted(districts.length, "district")}`);
+  return findingsHtml(choice, findings, districts);
+}
+
+/**
+ * Returns the findings of the program. Throws a sentence if it refuses a file.
+ * @param {{geo: File, segment: File, adjacency: File}} census
+ * @param {Choice} choice
+ * @param {Plan} plan
+ * @param {ReturnType<ReturnType<typeof stepList>["begin"]>} step
+ * @returns {Promise<Finding[]>}
+ */
+async function findingsOf(census, choice, plan, step) {
+  /** @type {Map<string, Blob>} */
+  let files = new Map(Object.entries(census));
+  files = withFile(files, "grouping", choice.text);
+  files = withFile(files, "plan", plan.lines);
+  const words = ["audit", ...PROBLEM_FILES, "--chamber", String(choice.seats), "--state",
+    String(Number(choice.geography.code)), "--grouping", "grouping", "--assignments", "plan"];
+  const [part, whole] = choice.allowance;
+  if (part !== 1 || whole !== 20) words.push("--part", String(part), "--of", String(whole));
+  const { result, stop } = await startProgram(words, files, (line) => step.tell(line));
+  const button = find("#stop-audit");
+  button.hidden = false;
+  button.onclick = stop;
+  const run = await result.finally(() => {
+    button.hidden = true;
+  });
+  if (run.status === 0 || run.status === 1) return readFindings(run.output);
+  step.end(false, "A file was refused");
+  if (/NoBlocks/.test(run.output)) {
+    throw new Error("The geographic header has no blocks: it is an extract. Take the state’s whole "
+      + "files, from the Census Bureau’s zip.");
+  }
+  throw new Error((run.errors || run.output).trim().split("\n").slice(0, 3).join(" "));
+}
+
+/**
+ * Returns findings by kind, and the table of districts, faults first.
+ * @param {Choice} choice
+ * @param {Finding[]} findings
+ * @param {import("./districts.mjs").District[]} districts
+ */
+function findingsHtml(choice, findings, districts) {
+  const grouping = findings.find((one) => one.kind === "Grouping");
+  if (grouping) {
+    return verdictHtml(false, "The grouping isn’t lawful.", `So no plan can be compared with it: `
+      + `<code>${escapeHtml(grouping.words.join(" "))}</code>`);
+  }
+  const groups = readGrouping(choice.text).map(({ seats, codes }) => (
+    { seats, counties: placesOf(choice.geography, codes) }));
+  const nameOf = (/** @type {string} */ code) => {
+    const place = choice.geography.placeOf.get(code);
+    return place === undefined ? `the county ${code}` : choice.geography.counties[place].name;
+  };
+  /** @type {Against} */
+  const against = {
+    geography: choice.geography, groups, chamber: choice.seats, allowance: choice.allowance,
+    countyWords: nameOf,
+  };
+  const kinds = findingKinds(against, findings).map(({ count, name, told }) => (
+    `<div class="${count ? "some" : ""}"><b>${numberText(count)}</b>${name}`
+    + `${told ? `<br><span class="note">${escapeHtml(told)}</span>` : ""}</div>`));
+  const head = findings.length ? `${capital(countedInWords(findings.length, "finding"))}.`
+    : "Nothing was found.";
+  const more = findings.length ? `The plan was compared with ${escapeHtml(choice.words)}.`
+    : `The plan keeps to the groups of ${escapeHtml(choice.words)}.`;
+  return verdictHtml(!findings.length, head, more) + `<div class="kinds">${kinds.join("")}</div>`
+    + districtTable(choice, findings, districts, groups)
+    + '<p class="note">The findings are the program’s. The people of each district are counted by '
+    + 'this '
+    + "page, which no proof speaks of.</p>";
+}
+
+/**
+ * Returns the table of districts.
+ * @param {Choice} choice
+ * @param {Finding[]} findings
+ * @param {import("./districts.mjs").District[]} districts
+ * @param {{seats: number, counties: number[]}[]} groups
+ */
+function districtTable(choice, findings, districts, groups) {
+  const { geography, seats, allowance: [part, whole] } = choice;
+  const faults = faultsByDistrict(findings);
+  const groupsWith = (/** @type {Set<string>} */ counties) => {
+    const places = placesOf(geography, [...counties]);
+    return groups.filter((group) => places.some((place) => group.counties.includes(place)));
+  };
+  const ordered = [...districts].sort((one, other) => (
+    (faults.get(other.label)?.length ?? 0) - (faults.get(one.label)?.length ?? 0)));
+  const rows = ordered.map(({ label, people, counties }) => {
+    const off = (people * seats) / geography.total - 1;
+    const fault = faults.get(label) ?? [];
+    const names = andList(groupsWith(counties).map((group) => groupName(geography, group)));
+    return `<tr><td class="number"><b>${escapeHtml(label)}</b></td><td>${escapeHtml(names)}</td>`
+      + `<td class="number people">${numberText(people)}</td>`
+      + `<td class="number deviation">${signedPercent(off)}</td>`
+      + `<td class="strip-cell">${stripSvg(off, part / whole || 0.0001, fault.length > 0)}</td>`
+      + `<td class="fault">${escapeHtml(fault.join(", "))}</td></tr>`;
+  });
+  return `<details class="fold" open><summary>All ${districts.length} districts</summary><div `
+    + 'class="scrolls"><table class="groups"><thead><tr><th '
+    + 'class="number">District</th><th>Group</th><th class="number">People</th><th '
+    + 'class="number">From the ideal (percent)</th><th></th>'
+    + `<th>Finding</th></tr></thead><tbody>${rows.join("")}</tbody></table></div></details>`;
+}
+
+/**
+ * Follows the controls of the part.
+ * @param {Desk} desk
+ * @param {ViewState} state
+ * @param {Given} given
+ */
+export function followPlan(desk, state, given) {
+  find("#audit").addEventListener("click", () => audit(desk, state, given));
+  find("#plan-against").addEventListener("focus", () => paintPlan(desk, state, given));
+}

@@ -1,0 +1,405 @@
+// The second view: checks the certificate that the page carries, in front of the reader.
+
+import { peopleOf, placesOf, setKey } from "./geography.mjs";
+import { answerFor, chamberWords } from "./desk.mjs";
+import { chamberButtons, find, findInput, stepList, verdictHtml } from "./dom.mjs";
+import { problemWords } from "./problem.mjs";
+import {
+  carriedFiles, compiledProgram, hasProgram, runProgram, storedFile, sumOf,
+  whyNoProgram, withFile,
+} from "./program.mjs";
+import { readList } from "./program_texts.mjs";
+import { shownOption } from "./view_state.mjs";
+import { escapeHtml, numberText } from "./words.mjs";
+
+/** @typedef {import("./desk.mjs").Desk} Desk */
+/** @typedef {import("./answers.mjs").Answer} Answer */
+/** @typedef {import("./view_state.mjs").ViewState} ViewState */
+/** @typedef {ReturnType<typeof stepList>} Steps */
+
+const PAUSE = 60;
+const SHOWN_LINES = 400;
+const LONGEST_LINE = 150;
+
+/** A reason to end the check, in words for the reader. */
+class Refusal extends Error {}
+
+/** Lets the page draw a step before the next one begins. */
+function pause() {
+  return new Promise((resolve) => setTimeout(resolve, PAUSE));
+}
+
+/**
+ * Returns the carried files of a chamber's problem, each with its sum compared: with the page's own
+ * list, and with the record of the run that the page was made of.
+ * @param {Desk} desk
+ * @param {string} key  that of the chamber
+ */
+async function comparedFiles(desk, key) {
+  const names = ["geo", "segment", "adjacency", "links", "withdrawn", `${key}.certificate`];
+  const record = desk.records.get(key);
+  const recorded = new Map([...(record?.read ?? []), ...(record?.stored ?? [])].map((file) => (
+    [file.option, file.sum])));
+  /** @type {Map<string, Uint8Array>} */
+  const files = new Map();
+  for (const name of names.filter((one) => one in carriedFiles())) {
+    const { name: told, sum } = carriedFiles()[name];
+    const bytes = await storedFile(name).catch(() => null);
+    if (!bytes) throw new Refusal(`${told} can’t be unpacked: its bytes were changed.`);
+    const option = name === "segment" ? "segment1" : name.replace(/^.*\./, "");
+    const known = [sum, recorded.get(option) ?? sum];
+    const own = await sumOf(bytes);
+    if (known.some((one) => one !== own)) {
+      throw new Refusal(`${told} isn’t the file that the page was made with: its sum is another.`);
+    }
+    files.set(name, bytes);
+  }
+  return files;
+}
+
+/**
+ * Returns a certificate with one more seat in a group of its target, and the number of the line.
+ * @param {Uint8Array} bytes
+ */
+function spoiled(bytes) {
+  const lines = new TextDecoder().decode(bytes).split("\n");
+  const targets = lines.map((line, at) => (/^group \d+ \d/.test(line) ? at : -1));
+  const places = targets.filter((at) => at >= 0);
+  const at = places[Math.floor(Math.random() * places.length)];
+  lines[at] = lines[at].replace(/^group (\d+)/, (_, seats) => `group ${Number(seats) + 1}`);
+  return { bytes: new TextEncoder().encode(lines.join("\n")), line: at + 1, text: lines[at] };
+}
+
+/**
+ * Checks a chamber's certificate step by step, and writes the verdict.
+ * @param {Desk} desk
+ * @param {ViewState} state
+ * @param {boolean} isSpoiled
+ */
+async function check(desk, state, isSpoiled) {
+  const answer = answerFor(desk, state.chamber);
+  const steps = stepList(find("#check-steps"));
+  const verdict = find("#check-verdict");
+  verdict.innerHTML = "";
+  for (const id of ["#check", "#spoil"]) findInput(id).disabled = true;
+  try {
+    verdict.innerHTML = await checked(desk, answer, steps, isSpoiled);
+  } catch (fault) {
+    const reason = whyNoProgram();
+    if (fault instanceof Refusal) verdict.innerHTML = verdictHtml(false, "No.", fault.message);
+    else verdict.innerHTML = verdictHtml(
+      false, "The check could not run.", escapeHtml(reason ?? String(fault)));
+  }
+  for (const id of ["#check", "#spoil"]) findInput(id).disabled = whyNoProgram() !== null;
+}
+
+/**
+ * Returns the verdict on a chamber's certificate.
+ * @param {Desk} desk
+ * @param {Answer} answer
+ * @param {Steps} steps
+ * @param {boolean} isSpoiled
+ */
+async function checked(desk, answer, steps, isSpoiled) {
+  let step = steps.begin("Getting the checker ready");
+  await pause();
+  await readyProgram(step);
+  step = steps.begin("Comparing the sums of the files");
+  await pause();
+  const files = await comparedFiles(desk, answer.key).catch((fault) => {
+    step.end(false);
+    throw fault;
+  });
+  step.end(true, `The ${files.size} files have the sums listed below`);
+  const certificateKey = `${answer.key}.certificate`;
+  let certificate = /** @type {Uint8Array} */ (files.get(certificateKey));
+  if (isSpoiled) {
+    const { bytes, line, text } = spoiled(certificate);
+    certificate = bytes;
+    const shown = text.length > 40 ? `${text.slice(0, 40)} …` : text;
+    const says = `<code>${escapeHtml(shown)}</code>`;
+    steps.begin("").end(false, `Spoiled line ${line}: it now says ${says}`);
+  }
+  files.delete(certificateKey);
+  const blobs = new Map([...files].map(([name, bytes]) => [name, new Blob([bytes])]));
+  const all = withFile(blobs, "certificate", certificate);
+  return runChecks(desk, answer, steps, all, certificate, isSpoiled);
+}
+
+/**
+ * Compares the program's sum and compiles it.
+ * @param {ReturnType<Steps["begin"]>} step
+ */
+async function readyProgram(step) {
+  const { sum, bytes } = carriedFiles().program ?? { sum: "", bytes: 0 };
+  if (!hasProgram()) throw new Error("no program");
+  const module = await storedFile("program").catch(() => null);
+  if (!module || await sumOf(module) !== sum) {
+    step.end(false);
+    throw new Refusal("The program in this page was changed: its sum is another.");
+  }
+  await compiledProgram();
+  step.end(true, `The checker is ready (${(bytes / 1e6).toFixed(1)} MB)`);
+}
+
+/**
+ * Runs `check` and `list`, and compares the list with the page's data.
+ * @param {Desk} desk
+ * @param {Answer} answer
+ * @param {Steps} steps
+ * @param {import("./program.mjs").Files} files
+ * @param {Uint8Array} certificate
+ * @param {boolean} isSpoiled
+ */
+async function runChecks(desk, answer, steps, files, certificate, isSpoiled) {
+  const lines = certificate.reduce((sum, byte) => sum + (byte === 10 ? 1 : 0), 0);
+  const words = [...problemWords(desk, answer), "--certificate", "certificate"];
+  let step = steps.begin(`Checking ${numberText(lines)} lines, one by one`);
+  const start = performance.now();
+  const run = await runProgram(["check", ...words], files, (line) => (
+    step.tell(line.replace(/^countygroups: /, ""))));
+  const seconds = ((performance.now() - start) / 1000).toFixed(2);
+  if (run.status !== 0) {
+    step.end(false, "Stopped at a line that is wrong");
+    const told = escapeHtml(run.output.trim() || `status ${run.status}`);
+    const intact = isSpoiled
+      ? " So it does read the lines. The certificate that the page carries is untouched." : "";
+    const answered = `Its answer was <code>${told}</code>.${intact}`;
+    return verdictHtml(false, "The checker says no.", answered);
+  }
+  step.end(true, `Checked ${numberText(lines)} lines, one by one`);
+  step = steps.begin("Listing every best grouping, and comparing with the map");
+  const listed = await runProgram(["list", ...words], files);
+  const isSame = listed.status === 0 && showsTheSame(desk, answer, listed.output);
+  step.end(isSame, isSame
+    ? `The page shows the same ${numberText(answer.number)} groupings that the program lists`
+    : "The page shows other groupings than the program lists");
+  if (!isSame) {
+    return verdictHtml(false, "No.", "The certificate is good, and the page’s map shows other "
+      + "groupings than it proves: the page was changed.");
+  }
+  const best = answer.number === 1 ? "the one" : `the ${numberText(answer.number)}`;
+  return verdictHtml(true, "The certificate proves it.", `By these files, no lawful grouping of `
+    + `${chamberWords(answer)} is better than ${best} on this page, and no other is as good. `
+    + `Checked in this browser in ${seconds} seconds.`);
+}
+
+/**
+ * Returns whether the page has exactly the groups and options of a list, with the same people.
+ * @param {Desk} desk
+ * @param {Answer} answer
+ * @param {string} text
+ */
+function showsTheSame(desk, answer, text) {
+  const { geography } = desk;
+  const listing = readList(text);
+  const words = (/** @type {number} */ least, /** @type {number} */ most,
+    /** @type {number} */ people, /** @type {number[]} */ counties) => (
+    `${least} ${most} ${people} ${setKey(counties)}`);
+  const setsOf = (/** @type {import("./program_texts.mjs").ListedGroup[]} */ groups) => (
+    groups.map(({ least, most, people, codes }) => (
+      words(least, most, people, placesOf(geography, codes)))).sort().join("|"));
+  const known = (/** @type {number[]} */ ids) => ids.map((id) => answer.groups[id]).map((group) => (
+    words(group.least, group.most, peopleOf(geography, group.counties), group.counties)))
+    .sort().join("|");
+  const theirs = listing.regions.map((region) => region.map(setsOf).sort().join("||")).sort();
+  const mine = answer.areas.map((area) => area.choices.map(known).sort().join("||")).sort();
+  return listing.number === answer.number && listing.people === geography.total
+    && setsOf(listing.shared) === known(answer.shared) && theirs.join("|||") === mine.join("|||");
+}
+
+/**
+ * Draws the view.
+ * @param {Desk} desk
+ * @param {ViewState} state
+ */
+export async function paintProof(desk, state) {
+  const answer = answerFor(desk, state.chamber);
+  document.title = `Check the proof: county groups of ${desk.geography.name}`;
+  const buttons = find("#proof-chambers");
+  buttons.innerHTML = chamberButtons(desk.answers, answer.key);
+  buttons.hidden = desk.answers.length < 2;
+  find("#check").textContent = `Check ${chamberWords(answer)}`;
+  find("#check-steps").innerHTML = "";
+  const reason = whyNoProgram();
+  find("#check-verdict").innerHTML = reason ? `<p class="note">${escapeHtml(reason)}</p>` : "";
+  for (const id of ["#check", "#spoil"]) findInput(id).disabled = reason !== null;
+  find("#what-checked").innerHTML = whatIsChecked(desk, answer);
+  find("#by-what").innerHTML = byWhat(desk);
+  find("#sums").innerHTML = sumsTable();
+  find("#commands").innerHTML = commandsHtml(desk, answer, shownOption(state, answer.key));
+  find("#run").innerHTML = runHtml(desk, answer);
+  if (!reason) compiledProgram().catch(() => null);
+  await paintCertificate(answer);
+}
+
+/**
+ * Returns what is checked, as items of a list.
+ * @param {Desk} desk
+ * @param {Answer} answer
+ */
+function whatIsChecked(desk, answer) {
+  const counties = desk.geography.counties.length
+    - answer.taken.reduce((sum, set) => sum + set.counties.length, 0);
+  const all = answer.number === 1 ? "The grouping here is the only one."
+    : `The ${numberText(answer.number)} groupings here are all there are.`;
+  return [
+    `Each of the ${counties} counties is in one group, each group is connected, and its people `
+      + "suit its seats.",
+    `The seats add up to ${answer.seatsLeft}.`,
+    "No lawful grouping has more groups of one county; or as many, and more of two; and so on.",
+    all,
+  ].map((item) => `<li>${item}</li>`).join("");
+}
+
+/**
+ * Returns by what it is checked, as items of a list.
+ * @param {Desk} desk
+ */
+function byWhat(desk) {
+  const { isProved } = desk.data.build;
+  const proved = isProved === null
+    ? "If its build was proved, it says “best” only of a grouping that is best." : isProved
+    ? "It is proved itself: it says “best” only of a grouping that is best."
+    : "<b>This copy was built without proof.</b> A proved build says “best” only of a grouping "
+      + "that is best.";
+  const sum = carriedFiles().program?.sum;
+  const copy = sum
+    ? `The copy in this page has the sum <code>${sum}</code>. `
+      + "Compare it with the line of <code>countygroups.wasm</code> in "
+      + "<code>dist/SHA256SUMS</code>. "
+    : "";
+  return [
+    "By <code>countygroups check</code>, which trusts nothing of the program that found the "
+      + `grouping. ${proved}`,
+    `${copy}It was compiled for browsers, and that step is no part of the proof.`,
+    "If you’d rather not trust it: <code>tools/check.py</code> is one file of plain Python that "
+      + "shares no line with it.",
+  ].map((item) => `<li>${item}</li>`).join("");
+}
+
+/** Returns the table of the files that the page carries. */
+function sumsTable() {
+  const rows = Object.values(carriedFiles()).map(({ name, bytes, sum }) => (
+    `<tr><td>${escapeHtml(name)}</td><td class="number">${numberText(bytes)}</td>`
+    + `<td><code>${sum}</code></td></tr>`));
+  return '<table><thead><tr><th>File</th><th class="number">Bytes</th><th>SHA-256</th></tr></thead>'
+    + `<tbody>${rows.join("")}</tbody></table>`;
+}
+
+const PROBLEM_OPTIONS = [
+  "--geo", "--segment", "--state", "--chamber", "--part", "--of", "--adjacency", "--links",
+  "--withdrawn",
+];
+
+/**
+ * Returns a word as a shell takes it.
+ * @param {string} word
+ */
+function quoted(word) {
+  return /^[\w@%+=:,./-]+$/.test(word) ? word : `'${word.replace(/'/g, "'\\''")}'`;
+}
+
+/**
+ * Returns the options of a run that name its problem, as words of a command.
+ * @param {string[]} words
+ */
+function problemOf(words) {
+  /** @type {string[]} */
+  const found = [];
+  words.forEach((word, at) => {
+    const [option, value] = word.split(/=(.*)/s);
+    if (!PROBLEM_OPTIONS.includes(option)) return;
+    found.push(`${option} ${quoted(value ?? words[at + 1] ?? "")}`);
+  });
+  return found.join(" \\\n    ");
+}
+
+/**
+ * Returns the commands by which anybody checks the answer on their own machine.
+ * @param {Desk} desk
+ * @param {Answer} answer
+ * @param {number} option
+ */
+function commandsHtml(desk, answer, option) {
+  const problem = problemOf(desk.records.get(answer.key)?.words ?? []);
+  const certificate = `--certificate ${answer.key}.certificate`;
+  const grouping = `${answer.key}-option-${option}.grouping`;
+  /** @type {[string, string][]} */
+  const commands = [
+    ["To make a certificate:", `countygroups solve ${problem} \\\n    ${certificate}`],
+    ["To check it:", `countygroups check ${problem} \\\n    ${certificate}`],
+    ["To check it in plain Python 3:", `python3 tools/check.py ${problem} \\\n    ${certificate}`],
+    ["All best groupings, and this page’s option:",
+      `countygroups list ${problem} \\\n    ${certificate} --number ${option} --out ${grouping}`],
+    ["To judge this option:",
+      `countygroups judge ${problem} \\\n    --grouping ${grouping} ${certificate}`],
+    ["To compare a plan with it, by the whole Census files with their blocks:",
+      `countygroups audit ${problem} \\\n    --grouping ${grouping} --assignments PLAN`],
+  ];
+  return commands.map(([purpose, command]) => (
+    `<p>${purpose}</p><pre>${escapeHtml(command)}</pre>`)).join("");
+}
+
+/**
+ * Returns the run that the page was made of.
+ * @param {Desk} desk
+ * @param {Answer} answer
+ */
+function runHtml(desk, answer) {
+  const record = desk.records.get(answer.key);
+  if (!record) return "";
+  const words = ["countygroups", ...record.words].map(quoted).join(" ");
+  const files = [...record.read, ...record.stored].map((file) => (
+    `<tr><td>${escapeHtml(file.option)}</td><td><code>${escapeHtml(file.name)}</code></td>`
+    + `<td class="number">${numberText(file.bytes)}</td><td><code>${file.sum}</code></td></tr>`));
+  const { text } = desk.data.build;
+  const build = text ? `<p>The build of the program:</p><pre>${escapeHtml(text)}</pre>` : "";
+  return `${build}<pre>${escapeHtml(words)}</pre><p>Its answer is `
+    + `<code>${escapeHtml(record.answer)}</code>. This build said so: <code>countygroups `
+    + `${escapeHtml(record.version)}</code>.</p>`
+    + '<table><thead><tr><th>File</th><th>Name</th><th class="number">Bytes</th><th>SHA-256</th>'
+    + `</tr></thead><tbody>${files.join("")}</tbody></table>`
+    + '<p class="note">Compare the files that you have with these by <code>sha256sum FILE</code>. '
+    + "An extract of a public file has another sum than the public file.</p>";
+}
+
+/**
+ * Shows the first lines of a chamber's certificate.
+ * @param {Answer} answer
+ */
+async function paintCertificate(answer) {
+  const key = `${answer.key}.certificate`;
+  find("#certificate-fold").hidden = !(key in carriedFiles());
+  if (!(key in carriedFiles())) return;
+  const bytes = await storedFile(key).catch(() => null);
+  const lines = bytes ? new TextDecoder().decode(bytes).split("\n") : [];
+  const targets = lines.filter((line) => /^group \d+ \d/.test(line)).length;
+  find("#certificate-note").textContent = `${numberText(lines.length - 1)} lines. After the order `
+    + `of the counties come the ${targets} groups that are to be proved best. Then the tree: each `
+    + `branch `
+    + "takes one county and goes through every group it could be in; each leaf says why nothing "
+    + "better can come of it.";
+  const shown = lines.slice(0, SHOWN_LINES).map((line, at) => {
+    const text = line.length > LONGEST_LINE ? `${line.slice(0, LONGEST_LINE)} …` : line;
+    return `${String(at + 1).padStart(5)}  ${text}`;
+  });
+  const more = lines.length - SHOWN_LINES - 1;
+  const rest = more > 0
+    ? `\n    …  ${numberText(more)} more lines; “Download, Certificate” has them all` : "";
+  find("#certificate-lines").textContent = shown.join("\n") + rest;
+}
+
+/**
+ * Follows the controls of the view.
+ * @param {Desk} desk
+ * @param {ViewState} state
+ */
+export function followProof(desk, state) {
+  find("#check").addEventListener("click", () => check(desk, state, false));
+  find("#spoil").addEventListener("click", () => check(desk, state, true));
+  find("#proof-chambers").addEventListener("click", (event) => {
+    const key = /** @type {HTMLElement} */ (event.target).closest("button")?.dataset.chamber;
+    if (key) location.hash = `#proof/${key}`;
+  });
+}

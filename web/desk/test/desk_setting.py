@@ -1,0 +1,154 @@
+"""What the tests of the desk work on: the page, the program beside it, and a browser."""
+import json
+import subprocess
+import sys
+import tempfile
+import time
+import unittest
+from dataclasses import dataclass
+from pathlib import Path
+from typing import Any
+
+TOP = Path(__file__).resolve().parent.parent.parent.parent
+DATA = TOP / "data" / "nc2020"
+STATES = TOP / "data" / "states"
+CENSUS = {"geo": "nc2020geo.pl", "segment": "nc000012020.pl", "adjacency": "county_borders.txt"}
+PROBLEM = [part for word, name in CENSUS.items() for part in (f"--{word}", str(DATA / name))]
+CHAMBERS = {"senate": 50, "house": 120}
+SECONDS = 60.0
+
+sys.path.insert(0, str(TOP / "tools"))
+
+from browser import Browser  # noqa: E402
+
+
+@dataclass
+class Setting:
+    """What a run of the tests was asked for."""
+
+    page: Path = TOP / "docs" / "desk.html"
+    program: Path | None = None
+    wasm: Path = TOP / "dist" / "countygroups.wasm"
+    pictures: Path | None = None
+
+
+SETTING = Setting()
+ROOM = tempfile.TemporaryDirectory()
+
+
+class NotThere(unittest.SkipTest):
+    """Says what is missing, so that a test can't be run."""
+
+
+def native() -> str:
+    """Returns the program of this machine."""
+    if SETTING.program is None:
+        raise NotThere("no program of this machine was named (--program)")
+    return str(SETTING.program)
+
+
+def page() -> Path:
+    """Returns the page, which is made first if it isn't there."""
+    if SETTING.page.is_file():
+        return SETTING.page
+    if SETTING.program is None or not SETTING.wasm.is_file():
+        raise NotThere(f"{SETTING.page.name} isn't there; --program and --wasm make one")
+    made = Path(ROOM.name) / "desk.html"
+    words = [sys.executable, str(TOP / "tools" / "make_desk.py"), "--program", native()]
+    subprocess.run([*words, "--wasm", str(SETTING.wasm), "--out", str(made)], check=True)
+    SETTING.page = made
+    return made
+
+
+def run(*words: str) -> str:
+    """Returns what the program of this machine prints."""
+    done = subprocess.run([native(), *words], capture_output=True, check=False)
+    return done.stdout.decode()
+
+
+class InDesk(unittest.TestCase):
+    """Tests in one browser, each with the page opened anew."""
+
+    browser: Browser
+    room: Path
+
+    @classmethod
+    def setUpClass(cls) -> None:
+        if Browser.found() is None:
+            raise NotThere("no Chromium is installed: Debian has it as the package chromium")
+        page()
+        room = tempfile.TemporaryDirectory()
+        cls.addClassCleanup(room.cleanup)
+        cls.room = Path(room.name)
+        cls.browser = Browser()
+        cls.addClassCleanup(cls.browser.close)
+
+    def setUp(self) -> None:
+        self.browser.faults = []
+
+    def open(self, mark: str = "", path: Path | None = None, **how: Any) -> None:
+        """Opens the page at a mark of its address."""
+        how.setdefault("width", 1400)
+        self.browser.open(str(path or page()), mark=mark, **how)
+
+    def go(self, mark: str) -> None:
+        """Goes to a mark of the page, as a link does."""
+        self.browser.value(f"location.hash = {json.dumps(mark)}")
+        self.browser.value("new Promise((done) => setTimeout(done, 50))")
+
+    def value(self, script: str) -> Any:
+        """Returns what a script gives."""
+        return self.browser.value(script)
+
+    def text(self, selector: str) -> str:
+        """Returns the words of an element as they are shown."""
+        return str(self.value(f"document.querySelector({json.dumps(selector)}).innerText"))
+
+    def click(self, selector: str) -> None:
+        """Clicks an element."""
+        element = f"document.querySelector({json.dumps(selector)})"
+        self.value(f"{element}.dispatchEvent(new MouseEvent('click', {{ bubbles: true, "
+                   "cancelable: true })); null")
+
+    def press_button(self, selector: str) -> None:
+        """Presses a button or another control."""
+        self.value(f"document.querySelector({json.dumps(selector)}).click(); null")
+
+    def wait(self, script: str, seconds: float = SECONDS) -> float:
+        """Waits until a script gives true, and returns how long it took, in seconds."""
+        start = time.monotonic()
+        while time.monotonic() - start < seconds:
+            if self.value(script):
+                return time.monotonic() - start
+            time.sleep(0.02)
+        raise AssertionError(f"never so: {script}")
+
+    def wait_words(self, selector: str, words: str, seconds: float = SECONDS) -> str:
+        """Waits until an element has words, and returns its text."""
+        quoted = json.dumps(words)
+        element = f"document.querySelector({json.dumps(selector)})"
+        try:
+            self.wait(f"{element}.innerText.includes({quoted})", seconds)
+        except AssertionError as fault:
+            said = f"{selector} says {self.text(selector)!r}, not {words!r}"
+            raise AssertionError(said) from fault
+        return self.text(selector)
+
+    def give(self, selector: str, *paths: Path) -> None:
+        """Has a reader choose files."""
+        self.browser.give_files(selector, [str(path) for path in paths])
+
+    def stored(self, kind: str) -> bytes:
+        """Returns what a button of the menu stores."""
+        script = f"document.querySelector('[data-download={kind}]').click(); null"
+        with tempfile.TemporaryDirectory(dir=self.room) as folder:
+            return Path(self.browser.download(script, folder)).read_bytes()
+
+    def check_quiet(self) -> None:
+        """Nothing stands on the console, and the page asked for nothing but itself."""
+        self.value("new Promise((done) => setTimeout(done, 50))")
+        self.assertEqual(self.browser.faults, [])
+        own = ("file:", "blob:", "data:")
+        self.assertEqual([one for one in self.browser.events if not one.startswith(own)], [])
+        files = {one.split("#")[0] for one in self.browser.events if one.startswith("file:")}
+        self.assertLessEqual(len(files), 1)

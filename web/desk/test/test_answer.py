@@ -1,0 +1,213 @@
+"""The answer: every option by link and by click, what can be stored of it, and the keyboard."""
+import json
+import re
+import xml.etree.ElementTree
+
+from desk_setting import CHAMBERS, DATA, PROBLEM, InDesk, run
+
+AREAS = ("[...document.querySelectorAll('#cards fieldset')]"
+         ".map((one) => one.querySelectorAll('input').length)")
+GROUP_OF = ("Object.fromEntries([...document.querySelectorAll('#map [data-county]')].map((one) => "
+            "[one.dataset.county, [one.dataset.group, one.getAttribute('class')]]))")
+
+
+class Options(InDesk):
+    """Each option of both chambers."""
+
+    counts = {"senate": 16, "house": 8}
+    enacted = {"senate": 6, "house": 7}
+
+    def certificate(self, key: str) -> list[str]:
+        """Returns the words of a chamber's problem with its certificate, made by this machine."""
+        path = self.room / f"{key}.certificate"
+        words = [*PROBLEM, "--chamber", str(CHAMBERS[key]), "--certificate", str(path)]
+        if not path.exists():
+            run("solve", *words)
+        return words
+
+    def wanted(self, key: str, option: int) -> tuple[bytes, bytes]:
+        """Returns grouping and table of an option as this machine's program stores them."""
+        out, table = self.room / "grouping", self.room / "table"
+        words = self.certificate(key)
+        run("list", *words, "--number", str(option), "--out", str(out))
+        run("judge", *words[:-2], "--grouping", str(out), "--table", str(table))
+        return out.read_bytes(), table.read_bytes()
+
+    def test_each_option_by_link(self) -> None:
+        self.open()
+        for key, count in self.counts.items():
+            for option in range(1, count + 1):
+                with self.subTest(f"{key} {option}"):
+                    self.go(f"#{key}/{option}")
+                    self.assertEqual(self.text("#option"), f"Option {option} of {count}")
+                    grouping, table = self.wanted(key, option)
+                    self.assertEqual(self.stored("grouping"), grouping)
+                    self.assertEqual(self.stored("csv"), table)
+        self.check_quiet()
+
+    def test_each_option_opened(self) -> None:
+        for key, option in (("senate", 1), ("senate", 16), ("house", 3)):
+            self.open(f"#{key}/{option}")
+            self.assertEqual(self.text("#option"), f"Option {option} of {self.counts[key]}")
+        self.open()
+        self.assertEqual(self.text("#option"), "Option 6 of 16")
+        self.assertIn("Used for the plan enacted in 2023", self.text("#option-note"))
+        self.check_quiet()
+
+    def test_each_option_by_click(self) -> None:
+        for key, count in self.counts.items():
+            self.open(f"#{key}")
+            sizes = self.value(AREAS)
+            seen = set()
+            for number in range(count):
+                left = number
+                for area, size in enumerate(sizes):
+                    switch = f"#map [data-area='{area}'][data-choice='{left % size}']"
+                    radio = f"#cards input[name='area{area}'][value='{left % size}']"
+                    if area % 2:
+                        self.press_button(radio)
+                    else:
+                        self.click(switch)
+                    left //= size
+                shown = self.text("#option")
+                self.assertEqual(self.value("location.hash"), f"#{key}/{shown.split()[1]}")
+                seen.add(shown)
+                self.check_tints()
+            self.assertEqual(len(seen), count)
+            self.check_quiet()
+
+    def check_tints(self) -> None:
+        """Two groups with a border in common never share a tint."""
+        shown = self.value(GROUP_OF)
+        lines = (DATA / "county_borders.txt").read_text(encoding="utf-8").split("\n")[1:]
+        codes = sorted({line.split("|")[1] for line in lines if line})
+        place = {code: str(at) for at, code in enumerate(codes)}
+        for line in filter(None, lines):
+            _, one, _, other, _ = line.split("|")
+            first, second = shown[place[one]], shown[place[other]]
+            if first[0] != second[0]:
+                self.assertNotEqual(first[1].split()[1], second[1].split()[1], line)
+
+    def test_stepping_and_going_back(self) -> None:
+        self.open("#senate/16")
+        self.press_button("#next")
+        self.assertEqual(self.text("#option"), "Option 1 of 16")
+        self.press_button("#previous")
+        self.assertEqual(self.text("#option"), "Option 16 of 16")
+        self.press_button("#back")
+        self.assertEqual(self.text("#option"), "Option 6 of 16")
+        self.assertIn("now go", self.text("#told"))
+        self.press_button("#chambers [data-chamber=house]")
+        self.wait_words("#option", "Option 7 of 8")
+        self.check_quiet()
+
+
+class Stored(InDesk):
+    """What else the menu stores."""
+
+    def test_certificate_and_record(self) -> None:
+        self.open("#house/7")
+        path = self.room / "house.certificate"
+        words = [*PROBLEM, "--chamber", "120", "--certificate", str(path)]
+        run("solve", *words)
+        self.assertEqual(self.stored("certificate"), path.read_bytes())
+        record = self.stored("record").decode()
+        self.assertTrue(record.startswith("countygroups record 1\n"))
+        self.assertIn("\nword --chamber\nword 120\n", record)
+        self.assertNotRegex(record, r"(?m)^word /")
+
+    def test_geojson(self) -> None:
+        self.open("#senate/6")
+        shapes = json.loads(self.stored("geojson"))
+        own = json.loads((DATA / "county_outlines.geojson").read_text(encoding="utf-8"))
+        places = {one["properties"]["GEOID"]: self.box(one) for one in own["features"]}
+        self.assertEqual(len(shapes["features"]), 100)
+        groups = {one["properties"]["GROUP"] for one in shapes["features"]}
+        self.assertEqual(groups, set(range(1, 27)))
+        for one in shapes["features"]:
+            wanted = places[one["properties"]["GEOID"]]
+            for mine, theirs in zip(self.box(one), wanted):
+                self.assertAlmostEqual(mine, theirs, delta=0.02)
+
+    def box(self, feature: object) -> list[float]:
+        """Returns the box around a feature, in degrees."""
+        text = json.dumps(feature["geometry"]["coordinates"])  # type: ignore[index]
+        numbers = [float(one) for one in re.findall(r"-?\d+\.\d+|-?\d+", text)]
+        wide, high = numbers[::2], numbers[1::2]
+        return [min(wide), max(wide), min(high), max(high)]
+
+    def test_svg_and_png(self) -> None:
+        self.open("#house/3")
+        svg = self.stored("svg").decode()
+        root = xml.etree.ElementTree.fromstring(svg)
+        self.assertIn("option 3 of 8", "".join(root.itertext()))
+        self.assertNotIn("<use", svg)
+        self.assertNotIn("var(--", re.sub(r"<pattern.*?</pattern>", "", svg, flags=re.S))
+        png = self.stored("png")
+        self.assertEqual(png[:8], b"\x89PNG\r\n\x1a\n")
+        self.assertEqual(int.from_bytes(png[16:20], "big"), 2720)
+        self.check_quiet()
+
+
+class Pointing(InDesk):
+    """What is told of a group, by pointer, finger, table, name and keyboard."""
+
+    def pill(self, name: str) -> list[float]:
+        """Returns the middle of the pill of a group in the window."""
+        pill = f"document.querySelector('#map .badge[aria-label^=\"{name}\"]')"
+        script = (f"(() => {{ const one = {pill}.getBoundingClientRect(); "
+                  "return [one.x + one.width / 2, one.y + one.height / 2]; })()")
+        return list(self.value(script))
+
+    def test_pointer(self) -> None:
+        self.open("#senate/6")
+        self.browser.point(*self.pill("Wake and Granville"))
+        told = self.text("#told")
+        # (people of Wake and Granville by the census; 5 percent below an ideal of 208,787.76)
+        for words in ("1,190,402", "1,190,091 to 1,315,362", "In all 16 best groupings", "198,349"):
+            self.assertIn(words, told)
+        self.browser.point(5, 5)
+        self.assertIn("Point at a group", self.text("#told"))
+
+    def test_table_and_finder(self) -> None:
+        self.open("#senate/6")
+        self.value("document.querySelector('#finder').value = '91'; "
+                   "document.querySelector('#finder')"
+                   ".dispatchEvent(new Event('change')); null")
+        self.assertIn("Wake and Granville", self.text("#told"))
+        self.press_button("[data-sort=people]")
+        self.assertEqual(self.text("#table tbody tr td:nth-child(2)"), "Mecklenburg, Iredell")
+        self.press_button("#table tbody tr:nth-child(2)")
+        self.assertIn("people per seat", self.text("#told"))
+        self.check_quiet()
+
+    def test_keyboard_alone(self) -> None:
+        self.open("#senate/6", height=1000)
+        for _ in range(30):
+            self.browser.press("Tab")
+            if self.value("document.activeElement.closest('#map') !== null"):
+                break
+        self.assertTrue(self.value("document.activeElement.classList.contains('badge')"))
+        seen = set()
+        for key in ["ArrowRight"] * 12 + ["ArrowUp"] * 6 + ["ArrowRight"] * 4:
+            self.browser.press(key)
+            seen.add(self.value("document.activeElement.getAttribute('aria-label')"))
+        self.assertGreater(len(seen), 8)
+        letter = "#map .letter[data-area='1'][data-choice='1']"
+        self.value(f'document.querySelector("{letter}").focus()')
+        self.browser.press("Enter")
+        self.assertNotEqual(self.text("#option"), "Option 6 of 16")
+        label = self.value("document.activeElement.getAttribute('aria-label')")
+        self.assertEqual(label, "Northwest B")
+        self.assertIn("Northwest: B", self.value("document.querySelector('#live').textContent"))
+        self.check_quiet()
+
+    def test_keyboard_on_the_cards(self) -> None:
+        self.open("#senate/6")
+        self.value("document.querySelector('#cards input:checked').focus()")
+        self.browser.press("ArrowRight")
+        self.assertNotEqual(self.text("#option"), "Option 6 of 16")
+        self.assertEqual(self.value("document.activeElement.name"), "area0")
+        self.browser.press("ArrowLeft")
+        self.assertEqual(self.text("#option"), "Option 6 of 16")
+        self.check_quiet()

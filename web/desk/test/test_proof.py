@@ -1,0 +1,180 @@
+"""The proof: the check passes on what is there, and says No to a changed byte of each file."""
+import base64
+import gzip
+import hashlib
+import json
+import re
+from collections.abc import Callable
+from pathlib import Path
+from typing import Any
+
+from desk_setting import InDesk, page
+
+CARRIED = re.compile(r'(<script type="application/json" id="carried">)(.*?)(</script>)', re.S)
+DATA = re.compile(r'(<script type="application/json" id="data">)(.*?)(</script>)', re.S)
+
+
+def other_digit(content: bytes, place: int) -> bytes:
+    """Returns bytes with another digit at a place."""
+    digit = content[place:place + 1]
+    return content[:place] + (b"1" if digit != b"1" else b"2") + content[place + 1:]
+
+
+def people_changed(content: bytes) -> bytes:
+    """Returns the counts with another number of people in Wake County (1,129,410)."""
+    return content.replace(b"|1129410|", b"|1129411|", 1)
+
+
+def code_changed(content: bytes) -> bytes:
+    """Returns the geographic header with the record of Ashe County for that of Avery."""
+    lines = content.split(b"\n")
+    at = next(i for i, line in enumerate(lines) if line.split(b"|")[14:15] == [b"009"])
+    fields = lines[at].split(b"|")
+    fields[14] = b"010"
+    lines[at] = b"|".join(fields)
+    return b"\n".join(lines)
+
+
+def border_changed(content: bytes) -> bytes:
+    """Returns the borders without Burke (37023) and Lincoln (37109)."""
+    content = content.replace(b"|37023|Lincoln County, NC|37109|", b"|37023|Lincoln|37023|")
+    return content.replace(b"|37109|Burke County, NC|37023|", b"|37109|Burke|37109|")
+
+
+def target_changed(content: bytes) -> bytes:
+    """Returns a certificate with another seat in the first group of its target."""
+    place = content.index(b"\ngroup ") + len(b"\ngroup ")
+    return other_digit(content, place)
+
+
+CHANGES: dict[str, Callable[[bytes], bytes]] = {
+    "geo": code_changed, "segment": people_changed, "adjacency": border_changed,
+    "senate.certificate": target_changed,
+}
+
+
+class Proof(InDesk):
+    """The second view."""
+
+    def carried(self) -> tuple[str, Any]:
+        """Returns the page's text and what it carries."""
+        text = page().read_text(encoding="utf-8")
+        found = CARRIED.search(text)
+        assert found
+        return text, json.loads(found[2])
+
+    def page_with(self, text: str, carried: Any) -> Path:
+        """Returns a copy of the page that carries something else."""
+        held = json.dumps(carried)
+        changed = CARRIED.sub(lambda found: found[1] + held + found[3], text)
+        path = self.room / "changed.html"
+        path.write_text(changed, encoding="utf-8")
+        return path
+
+    def verdict(self, key: str) -> str:
+        """Returns what the check says."""
+        self.press_button("#check")
+        self.wait("document.querySelector('#check-verdict .verdict') !== null")
+        return self.text("#check-verdict")
+
+    def test_both_chambers(self) -> None:
+        for key, count in (("senate", 16), ("house", 8)):
+            self.open(f"#proof/{key}")
+            told = self.verdict(key)
+            self.assertIn("The certificate proves it.", told)
+            self.assertIn(f"better than the {count} on this page", told)
+            self.assertIn(f"same {count} groupings", self.text("#check-steps"))
+        self.check_quiet()
+
+    def test_the_senate_within_two_seconds(self) -> None:
+        times = []
+        for _ in range(3):
+            self.open("#proof/senate")
+            self.value("new Promise((done) => setTimeout(done, 1000))")
+            self.value("globalThis.clicked = performance.now(); "
+                       "const noted = () => { globalThis.took ??= performance.now() - clicked; }; "
+                       "new MutationObserver(noted).observe("
+                       "document.querySelector('#check-verdict'), { childList: true }); null")
+            self.verdict("senate")
+            times.append(self.value("took"))
+        print(f"the Senate's check: {min(times) / 1000:.2f} s", flush=True)
+        self.assertLess(min(times), 2000)
+
+    def test_a_spoiled_line(self) -> None:
+        self.open("#proof/house")
+        self.press_button("#spoil")
+        told = self.wait_words("#check-verdict", "The checker says no.")
+        self.assertIn("it does read the lines", told)
+        self.assertRegex(self.text("#check-steps"), r"Spoiled line \d+")
+        self.check_quiet()
+
+    def test_changed_bytes_by_their_sum(self) -> None:
+        text, carried = self.carried()
+        for key in CHANGES:
+            with self.subTest(key):
+                file = carried[key]
+                content = gzip.decompress(base64.b64decode(file["packed"]))
+                packed = gzip.compress(other_digit(content, len(content) // 2), mtime=0)
+                total = hashlib.sha256(gzip.decompress(packed)).hexdigest()
+                other = {**file, "packed": base64.b64encode(packed).decode(), "sum": total}
+                self.open("#proof/senate", self.page_with(text, {**carried, key: other}))
+                told = self.verdict("senate")
+                self.assertRegex(told, r"\ANo\.\s")
+                self.assertIn(file["name"], told)
+        self.check_quiet()
+
+    def test_changed_bytes_that_cant_be_unpacked(self) -> None:
+        text, carried = self.carried()
+        for key in (*CHANGES, "program"):
+            with self.subTest(key):
+                packed = bytearray(base64.b64decode(carried[key]["packed"]))
+                packed[len(packed) // 2] ^= 1
+                other = {**carried[key], "packed": base64.b64encode(bytes(packed)).decode()}
+                self.open("#proof/senate", self.page_with(text, {**carried, key: other}))
+                self.assertRegex(self.verdict("senate"), r"\ANo\.\s")
+
+    def test_changed_bytes_with_their_sum(self) -> None:
+        text, carried = self.carried()
+        for key, change in CHANGES.items():
+            with self.subTest(key):
+                content = gzip.decompress(base64.b64decode(carried[key]["packed"]))
+                changed = change(content)
+                self.assertNotEqual(content, changed)
+                packed = base64.b64encode(gzip.compress(changed, mtime=0)).decode()
+                total = hashlib.sha256(changed).hexdigest()
+                other = {**carried[key], "packed": packed, "sum": total}
+                recorded = text.replace(carried[key]["sum"], total)
+                self.assertNotEqual(recorded, text)
+                self.open("#proof/senate", self.page_with(recorded, {**carried, key: other}))
+                self.assertRegex(self.verdict("senate"), r"\A(The checker says no|No)\.\s")
+        self.check_quiet()
+
+    def test_a_changed_map(self) -> None:
+        text = page().read_text(encoding="utf-8")
+        found = DATA.search(text)
+        assert found
+        data = json.loads(found[2])
+        lines = data["chambers"][0]["list"].split("\n")
+        kept = [line for line in lines if not line.startswith("group seats 1 people 215999")]
+        self.assertEqual(len(kept), len(lines) - 1)
+        data["chambers"][0]["list"] = "\n".join(kept)
+        path = self.room / "changed.html"
+        held = json.dumps(data).replace("<", "\\u003c")
+        path.write_text(DATA.sub(lambda one: one[1] + held + one[3], text), encoding="utf-8")
+        self.open("#proof/senate", path)
+        told = self.verdict("senate")
+        self.assertIn("the page’s map shows other groupings", told)
+
+    def test_what_the_view_says(self) -> None:
+        self.open("#proof/senate")
+        _, carried = self.carried()
+        sums = self.value("document.querySelector('#sums').textContent")
+        for file in carried.values():
+            self.assertIn(file["sum"], sums)
+            packed = gzip.decompress(base64.b64decode(file["packed"]))
+            self.assertEqual(hashlib.sha256(packed).hexdigest(), file["sum"])
+        words = self.value("document.querySelector('#commands').textContent")
+        for command in ("solve", "check", "list", "judge", "audit"):
+            self.assertIn(f"countygroups {command} ", words)
+        self.assertIn("tools/check.py", words)
+        self.assertIn("isn’t the Census Bureau’s", self.text("#proof"))

@@ -1,0 +1,155 @@
+"""Pages that tools/page.py makes of a few squares, opened in a browser."""
+from pathlib import Path
+from unittest import mock
+
+import page as county_page
+from desk_setting import SETTING, STATES, InDesk, NotThere, native, run
+from page_samples import GROUPS, PEOPLE, SIX, SIX_WITHDRAWN, WITHDRAWN, PageRoom
+from page_samples import record_of, small_table, squares, written
+
+
+class Small(InDesk, PageRoom):
+    """Pages of a few squares."""
+
+    def setUp(self) -> None:
+        InDesk.setUp(self)
+        PageRoom.setUp(self)
+
+    def show(self, table: str, listed: str, record: str, mark: str = "") -> None:
+        """Makes a page and opens it."""
+        status, said, out = self.made(table, listed, record, self.squares)
+        self.assertEqual((status, said), (0, ""))
+        self.open(mark, Path(out))
+
+    def test_a_small_page(self) -> None:
+        self.show(small_table(GROUPS), SIX, record_of(6))
+        self.assertIn("North Carolina’s chamber of 6: 2\u00a0best ways", self.text("#title"))
+        self.assertEqual(self.text("#option"), "Option 1 of 2")
+        self.assertEqual(self.stored("grouping"),
+                         b"1|37001\n1|37011\n2|37003|37005\n2|37007|37009\n")
+        self.press_button("#next")
+        self.assertEqual(self.stored("grouping"),
+                         b"1|37005\n1|37011\n2|37001|37003\n2|37007|37009\n")
+        self.assertEqual(self.text("nav").split("\n")[:2], ["The answer", "The proof"])
+        self.assertFalse(self.value("document.querySelector('[data-view=whatif]')"
+                                    ".getClientRects().length"))
+        self.check_quiet()
+
+    def test_names_with_signs(self) -> None:
+        names = {"37001": "A <b>\"x\"</b> & 'y'", "37003": "</script><script>alert(1)</script>",
+                 "37005": "<!--", "37007": "x\" onload=\"y"}
+        self.show(small_table(GROUPS, names), SIX, record_of(6))
+        shown = self.text("#table")
+        for name in names.values():
+            self.assertIn(name, shown)
+        self.assertEqual(self.value("document.querySelectorAll('#table td b b').length"), 0)
+        self.check_quiet()
+
+    def test_words_and_files_with_signs(self) -> None:
+        name = "a <b> & 'c\" \\x0A\\xE2\\x80\\xAEd"
+        record = record_of(6).replace("word my certificate", f"word {name}")
+        self.show(small_table(GROUPS), SIX, record.replace(" my certificate", f" {name}"), "#proof")
+        told = self.value("document.querySelector('#run').textContent")
+        self.assertIn("a <b> & 'c\" ", told)
+        self.assertEqual(self.value("document.querySelectorAll('#run b, #commands b').length"), 0)
+        self.check_quiet()
+
+    def test_a_withdrawn_set(self) -> None:
+        record = record_of(6, "--withdrawn", "sets", withdrawn=b"1|37011\n")
+        self.show(small_table(WITHDRAWN), SIX_WITHDRAWN, record)
+        self.assertIn("37011: 1 seat, 100 people.", self.text("#taken"))
+        self.assertIn("One set of counties was taken out beforehand.", self.text("#deck"))
+        self.assertEqual(self.value("document.querySelectorAll('#map .taken').length"), 1)
+        self.assertIn(b"37011,,100,W1,1,100\n", self.stored("csv"))
+        self.check_quiet()
+
+    def test_no_choice(self) -> None:
+        listed = SIX.split("region 1")[0].replace("best groupings 2", "best groupings 1")
+        listed = listed.replace("shared groups 2", "shared groups 4")
+        listed += ("group seats 1 people 100 counties 37001\n"
+                   "group seats 2 people 190 counties 37003 37005\nevery choice\n")
+        self.show(small_table(GROUPS), listed, record_of(6))
+        self.assertIn("the one best way", self.text("#title"))
+        self.assertTrue(self.value("document.querySelector('#choices').hidden"))
+        self.check_quiet()
+
+    def test_not_every_choice(self) -> None:
+        listed = SIX.replace("every choice\n",
+                             "grouping 1 alternatives 2\ngrouping 2 alternatives 1\n")
+        self.show(small_table(GROUPS), listed, record_of(6))
+        self.assertIn("Not every combination", self.text("#choices-intro"))
+        self.assertEqual(self.text("#option"), "Option 2 of 2")
+        self.press_button("#cards input:not(:checked)")
+        self.assertEqual(self.text("#option"), "Option 1 of 2")
+        self.check_quiet()
+
+    def test_another_allowance(self) -> None:
+        listed = SIX.replace("chamber 6\n", "chamber 6\nwindow 1 8\n")
+        self.show(small_table(GROUPS), listed, record_of(6, "--part", "2", "--of=16"))
+        self.assertIn("within 12.5 percent of the ideal", self.text("#deck"))
+        self.go("#proof")
+        told = self.value("document.querySelector('#commands').textContent")
+        self.assertIn("--part 2", told)
+        self.assertIn("--of 16", told)
+        self.check_quiet()
+
+    def test_several_numbers_of_seats(self) -> None:
+        rows = [["37001", "", 300, 1, 20, 300], ["37003", "", 300, 2, 19, 300]]
+        listed = ("people 600\nchamber 39\nseats left 39\ncounties 2\nanswer all\ncounts 2\n"
+                  "best groupings 1\nshared groups 2\n"
+                  "group seats 19 to 20 people 300 counties 37001\n"
+                  "group seats 19 to 20 people 300 counties 37003\nevery choice\n")
+        self.show(written(rows), listed, record_of(39))
+        self.assertEqual(self.stored("grouping"), b"20|37001\n19|37003\n")
+
+    def test_all_counties_are_withdrawn(self) -> None:
+        people = sum(PEOPLE.values())
+        listed = (f"people {people}\nchamber 6\nseats left 0\ncounties 0\nanswer all\ncounts none\n"
+                  "best groupings 1\nshared groups 0\nevery choice\n")
+        table = small_table({"W1": (6, list(PEOPLE))})
+        self.show(table, listed, record_of(6, "--withdrawn=sets", withdrawn=b"6|..\n"))
+        self.assertEqual(self.text("#table-head"), "All 0 groups")
+        self.check_quiet()
+
+
+class Carried(InDesk, PageRoom):
+    """A page of another state that carries its files and the program."""
+
+    def setUp(self) -> None:
+        InDesk.setUp(self)
+        PageRoom.setUp(self)
+
+    def made_of_alabama(self) -> Path:
+        """Returns a page of Alabama's Senate, on a board of squares."""
+        native()
+        if not SETTING.wasm.is_file():
+            raise NotThere("there is no program for browsers (--wasm)")
+        words = [part for kind in ("geo", "segment", "adjacency")
+                 for part in (f"--{kind}", str(STATES / f"alabama.{kind}"))]
+        kinds = ("certificate", "table", "record")
+        stored = {kind: str(Path(self.folder) / kind) for kind in kinds}
+        words += ["--chamber", "35", "--state", "1", "--certificate", stored["certificate"]]
+        run("solve", *words, "--table", stored["table"], "--record", stored["record"])
+        table = Path(stored["table"]).read_text(encoding="utf-8")
+        codes = [line[:5] for line in table.split("\n")[1:] if line]
+        board = squares(*((code, at % 10, 30 + at // 10) for at, code in enumerate(codes)))
+        record = Path(stored["record"]).read_text(encoding="utf-8")
+        with mock.patch.object(county_page, "WASM", SETTING.wasm):
+            status, said, out = self.made(table, run("list", *words), record,
+                                          self.file("board", board))
+        self.assertEqual((status, said), (0, ""))
+        return Path(out)
+
+    def test_the_proof_and_a_what_if(self) -> None:
+        path = self.made_of_alabama()
+        self.open("#proof", path)
+        self.press_button("#check")
+        self.wait("document.querySelector('#check-verdict .verdict') !== null")
+        self.assertIn("better than the 14 on this page", self.text("#check-verdict"))
+        self.go("#whatif")
+        self.press_button("#solve-again")
+        self.wait_words("#whatif-result", "Nothing changes.")
+        self.go("#files")
+        self.press_button("#use-own")
+        self.wait("!document.querySelector('#solve-files').disabled")
+        self.check_quiet()

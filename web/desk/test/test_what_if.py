@@ -1,0 +1,175 @@
+"""What if: published numbers, a set taken out, the marks of borders, stopping, and addresses."""
+from desk_setting import CHAMBERS, DATA, PROBLEM, InDesk, run
+
+RESULT = "#whatif-result"
+
+
+class WhatIf(InDesk):
+    """The third view."""
+
+    def solved(self, mark: str) -> str:
+        """Returns the verdict on the what-if of an address."""
+        self.open(mark)
+        self.wait_words("#whatif-progress", "Solved in")
+        return self.text(RESULT)
+
+    def test_burke_and_lincoln_cut(self) -> None:
+        # Before the pair was in the list of borders, the Senate had 8 best groupings, and 20 of
+        # their groups were shared; with it they are the 16 that were published for 2020.
+        told = self.solved("#whatif/senate/cut=37023-37109")
+        self.assertIn("Eight of the 16 best groupings are left.", told)
+        self.assertIn("20 groups are in all of them", told)
+        self.check_quiet()
+
+    def test_published_changes(self) -> None:
+        # (data/nc2020/README.md has which single pairs change the list)
+        for mark, best, shared in (
+            ("house/add=37087-37089", 16, 31), ("house/add=37153-37167", 16, 31),
+            ("senate/cut=37041-37187", 8, 19), ("house/cut=37041-37187", 4, 35),
+            ("house/cut=37053-37177", 4, 35), ("house/add=37021-37175", 8, 33),
+        ):
+            with self.subTest(mark):
+                self.solved(f"#whatif/{mark}")
+                row = "#whatif-table tr:nth-child({}) td:nth-child(3)"
+                self.assertEqual(self.text(row.format(1)), str(best))
+                self.assertEqual(self.text(row.format(2)), str(shared))
+        self.check_quiet()
+
+    def test_a_set_taken_out(self) -> None:
+        links, sets = self.room / "links", self.room / "withdrawn"
+        sets.write_text("1|37083|37091|37131|37185\n1|37047|37155\n", encoding="ascii")
+        links.write_text("", encoding="ascii")
+        certificate = self.room / "certificate"
+        words = [*PROBLEM, "--chamber", "120", "--withdrawn", str(sets),
+                 "--certificate", str(certificate)]
+        solved = run("solve", *words)
+        listed = run("list", *words)
+        told = self.solved(
+            "#whatif/house/out=37083-37091-37131-37185:1,37047-37155:1")
+        if not listed:
+            self.assertIn("No grouping is lawful", told)
+            return
+        number = listed.split("best groupings ")[1].split("\n")[0]
+        self.assertEqual(self.text("#whatif-table tbody tr td:nth-child(3)"), number)
+        left = solved.split("seats left ")[1].split("\n")[0]
+        table = self.text("#whatif-table table")
+        self.assertRegex(table, rf"Seats left to group\s+120\s+{left}\b")
+        self.check_quiet()
+
+    def test_counties_are_clicked(self) -> None:
+        self.open("#whatif/senate")
+        self.click("#whatif-map [data-county='59']")
+        self.assertIn("Mecklenburg", self.text("#taken-sets"))
+        # (1,115,482 people are 5.34 districts of 208,787.76)
+        self.assertIn("1,115,482 people: 5.34 ideal districts", self.text("#taken-sets"))
+        self.assertEqual(self.value("document.querySelector('[data-seats=\"0\"]').value"), "5")
+        self.press_button("#another-set")
+        self.click("#whatif-map [data-county='91']")
+        self.assertEqual(self.value("document.querySelectorAll('[data-seats]').length"), 2)
+        self.press_button("[data-back='91']")
+        self.assertEqual(self.value("document.querySelectorAll('[data-seats]').length"), 1)
+        self.press_button("#solve-again")
+        self.wait_words("#whatif-progress", "Solved in")
+        self.assertEqual(self.value("location.hash"), "#whatif/senate/out=37119:5")
+        self.press_button("#start-over")
+        self.assertEqual(self.text("#taken-sets"), "")
+        self.check_quiet()
+
+    def test_another_allowance(self) -> None:
+        certificate = self.room / "certificate"
+        words = [*PROBLEM, "--chamber", "120", "--part", "40", "--of", "1000"]
+        solved = run("solve", *words, "--certificate", str(certificate))
+        told = self.solved("#whatif/house/percent=4")
+        wanted = "No grouping is lawful" if "impossible" in solved else "best"
+        self.assertIn(wanted, told)
+        # (4 percent of an ideal of 86,994.9)
+        self.assertIn("83,516 to 90,474", self.text("#percent-window"))
+        self.check_quiet()
+
+    def test_no_lawful_grouping(self) -> None:
+        # (49 seats stay for people who suit some 45)
+        told = self.solved("#whatif/senate/out=37119:1")
+        self.assertIn("No grouping is lawful.", told)
+
+    def test_a_refused_set(self) -> None:
+        told = self.solved("#whatif/senate/out=37119:50,37183:50")
+        self.assertIn("The program refused this.", told)
+
+    def test_another_pair(self) -> None:
+        self.open("#whatif/senate")
+        self.value("document.querySelector('#other-pair').open = true; "
+                   "[...document.querySelectorAll('#other-pair select')].forEach((one, at) => "
+                   "{ one.value = ['11', '54'][at]; }); null")
+        self.press_button("#change-pair")
+        self.assertIn("Burke–Lincoln left out", self.text("#changed-pairs"))
+        self.press_button("#solve-again")
+        self.wait_words(RESULT, "Eight of the 16")
+        self.assertEqual(self.value("location.hash"), "#whatif/senate/cut=37023-37109")
+        self.press_button("#changed-pairs button")
+        self.assertEqual(self.text("#changed-pairs"), "")
+
+    def test_stopping(self) -> None:
+        self.open("#whatif/senate")
+        self.value("document.querySelector('#solve-again').click(); null")
+        self.wait("!document.querySelector('#stop-solving').hidden")
+        self.wait("globalThis.tried = (globalThis.tried ?? 0) + 1, tried > 3 && "
+                  "document.querySelector('#whatif-progress').innerText.startsWith('Solving')")
+        self.press_button("#stop-solving")
+        told = self.wait_words("#whatif-progress", "Stopped")
+        self.assertRegex(told, r"Stopped after \d")
+        self.press_button("#solve-again")
+        self.wait_words(RESULT, "Nothing changes.")
+        self.check_quiet()
+
+
+class Borders(InDesk):
+    """Which borders matter, stored and tried again."""
+
+    wanted = {
+        "senate": {"Chowan–Washington": "8 best instead of 16"},
+        "house": {"Chowan–Washington": "4 best instead of 8",
+                  "Currituck–Tyrrell": "4 best instead of 8",
+                  "Haywood–Henderson": "16 best instead of 8",
+                  "Richmond–Stanly": "16 best instead of 8"},
+    }
+
+    def marks(self) -> dict[str, str]:
+        """Returns the pairs with a mark."""
+        script = ("Object.fromEntries([...document.querySelectorAll('#disputed .tag')].map("
+                  "(one) => [one.closest('label').innerText.replace(one.innerText, '').trim(), "
+                  "one.innerText]))")
+        return dict(self.value(script))
+
+    def test_stored_marks(self) -> None:
+        self.open()
+        for key in CHAMBERS:
+            self.go(f"#whatif/{key}")
+            self.assertEqual(self.marks(), self.wanted[key])
+            self.assertEqual(self.value("document.querySelectorAll('#disputed input').length"), 32)
+
+    def test_tried_again(self) -> None:
+        self.open("#whatif/house")
+        self.press_button("#try-borders")
+        self.wait_words("#borders-progress", "Tried ", 60)
+        self.wait_words("#borders-progress", "4 matter", 180)
+        self.assertEqual(self.marks(), self.wanted["house"])
+        self.check_quiet()
+
+    def test_trying_is_stopped(self) -> None:
+        self.open("#whatif/senate")
+        self.press_button("#try-borders")
+        self.wait_words("#borders-progress", "Tried ", 60)
+        self.press_button("#stop-borders")
+        self.wait_words("#borders-progress", "Stopped.")
+        self.assertEqual(self.marks(), self.wanted["senate"])
+        self.check_quiet()
+
+    def test_the_pairs_are_those_of_the_data(self) -> None:
+        self.open("#whatif/senate")
+        points = self.value("[...document.querySelectorAll('#disputed "
+                            "[data-kind=point][data-pair]')]"
+                            ".map((one) => one.dataset.pair)")
+        lines = (DATA / "point_contacts.links").read_text(encoding="ascii").split()
+        listed = {" ".join(sorted(line.split("|")[1:])) for line in lines}
+        self.assertLessEqual(listed, set(points))
+        self.assertEqual(len(points), 15)

@@ -1,0 +1,242 @@
+"""The page itself: its size, its first picture, its widths, its colors, and that it asks for
+nothing."""
+import http.server
+import re
+import subprocess
+import sys
+import threading
+import urllib.request
+
+from desk_setting import SETTING, TOP, InDesk, page
+
+WIDTHS = (360, 390, 768, 1024, 1400)
+MARKS = ("#senate/6", "#house/1", "#proof/senate", "#whatif/house", "#files")
+MOST_BYTES = 1_600_000
+SIDEWAYS = "document.documentElement.scrollWidth - document.documentElement.clientWidth"
+CONTRAST = """
+(() => {
+  const styles = getComputedStyle(document.documentElement);
+  const canvas = document.createElement("canvas").getContext("2d");
+  const light = (name) => {
+    canvas.fillStyle = styles.getPropertyValue(name);
+    const parts = canvas.fillStyle.match(/[0-9a-f]{2}/g).map((part) => {
+      const share = parseInt(part, 16) / 255;
+      return share <= 0.03928 ? share / 12.92 : ((share + 0.055) / 1.055) ** 2.4;
+    });
+    return 0.2126 * parts[0] + 0.7152 * parts[1] + 0.0722 * parts[2];
+  };
+  const ratio = ([one, other]) => {
+    const [low, high] = [light(one), light(other)].sort((a, b) => a - b);
+    return (high + 0.05) / (low + 0.05);
+  };
+  return PAIRS.map(ratio);
+})()
+"""
+PAIRS = [
+    *[["--label", f"--t{tint}"] for tint in range(5)],
+    *[["--ink", f"--s{tint}"] for tint in range(5)],
+    ["--ink", "--paper"], ["--soft", "--paper"], ["--soft", "--panel"], ["--ink", "--panel"],
+    ["--accent", "--paper"], ["--accent", "--accent-soft"], ["--link", "--paper"],
+    ["--good", "--paper"], ["--badge-ink", "--badge"], ["--soft", "--land"],
+]
+
+
+ASKING = """
+Promise.all([
+  fetch("ADDRESS").then(() => "answered", () => "refused"),
+  new Promise((done) => {
+    const one = new Image();
+    one.onerror = () => done("refused");
+    one.onload = () => done("answered");
+    one.src = "ADDRESS/a.png";
+  }),
+  new Promise((done) => {
+    const one = document.createElement("script");
+    one.onerror = () => done("refused");
+    one.onload = () => done("answered");
+    one.src = "ADDRESS/a.js";
+    document.body.append(one);
+  }),
+])
+"""
+
+
+class Counting(http.server.BaseHTTPRequestHandler):
+    """Counts what it is asked for."""
+
+    asked: list[str] = []
+
+    def do_GET(self) -> None:
+        """Answers, and counts."""
+        self.asked.append(self.path)
+        self.send_response(200)
+        self.send_header("Access-Control-Allow-Origin", "*")
+        self.end_headers()
+
+    def log_message(self, *_: object) -> None:
+        """Says nothing."""
+
+
+class Page(InDesk):
+    """What holds of the whole page."""
+
+    def test_it_is_made_of_these_sources(self) -> None:
+        sys.path.insert(0, str(TOP / "tools"))
+        import desk_page
+        text = page().read_text(encoding="utf-8")
+        self.assertIn(f"<script>{desk_page.script_text()}</script>", text)
+        style = (desk_page.DESK / "page.css").read_text(encoding="utf-8")
+        self.assertIn(f"<style>{style}</style>", text)
+
+    def test_size_and_first_paint(self) -> None:
+        size = page().stat().st_size
+        times = []
+        for _ in range(3):
+            self.open()
+            self.wait("performance.getEntriesByName('first-contentful-paint').length > 0")
+            script = "performance.getEntriesByName('first-contentful-paint')[0].startTime"
+            times.append(self.value(script))
+        print(f"the page: {size:,} bytes, first paint {min(times):.0f} ms", flush=True)
+        self.assertLess(size, MOST_BYTES)
+        self.assertLess(min(times), 1000)
+
+    def test_no_path_of_a_machine(self) -> None:
+        text = page().read_text(encoding="utf-8")
+        self.assertNotRegex(text, r"/(work|opt|tmp|home|root|usr)/")
+
+    def test_it_asks_for_nothing(self) -> None:
+        for mark in MARKS:
+            self.open(mark)
+            self.check_quiet()
+        policy = self.value("document.querySelector('meta[http-equiv]').content")
+        self.assertIn("default-src 'none'", policy)
+        self.assertNotRegex(policy, r"https?:|\*|script-src[^;]*unsafe-inline| 'unsafe-eval'")
+
+    def test_the_policy_refuses_requests(self) -> None:
+        self.open()
+        with http.server.HTTPServer(("127.0.0.1", 0), Counting) as server:
+            threading.Thread(target=server.serve_forever, daemon=True).start()
+            address = f"http://127.0.0.1:{server.server_port}"
+            with urllib.request.urlopen(address) as answer:
+                self.assertEqual((answer.status, len(Counting.asked)), (200, 1))
+            script = ASKING.replace("ADDRESS", address)
+            self.assertEqual(self.value(script), ["refused"] * 3)
+            server.shutdown()
+        self.assertEqual(len(Counting.asked), 1)
+        violations = [one for one in self.browser.faults if "Content Security Policy" in one]
+        self.assertGreaterEqual(len(violations), 3)
+
+    def test_no_sideways_scrolling(self) -> None:
+        for width in WIDTHS:
+            self.open(width=width)
+            for mark in MARKS:
+                with self.subTest(f"{width} {mark}"):
+                    self.go(mark)
+                    self.assertLessEqual(self.value(SIDEWAYS), 0)
+        self.check_quiet()
+
+    def test_contrast(self) -> None:
+        for dark in (False, True):
+            self.open(dark=dark)
+            ratios = self.value(CONTRAST.replace("PAIRS", str(PAIRS)))
+            for pair, ratio in zip(PAIRS, ratios):
+                self.assertGreaterEqual(ratio, 4.5, f"{pair} dark={dark}")
+
+    def test_all_names_at_full_width(self) -> None:
+        for mark in ("#senate/6", "#house/7"):
+            self.open(mark)
+            script = ("[...document.querySelectorAll('#map text.name')].map((one) => "
+                      "[one.textContent, "
+                      "parseFloat(one.style.fontSize) * Number(one.closest('svg').dataset.scale)])")
+            names = self.value(script)
+            self.assertEqual(len({name for name, _ in names}), 100)
+            self.assertGreaterEqual(min(size for _, size in names), 10.7)
+
+    def test_a_phone(self) -> None:
+        self.open("#senate/6", width=390, height=844)
+        self.assertEqual(self.value("document.querySelectorAll('#map > svg').length"), 2)
+        self.press_button("#switches [data-area='1'][data-choice='1']")
+        self.assertNotEqual(self.text("#option"), "Option 6 of 16")
+        script = ("(() => "
+                  "{ const one = document.querySelector('#map .badge').getBoundingClientRect(); "
+                  "return [one.x + one.width / 2, one.y + one.height / 2]; })()")
+        self.browser.tap(*self.value(script))
+        self.wait("document.querySelector('#told').classList.contains('has-group')")
+        self.browser.ask("Emulation.setTouchEmulationEnabled", enabled=False)
+        self.check_quiet()
+
+    def test_without_scripts(self) -> None:
+        self.open(has_scripts=False)
+        self.browser.ask("Emulation.setScriptExecutionDisabled", value=False)
+        self.assertIn("16\u00a0best ways", self.text("h1"))
+        self.assertIn("Option 6 of 16", self.text("#option"))
+        for place, count in (("#map", 26), ("noscript", 40)):
+            shown = self.value(f"document.querySelectorAll('#answer {place} .badge').length")
+            self.assertEqual(shown, count)
+        self.assertEqual(self.value("document.querySelectorAll('#table tbody tr').length"), 26)
+        self.assertEqual(self.value("document.querySelectorAll('#cards .choice').length"), 8)
+        self.assertFalse(self.value("[...document.querySelectorAll('.needs')].some((one) => "
+                                    "one.getClientRects().length)"))
+
+    def test_print(self) -> None:
+        self.open("#senate/6")
+        path = self.room / "page.pdf"
+        self.browser.save_print(str(path), 8.5, 11)
+        pages = re.findall(rb"/Type\s*/Page\b", path.read_bytes())
+        self.assertIn(len(pages), (3, 4, 5))
+        self.check_quiet()
+
+    def test_a_browser_without_wasm64(self) -> None:
+        self.browser.ask("Page.enable")
+        script = "WebAssembly.validate = () => false;"
+        known = self.browser.ask("Page.addScriptToEvaluateOnNewDocument", source=script)
+        self.open("#proof/senate")
+        self.assertIn("This browser can't run the program", self.text("#check-verdict"))
+        self.assertTrue(self.value("document.querySelector('#check').disabled"))
+        self.go("#senate/3")
+        self.assertEqual(self.text("#option"), "Option 3 of 16")
+        self.assertIn(b"|37101\n", self.stored("grouping"))
+        self.browser.ask("Page.removeScriptToEvaluateOnNewDocument", identifier=known["identifier"])
+        self.check_quiet()
+
+    def test_what_only_the_page_tells(self) -> None:
+        self.open("#senate/6")
+        told = self.text("#answer")
+        for words in ("Stephenson v. Bartlett", "16 groupings do this equally well",
+                      "in four areas", "Used for the plan enacted in 2023", "Not proved:",
+                      "No lawful grouping"):
+            self.assertIn(words, told)
+        self.assertIn("it isn’t the Census Bureau’s adjacency file", self.text(".foot"))
+
+    def test_pictures(self) -> None:
+        folder = SETTING.pictures
+        if folder is None:
+            self.skipTest("no folder was named (--pictures)")
+        folder.mkdir(parents=True, exist_ok=True)
+        for name, mark, width, dark in (
+            ("wide", "#senate/6", 1400, False), ("dark", "#house/3", 1400, True),
+            ("tablet", "#senate/1", 768, False), ("phone", "#senate/6", 390, False),
+            ("proof", "#proof/senate", 1400, False), ("whatif", "#whatif/house", 1400, False),
+            ("files", "#files", 1400, False),
+        ):
+            self.open(mark, width=width, dark=dark)
+            self.browser.save_picture(str(folder / f"{name}.png"))
+        self.open("#senate/6")
+        self.browser.save_print(str(folder / "print.pdf"), 8.5, 11)
+
+
+class Sources(InDesk):
+    """The sources of the desk."""
+
+    def test_types_of_the_tests(self) -> None:
+        words = ["mypy", "--strict", "--cache-dir=/dev/null", "--follow-imports=silent"]
+        files = [*map(str, (TOP / "web" / "desk" / "test").glob("*.py")),
+                 *(str(TOP / "tools" / f"{name}.py") for name in
+                   ("browser", "desk_page", "make_desk", "what_if", "test_desk"))]
+        try:
+            done = subprocess.run([*words, *files], capture_output=True, text=True, check=False,
+                                  cwd=TOP, env={"MYPYPATH": f"{TOP}/tools:{TOP}/web/desk/test",
+                                                "PATH": "/usr/bin:/bin"})
+        except FileNotFoundError:
+            self.skipTest("there is no `mypy`: Debian has it as the package mypy")
+        self.assertEqual(done.returncode, 0, done.stdout)
