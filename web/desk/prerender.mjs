@@ -4,7 +4,6 @@
 // `node prerender.mjs DATA.json map KEY` a chamber's map as SVG that stands alone.
 
 import fs from "node:fs";
-import process from "node:process";
 import { answerParts, optionDrawing } from "./answer_parts.mjs";
 import { choicesOf } from "./answers.mjs";
 import { deskOf, firstOption } from "./desk.mjs";
