@@ -123,9 +123,10 @@ function paintBorders(desk, state, names) {
   const disputed = tieKinds(desk.geography);
   const trials = trialsFor(desk, state);
   const isTried = trials.size > 0;
+  const tried = isTried
+    ? " Each of these pairs was tried alone; only those with a mark change the list." : "";
   find("#borders-note").textContent = "Whether counties that meet at a point or over water count "
-    + `as neighbors is a question for a court.${isTried ? " Each of these pairs was tried alone; only "
-      + "those with a mark change the list." : ""}`;
+    + `as neighbors is a question for a court.${tried}`;
   const openBefore = findAll("#disputed details[open]").map((one) => one.dataset.kind);
   const blocks = KINDS.map(([kind, words]) => {
     const pairs = disputed.filter((one) => one.kind === kind);
