@@ -5,6 +5,7 @@ import gzip
 import hashlib
 import json
 import re
+from html import escape
 from pathlib import Path
 from typing import Any
 
@@ -35,6 +36,11 @@ def carried_file(name: str, content: bytes) -> dict[str, Any]:
     packed = base64.b64encode(gzip.compress(content, 9, mtime=0)).decode("ascii")
     total = hashlib.sha256(content).hexdigest()
     return {"name": name, "packed": packed, "bytes": len(content), "sum": total}
+
+
+def as_paragraph(text: str) -> str:
+    """Returns a text of a file as one paragraph of a page."""
+    return escape(" ".join(text.split()).replace("'", "’"))
 
 
 def as_script_text(value: Any) -> str:

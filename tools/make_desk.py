@@ -125,7 +125,7 @@ def made_page(given: argparse.Namespace, room: Path) -> str:
     parts = json.loads(run(drawing, room))
     borders_note = (TOP / DATA / "borders_source.txt").read_text(encoding="utf-8")
     parts |= {"state-name": "North Carolina", "sources": SOURCES, "description": DESCRIPTION,
-              "borders-note": " ".join(borders_note.split())}
+              "borders-note": desk_page.as_paragraph(borders_note)}
     return desk_page.page_html(data, carried_files(room, Path(given.wasm)), parts)
 
 

@@ -19,7 +19,6 @@ import hashlib
 import os
 import re
 import sys
-from html import escape
 from pathlib import Path
 from typing import Any
 
@@ -129,7 +128,7 @@ def page_of(groups: list[Group], record: Record, asked: argparse.Namespace) -> s
     parts = {"sources": SOURCES, "without-scripts": f"{WITHOUT_SCRIPTS}<pre>{text}</pre>",
              "window-title": "Best county groups", "description": "Best county groups"}
     if asked.borders:
-        parts["borders-note"] = escape(" ".join(read_words(asked.borders).split()))
+        parts["borders-note"] = desk_page.as_paragraph(read_words(asked.borders))
     return desk_page.page_html(data, carried, parts)
 
 

@@ -1,5 +1,6 @@
 // Which borders matter: what becomes of the answer if one border in dispute is changed alone.
 
+import { ProcessError } from "../host/browser_process.mjs";
 import { pairCodes, startWhatIf } from "./what_if.mjs";
 import { rowsOf } from "./tables.mjs";
 import { counted } from "./words.mjs";
@@ -55,6 +56,17 @@ function factsOf({ answer, report }) {
 }
 
 /**
+ * Returns in a few words how facts differ from the first ones, or nothing.
+ * @param {ReturnType<typeof factsOf>} first
+ * @param {ReturnType<typeof factsOf>} facts
+ */
+function factsWords(first, facts) {
+  const isSame = facts.groups === first.groups && facts.best === first.best
+    && facts.counts === first.counts;
+  return isSame ? "" : changeWords(first, facts);
+}
+
+/**
  * Tries each disputed border alone, on top of a what-if without changed borders, and tells of each.
  * @param {Desk} desk
  * @param {Answer} base
@@ -82,16 +94,16 @@ export function startTrials(desk, base, whatIf, disputed, files, onTrial) {
     const codes = new Set([pairCodes(desk.geography, pair)]);
     const changed = kind === "point" ? { ...plain, added: codes } : { ...plain, cut: codes };
     const facts = await solve(changed);
-    const isSame = facts.groups === first.groups && facts.best === first.best
-      && facts.counts === first.counts;
-    trials.set(link, isSame ? "" : changeWords(first, facts));
+    // (one that ended just before the stop isn't told any more)
+    if (isStopped) throw new ProcessError("it was stopped", true);
+    trials.set(link, factsWords(first, facts));
     onTrial(trials.size, trials);
   };
   const all = async () => {
     const first = await solve(plain);
     const left = [...disputed];
     const work = async () => {
-      for (let next = left.shift(); next && !isStopped; next = left.shift()) {
+      for (let next = left.shift(); next; next = left.shift()) {
         await tryOne(next, first);
       }
     };

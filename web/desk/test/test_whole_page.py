@@ -84,9 +84,10 @@ class Page(InDesk):
         sys.path.insert(0, str(TOP / "tools"))
         import desk_page
         text = page().read_text(encoding="utf-8")
-        self.assertIn(f"<script>{desk_page.script_text()}</script>", text)
+        wanted = f"<script>{desk_page.script_text()}</script>"
+        self.assertTrue(wanted in text, "the script is another: tools/make_desk.py makes the page")
         style = (desk_page.DESK / "page.css").read_text(encoding="utf-8")
-        self.assertIn(f"<style>{style}</style>", text)
+        self.assertTrue(f"<style>{style}</style>" in text, "the style is another")
 
     def test_size_and_first_paint(self) -> None:
         size = page().stat().st_size
