@@ -53,7 +53,7 @@ for word in "$@"; do
     esac
     words+=("$word")
 done
-[ "$is_program" = yes ] || exec -a "$0" "$clang" "$@"
+[ "$is_program" = yes ] || exec -a "${0%-script}" "$clang" "$@"
 "$clang" "${words[@]}" || rm -f "$room/program.o"
 exit 1
 SCRIPT

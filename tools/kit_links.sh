@@ -8,9 +8,9 @@ usage() {
 usage: tools/kit_links.sh FOLDER SCRIPT
 
 Makes FOLDER, which has to be missing, a folder of links to the kit of the `rt` on the path. In it
-FOLDER/toolchain/bin/clang is a copy of SCRIPT, and FOLDER/bin/rt is the kit's command, which takes
-everything else from the kit. The kit calls its clang without any environment. Nothing of the kit is
-changed.
+FOLDER/toolchain/bin/clang runs a copy of SCRIPT, and FOLDER/bin/rt is the kit's command, which takes
+everything else from the kit. The kit calls its clang without any environment. It calls it as
+`llvm-nm`, too, to list names: then the kit's own clang runs. Nothing of the kit is changed.
 Statuses: 0 the folder is made, 1 it can't be made, 2 these words can't be followed.
 TEXT
 }
@@ -52,5 +52,16 @@ link_all "$kit/bin" "$folder/bin" rt rtlib.py
 cp "$kit/bin/rt" "$kit/bin/rtlib.py" "$folder/bin/"
 link_all "$kit/toolchain" "$folder/toolchain" bin
 link_all "$kit/toolchain/bin" "$folder/toolchain/bin" clang
-cp "$2" "$folder/toolchain/bin/clang"
-chmod +x "$folder/toolchain/bin/clang"
+cp "$2" "$folder/toolchain/bin/clang-script"
+# (a script doesn't see by which name it is called; only a list of names has one of these words)
+cat >"$folder/toolchain/bin/clang" <<SCRIPT
+#!/usr/bin/env bash
+for word in "\$@"; do
+    case \$word in
+        --defined-only | --undefined-only)
+            exec -a llvm-nm $(printf %q "$kit/toolchain/bin/clang") "\$@" ;;
+    esac
+done
+exec $(printf %q "$folder/toolchain/bin/clang-script") "\$@"
+SCRIPT
+chmod +x "$folder/toolchain/bin/clang" "$folder/toolchain/bin/clang-script"

@@ -40,7 +40,7 @@ cat >"$room/clang" <<SCRIPT
 for word in "\$@"; do
     case \$word in *.bc) [ ! -f "\$word" ] || cp "\$word" "$room/modules/\$(date +%s%N).bc" ;; esac
 done
-exec -a "\$0" "$kit/toolchain/bin/clang" "\$@"
+exec -a "\${0%-script}" "$kit/toolchain/bin/clang" "\$@"
 SCRIPT
 "$tools/kit_links.sh" "$room/kit" "$room/clang"
 

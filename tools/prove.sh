@@ -68,8 +68,8 @@ for word in "$@"; do
     [ "$previous" != -o ] || object=$word
     previous=$word
 done
-[ -f "$module" ] || exec -a "$0" "$clang" "$@"
-(exec -a "$0" "$clang" "$@") || exit
+[ -f "$module" ] || exec -a "${0%-script}" "$clang" "$@"
+(exec -a "${0%-script}" "$clang" "$@") || exit
 name=$kept/$(sha256sum <"$object" | cut -c1-64)
 cp "$module" "$name.part.$$" && mv "$name.part.$$" "$name.bc"
 SCRIPT
