@@ -4,7 +4,8 @@
 usage: python3 tools/test_release.py
 
 It needs git, and says so where git isn't there. Nothing is proved. The stand-in's `rt ci` has its
-clang compile two modules, links one of them, and says what the test wants.
+clang compile two modules, links one of them, and says what the test wants. If the kit is there,
+`tools/kit_links.sh` is tried with the kit itself.
 """
 import os
 import shutil
@@ -187,6 +188,38 @@ class TestRelease(unittest.TestCase):
         self.prove("--all-edits")
         self.assertEqual(self.release().returncode, 1)
         self.assertFalse(os.path.exists(f"{self.top}/dist"))
+
+
+PASSED_ON = """#!/usr/bin/env bash
+exec -a "${0%-script}" "$(dirname "$(readlink -f "$(dirname "$0")/ld.lld")")/clang" "$@"
+"""
+
+
+@unittest.skipUnless(shutil.which("rt"), "the kit isn't there")
+class TestKitLinks(unittest.TestCase):
+    """The kit behind links, with a script that hands the words on to its clang."""
+
+    def setUp(self) -> None:
+        self.room = tempfile.mkdtemp(prefix="test-kit-links-")
+        self.addCleanup(shutil.rmtree, self.room)
+        write(f"{self.room}/script", PASSED_ON)
+        words = [f"{TOOLS}/kit_links.sh", f"{self.room}/kit", f"{self.room}/script"]
+        subprocess.run(words, check=True)
+
+    def call(self, *words: str) -> subprocess.CompletedProcess[str]:
+        """Calls clang as the kit's command does: by a name, and without an environment."""
+        clang = f"{self.room}/kit/toolchain/bin/clang"
+        return subprocess.run(words, executable=clang, env={}, capture_output=True, text=True)
+
+    def test_names_are_listed(self) -> None:
+        ran = self.call("llvm-nm", "-D", "--undefined-only", "-j", "/bin/sh")
+        self.assertEqual((ran.returncode, ran.stderr), (0, ""))
+        self.assertIn("__libc_start_main", ran.stdout)
+
+    def test_other_words_go_to_the_script(self) -> None:
+        ran = self.call("clang", "--version")
+        self.assertEqual(ran.returncode, 0)
+        self.assertIn("clang version", ran.stdout)
 
 
 if __name__ == "__main__":
