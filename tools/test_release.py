@@ -190,6 +190,7 @@ class TestRelease(unittest.TestCase):
         self.assertFalse(os.path.exists(f"{self.top}/dist"))
 
 
+NO_WORDS: dict[str, str] = {}
 PASSED_ON = """#!/usr/bin/env bash
 exec -a "${0%-script}" "$(dirname "$(readlink -f "$(dirname "$0")/ld.lld")")/clang" "$@"
 """
@@ -209,7 +210,8 @@ class TestKitLinks(unittest.TestCase):
     def call(self, *words: str) -> subprocess.CompletedProcess[str]:
         """Calls clang as the kit's command does: by a name, and without an environment."""
         clang = f"{self.room}/kit/toolchain/bin/clang"
-        return subprocess.run(words, executable=clang, env={}, capture_output=True, text=True)
+        return subprocess.run(words, executable=clang, env=NO_WORDS, capture_output=True,
+                              text=True)
 
     def test_names_are_listed(self) -> None:
         ran = self.call("llvm-nm", "-D", "--undefined-only", "-j", "/bin/sh")
