@@ -1,5 +1,6 @@
 """What the tests of the desk work on: the page, the program beside it, and a browser."""
 import json
+import shutil
 import subprocess
 import sys
 import tempfile
@@ -53,6 +54,8 @@ def page() -> Path:
         return SETTING.page
     if SETTING.program is None or not SETTING.wasm.is_file():
         raise NotThere(f"{SETTING.page.name} isn't there; --program and --wasm make one")
+    if shutil.which("node") is None:
+        raise NotThere("no Node is installed, which makes the page: Debian has it as nodejs")
     made = Path(ROOM.name) / "desk.html"
     words = [sys.executable, str(TOP / "tools" / "make_desk.py"), "--program", native()]
     subprocess.run([*words, "--wasm", str(SETTING.wasm), "--out", str(made)], check=True)

@@ -4,11 +4,12 @@ import gzip
 import hashlib
 import json
 import re
+import time
 from collections.abc import Callable
 from pathlib import Path
 from typing import Any
 
-from desk_setting import InDesk, page
+from desk_setting import PROBLEM, InDesk, page, run
 
 CARRIED = re.compile(r'(<script type="application/json" id="carried">)(.*?)(</script>)', re.S)
 DATA = re.compile(r'(<script type="application/json" id="data">)(.*?)(</script>)', re.S)
@@ -98,7 +99,19 @@ class Proof(InDesk):
             self.verdict("senate")
             times.append(self.value("took"))
         print(f"the Senate's check: {min(times) / 1000:.2f} s", flush=True)
-        self.assertLess(min(times), 2000)
+        self.assertLess(min(times), max(2000, 2000 * self.native_seconds()))
+
+    def native_seconds(self) -> float:
+        """Returns how long the program of this machine takes to solve the Senate, in seconds.
+
+        A machine on which that takes more than a second is given more time for the check.
+        """
+        times = []
+        for _ in range(3):
+            start = time.monotonic()
+            run("solve", *PROBLEM, "--chamber", "50")
+            times.append(time.monotonic() - start)
+        return min(times)
 
     def test_a_spoiled_line(self) -> None:
         self.open("#proof/house")
