@@ -15,13 +15,13 @@ something isn't, 2 these words can't be run.
 """
 import argparse
 import sys
-import unittest
 from pathlib import Path
 
 TESTS = Path(__file__).resolve().parent.parent / "web" / "desk" / "test"
 sys.path.insert(0, str(TESTS))
 
 from desk_setting import ROOM, SETTING  # noqa: E402
+from run_tests import run_tests  # noqa: E402
 
 
 def read_words() -> str:
@@ -44,13 +44,7 @@ def main() -> int:
     if {"-h", "--help"} & {*sys.argv[1:]}:
         print(__doc__, end="")
         return 0
-    word = read_words()
-    loader = unittest.TestLoader()
-    loader.testNamePatterns = [f"*{word}*"]
-    tests = loader.discover(str(TESTS), "test_*.py", str(TESTS))
-    result = unittest.TextTestRunner(verbosity=2).run(tests)
-    for what in sorted({why for _, why in result.skipped}):
-        print(f"not run: {what}")
+    result = run_tests(TESTS, read_words())
     ROOM.cleanup()
     return 0 if result.wasSuccessful() else 1
 
