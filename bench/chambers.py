@@ -75,10 +75,11 @@ def solve_and_check(
     steps: int = DEFAULT_STEPS,
     least: bool = True,
 ) -> tuple[str, str, str, str, str]:
-    """Returns the last five cells of a row, as text.
+    """Returns five cells of a row, as text.
 
-    They are the answer, the least steps, the seconds, and the lines of the certificate. The last
-    is what `check` says of it, with its seconds. Without a certificate it is what `judge` says.
+    They are the answer, the least steps, the seconds, the lines of the certificate, and what
+    `check` says of it with its seconds. Without `least` no least steps are told. Where no
+    certificate is stored, the steps are those allowed, and the last cell is what `judge` says.
     """
     certificate = os.path.join(folder, "certificate")
     grouping = os.path.join(folder, "grouping")

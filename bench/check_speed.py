@@ -49,7 +49,7 @@ def write_text(folder: str, lines: list[str]) -> None:
 def weighed(head: str, codes: list[str], limit: int) -> list[str]:
     """Returns a certificate of groups of one county each.
 
-    Its lines say that at most so many counties weigh one each.
+    At most so many counties weigh one each.
     """
     lines = [head, "order " + " ".join(codes), f"limit {limit}", f"target {len(codes)}"]
     lines += [f"group 1 {code}" for code in codes]
@@ -58,13 +58,19 @@ def weighed(head: str, codes: list[str], limit: int) -> list[str]:
 
 
 def branched(code: str, codes: list[str], limit: int) -> list[str]:
-    """Returns a text whose only branch lists the groups of a county, and takes none of them."""
+    """Returns a text whose only branch lists the groups of a county.
+
+    It has none of them as a take.
+    """
     lines = [WIDE, "order " + " ".join(codes), f"limit {limit}", "target none"]
     return lines + [f"branch {code} {limit}", "mark", "seats"]
 
 
 def run(program: str, folder: str, chamber: int, budget: int) -> tuple[str, float]:
-    """Returns the line of the answer of `check`, and its seconds of processor time."""
+    """Returns what `check` says, and its seconds of processor time.
+
+    It is the first line that tells an answer, or all of the text if it has no such line.
+    """
     words = ["check", "--chamber", str(chamber), "--budget", str(budget)]
     for option in ("geo", "segment", "adjacency", "certificate"):
         words += [f"--{option}", option]

@@ -202,7 +202,10 @@ class Drill:
         self.board.file("grouping", "".join(lines))
 
     def undisturbed(self) -> None:
-        """Runs the loop with twice the steps until it doesn't raise them, and keeps that run."""
+        """Runs the loop, each time with twice the steps, until it doesn't raise them.
+
+        The last run is kept.
+        """
         steps, began = 200, time.time()
         while self.board.loop(f"quiet{steps}", "grouping", steps):
             steps, began = 2 * steps, time.time()

@@ -20,7 +20,7 @@ class Problem(NamedTuple):
 
 
 def rows(name: str) -> list[list[str]]:
-    """Returns the fields of each line of a file that isn't blank."""
+    """Returns the fields of each line that isn't blank."""
     with open(name, encoding="latin-1") as lines:
         return [line.rstrip("\n").split("|") for line in lines if line.strip()]
 

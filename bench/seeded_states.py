@@ -131,7 +131,7 @@ def plane(counties: int, draw: random.Random) -> tuple[Links, int]:
 
 
 def links_of(kind: str, counties: int, draw: random.Random) -> Links:
-    """Returns the links of a problem, some of them cut."""
+    """Returns the links of a problem, less those that are cut. No cut leaves two parts."""
     links, cut = (grid if kind == "grid" else plane)(counties, draw)
     for link in draw.sample(sorted(links), len(links) * cut // 100):
         if is_one_part(counties, links - {link}):
