@@ -1,111 +1,179 @@
-"""Prints the list of all best groupings that a complete certificate proves, from the Census files and the certificate's text, with code
-of its own: an end of the tree is a bound leaf at which no county is left and the closed groups have the target's counts. The seat windows
-are those of the rule, in whole numbers. It does not check the certificate.
+"""Prints the list of all best groupings that a complete certificate proves, from the Census files
+and the certificate's text, with code of its own: an end of the tree is a bound leaf at which no
+county is left and the closed groups have the target's counts. The seat windows are those of the
+rule, in whole numbers. It does not check the certificate.
 
 python3 bench/best_list.py data/nc2020 120 house.certificate
 """
+from __future__ import annotations
+
 import sys
 from collections import Counter
+from typing import Iterable, NamedTuple
+
+from census_files import counties
+
+Group = tuple[str, ...]
+Grouping = list[Group]
 
 
-def fields(path):
-    with open(path, encoding="latin1") as file:
-        return [line.rstrip("\r\n").split("|") for line in file]
+class Region(NamedTuple):
+    """Counties that are grouped by themselves, and all ways in which best groupings do so."""
+
+    inside: set[str]
+    choices: list[Grouping]
 
 
-def counties(folder):
-    people = {f[4]: int(f[5]) for f in fields(f"{folder}/nc000012020.pl")}
-    rows = [f for f in fields(f"{folder}/nc2020geo.pl") if f[2] == "050" and f[4] == "00" and f[12] == "37"]
-    return {f[12] + f[14]: people[f[7]] for f in rows}
+class Problem(NamedTuple):
+    """The people of each county, those of all counties, and the seats of the chamber."""
+
+    people: dict[str, int]
+    total: int
+    chamber: int
 
 
-def counts(groups):
+def counts(groups: Iterable[Group]) -> Counter[int]:
+    """Returns how many groups there are of each number of counties."""
     return Counter(len(group) for group in groups)
 
 
-def ends(lines, codes):
-    """The closed groups at each end, in the order of the text."""
-    words = [line.split(" ") for line in lines]
-    groups = int(words[3][1])
-    target = counts([word[2:] for word in words[4 : 4 + groups]])
-    at, found = 4 + groups, []
+class Tree:
+    """The tree of a certificate, read in the order of the text."""
 
-    def tree(closed):
-        nonlocal at
-        while words[at][0] == "branch":
-            at += 1
-            while words[at][0] == "take":
-                taken = tuple(words[at][1:])
-                at += 1
-                tree(closed + [taken])
-            assert words[at][0] == "mark"
-            at += 1
-        kind = words[at][0]
-        if kind == "bound":
-            at += int(words[at][1])
-            if sum(map(len, closed)) == len(codes) and counts(closed) == target:
-                found.append(closed)
-        at += 1
+    def __init__(self, lines: list[str], codes: Iterable[str]) -> None:
+        self.words = [line.split(" ") for line in lines]
+        groups = int(self.words[3][1])
+        self.target = counts([tuple(word[2:]) for word in self.words[4 : 4 + groups]])
+        self.at = 4 + groups
+        self.county_count = len(list(codes))
+        self.found: list[Grouping] = []
 
+    def read(self, closed: Grouping) -> None:
+        """Reads the tree that begins here, below these closed groups, and notes its ends."""
+        while self.words[self.at][0] == "branch":
+            self.at += 1
+            while self.words[self.at][0] == "take":
+                taken = tuple(self.words[self.at][1:])
+                self.at += 1
+                self.read(closed + [taken])
+            assert self.words[self.at][0] == "mark"
+            self.at += 1
+        if self.words[self.at][0] == "bound":
+            self.at += int(self.words[self.at][1])
+            if sum(map(len, closed)) == self.county_count and counts(closed) == self.target:
+                self.found.append(closed)
+        self.at += 1
+
+
+def ends(lines: list[str], codes: Iterable[str]) -> list[Grouping]:
+    """Returns the closed groups at each end, in the order of the text."""
     sys.setrecursionlimit(10_000)
-    tree([])
-    assert words[at] == ["end"]
-    return found
+    tree = Tree(lines, codes)
+    tree.read([])
+    assert tree.words[tree.at] == ["end"]
+    return tree.found
 
 
-def seats(people, total, chamber):
+def seats(people: int, problem: Problem) -> str:
+    """Returns the numbers of seats that so many people suit."""
+    _, total, chamber = problem
     least = max(1, -(-20 * chamber * people // (21 * total)))
     most = 20 * chamber * people // (19 * total)
     assert least <= most
     return str(least) if least == most else f"{least} to {most}"
 
 
-def main(folder, chamber, certificate):
-    chamber, people = int(chamber), counties(folder)
-    total = sum(people.values())
-    with open(certificate) as file:
-        lines = file.read().split("\n")
-    key = lambda group: (len(group), group)
-    listed = sorted([sorted([tuple(sorted(g)) for g in end], key=key) for end in ends(lines, people)], key=lambda end: [key(g) for g in end])
+def group_key(group: Group) -> tuple[int, Group]:
+    """Returns what groups are ordered by."""
+    return len(group), group
 
-    def line(group):
-        count = sum(people[code] for code in group)
-        return f"group seats {seats(count, total, chamber)} people {count} counties {' '.join(group)}"
 
-    shared = [g for g in listed[0] if all(g in end for end in listed)]
-    left = sorted(code for code in people if all(code not in g for g in shared))
+def in_order(found: list[Grouping]) -> list[Grouping]:
+    """Returns the groupings in the order of their lists of groups."""
+    listed = [sorted([tuple(sorted(group)) for group in end], key=group_key) for end in found]
+    return sorted(listed, key=lambda end: [group_key(group) for group in end])
+
+
+def print_groups(groups: Iterable[Group], problem: Problem) -> None:
+    """Prints a line for each group."""
+    for group in groups:
+        count = sum(problem.people[code] for code in group)
+        told = f"group seats {seats(count, problem)} people {count}"
+        print(f"{told} counties {' '.join(group)}")
+
+
+def choices_inside(listed: list[Grouping], inside: set[str]) -> list[Grouping]:
+    """Returns the different ways in which the groupings group these counties."""
+    choices: list[Grouping] = []
+    for end in listed:
+        choice = [group for group in end if set(group) <= inside]
+        if choice not in choices:
+            choices.append(choice)
+    return choices
+
+
+def regions_of(listed: list[Grouping], shared: Grouping, codes: Iterable[str]) -> list[Region]:
+    """Returns the regions of the counties that no shared group has, by their first counties."""
+    left = sorted(code for code in codes if all(code not in group for group in shared))
     first = {code: code for code in left}
-    for group in [g for end in listed for g in end if g not in shared]:
+    for group in [group for end in listed for group in end if group not in shared]:
         met = {first[code] for code in group}
         first = {code: min(met) if at in met else at for code, at in first.items()}
-    size = counts(listed[0])
-    print(f"people {total}\nchamber {chamber}\nseats left {chamber}\ncounties {len(people)}\nanswer all")
-    print("counts", *[size[i] for i in range(1, max(size) + 1)])
-    print(f"best groupings {len(listed)}\nshared groups {len(shared)}")
-    for group in shared:
-        print(line(group))
-    regions, product = [], 1
-    for number, head in enumerate([code for code in left if first[code] == code], 1):
+    regions = []
+    for head in [code for code in left if first[code] == code]:
         inside = {code for code in left if first[code] == head}
-        choices = []
-        for end in listed:
-            choice = [g for g in end if set(g) <= inside]
-            if choice not in choices:
-                choices.append(choice)
-        regions.append((inside, choices))
-        product *= len(choices)
-        print(f"region {number} counties {len(inside)} alternatives {len(choices)}")
-        for i, choice in enumerate(choices, 1):
-            print(f"alternative {i}")
-            for group in choice:
-                print(line(group))
+        regions.append(Region(inside, choices_inside(listed, inside)))
+    return regions
+
+
+def print_head(listed: list[Grouping], shared: Grouping, problem: Problem) -> None:
+    """Prints the lines before the regions."""
+    chamber, size = problem.chamber, counts(listed[0])
+    print(f"people {problem.total}\nchamber {chamber}\nseats left {chamber}")
+    print(f"counties {len(problem.people)}\nanswer all")
+    print("counts", *[size[number] for number in range(1, max(size) + 1)])
+    print(f"best groupings {len(listed)}\nshared groups {len(shared)}")
+    print_groups(shared, problem)
+
+
+def print_region(number: int, region: Region, problem: Problem) -> None:
+    """Prints a region and its alternatives."""
+    inside, choices = region
+    print(f"region {number} counties {len(inside)} alternatives {len(choices)}")
+    for place, choice in enumerate(choices, 1):
+        print(f"alternative {place}")
+        print_groups(choice, problem)
+
+
+def print_choices(number: int, end: Grouping, regions: list[Region]) -> None:
+    """Prints which alternative a grouping has in each region."""
+    chosen = []
+    for inside, choices in regions:
+        chosen.append(choices.index([group for group in end if set(group) <= inside]) + 1)
+    print(f"grouping {number} alternatives", *chosen)
+
+
+def main(folder: str, chamber: int, certificate: str) -> None:
+    """Prints the list."""
+    people = counties(folder)
+    problem = Problem(people, sum(people.values()), chamber)
+    with open(certificate) as file:
+        lines = file.read().split("\n")
+    listed = in_order(ends(lines, people))
+    shared = [group for group in listed[0] if all(group in end for end in listed)]
+    print_head(listed, shared, problem)
+    regions, product = regions_of(listed, shared, people), 1
+    for number, region in enumerate(regions, 1):
+        print_region(number, region, problem)
+        product *= len(region.choices)
     if product == len(listed):
         print("every choice")
         return
-    for i, end in enumerate(listed, 1):
-        print(f"grouping {i} alternatives", *[choices.index([g for g in end if set(g) <= inside]) + 1 for inside, choices in regions])
+    for number, end in enumerate(listed, 1):
+        print_choices(number, end, regions)
 
 
-if len(sys.argv) != 4:
-    sys.exit(__doc__)
-main(*sys.argv[1:])
+if __name__ == "__main__":
+    if len(sys.argv) != 4:
+        sys.exit(__doc__)
+    main(sys.argv[1], int(sys.argv[2]), sys.argv[3])

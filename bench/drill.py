@@ -1,35 +1,51 @@
-"""Tries the loop over many desks (tools/share.sh) and the board behind it with what goes wrong between desks, over 25 counties.
+"""Tries the loop over many desks (tools/share.sh) and the board behind it with what goes wrong
+between desks, over 25 counties.
 
 python3 bench/drill.py PROGRAM [SEED]
 
-1. The loop goes from a poor grouping to a joined certificate, and `check` says that its grouping is best.
-2. From that grouping the loop runs undisturbed. Its certificate is what the next two parts are compared with, byte for byte.
-3. The loop runs with pieces that are killed, at once or with half of their text written, or refused memory; it is killed itself again and again, and started
-   again; texts of events arrive twice, of other rounds, cut, and as bytes that are none.
-4. The same trees go to `share` in other orders, with results sent twice and results that come too early. The splits come in other orders too, with other numbers.
-5. False events go to `share`: trees changed by a byte, trees of other pieces, results of other rounds, splits and groupings that are none. What is joined has
-   the same grouping, and `check` says Best.
+1. The loop goes from a poor grouping to a joined certificate, and `check` says that its grouping is
+   best.
+2. From that grouping the loop runs undisturbed. Its certificate is what the next two parts are
+   compared with, byte for byte.
+3. The loop runs with pieces that are killed, at once or with half of their text written, or refused
+   memory; it is killed itself again and again, and started again; texts of events arrive twice, of
+   other rounds, cut, and as bytes that are none.
+4. The same trees go to `share` in other orders, with results sent twice and results that come too
+   early. The splits come in other orders too, with other numbers.
+5. False events go to `share`: trees changed by a byte, trees of other pieces, results of other
+   rounds, splits and groupings that are none. What is joined has the same grouping, and `check`
+   says Best.
 
 It ends only processes that it started. The last line is `N passed, M failed`.
 """
+from __future__ import annotations
+
+import contextlib
 import os
 import random
 import re
+import shutil
 import signal
 import subprocess
 import sys
 import tempfile
 import time
+from typing import Iterator, NamedTuple, Optional, TextIO
 
 HERE = os.path.dirname(os.path.realpath(__file__))
 LOOP = f"{HERE}/../tools/share.sh"
 # the people of counties in rows of five, each beside those left, right, above and below
-PEOPLE = [34, 43, 41, 112, 63, 98, 84, 74, 29, 60, 130, 120, 150, 115, 133, 148, 88, 29, 27, 113, 139, 101, 117, 128, 62]
+PEOPLE = [34, 43, 41, 112, 63]
+PEOPLE += [98, 84, 74, 29, 60]
+PEOPLE += [130, 120, 150, 115, 133]
+PEOPLE += [148, 88, 29, 27, 113]
+PEOPLE += [139, 101, 117, 128, 62]
 COLUMNS = 5
 KILLS, ORDERS, BOARDS = 12, 12, 8
 STARTS_WITH = re.compile(r"(?m)^(?=(?:hand|result|split|better|wider) )")
 
-# What stands between the loop and the program: some pieces are killed, some write half of their text first, some are refused memory.
+# What stands between the loop and the program: some pieces are killed, some write half of their
+# text first, some are refused memory.
 UNRULY = """#!/usr/bin/env bash
 [ "$1" = piece ] || exec "$PROGRAM" "$@"
 sleep "0.0$((RANDOM % 10))"
@@ -41,169 +57,293 @@ case $((RANDOM % 10)) in
 esac
 """
 
+# The way to a piece from the whole problem, by the places among the pieces of each split.
+Way = tuple[int, ...]
+# An event and what `share` replied to it.
+Replied = tuple[str, str]
 
-class Drill:
-    def __init__(self, program, seed, room):
-        self.program, self.room, self.passed, self.failed = program, room, 0, 0
-        self.random = random.Random(seed)
+
+class Shared(NamedTuple):
+    """What `share` says of events: its status, its lines, and the certificate, if it is joined."""
+
+    status: int
+    lines: list[str]
+    certificate: Optional[str]
+
+
+class Quiet(NamedTuple):
+    """An undisturbed run of the loop: its steps for a piece, its seconds, and what it made."""
+
+    steps: int
+    seconds: float
+    certificate: str
+    events: list[str]
+    best: list[str]
+
+
+class Course(NamedTuple):
+    """How a disturbed loop went: its status, how often it was started, and how often killed."""
+
+    status: Optional[int]
+    starts: int
+    killed: int
+
+
+class Board:
+    """A problem in a folder, the program, and the loop over it."""
+
+    def __init__(self, program: str, room: str) -> None:
+        self.program, self.room = program, room
+        self.chamber = round(sum(PEOPLE) / 100)
+        self.write_problem()
+        self.words = ["--geo", f"{room}/geo", "--segment", f"{room}/segment"]
+        self.words += ["--chamber", str(self.chamber), "--adjacency", f"{room}/adjacency"]
+
+    def write_problem(self) -> None:
+        """Writes the files of the problem, and a grouping of one group."""
         codes = [f"37{2 * i + 1:03}" for i in range(len(PEOPLE))]
         rows = [f"||050||00|||{i}||x|||37||{code[2:]}\n" for i, code in enumerate(codes)]
-        near = [(i, j) for i in range(len(codes)) for j in (i + 1, i + COLUMNS) if j < len(codes) and (j != i + 1 or j % COLUMNS)]
-        self.chamber = round(sum(PEOPLE) / 100)
+        near = [f"x|{codes[i]}|y|{codes[j]}\n" for i, j in near_places()]
         self.file("geo", "".join(rows))
         self.file("segment", "".join(f"||||{i}|{people}\n" for i, people in enumerate(PEOPLE)))
-        self.file("adjacency", "x|County GEOID|x|Neighbor GEOID\n" + "".join(f"x|{codes[i]}|y|{codes[j]}\n" for i, j in near))
+        self.file("adjacency", "x|County GEOID|x|Neighbor GEOID\n" + "".join(near))
         self.file("poor", "|".join([str(self.chamber), *codes]) + "\n")
-        self.words = ["--geo", f"{room}/geo", "--segment", f"{room}/segment", "--chamber", str(self.chamber), "--adjacency", f"{room}/adjacency"]
 
-    def file(self, name, text):
+    def file(self, name: str, text: str) -> str:
+        """Writes a file of the folder, and returns its path."""
         path = f"{self.room}/{name}"
-        with open(path, "w", encoding="latin1", newline="") as it:
-            it.write(text)
+        write(path, text)
         return path
 
-    def expect(self, what, is_so, told=""):
-        self.passed, self.failed = self.passed + bool(is_so), self.failed + (not is_so)
-        print(f"{'ok' if is_so else 'FAILED'}: {what}{f' ({told})' if told else ''}", flush=True)
-
-    def run(self, *words):
+    def run(self, *words: str) -> tuple[int, str]:
+        """Runs the program, and returns its status and its text."""
         made = subprocess.run([self.program, *words], capture_output=True)
         return made.returncode, made.stdout.decode("latin1")
 
-    def share(self, events, certificate="certificate", grouping="grouping"):
-        """What `share` says of a text of events: its status, its lines, and the certificate, if it is joined."""
-        path = f"{self.room}/{certificate}"
+    def share(self, text: str) -> Shared:
+        """Returns what `share` says of a text of events."""
+        path = f"{self.room}/certificate"
         if os.path.exists(path):
             os.remove(path)
-        events = self.file("events", events)
-        status, text = self.run("share", *self.words, "--grouping", f"{self.room}/{grouping}", "--events", events, "--certificate", path)
-        return status, text.splitlines(), read(path) if os.path.exists(path) else None
+        words = ["--grouping", f"{self.room}/grouping", "--events", self.file("events", text)]
+        status, said = self.run("share", *self.words, *words, "--certificate", path)
+        return Shared(status, said.splitlines(), read(path) if os.path.exists(path) else None)
 
-    def is_best(self, certificate):
-        """The groups that `check` calls best by a certificate, or None."""
+    def share_what_is_read(self, events: list[str], known: list[str]) -> tuple[Shared, int]:
+        """Returns what `share` says of the events that are a text, and how many are left out.
+
+        Where the answer names a line, the event of that line is left out. A known event stays, and
+        the one before it is left out in its place.
+        """
+        refused = 0
+        while True:
+            shared = self.share("".join(events))
+            if shared.status != 4:
+                return shared, refused
+            line, at = int(shared.lines[0].split(" line ")[1]), 0
+            # (the line may be the first one behind a text that was cut short, and a changed byte
+            # may be an LF)
+            while at + 1 < len(events) and line > events[at].count("\n"):
+                line, at = line - events[at].count("\n"), at + 1
+            at = at if events[at] not in known else at - 1
+            del events[at]
+            refused += 1
+
+    def best_groups(self, certificate: str) -> Optional[list[str]]:
+        """Returns the groups that `check` calls best by a certificate, or None."""
         path = self.file("checked", certificate)
         status, text = self.run("check", *self.words, "--certificate", path)
         return groups_of(certificate) if status == 0 and "\nanswer best\n" in text else None
 
-    # ---- the loop ----
+    def loop_words(self, folder: str, grouping: str, steps: int) -> list[str]:
+        """Returns the words that start the loop."""
+        words = ["--folder", f"{self.room}/{folder}", "--grouping", f"{self.room}/{grouping}"]
+        return [LOOP, *words, "--jobs", "3", "--steps", str(steps), "--", *self.words]
 
-    def loop_words(self, folder, grouping, steps):
-        return [LOOP, "--folder", f"{self.room}/{folder}", "--grouping", f"{self.room}/{grouping}", "--jobs", "3", "--steps", str(steps), "--", *self.words]
-
-    def loop(self, folder, grouping, steps):
-        """Runs the loop to its end, and says whether it raised the steps."""
-        made = subprocess.run(self.loop_words(folder, grouping, steps), capture_output=True, text=True, env={**os.environ, "COUNTYGROUPS": self.program})
+    def loop(self, folder: str, grouping: str, steps: int) -> bool:
+        """Runs the loop to its end, and returns whether it raised the steps."""
+        made = subprocess.run(
+            self.loop_words(folder, grouping, steps),
+            capture_output=True,
+            text=True,
+            env={**os.environ, "COUNTYGROUPS": self.program},
+        )
         if made.returncode:
-            sys.exit(f"drill.py: the loop ended with {made.returncode}:\n{made.stderr[-2000:]}")
+            told = f"the loop ended with {made.returncode}:\n{made.stderr[-2000:]}"
+            sys.exit(f"drill.py: {told}")
         return "steps for a piece from now on" in made.stderr
 
-    def from_a_poor_grouping(self):
-        self.loop("first", "poor", 1000)
-        certificate = read(f"{self.room}/first/certificate")
-        best = self.is_best(certificate)
-        self.expect("from a poor grouping the loop comes to one that `check` calls best", best, f"{read(f'{self.room}/first/replies').count('new round')} new rounds")
-        self.file("grouping", "".join("|".join(group.split(" ")[1:]) + "\n" for group in best))
 
-    def undisturbed(self):
-        self.steps, began = 200, time.time()
-        while self.loop(f"quiet{self.steps}", "grouping", self.steps):
-            self.steps, began = 2 * self.steps, time.time()
-        self.seconds = time.time() - began
-        folder = f"{self.room}/quiet{self.steps}"
-        self.certificate, self.events = read(f"{folder}/certificate"), STARTS_WITH.split(read(f"{folder}/events"))
-        self.events = [it for it in self.events if it]
-        self.best = self.is_best(self.certificate)
-        splits = sum(it.startswith("split ") for it in self.events)
-        self.expect("from the best grouping the loop joins a certificate", self.best, f"{self.steps} steps for a piece, {splits} splits, {len(self.events)} events")
+class Drill:
+    """The parts of the drill, and how many of its claims hold."""
 
-    def disturb(self, folder):
-        """Puts texts into the folder as if desks had sent them: results twice, of other rounds, cut, and bytes that are no events."""
-        sent = self.random.choice(self.events)
+    def __init__(self, program: str, seed: int, room: str) -> None:
+        self.board = Board(program, room)
+        self.room = room
+        self.passed = self.failed = 0
+        self.random = random.Random(seed)
+        self.quiet = Quiet(0, 0.0, "", [], [])
+
+    def expect(self, what: str, is_so: bool, told: str = "") -> None:
+        """Prints whether a claim holds, and counts it."""
+        self.passed, self.failed = self.passed + is_so, self.failed + (not is_so)
+        print(f"{'ok' if is_so else 'FAILED'}: {what}{f' ({told})' if told else ''}", flush=True)
+
+    # ---- the loop ----
+
+    def from_a_poor_grouping(self) -> None:
+        """Runs the loop from one group, and stores the best grouping."""
+        self.board.loop("first", "poor", 1000)
+        best = self.board.best_groups(read(f"{self.room}/first/certificate"))
+        told = f"{read(f'{self.room}/first/replies').count('new round')} new rounds"
+        what = "from a poor grouping the loop comes to one that `check` calls best"
+        self.expect(what, bool(best), told)
+        lines = ["|".join(group.split(" ")[1:]) + "\n" for group in best or []]
+        self.board.file("grouping", "".join(lines))
+
+    def undisturbed(self) -> None:
+        """Runs the loop, each time with twice the steps, until it doesn't raise them.
+
+        The last run is kept.
+        """
+        steps, began = 200, time.time()
+        while self.board.loop(f"quiet{steps}", "grouping", steps):
+            steps, began = 2 * steps, time.time()
+        seconds = time.time() - began
+        folder = f"{self.room}/quiet{steps}"
+        certificate = read(f"{folder}/certificate")
+        events = [it for it in STARTS_WITH.split(read(f"{folder}/events")) if it]
+        best = self.board.best_groups(certificate)
+        splits = sum(it.startswith("split ") for it in events)
+        told = f"{steps} steps for a piece, {splits} splits, {len(events)} events"
+        self.expect("from the best grouping the loop joins a certificate", bool(best), told)
+        self.quiet = Quiet(steps, seconds, certificate, events, best or [])
+
+    def disturb(self, folder: str) -> None:
+        """Puts texts into the folder as if desks had sent them.
+
+        They are results twice, of other rounds and cut, and bytes that are no events.
+        """
+        sent = self.random.choice(self.quiet.events)
         line, *rest = sent.split("\n")
         words = line.split(" ")
-        later = "\n".join([" ".join([words[0], str(int(words[1]) + self.random.randint(1, 5)), *words[2:]]), *rest])
+        other_round = str(int(words[1]) + self.random.randint(1, 5))
+        later = "\n".join([" ".join([words[0], other_round, *words[2:]]), *rest])
         noise = "".join(chr(self.random.randrange(256)) for _ in range(40))
-        for text in (sent, sent + sent, later, sent[: self.random.randrange(1, len(sent))], noise):
+        cut = sent[: self.random.randrange(1, len(sent))]
+        for text in (sent, sent + sent, later, cut, noise):
             if self.random.random() < 0.3 and os.path.isdir(f"{folder}/arrived"):
                 name = f"{folder}/arrived/x{self.random.random()}"
-                with open(f"{name}.part", "w", encoding="latin1", newline="") as it:
-                    it.write(text)
+                write(f"{name}.part", text)
                 os.rename(f"{name}.part", f"{name}.events")
 
-    def disturbed(self, name):
-        unruly = self.file(f"{name}.unruly", UNRULY)
+    def run_and_kill(self, name: str, told: TextIO) -> Course:
+        """Runs the loop, kills and disturbs it, and starts it again until it ends by itself."""
+        unruly = self.board.file(f"{name}.unruly", UNRULY)
         os.chmod(unruly, 0o755)
-        told = open(f"{self.room}/{name}.told", "a+")
-        how = {"env": {**os.environ, "COUNTYGROUPS": unruly, "PROGRAM": self.program}, "stdout": told, "stderr": told}
-        folder, starts, killed, status = f"{self.room}/{name}", 0, 0, None
+        setting = {**os.environ, "COUNTYGROUPS": unruly, "PROGRAM": self.board.program}
+        words = self.board.loop_words(name, "grouping", self.quiet.steps)
+        starts, killed = 0, 0
+        status: Optional[int] = None
         while status != 0 and starts < 5 * KILLS:
             starts += 1
             time.sleep(0.1)
-            process = subprocess.Popen(self.loop_words(name, "grouping", self.steps), start_new_session=True, **how)
+            process = subprocess.Popen(
+                words, start_new_session=True, env=setting, stdout=told, stderr=told
+            )
+            patience = None
+            if killed < KILLS:
+                patience = self.random.uniform(0.02, 0.4) * self.quiet.seconds
             try:
-                status = process.wait(self.random.uniform(0.02, 0.4) * self.seconds if killed < KILLS else None)
+                status = process.wait(patience)
             except subprocess.TimeoutExpired:
                 killed += 1
                 end(process, self.random.choice(("all", "loop", "stop")))
             except SystemExit:
                 end(process, "all")
                 raise
-            self.disturb(folder)
-        same = os.path.exists(f"{folder}/certificate") and read(f"{folder}/certificate") == self.certificate
-        aside = len(os.listdir(f"{folder}/refused"))
-        is_right = status == 0 and same
-        self.expect(f"the disturbed loop {name} joins the same bytes", is_right, f"killed {killed} times, started {starts} times, {aside} texts set aside")
+            self.disturb(f"{self.room}/{name}")
+        return Course(status, starts, killed)
+
+    def disturbed(self, name: str) -> None:
+        """Runs the loop disturbed, and compares its certificate."""
+        with open(f"{self.room}/{name}.told", "a+") as told:
+            course = self.run_and_kill(name, told)
+        folder = f"{self.room}/{name}"
+        path = f"{folder}/certificate"
+        same = os.path.exists(path) and read(path) == self.quiet.certificate
+        is_right = course.status == 0 and same
+        what = f"the disturbed loop {name} joins the same bytes"
+        times = f"killed {course.killed} times, started {course.starts} times"
+        aside = f"{len(os.listdir(f'{folder}/refused'))} texts set aside"
+        self.expect(what, is_right, f"{times}, {aside}")
         if not is_right:
-            print(read(told.name)[-2000:])
+            print(read(f"{self.room}/{name}.told")[-2000:])
 
     # ---- the board ----
 
-    def paths(self):
-        """For each piece how it came about: the way from the whole problem, by the places among the pieces of each split."""
-        _, lines, _ = self.share("".join(self.events))
-        ways = {1: ()}
-        for event, reply in zip(self.events, lines):
+    def paths(self) -> tuple[dict[int, Way], list[Replied]]:
+        """Returns the way to each piece, and the events that count with their replies."""
+        events = self.quiet.events
+        _, lines, _ = self.board.share("".join(events))
+        ways: dict[int, Way] = {1: ()}
+        kept = []
+        for event, reply in zip(events, lines):
             if reply.startswith("split into "):
-                first, last = map(int, re.findall(r"\d+", reply))
-                piece = int(event.split()[2])
-                ways.update({number: (*ways[piece], number - first) for number in range(first, last + 1)})
-        return ways, [(event, reply) for event, reply in zip(self.events, lines) if reply == "accepted" or reply.startswith("split into ")]
+                first, last = numbers_in(reply)
+                piece = piece_of(event)
+                for number in range(first, last + 1):
+                    ways[number] = (*ways[piece], number - first)
+            if reply == "accepted" or reply.startswith("split into "):
+                kept.append((event, reply))
+        return ways, kept
 
-    def in_another_order(self):
-        """The events that count, the splits in another order, with the numbers that pieces get by it; results stand anywhere behind their splits."""
+    def in_another_order(self) -> list[str]:
+        """Returns the events that count, the splits in another order.
+
+        The pieces get the numbers that come of it. A result stands anywhere behind its split.
+        """
         ways, kept = self.paths()
-        splits = {ways[int(it.split()[2])]: (it, reply) for it, reply in kept if it.startswith("split ")}
-        results = {ways[int(it.split()[2])]: it for it, _ in kept if it.startswith("result ")}
-        numbers, last, text, waits = {(): 1}, 1, [], [()]
+        splits = {ways[piece_of(it)]: (it, to) for it, to in kept if it.startswith("split ")}
+        results = {ways[piece_of(it)]: it for it, _ in kept if it.startswith("result ")}
+        numbers: dict[Way, int] = {(): 1}
+        text: list[str] = []
+        waits: list[Way] = [()]
         while waits:
             way = waits.pop(self.random.randrange(len(waits)))
             event, reply = splits.get(way) or (results[way], "")
             text.append(renumbered(event, numbers[way]))
             if reply:
-                first, end_at = map(int, re.findall(r"\d+", reply))
-                for place in range(end_at - first + 1):
-                    last += 1
-                    numbers[(*way, place)] = last
+                first, last = numbers_in(reply)
+                for place in range(last - first + 1):
+                    numbers[(*way, place)] = len(numbers) + 1
                     waits.append((*way, place))
         return text
 
-    def orders(self):
+    def with_results_again(self, events: list[str]) -> list[str]:
+        """Returns the events with each result once more anywhere, and once more at the end."""
+        text = list(events)
+        results = [it for it in text if it.startswith("result ")]
+        places = [(self.random.randrange(len(text) + 1), it) for it in results]
+        for place, it in sorted(places, reverse=True):
+            text.insert(place, it)
+        return text + self.random.sample(results, len(results))
+
+    def orders(self) -> None:
+        """Shares the same trees in other orders, and compares what is joined."""
         same = early = twice = 0
         for _ in range(ORDERS):
-            text = self.in_another_order()
-            results = [it for it in text if it.startswith("result ")]
-            places = [(self.random.randrange(len(text) + 1), it) for it in results]
-            for place, it in sorted(places, reverse=True):
-                text.insert(place, it)
-            text += self.random.sample(results, len(results))
-            status, lines, certificate = self.share("".join(text))
-            early, twice = early + lines.count("no such piece"), twice + lines.count("already done")
-            same += status == 0 and certificate == self.certificate
-        self.expect(f"the same trees in {ORDERS} other orders join the same bytes", same == ORDERS, f"{early} results came too early, {twice} came again")
+            text = self.with_results_again(self.in_another_order())
+            status, lines, certificate = self.board.share("".join(text))
+            early += lines.count("no such piece")
+            twice += lines.count("already done")
+            same += status == 0 and certificate == self.quiet.certificate
+        what = f"the same trees in {ORDERS} other orders join the same bytes"
+        self.expect(what, same == ORDERS, f"{early} results came too early, {twice} came again")
 
-    def false_event(self):
-        """An event that no desk should send."""
-        event = self.random.choice(self.events)
+    def false_event(self) -> str:
+        """Returns an event that no desk should send."""
+        event = self.random.choice(self.quiet.events)
         words = event.split("\n")[0].split(" ")
         kind = self.random.randrange(5)
         if kind == 0:
@@ -215,54 +355,73 @@ class Drill:
         if kind == 2:
             return re.sub(r"^(\w+) \d+", lambda it: f"{it[1]} {self.random.randrange(2, 9)}", event)
         if kind == 3:
-            return f"split 1 {words[2]} 37{self.random.randrange(1, 52):03} {self.random.randrange(1, 12)}\n"
-        groups = [it for it in self.best]
+            county = f"37{self.random.randrange(1, 52):03}"
+            return f"split 1 {words[2]} {county} {self.random.randrange(1, 12)}\n"
+        groups = list(self.quiet.best)
         self.random.shuffle(groups)
         return f"better 1 {len(groups) - 1}\n" + "".join(f"{it}\n" for it in groups[1:])
 
-    def share_what_is_read(self, events):
-        """What `share` says of the events that are a text: one that isn't is left out, where the answer names its line. And how many were."""
-        refused = 0
-        while True:
-            status, lines, certificate = self.share("".join(events))
-            if status != 4:
-                return lines, certificate, refused
-            line, at = int(lines[0].split(" line ")[1]), 0
-            # (the line may be the first one behind a text that was cut short, and a changed byte may be an LF)
-            while at + 1 < len(events) and line > events[at].count("\n"):
-                line, at = line - events[at].count("\n"), at + 1
-            at = at if events[at] not in self.events else at - 1
-            del events[at]
-            refused += 1
-
-    def falsehoods(self):
+    def falsehoods(self) -> None:
+        """Shares the events with false ones between, and checks what is joined."""
         joined = best = refused = not_proofs = 0
         for _ in range(BOARDS):
-            text = [it for event in self.events for it in (self.false_event(), event)]
-            lines, certificate, left_out = self.share_what_is_read(text)
-            not_proofs, refused = not_proofs + lines.count("not a proof"), refused + left_out
-            if certificate is not None:
+            text = [it for event in self.quiet.events for it in (self.false_event(), event)]
+            shared, left_out = self.board.share_what_is_read(text, self.quiet.events)
+            not_proofs += shared.lines.count("not a proof")
+            refused += left_out
+            if shared.certificate is not None:
                 joined += 1
-                best += self.is_best(certificate) == self.best
-        told = f"{refused} texts refused, {not_proofs} times `not a proof`, {joined} of {BOARDS} boards joined"
-        self.expect("with false events between, what is joined is proved of the same grouping", joined == best, told)
+                best += self.board.best_groups(shared.certificate) == self.quiet.best
+        told = f"{refused} texts refused, {not_proofs} times `not a proof`"
+        told += f", {joined} of {BOARDS} boards joined"
+        what = "with false events between, what is joined is proved of the same grouping"
+        self.expect(what, joined == best, told)
         self.expect("some of these boards join", joined > 0)
 
 
-def read(path):
+def near_places() -> list[tuple[int, int]]:
+    """Returns the places of adjacent counties, each beside those to the right and below."""
+    pairs = []
+    for i in range(len(PEOPLE)):
+        for j in (i + 1, i + COLUMNS):
+            if j < len(PEOPLE) and (j != i + 1 or j % COLUMNS):
+                pairs.append((i, j))
+    return pairs
+
+
+def read(path: str) -> str:
+    """Returns the text of a file, each byte as a character."""
     with open(path, encoding="latin1", newline="") as it:
         return it.read()
 
 
-def groups_of(certificate):
+def write(path: str, text: str) -> None:
+    """Writes a file, each character as a byte."""
+    with open(path, "w", encoding="latin1", newline="") as it:
+        it.write(text)
+
+
+def groups_of(certificate: str) -> list[str]:
+    """Returns the lines of the groups of a certificate."""
     return [it for it in certificate.split("\n") if it.startswith("group ")]
 
 
-def renumbered(event, number):
+def piece_of(event: str) -> int:
+    """Returns the number of the piece that an event names."""
+    return int(event.split()[2])
+
+
+def numbers_in(reply: str) -> list[int]:
+    """Returns the numbers of a reply."""
+    return [int(it) for it in re.findall(r"\d+", reply)]
+
+
+def renumbered(event: str, number: int) -> str:
+    """Returns the event with another number of the piece."""
     return re.sub(r"^(\w+ \d+) \d+", lambda it: f"{it[1]} {number}", event)
 
 
-def end(process, how):
+def end(process: subprocess.Popen[bytes], how: str) -> None:
     """Ends the loop: with all that it started, or the loop alone, or as a person would stop it."""
     try:
         if how == "all":
@@ -274,13 +433,30 @@ def end(process, how):
     process.wait()
 
 
-def main():
+@contextlib.contextmanager
+def a_room() -> Iterator[str]:
+    """Yields a new folder, and removes what can be removed of it at the end."""
+    room = tempfile.mkdtemp(prefix="drill-")
+    try:
+        yield room
+    finally:
+        shutil.rmtree(room, ignore_errors=True)
+
+
+def stop(*_: object) -> None:
+    """Ends the script, as a signal asks."""
+    sys.exit("drill.py: stopped")
+
+
+def main() -> int:
+    """Runs the five parts, and returns 1 if a claim doesn't hold."""
     if len(sys.argv) not in (2, 3):
         sys.exit(__doc__)
     began = time.time()
-    signal.signal(signal.SIGTERM, lambda *_: sys.exit("drill.py: stopped"))
-    with tempfile.TemporaryDirectory(prefix="drill-", ignore_cleanup_errors=True) as room:
-        drill = Drill(os.path.realpath(sys.argv[1]), int(sys.argv[2]) if len(sys.argv) == 3 else 1, room)
+    signal.signal(signal.SIGTERM, stop)
+    seed = int(sys.argv[2]) if len(sys.argv) == 3 else 1
+    with a_room() as room:
+        drill = Drill(os.path.realpath(sys.argv[1]), seed, room)
         drill.from_a_poor_grouping()
         drill.undisturbed()
         for name in ("one", "two"):
