@@ -2,6 +2,8 @@
 
 `Browser.found()` is the program's path, or None where no Chromium is installed.
 """
+from __future__ import annotations
+
 import base64
 import json
 import os

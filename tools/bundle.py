@@ -12,6 +12,8 @@ is taken is what the modules of web/ need, and anything else is refused: each im
 stands at the beginning of a line, an import names what it takes, an export stands in front of a
 function, a class or a `const`, and no two modules import each other.
 """
+from __future__ import annotations
+
 import json
 import re
 import sys

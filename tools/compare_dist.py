@@ -12,6 +12,8 @@ of its module for WebAssembly, have to be the files of `dist/` byte for byte.
 Statuses: 0 nothing differs, or `dist/` is behind; 1 something differs; 2 these words can't be
 followed.
 """
+from __future__ import annotations
+
 import argparse
 import os
 import subprocess

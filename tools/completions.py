@@ -10,6 +10,8 @@ A shell then completes the commands, the options of each, and the names of files
 options that take a file. `completions/README.md` says where each shell wants its file. Statuses: 0
 the files are stored, 1 what the program says can't be read, 2 these words can't be followed.
 """
+from __future__ import annotations
+
 import argparse
 import os
 import sys

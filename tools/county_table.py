@@ -2,6 +2,8 @@
 
 `docs/formats.md` has the form of a table. One that isn't of this form is refused with one sentence.
 """
+from __future__ import annotations
+
 import csv
 import re
 from dataclasses import dataclass

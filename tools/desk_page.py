@@ -1,5 +1,7 @@
 """Puts a page together: the modules of web/desk as one script, its style, its data, and the files
 that the page carries."""
+from __future__ import annotations
+
 import base64
 import gzip
 import hashlib

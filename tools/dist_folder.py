@@ -16,6 +16,8 @@ has a line for each other file, as `sha256sum` writes it.
 Statuses: 0 all is well, 1 the proof is another or the folder can't be sealed, 2 these words can't
 be followed.
 """
+from __future__ import annotations
+
 import filecmp
 import hashlib
 import os

@@ -19,6 +19,8 @@ are due too, and those of `tried/` stand beside them.
 Statuses: 0 the folder is made; 1 it isn't empty, an edit's name stands in both folders, or a
 source lies where no check reads it; 2 these words can't be followed.
 """
+from __future__ import annotations
+
 import argparse
 import datetime
 import os

@@ -3,6 +3,8 @@
 The man page (`tools/manual_page.py`) and the completions of shells (`tools/completions.py`) are
 made of it. So each word that they have of the program is one that the program prints.
 """
+from __future__ import annotations
+
 import os
 import re
 import subprocess

@@ -6,6 +6,8 @@ usage: python3 tools/launcher.py FOLDER
 FOLDER/countygroups.mjs is the launcher, packed of web/host/launcher.mjs. On Windows it is called by
 FOLDER/countygroups.cmd. Both need FOLDER/countygroups.wasm beside them, which tools/wasm.sh makes.
 """
+from __future__ import annotations
+
 import sys
 from pathlib import Path
 

@@ -11,6 +11,8 @@ its copy was built without proof. --maps stores senate_map.svg and house_map.svg
 inputs give the same bytes. Node draws what stands in the page without scripts. If something is
 missing, one sentence says what, and the status is 1.
 """
+from __future__ import annotations
+
 import argparse
 import json
 import shutil

@@ -9,6 +9,8 @@ usage: manual_page.py [--program FILE] [--out FILE]
 `man -l docs/countygroups.1` shows the page. Statuses: 0 the page is stored, 1 what the program says
 can't be read, 2 these words can't be followed.
 """
+from __future__ import annotations
+
 import argparse
 import os
 import re

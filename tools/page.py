@@ -14,6 +14,8 @@ sentence on standard error says why, and the status is 1. If the words are other
 one of the best, and mark it: GROUPING is a grouping text. --borders FILE is a text which says where
 the adjacency file comes from.
 """
+from __future__ import annotations
+
 import argparse
 import hashlib
 import os

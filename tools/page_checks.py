@@ -1,5 +1,7 @@
 """Checks that table, list and record of a page speak of one problem. Each difference is refused
 with one sentence."""
+from __future__ import annotations
+
 import hashlib
 import itertools
 import math

@@ -2,6 +2,8 @@
 
 `docs/formats.md` has the forms of both. A text that isn't of its form is refused with one sentence.
 """
+from __future__ import annotations
+
 import math
 import re
 from dataclasses import dataclass, field

@@ -1,5 +1,7 @@
 """What the tests of pages stand on: small lists, tables and records, and folders in which pages are
 made."""
+from __future__ import annotations
+
 import contextlib
 import csv
 import hashlib
@@ -10,7 +12,7 @@ import sys
 import tempfile
 import unittest
 from pathlib import Path
-from typing import Any
+from typing import Any, Dict, List, Tuple, Union
 
 sys.path.insert(0, str(Path(__file__).resolve().parent))
 
@@ -41,7 +43,7 @@ group seats 2 people 190 counties 37001 37003
 every choice
 """
 PEOPLE = {"37001": 100, "37003": 90, "37005": 100, "37007": 105, "37009": 105, "37011": 100}
-Groups = dict[int | str, tuple[int, list[str]]]
+Groups = Dict[Union[int, str], Tuple[int, List[str]]]
 GROUPS: Groups = {1: (1, ["37001"]), 2: (2, ["37003", "37005"]), 3: (2, ["37007", "37009"]),
                   4: (1, ["37011"])}
 WITHDRAWN: Groups = {1: (1, ["37001"]), 2: (2, ["37003", "37005"]), 3: (2, ["37007", "37009"]),

@@ -5,6 +5,8 @@ usage: python3 tools/test_compare_dist.py
 
 It needs git, and says so where git isn't there. No program is built: a text stands for it.
 """
+from __future__ import annotations
+
 import contextlib
 import io
 import os

@@ -10,6 +10,8 @@ shell that is installed is asked what it offers: the commands, the options of ea
 names of files behind the options that take one. A shell that isn't installed is named and passed
 over. On Debian the shells are the packages `bash`, `zsh` and `fish`.
 """
+from __future__ import annotations
+
 import argparse
 import os
 import pty

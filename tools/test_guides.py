@@ -12,6 +12,8 @@ in their order by bash, in one folder that has the repository's data, cases, doc
 
 Statuses: 0 each command printed what its page has, 1 one didn't, 2 these words can't be followed.
 """
+from __future__ import annotations
+
 import argparse
 import os
 import re

@@ -10,6 +10,8 @@ shows the page, and each word of the help texts has to stand there, in the same 
 `groff` isn't installed, that is said, and the page isn't shown. On Debian they are the packages
 `man-db` and `groff`.
 """
+from __future__ import annotations
+
 import argparse
 import os
 import re

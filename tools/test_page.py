@@ -3,6 +3,8 @@
 
 usage: python3 tools/test_page.py
 """
+from __future__ import annotations
+
 import contextlib
 import io
 import json

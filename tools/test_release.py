@@ -7,6 +7,8 @@ It needs git, and says so where git isn't there. Nothing is proved. The stand-in
 clang compile two modules, links one of them, and says what the test wants. If the kit is there,
 `tools/kit_links.sh` is tried with the kit itself.
 """
+from __future__ import annotations
+
 import os
 import shutil
 import subprocess

@@ -11,6 +11,8 @@ the number of best groupings, the number of groups that all of them share, the c
 differs from the first line. If a file can't be used, a sentence on standard error says why, and the
 status is 1.
 """
+from __future__ import annotations
+
 import argparse
 import csv
 import os

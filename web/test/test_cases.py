@@ -1,4 +1,6 @@
 """The cases of cases/ by the launcher, and by hosts in which a fault is planted."""
+from __future__ import annotations
+
 import shutil
 import subprocess
 import sys

@@ -1,4 +1,6 @@
 """The program in a page that is one file, opened from the disk in a headless Chromium."""
+from __future__ import annotations
+
 import base64
 import gzip
 import json

@@ -1,4 +1,6 @@
 """The launcher by Node beside what docs/formats.md says, and beside the program of this machine."""
+from __future__ import annotations
+
 import os
 import signal
 import subprocess

@@ -1,4 +1,6 @@
 """What the sources of web/ are held to: types, lengths, and one list of the host calls."""
+from __future__ import annotations
+
 import os
 import re
 import subprocess

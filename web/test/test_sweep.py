@@ -1,4 +1,6 @@
 """The sweep of memory over a heap that refuses the request that it is told to refuse."""
+from __future__ import annotations
+
 import base64
 import json
 import subprocess

@@ -1,4 +1,6 @@
 """What the tests of web/ work on: the program's WebAssembly, the launcher, what is installed."""
+from __future__ import annotations
+
 import random
 import shutil
 import subprocess

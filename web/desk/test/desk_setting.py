@@ -1,4 +1,6 @@
 """What the tests of the desk work on: the page, the program beside it, and a browser."""
+from __future__ import annotations
+
 import json
 import shutil
 import subprocess

@@ -1,4 +1,6 @@
 """Drives a headless Firefox by Marionette, the protocol that Firefox itself has for tests."""
+from __future__ import annotations
+
 import json
 import shutil
 import socket

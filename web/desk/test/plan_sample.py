@@ -1,5 +1,7 @@
 """Census files with 20,000 blocks, and a plan of 50 districts that keeps to the Senate's groups of
 2023. The people of the counties are the census's, the blocks are made up."""
+from __future__ import annotations
+
 import random
 from dataclasses import dataclass, field
 from pathlib import Path

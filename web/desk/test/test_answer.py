@@ -1,4 +1,6 @@
 """The answer: every option by link and by click, what can be stored of it, and the keyboard."""
+from __future__ import annotations
+
 import json
 import re
 import xml.etree.ElementTree

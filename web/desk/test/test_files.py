@@ -1,4 +1,6 @@
 """The reader's own files: a state, an archive, wrong files of each kind, a grouping, a plan."""
+from __future__ import annotations
+
 import subprocess
 import zipfile
 from pathlib import Path

@@ -1,4 +1,6 @@
 """The proof: the check passes on what is there, and says No to a changed byte of each file."""
+from __future__ import annotations
+
 import base64
 import gzip
 import hashlib

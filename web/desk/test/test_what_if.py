@@ -1,4 +1,6 @@
 """What if: published numbers, a set taken out, the marks of borders, stopping, and addresses."""
+from __future__ import annotations
+
 from desk_setting import CHAMBERS, DATA, PROBLEM, InDesk, run
 
 RESULT = "#whatif-result"

@@ -1,5 +1,7 @@
 """The page itself: its size, its first picture, its widths, its colors, and that it asks for
 nothing."""
+from __future__ import annotations
+
 import http.server
 import re
 import subprocess
