@@ -77,7 +77,7 @@ def need(holds: object, kind: str, line: Optional[int] = None) -> None:
 def number(word: bytes, least: int = 0, most: int = MOST_NUMBER, kind: str = "BadNumber") -> int:
     """Returns the decimal number of a word, which may begin with zeros.
 
-    Raises the fault if it is none, or isn't from `least` to `most`.
+    Raises a fault of this kind if the word is no number from `least` to `most`.
     """
     digits = word.lstrip(b"0") or b"0"
     is_number = re.fullmatch(rb"[0-9]+", word) and len(digits) <= 20
@@ -86,7 +86,7 @@ def number(word: bytes, least: int = 0, most: int = MOST_NUMBER, kind: str = "Ba
 
 
 def code(word: bytes, kind: str = "BadCode") -> str:
-    """Returns the county code of a word. Raises the fault if it isn't five digits."""
+    """Returns the county code of a word. Raises a fault of this kind if it isn't five digits."""
     need(re.fullmatch(rb"[0-9]{5}", word), kind)
     return word.decode()
 
@@ -95,7 +95,7 @@ def code(word: bytes, kind: str = "BadCode") -> str:
 
 
 def no_header(_: Fields) -> bool:
-    """Returns False: a file without a header."""
+    """Returns False, for a file that has no header."""
     return False
 
 
