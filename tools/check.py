@@ -1,52 +1,92 @@
 #!/usr/bin/env python3
-"""A second checker of certificates, in plain Python: for whoever doesn't trust the proof tool and reads this file in its place.
+"""A second checker of certificates, in plain Python.
+It is for whoever doesn't trust the proof tool and reads this file in its place.
 
 usage: check.py --geo FILE --segment FILE --chamber SEATS --adjacency FILE --certificate FILE
-                [--state CODE] [--links FILE] [--withdrawn FILE] [--part PART] [--of WHOLE] [--budget STEPS] [--table FILE] [--record FILE]
+                [--state CODE] [--links FILE] [--withdrawn FILE] [--part PART] [--of WHOLE]
+                [--budget STEPS] [--table FILE] [--record FILE]
 
-It reads the files of `countygroups check` and prints the same text with the same exit status. It has no budget and stores no file:
-`--budget`, `--table` and `--record` are taken and ignored.
+It reads the files of `countygroups check` and prints the same text with the same exit status. It
+has no budget and stores no file: `--budget`, `--table` and `--record` are taken and ignored.
 
-What it shares with the program: nothing. What is a proof it has from `docs/definitions.md`, whose words it uses, and the texts from
-`docs/formats.md`, with the order of the faults ("Which fault"). It reads both kinds of certificate, plain and wide, of both versions.
-What it trusts: Python, its whole numbers without limit, and the files that it is given. No number is rounded.
+What it shares with the program: nothing. What is a proof it has from `docs/definitions.md`, whose
+words it uses, and the texts from `docs/formats.md`, with the order of the faults ("Which fault").
+It reads both kinds of certificate, plain and wide, of both versions. What it trusts: Python, its
+whole numbers without limit, and the files that it is given. No number is rounded.
 
-How it goes: the files are read (`read_..`), the problem is built, and the certificate is read whole (`Lines`). Then `judge` goes through its tree
-once, with one `State` at each branch and leaf. A set of counties is a whole number: the county at place p of the order is its bit p.
+How it goes: the files are read (`read_..`), the problem is built, and the certificate is read whole
+(`Lines`). Then `judge` goes through its tree once, with one `State` at each branch and leaf. A set
+of counties is a whole number: the county at place p of the order is its bit p.
 
-Statuses: 0 best, 1 impossible or no certificate, 2 these are no words of the command, 4 a file or the problem is refused, 5 a file can't be read.
+Statuses: 0 best, 1 impossible or no certificate, 2 these are no words of the command, 4 a file or
+the problem is refused, 5 a file can't be read.
 """
-import collections
+from __future__ import annotations
+
 import functools
 import itertools
 import os
 import re
 import sys
+from typing import (
+    Any,
+    Callable,
+    Dict,
+    FrozenSet,
+    Iterator,
+    List,
+    NamedTuple,
+    Optional,
+    Set,
+    Tuple,
+    TypeVar,
+)
 
 LINE_BYTES, TEXT_LINES, FILE_BYTES = 65_536, 16_777_216, 1_073_741_824
 MOST_COUNTIES, MOST_NUMBER = 256, 4_294_967_295
+
+# The codes of two counties, and those of a group or a withdrawn set behind its seats.
+Pair = FrozenSet[str]
+SeatsAndCodes = Tuple[int, List[str]]
+Fields = List[bytes]
+Read = TypeVar("Read")
 
 
 class End(Exception):
     """The run ends: a line in the place of a report, and a status."""
 
+    def __init__(self, text: str, status: int) -> None:
+        super().__init__(text, status)
+        self.text, self.status = text, status
+
 
 class Fault(Exception):
     """A kind of fault, and its line, which is None if the caller knows it."""
 
+    def __init__(self, kind: str, line: Optional[int] = None) -> None:
+        super().__init__(kind, line)
+        self.kind, self.line = kind, line
 
-def need(holds, kind, line=None):
+
+def need(holds: object, kind: str, line: Optional[int] = None) -> None:
+    """Raises the fault of this kind unless `holds` is true."""
     if not holds:
         raise Fault(kind, line)
 
 
-def number(word, least=0, most=MOST_NUMBER, kind="BadNumber"):
+def number(word: bytes, least: int = 0, most: int = MOST_NUMBER, kind: str = "BadNumber") -> int:
+    """Returns the decimal number of a word, which may begin with zeros.
+
+    Raises a fault of this kind if the word is no number from `least` to `most`.
+    """
     digits = word.lstrip(b"0") or b"0"
-    need(re.fullmatch(rb"[0-9]+", word) and len(digits) <= 20 and least <= int(digits) <= most, kind)
+    is_number = re.fullmatch(rb"[0-9]+", word) and len(digits) <= 20
+    need(is_number and least <= int(digits) <= most, kind)
     return int(digits)
 
 
-def code(word, kind="BadCode"):
+def code(word: bytes, kind: str = "BadCode") -> str:
+    """Returns the county code of a word. Raises a fault of this kind if it isn't five digits."""
     need(re.fullmatch(rb"[0-9]{5}", word), kind)
     return word.decode()
 
@@ -54,8 +94,22 @@ def code(word, kind="BadCode"):
 # ---- the files ----
 
 
-def read_file(file, text, least, read_fields, is_header=lambda fields: False):
-    """What is read of the fields of each line that isn't blank, but for a header in front. There are to be so many fields at least."""
+def no_header(_: Fields) -> bool:
+    """Returns False, for a file that has no header."""
+    return False
+
+
+def read_file(
+    file: str,
+    text: bytes,
+    least: int,
+    read_fields: Callable[[Fields], Read],
+    is_header: Callable[[Fields], bool] = no_header,
+) -> List[Read]:
+    """Reads each line of a text that isn't blank, but for a header in front.
+
+    A line has to have `least` fields or more. Ends the run at the first line with a fault.
+    """
     found, pieces, is_first = [], text.split(b"\n"), True
     for line, piece in enumerate(pieces if pieces[-1] else pieces[:-1], 1):
         try:
@@ -68,20 +122,29 @@ def read_file(file, text, least, read_fields, is_header=lambda fields: False):
                 found.append(read_fields(fields))
             is_first = is_first and fields == [b""]
         except Fault as fault:
-            raise End(f"refused {file} {fault.args[0]} line {line if line <= TEXT_LINES else 0}", 4) from None
+            told = line if line <= TEXT_LINES else 0
+            raise End(f"refused {file} {fault.kind} line {told}", 4) from None
     return found
 
 
-def read_counties(geo, segment, state, has_names=False):
-    """The people of each listed county, by its code. If names are wanted for a table, they are to be UTF-8."""
-    people_of, counties = {}, {}
+def read_counties(
+    geo: bytes, segment: bytes, state: int, has_names: bool = False
+) -> Dict[str, int]:
+    """Reads the people of each listed county, by its code.
 
-    def read_record(fields):
+    If names are wanted for a table (`has_names`), they have to be UTF-8.
+    """
+    people_of: Dict[int, int] = {}
+    counties: Dict[str, int] = {}
+
+    def read_record(fields: Fields) -> None:
+        """Notes the people of a record of segment 1."""
         record, people = number(fields[4]), number(fields[5])
         need(record not in people_of, "DoubleRecord")
         people_of[record] = people
 
-    def read_county(fields):
+    def read_county(fields: Fields) -> None:
+        """Notes the people of a geographic record, if it is a county of the state."""
         if (fields[2], fields[4], fields[12]) == (b"050", b"00", b"%02d" % state):
             county, record = code(fields[12] + fields[14]), number(fields[7])
             need(record in people_of, "NoRecord")
@@ -96,32 +159,57 @@ def read_counties(geo, segment, state, has_names=False):
     return counties
 
 
-def read_pairs(text):
-    """The pairs of the adjacency file, whatever counties they name. A first line without a code is a header."""
-    is_header = lambda fields: not re.fullmatch(rb"[0-9]{5}", b"".join(fields[1:2]))
-    return {*read_file("adjacency", text, 4, lambda fields: frozenset((code(fields[1]), code(fields[3]))), is_header)}
+def read_pairs(text: bytes) -> Set[Pair]:
+    """Reads the pairs of the adjacency file, whatever counties they name.
+
+    A first line without a code is a header.
+    """
+
+    def is_header(fields: Fields) -> bool:
+        """Returns whether a line has no code as its second field."""
+        return not re.fullmatch(rb"[0-9]{5}", b"".join(fields[1:2]))
+
+    def read_pair(fields: Fields) -> Pair:
+        """Reads the pair of a line."""
+        return frozenset((code(fields[1]), code(fields[3])))
+
+    return {*read_file("adjacency", text, 4, read_pair, is_header)}
 
 
-def read_link(fields):
-    """A pair, and whether the link adds it."""
+def read_link(fields: Fields) -> Tuple[Pair, bool]:
+    """Reads a pair, and whether the link adds it."""
     need(fields[0] in (b"+", b"-"), "BadSign")
     return frozenset((code(fields[1]), code(fields[2]))), fields[0] == b"+"
 
 
-def read_withdrawn(fields):
-    """The seats and the codes of a withdrawn set."""
+def read_withdrawn(fields: Fields) -> SeatsAndCodes:
+    """Reads the seats and the codes of a withdrawn set."""
     return number(fields[0], 1, 1000, "BadSeats"), [code(it) for it in fields[1:]]
 
 
-# The people of each county of the problem and of all listed ones, the adjacent pairs, the seats, and the allowance, which is a fraction.
-Problem = collections.namedtuple("Problem", "people total pairs chamber seats_left window")
+class Problem(NamedTuple):
+    """What a certificate is judged by."""
+
+    people: Dict[str, int]  # the people of each county of the problem, by its code
+    total: int  # the people of all listed counties
+    pairs: Set[Pair]  # the adjacent counties
+    chamber: int  # the seats of the chamber
+    seats_left: int  # the seats that the withdrawn sets leave
+    window: Tuple[int, int]  # the allowance, a fraction
 
 
-def build_problem(listed, pairs, withdrawn, chamber, window):
+def build_problem(
+    listed: Dict[str, int],
+    pairs: Set[Pair],
+    withdrawn: List[SeatsAndCodes],
+    chamber: int,
+    window: Tuple[int, int],
+) -> Problem:
+    """Builds the problem of the listed counties. Ends the run at its first fault."""
     total, gone = sum(listed.values()), [county for _, codes in withdrawn for county in codes]
     unknown = [county for county in gone if county not in listed]
     twice = [county for place, county in enumerate(gone) if county in gone[:place]]
-    foreign = sorted(sorted(pair) for pair in pairs if not all(county in listed for county in pair))
+    foreign = sorted(sorted(pair) for pair in pairs if not all(it in listed for it in pair))
     seats_left = chamber - sum(seats for seats, _ in withdrawn)
     faults = [
         (2 * window[0] > window[1], "BadWindow"),
@@ -130,7 +218,7 @@ def build_problem(listed, pairs, withdrawn, chamber, window):
         (unknown, f"UnknownWithdrawn {''.join(unknown[:1])}"),
         (twice, f"WithdrawnTwice {''.join(twice[:1])}"),
         (seats_left < 0, "WithdrawnSeats"),
-        (foreign, f"UnknownPair {' '.join(sum(foreign[:1], []))}"),
+        (foreign, f"UnknownPair {' '.join(foreign[0] if foreign else [])}"),
     ]
     for stands, fault in faults:
         if stands:
@@ -142,10 +230,11 @@ def build_problem(listed, pairs, withdrawn, chamber, window):
 # ---- the text of a certificate ----
 
 
-def plain(least, most):
-    """A reader of plain decimal numbers in a range."""
+def plain(least: int, most: int) -> Callable[[bytes], int]:
+    """Returns a reader of plain decimal numbers from `least` to `most`."""
 
-    def read(word):
+    def read(word: bytes) -> int:
+        """Returns the number of a word, which has no zero in front."""
         need(re.fullmatch(rb"[0-9]+", word), "BadNumber")
         need(word == b"0" or not word.startswith(b"0"), "NotCanonical")
         return number(word, least, most)
@@ -153,22 +242,26 @@ def plain(least, most):
     return read
 
 
-def county(word):
+def county(word: bytes) -> str:
+    """Returns the county code of a word."""
     return code(word, "BadNumber")
 
 
-def weight(word):
+def weight(word: bytes) -> Tuple[str, int]:
+    """Returns the county code and the weight of a word."""
     need(word.count(b":") == 1, "BadNumber")
     of, heavy = word.split(b":")
     return county(of), plain(1, 1_000_000)(heavy)
 
 
-def groups(word):
+def groups(word: bytes) -> Optional[int]:
+    """Returns the number of the groups of a target, or None if the certificate has no target."""
     return None if word == b"none" else plain(0, MOST_COUNTIES)(word)
 
 
-# What follows the first word of a line: a word for each reader, and then words for one reader, so many at least and at most.
-FORMS = {
+# What follows the first word of a line: a word for each reader (`FORMS`), and then words for one
+# reader, so many at least and at most (`REPEATED`).
+FORMS: Dict[str, List[Callable[[bytes], Any]]] = {
     "window": [plain(0, 500), plain(1, 1000)],
     "limit": [plain(0, MOST_COUNTIES)],
     "target": [groups],
@@ -179,62 +272,107 @@ FORMS = {
     "bound": [plain(0, MOST_COUNTIES)],
     "weigh": [plain(1, 256_000_000)],
 }
-REPEATED = {"order": (county, 0, MOST_COUNTIES), "group": (county, 1, MOST_COUNTIES), "take": (county, 1, MOST_COUNTIES), "weigh": (weight, 0, LINE_BYTES)}
+REPEATED: Dict[str, Tuple[Callable[[bytes], Any], int, int]] = {
+    "order": (county, 0, MOST_COUNTIES),
+    "group": (county, 1, MOST_COUNTIES),
+    "take": (county, 1, MOST_COUNTIES),
+    "weigh": (weight, 0, LINE_BYTES),
+}
 LEAVES = ("stuck", "seats", "bound")
 
-# A line: its number, its first word, and the values of the others. The values of a bound leaf are its lines.
-Line = collections.namedtuple("Line", "number form values")
-# A tree: branches, each at the state where the counties of those before it are raised, and the leaf behind the last mark.
-Tree = collections.namedtuple("Tree", "branches leaf")
-# A branch: its line, its takes, each with its tree, and the line of its mark.
-Branch = collections.namedtuple("Branch", "line takes mark")
-# The window is None if none is named. The target is None, or the seats and the codes of each group.
-Certificate = collections.namedtuple("Certificate", "is_wide window order limit target tree")
+
+class Line(NamedTuple):
+    """A line of a certificate."""
+
+    number: int
+    form: str  # its first word
+    values: List[Any]  # what its readers return for the others; of a bound leaf, its lines
+
+
+class Branch(NamedTuple):
+    """A branch of a tree."""
+
+    line: Line
+    takes: List[Tuple[Line, Tree]]  # its takes, each with its tree
+    mark: Line
+
+
+class Tree(NamedTuple):
+    """Branches, each at the state where the counties of those before it are raised, and a leaf."""
+
+    branches: List[Branch]
+    leaf: Line  # the leaf behind the last mark
+
+
+class Certificate(NamedTuple):
+    """A certificate as it is written, with nothing judged."""
+
+    is_wide: bool
+    window: Optional[List[int]]  # None if none is named
+    order: List[str]
+    limit: int
+    target: Optional[List[SeatsAndCodes]]  # the seats and the codes of each group
+    tree: Tree
 
 
 class Lines:
-    """The lines of a certificate, read one after the other. `number` is that of the last one that was looked at."""
+    """The lines of a certificate, read one after the other.
 
-    def __init__(self, text):
+    `number` is that of the last one that was looked at.
+    """
+
+    def __init__(self, text: bytes) -> None:
         self.pieces, self.number, self.is_wide = text.split(b"\n"), 0, False
 
-    def piece(self):
+    def piece(self) -> bytes:
+        """Returns the bytes of the next line. A line of a certificate ends with a line feed."""
         piece = self.pieces[self.number] if self.number < len(self.pieces) else b""
         self.number += 1
         need(len(piece) <= LINE_BYTES, "BadWord")
         need(self.number < len(self.pieces), "CutShort")
         return piece
 
-    def next(self, *wanted):
-        """The next line, whose first word is one of those wanted."""
+    def next(self, *wanted: str) -> Line:
+        """Reads the next line, whose first word has to be one of those wanted."""
         piece = self.piece()
         need(re.fullmatch(rb"[!-~]+( [!-~]+)*", piece), "NotCanonical")
         first, *words = piece.split(b" ")
         form = first.decode()
         need(form in wanted, "BadWord")
         once = FORMS.get("wide branch" if form == "branch" and self.is_wide else form, [])
-        repeated, least, most = REPEATED.get(form, (None, 0, 0))
+        repeated, least, most = REPEATED.get(form, (county, 0, 0))
         need(least <= len(words) - len(once) <= most, "BadWord")
         values = [read(word) for read, word in zip(once + [repeated] * len(words), words)]
         need(form != "window" or 2 * values[0] <= values[1], "BadNumber")
-        need(form != "weigh" or all(one[0] < other[0] for one, other in zip(values[1:], values[2:])), "NotCanonical")
+        if form == "weigh":
+            codes = [of for of, _ in values[1:]]
+            need(all(one < other for one, other in zip(codes, codes[1:])), "NotCanonical")
         return Line(self.number, form, values)
 
-    def certificate(self):
+    def certificate(self) -> Certificate:
+        """Reads the certificate, which has to be the whole text."""
         head = re.fullmatch(rb"county-groups (wide )?certificate ([12])", self.piece())
-        need(head, "BadHead")
+        if head is None:
+            raise Fault("BadHead")
         self.is_wide = head[1] is not None
         window = self.next("window").values if head[2] == b"2" else None
-        order, (limit,), (count,) = (self.next(form).values for form in ("order", "limit", "target"))
+        order = self.next("order").values
+        (limit,) = self.next("limit").values
+        (count,) = self.next("target").values
         named = [self.next("group").values for _ in range(count or 0)]
+        target = None if count is None else [(it[0], it[1:]) for it in named]
         tree = self.tree(len(order), 0)
         self.next("end")
         self.number += 1
         need(self.pieces[self.number - 1 :] == [b""], "AfterEnd")
-        return Certificate(self.is_wide, window, order, limit, None if count is None else [(it[0], it[1:]) for it in named], tree)
+        return Certificate(self.is_wide, window, order, limit, target, tree)
 
-    def tree(self, counties, depth):
-        """The tree whose first branch stands so deep. A take adds to the depth, and in a plain text a mark does."""
+    def tree(self, counties: int, depth: int) -> Tree:
+        """Reads the tree whose first branch stands so deep.
+
+        A take adds to the depth, and in a plain text a mark does. The depth of a branch has to be
+        below `counties`.
+        """
         branches, line = [], self.next("branch", *LEAVES)
         while line.form == "branch":
             need(depth < counties, "TooDeep")
@@ -245,59 +383,74 @@ class Lines:
             branches.append(Branch(line, takes, following))
             depth += 0 if self.is_wide else 1
             line = self.next("branch", *LEAVES)
-        bounds = [self.next("room", "weigh") for _ in range(line.values[0])] if line.form == "bound" else line.values
-        return Tree(branches, line._replace(values=bounds))
+        if line.form == "bound":
+            bounds = [self.next("room", "weigh") for _ in range(line.values[0])]
+            line = line._replace(values=bounds)
+        return Tree(branches, line)
 
 
-def read_certificate(text):
+def read_certificate(text: bytes) -> Certificate:
+    """Reads a certificate. Raises its first fault, with its line, if the text is none."""
     lines = Lines(text)
     try:
         return lines.certificate()
     except Fault as fault:
-        raise Fault(f"Text {fault.args[0]}", lines.number) from None
+        raise Fault(f"Text {fault.kind}", lines.number) from None
 
 
 # ---- whether a certificate is a proof ----
 
 
-def bits(counties):
-    """The counties of a set one by one, each as the set of it alone."""
+def bits(counties: int) -> Iterator[int]:
+    """Yields the counties of a set one by one, each as the set of it alone."""
     while counties:
         yield counties & -counties
         counties &= counties - 1
 
 
-def size(counties):
+def size(counties: int) -> int:
+    """Returns how many counties a set has."""
     return bin(counties).count("1")
 
 
 class Round:
     """The problem by the places of a certificate's order."""
 
-    def __init__(self, problem, certificate):
-        self.problem, self.limit, self.is_wide = problem, certificate.limit, certificate.is_wide
+    def __init__(self, problem: Problem, certificate: Certificate) -> None:
+        self.problem = problem
+        self.limit, self.is_wide = certificate.limit, certificate.is_wide
         self.bit = {it: 1 << place for place, it in enumerate(certificate.order)}
         self.people = {self.bit[it]: people for it, people in problem.people.items()}
-        self.by_people = sorted(self.people, key=self.people.get, reverse=True)
-        self.neighbours = {bit: sum(self.bit[other] for other in self.bit if {it, other} in problem.pairs) for it, bit in self.bit.items()}
+        self.by_people = sorted(self.people, key=self.people.__getitem__, reverse=True)
+        self.neighbours = {
+            bit: sum(self.bit[other] for other in self.bit if {it, other} in problem.pairs)
+            for it, bit in self.bit.items()
+        }
 
     @functools.lru_cache(maxsize=100_000)
-    def people_of(self, counties):
+    def people_of(self, counties: int) -> int:
+        """Returns the people of a set."""
         return sum(self.people[it] for it in bits(counties))
 
-    def seats_between(self, fewest, most):
-        """The least and the greatest number of seats that numbers of people suit, from the fewest to the most; None if there is no such number. People
-        suit k seats if they miss k ideal districts by no more than the allowance. The ideal district has total / chamber people."""
+    def seats_between(self, fewest: int, most: int) -> Optional[Tuple[int, int]]:
+        """Returns the least and the greatest number of seats that numbers of people suit.
+
+        The numbers of people go from the fewest to the most. Returns None if there is no such
+        number of seats. People suit k seats if they miss k ideal districts by no more than the
+        allowance. The ideal district has total / chamber people.
+        """
         part, whole = self.problem.window
-        least = max(1, -(-whole * self.problem.chamber * fewest // ((whole + part) * self.problem.total)))
-        greatest = whole * self.problem.chamber * most // ((whole - part) * self.problem.total)
+        chamber, total = self.problem.chamber, self.problem.total
+        least = max(1, -(-whole * chamber * fewest // ((whole + part) * total)))
+        greatest = whole * chamber * most // ((whole - part) * total)
         return (least, greatest) if least <= greatest else None
 
-    def seats_of(self, counties):
+    def seats_of(self, counties: int) -> Optional[Tuple[int, int]]:
+        """Returns the least and the greatest number of seats that a set's people suit, or None."""
         return self.seats_between(self.people_of(counties), self.people_of(counties))
 
-    def part_around(self, county, inside):
-        """The connected part of a set that has the county."""
+    def part_around(self, county: int, inside: int) -> int:
+        """Returns the connected part of a set that has the county."""
         part, new = 0, county
         while new:
             it = new & -new
@@ -306,31 +459,47 @@ class Round:
         return part
 
     @functools.lru_cache(maxsize=100_000)
-    def parts_of(self, counties):
-        """The connected parts of a set."""
+    def parts_of(self, counties: int) -> List[int]:
+        """Returns the connected parts of a set."""
         parts = []
         while counties:
             parts.append(self.part_around(counties & -counties, counties))
             counties &= ~parts[-1]
         return parts
 
-    def may_fit(self, part, group, free=0, more=0):
-        """Whether some set may fit that has the group, at most so many of the free counties besides, and no others. Its people are between those of the
-        group, and these with those of the most populous free counties. In the wide language each part that it leaves suits some seats. Take a
-        connected part of what the group leaves. If some of it isn't free, some of it is left, and what is left of it suits the sum of such seats.
-        Its people are then between those of what isn't free, and those of all of it."""
-        most = self.people_of(group) + sum(itertools.islice((self.people[it] for it in self.by_people if it & free), more))
+    def may_fit(self, part: int, group: int, free: int = 0, more: int = 0) -> bool:
+        """Returns whether some set may fit that grows from `group`, inside `part`.
+
+        It has the group, at most `more` of the free counties besides, and no others. Its people are
+        between those of the group, and these with those of the most populous free counties.
+
+        In the wide language each part that it leaves suits some seats. Take a connected part of
+        what the group leaves. If some of it isn't free, some of it is left. What is left of it
+        suits the sum of such seats. Its people are then between those of what isn't free, and those
+        of all of it.
+        """
+        grown = (self.people[it] for it in self.by_people if it & free)
+        most = self.people_of(group) + sum(itertools.islice(grown, more))
         if not self.seats_between(self.people_of(group), most):
             return False
         left = self.parts_of(part & ~group) if self.is_wide else []
-        return all(self.seats_between(self.people_of(it & ~free), self.people_of(it)) for it in left if it & ~free)
+        return all(
+            self.seats_between(self.people_of(it & ~free), self.people_of(it))
+            for it in left
+            if it & ~free
+        )
 
     @functools.lru_cache(maxsize=100_000)
-    def sets_of(self, part, free, most):
-        """For each size up to `most`, all connected sets of free counties of a connected part of the rest that may fit. A set grows by a county that
-        touches it. This county is then out of all sets that are grown later from the same one, so that each set is met once."""
-        found, waiting = {count: [] for count in range(1, most + 1)}, []
-        for it in self.by_people if most else ():
+    def sets_of(self, part: int, free: int, most: int) -> Dict[int, List[int]]:
+        """Returns for each size up to `most` all connected sets of free counties that may fit.
+
+        The free counties are of `part`, a connected part of the rest. A set grows by a county that
+        touches it. This county is then out of all sets that are grown later from the same one, so
+        that each set is met once.
+        """
+        found: Dict[int, List[int]] = {count: [] for count in range(1, most + 1)}
+        waiting: List[Tuple[int, int, int]] = []
+        for it in self.by_people if most else []:
             if it & free:
                 free &= ~it
                 waiting.append((it, self.neighbours[it], free))
@@ -346,106 +515,160 @@ class Round:
         return found
 
 
-class State(collections.namedtuple("State", "round closed rest raised")):
+class State(NamedTuple):
     """Closed groups, the rest, and for each J the counties that were raised past J."""
 
-    def close(self, group):
+    round: Round
+    closed: List[int]
+    rest: int
+    raised: Dict[int, int]
+
+    def close(self, group: int) -> State:
+        """Returns the state where a group of the rest is closed too."""
         return self._replace(closed=[*self.closed, group], rest=self.rest & ~group)
 
-    def raise_past(self, most, county):
+    def raise_past(self, most: int, county: int) -> State:
+        """Returns the state where a county is raised past `most` too."""
         return self._replace(raised={**self.raised, most: self.raised.get(most, 0) | county})
 
-    def open_to(self, count):
-        """The counties of the rest that may lie in a group of so many."""
+    def open_to(self, count: int) -> int:
+        """Returns the counties of the rest that may lie in a group of so many."""
         is_open = self.rest
         for most, counties in self.raised.items():
             is_open &= ~counties if most >= count else is_open
         return is_open
 
-    def is_stuck(self, part):
-        """Whether a connected part suits no number of seats, or is smaller than some county in it asks for."""
+    def is_stuck(self, part: int) -> bool:
+        """Returns whether a connected part suits no number of seats, or is too small.
+
+        It is too small if some county in it asks for a greater group.
+        """
         return not self.round.seats_of(part) or part & ~self.open_to(size(part)) != 0
 
-    def fits(self, group):
-        """Whether a connected group of the rest is lawful, open to its size and, in the wide language, live. A lawful group that is open to its size is
-        one that isn't stuck."""
+    def fits(self, group: int) -> bool:
+        """Returns whether a connected group of the rest is lawful and open to its size.
+
+        In the wide language it has to be live too. A lawful group that is open to its size is one
+        that isn't stuck.
+        """
         left = self.round.parts_of(self.rest & ~group) if self.round.is_wide else []
         return not any(map(self.is_stuck, [group, *left]))
 
 
-def groups_at(state, line, county, most):
-    """The groups of a branch, each by its places: all that fit, have the county and have at most so many counties, by size and then by places."""
+def groups_at(state: State, line: int, county: int, most: int) -> List[List[int]]:
+    """Returns the groups of a branch, each by its places, sorted by size and then by places.
+
+    They are all that fit, have the county and have at most `most` counties.
+    """
     is_open = state.open_to(most)
     need(is_open, "NoLeaf", line)
     is_right = county & is_open if state.round.is_wide else county == is_open & -is_open
     need(is_right and most <= state.round.limit, "WrongCounty", line)
     part = state.round.part_around(county, state.rest)
     sets = itertools.chain(*state.round.sets_of(part, part & is_open, most).values())
-    groups = [[*bits(it)] for it in sets if it & county and state.fits(it)]
-    return sorted(groups, key=lambda group: (len(group), group))
+    found = [[*bits(it)] for it in sets if it & county and state.fits(it)]
+    return sorted(found, key=lambda group: (len(group), group))
 
 
-def judge_stuck(state, leaf, _):
+# For each size, the number of the target's groups that have it; None without a target.
+Counts = Optional[List[int]]
+
+
+def judge_stuck(state: State, leaf: Line, _: Counts) -> None:
+    """Refuses a stuck leaf unless its county lies in a part of the rest that is stuck."""
     county = state.round.bit.get(leaf.values[0], 0)
     need(county & state.rest, "WrongCounty", leaf.number)
-    need(state.is_stuck(state.round.part_around(county, state.rest)), "NotStuck", leaf.number)
+    is_stuck = state.is_stuck(state.round.part_around(county, state.rest))
+    need(is_stuck, "NotStuck", leaf.number)
 
 
-def judge_seats(state, leaf, _):
-    """The least or the greatest numbers of seats of closed groups and parts are to miss the seats left."""
-    seats = [state.round.seats_of(it) for it in [*state.closed, *state.round.parts_of(state.rest)]]
-    is_open = None in seats or sum(it[0] for it in seats) <= state.round.problem.seats_left <= sum(it[1] for it in seats)
-    need(not is_open, "SeatsOpen", leaf.number)
+def judge_seats(state: State, leaf: Line, _: Counts) -> None:
+    """Refuses a seats leaf unless closed groups and parts miss the seats left.
+
+    They do if their least numbers of seats are more in all, or their greatest fewer. If one of them
+    suits no number, the leaf is refused too.
+    """
+    suited = [state.round.seats_of(it) for it in [*state.closed, *state.round.parts_of(state.rest)]]
+    seats = [it for it in suited if it is not None]
+    left = state.round.problem.seats_left
+    is_between = sum(it[0] for it in seats) <= left <= sum(it[1] for it in seats)
+    need(len(seats) == len(suited) and not is_between, "SeatsOpen", leaf.number)
 
 
-def weighed(state, line, count, most, quota, *weights):
-    """What the counties open to a group of so many weigh, divided by the quota, if no group of this size that fits weighs less than it."""
+def weighed(
+    state: State, line: int, count: int, most: int, quota: int, *weights: Tuple[str, int]
+) -> int:
+    """Returns what the counties open to a group of so many weigh, divided by the quota.
+
+    Refuses the line if some group of this size that fits weighs less than the quota.
+    """
     need(all(it in state.round.bit for it, _ in weights), "WrongCounty", line)
-    weights = {state.round.bit[it]: heavy for it, heavy in weights}
-    weigh = lambda counties: sum(heavy for it, heavy in weights.items() if it & counties)
+    weight_of = {state.round.bit[it]: heavy for it, heavy in weights}
+
+    def weigh(counties: int) -> int:
+        """Returns the weight of a set."""
+        return sum(heavy for it, heavy in weight_of.items() if it & counties)
+
     for part in state.round.parts_of(state.rest):
         sets = state.round.sets_of(part, part & state.open_to(most), most)[count]
-        need(not any(weigh(it) < quota and state.fits(it) for it in sets), "LightGroup", line)
+        is_light = any(weigh(it) < quota and state.fits(it) for it in sets)
+        need(not is_light, "LightGroup", line)
     return weigh(state.open_to(count)) // quota
 
 
-def judge_bound(state, leaf, counts):
-    """Line i is to allow no more groups of i counties than the target has, with those that are closed."""
-    need(counts is not None, "BoundWithoutTarget", leaf.number)
-    need(len(leaf.values) <= state.round.limit, "BoundLength", leaf.number)
-    used, most = 0, max((count for count, line in enumerate(leaf.values, 1) if line.form == "weigh"), default=0)
-    for count, line in enumerate(leaf.values, 1):
+def judge_bound(state: State, leaf: Line, counts: Counts) -> None:
+    """Refuses a bound leaf that allows more than the target, or whose lines end too early or late.
+
+    Line i is to allow no more groups of i counties than the target has, with those that are closed.
+    The last line allows fewer, or it is that of the limit.
+    """
+    if counts is None:
+        raise Fault("BoundWithoutTarget", leaf.number)
+    lines: List[Line] = leaf.values
+    need(len(lines) <= state.round.limit, "BoundLength", leaf.number)
+    weighing = [count for count, line in enumerate(lines, 1) if line.form == "weigh"]
+    used, most = 0, max(weighing, default=0)
+    for count, line in enumerate(lines, 1):
         allowed = max(0, size(state.open_to(count)) - used) // count
         if line.form == "weigh":
             allowed = min(allowed, weighed(state, line.number, count, most, *line.values))
         of_size = allowed + sum(size(group) == count for group in state.closed)
         need(of_size <= counts[count], "BoundOver", line.number)
         if of_size < counts[count]:
-            need(count == len(leaf.values), "BoundLength", leaf.number)
+            need(count == len(lines), "BoundLength", leaf.number)
             return
         used += count * allowed
-    need(len(leaf.values) == state.round.limit, "BoundLength", leaf.number)
+    need(len(lines) == state.round.limit, "BoundLength", leaf.number)
 
 
-def judge_tree(state, tree, counts):
-    """Ends in a fault if the tree is no proof tree at the state. A branch of a plain text has the limit of the round."""
+JUDGES: Dict[str, Callable[[State, Line, Counts], None]] = {
+    "stuck": judge_stuck,
+    "seats": judge_seats,
+    "bound": judge_bound,
+}
+
+
+def judge_tree(state: State, tree: Tree, counts: Counts) -> None:
+    """Refuses a tree that is no proof tree at the state.
+
+    A branch of a plain text has the limit of the round.
+    """
     for line, takes, mark in tree.branches:
         code_of_county, most, *_ = [*line.values, state.round.limit]
         county = state.round.bit.get(code_of_county, 0)
-        groups = groups_at(state, line.number, county, most)
+        waiting = groups_at(state, line.number, county, most)
         for take, below in takes:
-            group = [state.round.bit.get(it) for it in take.values]
-            need(group in groups, "StrayGroup", take.number)
-            need(group == groups.pop(0), "MissingGroup", take.number)
+            group = [state.round.bit.get(it, 0) for it in take.values]
+            need(group in waiting, "StrayGroup", take.number)
+            need(group == waiting.pop(0), "MissingGroup", take.number)
             judge_tree(state.close(sum(group)), below, counts)
-        need(not groups, "MissingGroup", mark.number)
+        need(not waiting, "MissingGroup", mark.number)
         state = state.raise_past(most, county)
-    judge_leaf = {"stuck": judge_stuck, "seats": judge_seats, "bound": judge_bound}[tree.leaf.form]
-    judge_leaf(state, tree.leaf, counts)
+    JUDGES[tree.leaf.form](state, tree.leaf, counts)
 
 
-def judge_target(its_round, target, line):
-    """The target is to be lawful."""
+def judge_target(its_round: Round, target: List[SeatsAndCodes], line: int) -> None:
+    """Refuses a target that isn't lawful."""
     named = [it for _, codes in target for it in codes]
     need(all(it in its_round.bit for it in named), "TargetFault UnknownCounty", line)
     need(len({*named}) == len(named), "TargetFault Twice", line)
@@ -453,14 +676,20 @@ def judge_target(its_round, target, line):
     sets = [(seats, sum(its_round.bit[it] for it in codes)) for seats, codes in target]
     need(all(its_round.parts_of(it) == [it] for _, it in sets), "TargetFault NotConnected", line)
     suited = [(its_round.seats_of(it) or (1, 0), seats) for seats, it in sets]
-    need(all(least <= seats <= most for (least, most), seats in suited), "TargetFault OutOfWindow", line)
-    need(sum(seats for seats, _ in target) == its_round.problem.seats_left, "TargetFault SeatsTotal", line)
+    is_inside = all(least <= seats <= most for (least, most), seats in suited)
+    need(is_inside, "TargetFault OutOfWindow", line)
+    seats_of_all = sum(seats for seats, _ in target)
+    need(seats_of_all == its_round.problem.seats_left, "TargetFault SeatsTotal", line)
 
 
-def judge(problem, certificate):
-    """Ends in a fault if the certificate is no proof. Else its target is best, or no grouping is lawful if it has none."""
-    line, window = (1, (1, 20)) if certificate.window is None else (2, certificate.window)
-    need(window[0] * problem.window[1] == problem.window[0] * window[1], "WrongWindow", line)
+def judge(problem: Problem, certificate: Certificate) -> None:
+    """Refuses a certificate that is no proof.
+
+    Else its target is best, or no grouping is lawful if it has none.
+    """
+    line, window = (1, [1, 20]) if certificate.window is None else (2, certificate.window)
+    is_same = window[0] * problem.window[1] == problem.window[0] * window[1]
+    need(is_same, "WrongWindow", line)
     need(sorted(certificate.order) == sorted(problem.people), "WrongOrder", line + 1)
     its_round, counts = Round(problem, certificate), None
     if certificate.target is not None:
@@ -468,16 +697,18 @@ def judge(problem, certificate):
         counts = [sizes.count(it) for it in range(MOST_COUNTIES + 1)]
         need(max(sizes, default=0) <= certificate.limit, "LimitTooSmall", line + 2)
         judge_target(its_round, certificate.target, line + 3)
-    judge_tree(State(its_round, [], sum(its_round.bit.values()), {}), certificate.tree, counts)
+    start = State(its_round, [], sum(its_round.bit.values()), {})
+    judge_tree(start, certificate.tree, counts)
 
 
 # ---- the command ----
 
 
-def report(problem, grouping):
-    """The text of a best grouping, or that there is none."""
+def report(problem: Problem, grouping: Optional[List[SeatsAndCodes]]) -> str:
+    """Returns the text of a best grouping, or that there is none."""
     part, whole = problem.window
-    text = f"people {problem.total}\nchamber {problem.chamber}\n" + f"window {part} {whole}\n" * (part * 20 != whole)
+    text = f"people {problem.total}\nchamber {problem.chamber}\n"
+    text += f"window {part} {whole}\n" * (part * 20 != whole)
     text += f"seats left {problem.seats_left}\ncounties {len(problem.people)}\n"
     if grouping is None:
         return text + "answer impossible\n"
@@ -485,67 +716,106 @@ def report(problem, grouping):
     counts = [str(sizes.count(it)) for it in range(1, max(sizes, default=0) + 1)]
     text += f"answer best\ncounts {' '.join(counts) or 'none'}\n"
     for place, (seats, codes) in enumerate(grouping, 1):
-        text += f"group {place} seats {seats} people {sum(problem.people[it] for it in codes)} counties {' '.join(codes)}\n"
+        people = sum(problem.people[it] for it in codes)
+        text += f"group {place} seats {seats} people {people} counties {' '.join(codes)}\n"
     return text
 
 
-def load(name):
-    """The bytes of a file of the machine."""
+def load(name: str) -> bytes:
+    """Reads the bytes of a file of the machine. Ends the run if it can't, or it is too large."""
     try:
         with open(name, "rb") as file:
             text = file.read(FILE_BYTES + 1)
     except OSError as error:
-        raise End(f"device {name} {'Missing' if isinstance(error, FileNotFoundError) else 'Device'}", 5) from None
+        kind = "Missing" if isinstance(error, FileNotFoundError) else "Device"
+        raise End(f"device {name} {kind}", 5) from None
     if len(text) > FILE_BYTES:
         raise End(f"device {name} TooLarge", 5)
     return text
 
 
-FILES = ("geo", "segment", "adjacency", "certificate", "links", "withdrawn", "table", "record")
-RANGES = {"chamber": (1, 1000), "state": (0, 99), "part": (0, 500), "of": (1, 1000), "budget": (0, 2**64 - 1)}
+NEEDED = ("geo", "segment", "adjacency", "certificate")
+FILES = (*NEEDED, "links", "withdrawn", "table", "record")
+RANGES = {
+    "chamber": (1, 1000),
+    "state": (0, 99),
+    "part": (0, 500),
+    "of": (1, 1000),
+    "budget": (0, 2**64 - 1),
+}
 
 
-def options_of(words):
-    """The options of the command: each has one value and stands once."""
-    options, words = {}, iter(words)
-    for word in words:
-        name, equals, value = word[2:].partition("=")
-        value = value if equals else next(words, None)
-        need(word.startswith("--") and name in (*FILES, *RANGES) and name not in options and value is not None, "")
-        options[name] = number(re.sub(r"^\+", "", value).encode(), *RANGES[name]) if name in RANGES else value
-    need(all(name in options for name in ("chamber", *FILES[:4])), "")
-    return {"state": 37, "part": 1, "of": 20, **options}
+def options_of(words: List[str]) -> Tuple[Dict[str, str], Dict[str, int]]:
+    """Returns the names of the files and the numbers of the command, by their options.
+
+    Each option has one value and stands once. Raises a fault if these are no words of the command.
+    """
+    files: Dict[str, str] = {}
+    numbers: Dict[str, int] = {}
+    left = iter(words)
+    for word in left:
+        name, equals, behind = word[2:].partition("=")
+        value: Optional[str] = behind
+        if not equals:
+            value = next(left, None)
+        need(word.startswith("--") and name not in files and name not in numbers, "")
+        if value is None or name not in (*FILES, *RANGES):
+            raise Fault("")
+        if name in RANGES:
+            numbers[name] = number(re.sub(r"^\+", "", value).encode(), *RANGES[name])
+        else:
+            files[name] = value
+    need("chamber" in numbers and all(name in files for name in NEEDED), "")
+    return files, {"state": 37, "part": 1, "of": 20, **numbers}
 
 
-def adjacent_pairs(pairs, links, listed):
-    """The pairs of two counties, listed ones or of a link that adds them."""
-    kept = {it for it in pairs if all(county in listed for county in it)} - {*links} | {it for it in links if links[it]}
+def adjacent_pairs(pairs: Set[Pair], links: Dict[Pair, bool], listed: Dict[str, int]) -> Set[Pair]:
+    """Returns the pairs of two counties, listed ones or of a link that adds them."""
+    of_listed = {it for it in pairs if all(county in listed for county in it)}
+    kept = of_listed - {*links} | {it for it in links if links[it]}
     return {it for it in kept if len(it) == 2}
 
 
-def answer(words, load):
-    """The text and the exit status for the words of the command. The files are loaded and read in one order, and the first fault is the answer."""
+def read_problem(
+    files: Dict[str, str], numbers: Dict[str, int], load: Callable[[str], bytes]
+) -> Problem:
+    """Loads and reads the files of the problem in one order, and builds it."""
+    geo, segment = load(files["geo"]), load(files["segment"])
+    listed = read_counties(geo, segment, numbers["state"], "table" in files)
+    pairs = read_pairs(load(files["adjacency"]))
+    links: Dict[Pair, bool] = {}
+    if "links" in files:
+        links = dict(read_file("links", load(files["links"]), 3, read_link))
+    withdrawn: List[SeatsAndCodes] = []
+    if "withdrawn" in files:
+        withdrawn = read_file("withdrawn", load(files["withdrawn"]), 2, read_withdrawn)
+    adjacent = adjacent_pairs(pairs, links, listed)
+    window = (numbers["part"], numbers["of"])
+    return build_problem(listed, adjacent, withdrawn, numbers["chamber"], window)
+
+
+def answer(words: List[str], load: Callable[[str], bytes]) -> Tuple[str, int]:
+    """Returns the text and the exit status for the words of the command.
+
+    The files are loaded and read in one order, and the first fault is the answer.
+    """
     try:
-        options = options_of(words)
+        files, numbers = options_of(words)
     except Fault:
         return "", 2
     try:
-        geo, segment = load(options["geo"]), load(options["segment"])
-        listed = read_counties(geo, segment, options["state"], "table" in options)
-        pairs = read_pairs(load(options["adjacency"]))
-        links = dict(read_file("links", load(options["links"]), 3, read_link)) if "links" in options else {}
-        withdrawn = read_file("withdrawn", load(options["withdrawn"]), 2, read_withdrawn) if "withdrawn" in options else []
-        problem = build_problem(listed, adjacent_pairs(pairs, links, listed), withdrawn, options["chamber"], (options["part"], options["of"]))
-        certificate = read_certificate(load(options["certificate"]))
+        problem = read_problem(files, numbers, load)
+        certificate = read_certificate(load(files["certificate"]))
         judge(problem, certificate)
     except Fault as fault:
-        return "no {} line {}\n".format(*fault.args), 1
+        return f"no {fault.kind} line {fault.line}\n", 1
     except End as end:
-        return f"{end.args[0]}\n", end.args[1]
+        return f"{end.text}\n", end.status
     return report(problem, certificate.target), 0 if certificate.target is not None else 1
 
 
-def main():
+def main() -> int:
+    """Runs the command, and returns its exit status."""
     text, status = answer(sys.argv[1:], load)
     sys.stdout.buffer.write(os.fsencode(text))
     if status == 2:

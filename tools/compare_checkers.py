@@ -1,21 +1,29 @@
 #!/usr/bin/env python3
 """Compares the second checker, tools/check.py, with the worked cases and with a program.
 
-usage: compare_checkers.py [--all] [--program FILE [--chamber SEATS ..] [--mutations N] [--seed N] [--states]] [FOLDER or FILE.case or FILE.words ..]
+usage: compare_checkers.py [--all] [--program FILE [--chamber SEATS ..] [--mutations N] [--seed N]
+                           [--states]] [FOLDER or FILE.case or FILE.words ..]
 
-Without --program: each run of `check` among the cases whose wanted answer isn't `budget`. The second checker has to write what the case wants,
-and to end with its status. If the words are no command or ask for help, the text is that of `clap`: then the status alone is compared,
-and help isn't run. A run over a file that an earlier run of the case makes takes it from what the case has stored. If the case
-hasn't it, the run is left out, since that needs a program. If the words have `--table` or `--record`, the run is left out too: the second
-checker stores no file.
---all takes the cases of millions of lines too, which take minutes, but for those that bound the memory: the second checker holds a whole text.
---program FILE makes certificates of North Carolina's two chambers (data/nc2020; --chamber: of these) too. Both checkers check them, and each
-of them with one line changed at random, N times (--mutations, 20 unless said otherwise; --seed, 1).
---states beside it makes certificates of the chambers of ten states (data/states) too, if the program answers best within its default steps. Both
-checkers check them as they are, and a line has the seconds of processor time of each. The second checker takes minutes for the longest.
+Without --program: each run of `check` among the cases whose wanted answer isn't `budget`. The
+second checker has to write what the case wants, and to end with its status. If the words are no
+command or ask for help, the text is that of `clap`: then the status alone is compared, and help
+isn't run. A run over a file that an earlier run of the case makes takes it from what the case has
+stored. If the case hasn't it, the run is left out, since that needs a program. If the words have
+`--table` or `--record`, the run is left out too: the second checker stores no file.
+--all takes the cases of millions of lines too, which take minutes, but for those that bound the
+memory: the second checker holds a whole text.
+--program FILE makes certificates of North Carolina's two chambers (data/nc2020; --chamber: of
+these) too. Both checkers check them, and each of them with one line changed at random, N times
+(--mutations, 20 unless said otherwise; --seed, 1).
+--states beside it makes certificates of the chambers of ten states (data/states) too, if the
+program answers best within its default steps. Both checkers check them as they are, and a line has
+the seconds of processor time of each. The second checker takes minutes for the longest.
 
-Statuses: 0 all agree, 1 some differ, 2 these words can't be run. The last line is `N agree, M differ`.
+Statuses: 0 all agree, 1 some differ, 2 these words can't be run. The last line is
+`N agree, M differ`.
 """
+from __future__ import annotations
+
 import argparse
 import os
 import random
@@ -24,31 +32,40 @@ import subprocess
 import sys
 import tempfile
 import time
+from typing import Dict, Iterable, Iterator, List, NamedTuple, Optional, Tuple
 
 TOP = os.path.dirname(os.path.dirname(os.path.realpath(__file__)))
 sys.path[:0] = [f"{TOP}/cases", f"{TOP}/tools", f"{TOP}/bench"]
-import cases  # noqa: E402
+import cases  # type: ignore[import]  # noqa: E402
 import check  # noqa: E402
-import program_runs  # noqa: E402
-import states  # noqa: E402
+import program_runs  # type: ignore[import]  # noqa: E402
+import states  # type: ignore[import]  # noqa: E402
 
 # Cases that take long in Python, by their folder or the beginnings of their names.
 LONG = re.compile(r"/huge/|/long/(a_plain_text_of_a_million_marks|a_wide_text_of_a_million_raises)")
 SECONDS = 3600
 BUDGET = 1_000_000_000
+WAYS = (*["number"] * 4, *["like"] * 2, "leaf", "left out", "doubled", "elsewhere")
+# Words by which a run writes help or stores a file, so that the second checker isn't compared.
+NOT_COMPARED = {"-h", "--help", "--table", "--record"}
+
+Words = List[str]
+Files = Dict[str, bytes]
 
 
-class Run:
+class Run(NamedTuple):
     """What a run wrote, and its status, as `cases.Case.said` reads them."""
 
-    def __init__(self, wrote, status):
-        self.wrote, self.status = wrote, status
+    wrote: bytes
+    status: int
 
 
-def case_parts(text):
-    """The words of a case text and its files, by `docs/formats.md`, "Cases"."""
+def case_parts(text: bytes) -> Tuple[Words, Files]:
+    """Returns the words of a case text and its files, by `docs/formats.md`, "Cases"."""
     pieces = text.split(b"\n")
-    words, files, name = pieces[0].decode().split(" "), {}, None
+    words = pieces[0].decode().split(" ")
+    files: Files = {}
+    name: Optional[str] = None
     for place, piece in enumerate(pieces[1:], 1):
         if piece.startswith(b"file "):
             name = piece[5:].decode()
@@ -58,10 +75,11 @@ def case_parts(text):
     return words, files
 
 
-def second_checker(words, files):
-    """The second checker over files that are told."""
+def second_checker(words: Words, files: Files) -> Run:
+    """Runs the second checker over `files`, the bytes of each by its name."""
 
-    def load(name):
+    def load(name: str) -> bytes:
+        """Returns the bytes of a file. Ends the run if there is no such file."""
         if name not in files:
             raise check.End(f"device {name} Missing", 5)
         return files[name]
@@ -70,43 +88,55 @@ def second_checker(words, files):
     return Run(os.fsencode(text), status)
 
 
-def checks_of(case):
-    """The runs of `check` of a case that need no program: words, files, and the wanted text of each with its exit line."""
+def checks_of(case: cases.Case) -> Iterator[Tuple[Words, Files, bytes]]:
+    """Yields the runs of `check` of a case that need no program.
+
+    Of each: its words, its files, and the wanted text with its exit line.
+    """
     for given, wanted in case.cut():
-        wanted_runs = wanted.splitlines(keepends=True)
-        runs, files = (case.runs, case.files) if case.runs != [[]] else ([case_parts(given)[0]], case_parts(given)[1])
+        wanted_lines = wanted.splitlines(keepends=True)
+        runs, files = case.runs, case.files
+        if runs == [[]]:
+            words, files = case_parts(given)
+            runs = [words]
         has_stored = False
         for words in runs:
-            end = next(i for i, it in enumerate(wanted_runs) if it.startswith(b"exit ")) + 1
+            lasts = (i for i, it in enumerate(wanted_lines) if it.startswith(b"exit "))
+            end = next(lasts) + 1
             is_lost = has_stored and certificate_of(words) not in files
-            is_run = words[:1] == ["check"] and not ({"-h", "--help", "--table", "--record"} & {*words} or is_lost)
-            if is_run and wanted_runs[:end] != [b"budget\n", b"exit 3\n"]:
-                yield words, files, b"".join(wanted_runs[:end])
-            if may_store(words, wanted_runs[end - 1]):
+            is_run = words[:1] == ["check"] and not (NOT_COMPARED & {*words} or is_lost)
+            if is_run and wanted_lines[:end] != [b"budget\n", b"exit 3\n"]:
+                yield words, files, b"".join(wanted_lines[:end])
+            if may_store(words, wanted_lines[end - 1]):
                 has_stored, files = True, {**files, **case.stored}
-            del wanted_runs[:end]
+            del wanted_lines[:end]
 
 
-def may_store(words, ending):
-    """Whether a run that ends so may have stored a file."""
+def may_store(words: Words, ending: bytes) -> bool:
+    """Returns whether a run of these words that ends so may have stored a file."""
     return ending == b"exit 0\n" if words[:1] == ["share"] else words[:1] in (["solve"], ["list"])
 
 
-def certificate_of(words):
+def certificate_of(words: Words) -> Optional[str]:
+    """Returns the name of the certificate that the words name, or None."""
     return words[words.index("--certificate") + 1] if "--certificate" in words[:-1] else None
 
 
 class Tally:
-    def __init__(self):
+    """How many comparisons agreed, and how many differed."""
+
+    def __init__(self) -> None:
         self.agree = self.differ = 0
 
-    def add(self, name, why):
+    def add(self, name: str, why: Optional[str]) -> None:
+        """Counts a comparison, and prints what differs if anything does."""
         if why:
             print(f"DIFFERS {name}: {why}", flush=True)
         self.agree, self.differ = self.agree + (not why), self.differ + bool(why)
 
 
-def compare_cases(stems, tally):
+def compare_cases(stems: Iterable[str], tally: Tally) -> None:
+    """Compares the second checker with what the cases want."""
     for stem in stems:
         case = cases.Case(stem)
         if case.program or case.memory:
@@ -114,15 +144,18 @@ def compare_cases(stems, tally):
         began = time.time()
         for words, files, wanted in checks_of(case):
             found = second_checker(words, files)
-            said = case.said([found]) if not wanted.endswith(b"exit 2\n") else b"exit %d\n" % found.status
-            wanted = wanted if not wanted.endswith(b"exit 2\n") else b"exit 2\n"
-            tally.add(os.path.relpath(stem), cases.first_difference(wanted, said) if said != wanted else None)
-        if time.time() - began > 10:
-            print(f"note: {os.path.relpath(stem)} took {time.time() - began:.0f} seconds", flush=True)
+            said = case.said([found])
+            if wanted.endswith(b"exit 2\n"):
+                wanted, said = b"exit 2\n", b"exit %d\n" % found.status
+            why = cases.first_difference(wanted, said) if said != wanted else None
+            tally.add(os.path.relpath(stem), why)
+        took = time.time() - began
+        if took > 10:
+            print(f"note: {os.path.relpath(stem)} took {took:.0f} seconds", flush=True)
 
 
-def with_changed_number(line, codes, chance):
-    """The line with one number a little greater or less, or one code another."""
+def with_changed_number(line: bytes, codes: List[bytes], chance: random.Random) -> bytes:
+    """Returns the line with one number a little greater or less, or one code another."""
     found = chance.choice(list(re.finditer(rb"[0-9]+", line)))
     number = found[0]
     if len(number) == 5 and chance.random() < 0.8:
@@ -132,12 +165,17 @@ def with_changed_number(line, codes, chance):
     return line[: found.start()] + new + line[found.end() :]
 
 
-def mutated(text, chance):
-    """The text with one line changed, and what was done. Most ways keep it the text of some certificate. An empty order gives no code to change to."""
+def mutated(text: bytes, chance: random.Random) -> Tuple[bytes, str]:
+    """Returns the text with one line changed, and what was done.
+
+    Most ways keep it the text of some certificate. An empty order gives no code to change to, so
+    37001 is taken.
+    """
     lines = text.split(b"\n")[:-1]
-    codes, place = lines[1].split(b" ")[1:] or [b"37001"], chance.randrange(1, len(lines) - 1)
+    codes = lines[1].split(b" ")[1:] or [b"37001"]
+    place = chance.randrange(1, len(lines) - 1)
     like = [it for it in lines if it.split(b" ")[0] == lines[place].split(b" ")[0]]
-    way = chance.choice(("number", "number", "number", "number", "like", "like", "leaf", "left out", "doubled", "elsewhere"))
+    way = chance.choice(WAYS)
     if way == "number" and re.search(rb"[0-9]", lines[place]):
         lines[place] = with_changed_number(lines[place], codes, chance)
     elif way == "leaf" and lines[place].startswith((b"stuck", b"seats")):
@@ -153,61 +191,87 @@ def mutated(text, chance):
     return b"\n".join(lines) + b"\n", f"line {place + 1} {way}"
 
 
-def ran(program, words, folder):
-    made = subprocess.run([program, *words], cwd=folder, stdin=subprocess.DEVNULL, stdout=subprocess.PIPE, stderr=subprocess.DEVNULL, timeout=SECONDS)
+def ran(program: str, words: Words, folder: str) -> Tuple[bytes, int]:
+    """Runs a program in a folder. Returns what it wrote to standard output, and its status."""
+    made = subprocess.run(
+        [program, *words],
+        cwd=folder,
+        stdin=subprocess.DEVNULL,
+        stdout=subprocess.PIPE,
+        stderr=subprocess.DEVNULL,
+        timeout=SECONDS,
+    )
     return made.stdout, made.returncode
 
 
-def children_seconds():
-    """The seconds of processor time of all runs so far."""
+def with_exit_line(run: Tuple[bytes, int]) -> bytes:
+    """Returns what a run wrote, with its exit line."""
+    return run[0] + b"exit %d\n" % run[1]
+
+
+def children_seconds() -> float:
+    """Returns the seconds of processor time of all runs so far."""
     return sum(os.times()[2:4])
 
 
-def both_checkers(program, words, folder):
-    """What differs between both checkers, if anything does, and the seconds of each. A budget that ran out says nothing."""
-    seconds = [children_seconds()]
+def both_checkers(
+    program: str, words: Words, folder: str
+) -> Tuple[Optional[str], Tuple[float, float]]:
+    """Runs both checkers. Returns what differs, if anything does, and the seconds of each.
+
+    A budget that ran out says nothing.
+    """
+    began = children_seconds()
     wanted = ran(program, words, folder)
-    seconds.append(children_seconds())
+    between = children_seconds()
     if wanted == (b"budget\n", 3):
-        return None, (seconds[1] - seconds[0], 0)
+        return None, (between - began, 0)
     found = ran(sys.executable, [f"{TOP}/tools/check.py", *words[1:]], folder)
-    text = lambda run: run[0] + b"exit %d\n" % run[1]
-    why = cases.first_difference(text(wanted), text(found)) if found != wanted else None
-    return why, (seconds[1] - seconds[0], children_seconds() - seconds[1])
+    why: Optional[str] = None
+    if found != wanted:
+        why = cases.first_difference(with_exit_line(wanted), with_exit_line(found))
+    return why, (between - began, children_seconds() - between)
 
 
-def compare_chamber(program, chamber, asked, tally):
+def compare_chamber(program: str, chamber: int, asked: argparse.Namespace, tally: Tally) -> None:
+    """Compares both checkers over a chamber's certificate, as it is and changed at random."""
     common = ["--geo", f"{cases.DATA}/nc2020geo.pl", "--segment", f"{cases.DATA}/nc000012020.pl"]
-    common += ["--adjacency", f"{cases.DATA}/county_borders.txt", "--chamber", str(chamber), "--certificate", "certificate"]
+    common += ["--adjacency", f"{cases.DATA}/county_borders.txt", "--chamber", str(chamber)]
+    common += ["--certificate", "certificate"]
     with tempfile.TemporaryDirectory(prefix="compare-") as room:
         _, status = ran(program, ["solve", *common], room)
         if status != 0:
             program_runs.stop(f"{program} didn't solve chamber {chamber}: status {status}")
         began = time.time()
         tally.add(f"chamber {chamber}", both_checkers(program, ["check", *common], room)[0])
-        print(f"chamber {chamber}: both checkers took {time.time() - began:.0f} seconds", flush=True)
+        took = time.time() - began
+        print(f"chamber {chamber}: both checkers took {took:.0f} seconds", flush=True)
         with open(f"{room}/certificate", "rb") as file:
             whole = file.read()
         for turn in range(asked.mutations):
             text, what = mutated(whole, random.Random(f"{asked.seed} {chamber} {turn}"))
             with open(f"{room}/certificate", "wb") as file:
                 file.write(text)
-            tally.add(f"chamber {chamber}, seed {asked.seed}, mutation {turn}, {what}", both_checkers(program, ["check", *common], room)[0])
+            name = f"chamber {chamber}, seed {asked.seed}, mutation {turn}, {what}"
+            tally.add(name, both_checkers(program, ["check", *common], room)[0])
 
 
-def compare_states(program, tally):
-    """The chambers of the ten states that the program answers best."""
+def compare_states(program: str, tally: Tally) -> None:
+    """Compares both checkers over the chambers of the ten states that the program answers best."""
     for name, chamber, words in states.problems():
         with tempfile.TemporaryDirectory(prefix="compare-") as room:
             words = [*words, "--certificate", "certificate"]
             if name == "North Carolina" or ran(program, ["solve", *words], room)[1] != 0:
                 continue
-            why, seconds = both_checkers(program, ["check", *words, "--budget", str(BUDGET)], room)
+            checked = ["check", *words, "--budget", str(BUDGET)]
+            why, (first, second) = both_checkers(program, checked, room)
             tally.add(f"{name} {chamber}", why)
-            print("{} {}: the program took {:.2f} seconds, the second checker {:.2f}".format(name, chamber, *seconds), flush=True)
+            told = f"the program took {first:.2f} seconds, the second checker {second:.2f}"
+            print(f"{name} {chamber}: {told}", flush=True)
 
 
-def main():
+def words_asked() -> argparse.Namespace:
+    """Returns the words of the command. Ends with status 2 if they can't be run."""
     parser = argparse.ArgumentParser(usage=__doc__.split("usage: ")[1].split("\n\n")[0])
     parser.add_argument("--all", action="store_true")
     parser.add_argument("--program")
@@ -219,8 +283,16 @@ def main():
     asked = parser.parse_args()
     if asked.states and not asked.program:
         parser.error("--states needs --program")
+    return asked
+
+
+def main() -> int:
+    """Compares what is asked for, prints how many agree, and returns the status."""
+    asked = words_asked()
     tally = Tally()
-    compare_cases([it for it in cases.stems(asked.folders) if asked.all or not LONG.search(os.path.realpath(it))], tally)
+    stems = cases.stems(asked.folders)
+    wanted = [it for it in stems if asked.all or not LONG.search(os.path.realpath(it))]
+    compare_cases(wanted, tally)
     if asked.program:
         for chamber in asked.chamber or (120, 50):
             compare_chamber(os.path.realpath(asked.program), chamber, asked, tally)
