@@ -1,0 +1,2 @@
+@node "%~dp0countygroups.mjs" %*
+@exit /b %errorlevel%
