@@ -124,7 +124,10 @@ class PageRoom(unittest.TestCase):
 
     def made(self, table: str | bytes, listed: str, record: str, outlines: str,
              more: list[str] | None = None) -> tuple[int, str, str]:
-        """Returns the status of a run, perhaps with more words, what it said, and the page's path."""
+        """Returns the status of a run, what it said, and the path of the page.
+
+        The words of the run are the paths of its files, and those of `more`.
+        """
         out = os.path.join(self.folder, "page.html")
         paths = [self.file("table.csv", table), self.file("list.txt", listed), outlines,
                  self.file("run.record", record)]

@@ -4,7 +4,8 @@
 usage: python3 tools/test_desk.py [--page FILE] [--program FILE] [--wasm FILE] [--pictures FOLDER]
                                   [--only WORD]
 
---page FILE        the page; without it docs/desk.html. If it isn't there, one is made of the next two
+--page FILE        the page; without it docs/desk.html. If it isn't there, --program and --wasm
+                   make one
 --program FILE     the program that is built for this machine, whose bytes are compared
 --wasm FILE        the same for browsers; without it dist/countygroups.wasm
 --pictures FOLDER  leaves pictures of the page there: wide, narrow, dark and printed
