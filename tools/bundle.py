@@ -91,14 +91,16 @@ def script(entry: Path, texts: dict[Path, str] | None = None) -> str:
     return f'"use strict";\n(() => {{\n{"".join(bundle.parts)}}})();\n'
 
 
-def page_script(entry: Path, host: Path = HOST) -> str:
+def page_script(
+    entry: Path, host: Path = HOST, shortened: Callable[[str], str] = str
+) -> str:
     """Returns the same, with the text of the worker's script in it, which `host` has.
 
-    No text of it ends a script of HTML.
+    Both scripts are as `shortened` gives them. No text of them ends a script of HTML.
     """
-    worker = json.dumps(script(host / "worker.mjs")).replace("</", "<\\/")
+    worker = json.dumps(shortened(script(host / "worker.mjs"))).replace("</", "<\\/")
     source = (host / "worker_source.mjs").resolve()
-    text = script(entry, {source: f"export const workerSource = {worker};\n"})
+    text = shortened(script(entry, {source: f"export const workerSource = {worker};\n"}))
     if "</script" in text.lower():
         raise BundleError(f"{entry.name} has the text `</script`, which would end it in a page")
     return text

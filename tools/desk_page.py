@@ -90,14 +90,7 @@ def without_comments(script: str) -> str:
 
 def script_text() -> str:
     """Returns the page's script: all modules without their comments, and the worker's in them."""
-    worker = without_comments(bundle.script(bundle.HOST / "worker.mjs"))
-    source = (bundle.HOST / "worker_source.mjs").resolve()
-    held = json.dumps(worker).replace("</", "<\\/")
-    texts = {source: f"export const workerSource = {held};\n"}
-    script = without_comments(bundle.script(DESK / "main.mjs", texts))
-    if "</script" in script.lower():
-        raise bundle.BundleError("the page's script has the text `</script`, which would end it")
-    return script
+    return bundle.page_script(DESK / "main.mjs", shortened=without_comments)
 
 
 def page_html(data: dict[str, Any], carried: dict[str, Any], parts: dict[str, str]) -> str:
