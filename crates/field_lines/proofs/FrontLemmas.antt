@@ -3,6 +3,7 @@ use Rattle.std.proofs.Common.{◌≡◌, ℕ, ◌+◌, ◌-◌, ◌<◌, ◌≤�
 use Rattle.std.specs.List.{slice_split, onto_first}
 use Rattle.std.proofs.Math.Seq.{drop-append_seam}
 use Rattle.std.proofs.lemmas.List.{append-nil}
+use Rattle.std.proofs.lemmas.Bool.{false≢true}
 use Rattle.std.proofs.lemmas.Bool.Decides.{nat_tests}
 use Rattle.std.proofs.lemmas.List.Splits.{slice_split-cons_no, slice_split_none, slice_split_at}
 use Rattle.field_lines.specs.RawPieces.{RawLine, is_lf, numbered, raw_lines_from}
@@ -11,11 +12,16 @@ use Rattle.field_lines.specs.Cut.{cut_of, fault_at}
 use Rattle.field_lines.specs.HeldBytes.{Pulled, MayCome}
 use Rattle.field_lines.specs.TakenPieces.{taken_bytes, TakesFirst}
 use Rattle.field_lines.specs.declared.taken_pieces.TakenPiece.{TakenPiece}
-use Rattle.field_lines.specs.Front.{HasNoLf, HasLfAt, IsAllOf, IsFrontPiece}
+use Rattle.field_lines.specs.Front.{HasNoLf, HasLfAt, IsAllOf, IsFrontPiece, IsWithin}
 use Rattle.field_lines.specs.LinesFrom.{no_line}
 use Rattle.field_lines.specs.declared.fault.LineFault.{LineFault}
 use Rattle.field_lines.proofs.SplitLemmas.{parts_of, numbered-ended, numbered-last}
 use Rattle.field_lines.proofs.CutLemmas.{cut_of-faulty}
+
+-- a piece stands within the bytes
+pub front_within : (bytes : List ℕ) (ended lf : Bool) (count : ℕ) → IsFrontPiece bytes ended count lf → IsWithin bytes count lf
+front_within bytes ended true count is = (omega (arith, is.within), λ _. is.within)
+front_within bytes ended false count is = (omega (arith, is.all), λ lf. absurd (false≢true lf))
 
 -- how many bytes are taken with a piece
 abbrev pub with_end : ℕ → Bool → ℕ
@@ -94,6 +100,6 @@ taken_at before bytes count taken le =
 
 -- the first of the pieces was taken
 pub takes_first : (bytes : List ℕ) (ended lf : Bool) (count taken : ℕ) (after : Pulled) (t : TakenPiece) → IsFrontPiece bytes ended count lf → count ≤ most_bytes → taken ≡ with_end count lf
-    → taken_bytes after t ≡ take count bytes → t.ended ≡ lf → after.bytes ≡ drop taken bytes → after.ended ≡ ended → TakesFirst bytes after t
-takes_first bytes ended lf count taken after t front short taken_is bytes_are ended_is rest stays n later may =
-    rw (bytes_are, ended_is, rest, taken_is) (front_first bytes ended lf count front short n later (subst (λ (b : Bool). MayCome b later) stays may))
+    → taken_bytes after t ≡ take count bytes → t.ended ≡ lf → after.bytes ≡ drop taken bytes → TakesFirst ended bytes after t
+takes_first bytes ended lf count taken after t front short taken_is bytes_are ended_is rest n later may =
+    rw (bytes_are, ended_is, rest, taken_is) (front_first bytes ended lf count front short n later may)

@@ -5,6 +5,7 @@ use Rattle.std.proofs.lemmas.List.{drop-take, take-append-le, take-append-drop, 
 use Rattle.std.proofs.lemmas.List.Elements.{All-append}
 use Rattle.memchr.specs.Find.{IsFirstByte, is_byte}
 use Rattle.field_lines.specs.RawPieces.{is_lf}
+use Rattle.field_lines.specs.Source.{Given}
 use Rattle.field_lines.specs.HeldBytes.{Pulled, Pulls}
 use Rattle.field_lines.specs.Front.{HasNoLf, HasLfAt}
 use Rattle.field_lines.proofs.SplitLemmas.{none_below, at_found}
@@ -63,10 +64,10 @@ module _ (xs : List ℕ) (from : ℕ) (none : HasNoLf (take from xs)) where
       }
 
 -- one pull after another
-pub pulls_then : {g h i : List ℕ} {a b d : Pulled} → Pulls g h a b → Pulls h i b d → Pulls g i a d
+pub pulls_then : {g h i : Given} {a b d : Pulled} → Pulls g h a b → Pulls h i b d → Pulls g i a d
 pulls_then {g} {h} {i} {a} {b} {d} first next = record {
   pulled = first.pulled ++ next.pulled;
-  given = next.given ∙ ap (λ (l : List ℕ). l ++ next.pulled) first.given ∙ append_assoc g first.pulled next.pulled;
+  given = next.given ∙ ap (λ (l : List ℕ). l ++ next.pulled) first.given ∙ append_assoc g.bytes first.pulled next.pulled;
   held = next.held ∙ ap (λ (l : List ℕ). l ++ next.pulled) first.held ∙ append_assoc a.bytes first.pulled next.pulled;
   end = λ is.
       let one = first.end is in

@@ -6,9 +6,10 @@ use Rattle.std.proofs.lemmas.Bool.Decides.{nat_tests}
 use Rattle.field_lines.specs.RawPieces.{raw_lines_from}
 use Rattle.field_lines.specs.Fault.{most_lines, most_bytes}
 use Rattle.field_lines.specs.Cut.{Line, cut_of, fault_at, line_bytes, in_front, line_of}
+use Rattle.field_lines.specs.Source.{Given}
 use Rattle.field_lines.specs.HeldBytes.{Pulled, MayCome, StaysEnded, Pulls}
 use Rattle.field_lines.specs.Front.{IsFrontPiece}
-use Rattle.field_lines.specs.TakenPieces.{taken_bytes, line_at}
+use Rattle.field_lines.specs.TakenPieces.{taken_bytes, piece_at, line_at, TakesFirst}
 use Rattle.field_lines.specs.LinesFrom.{no_line, LinesHeld, lines_held, IsNextFrom, AnswersRead, IsNextRead, fault_answered, line_answered, IsAtLine}
 use Rattle.field_lines.specs.ReadLine.{pieces_held, TakesPiece, TakesLine}
 use Rattle.field_lines.specs.declared.fault.LineFault.{LineFault}
@@ -37,40 +38,46 @@ may_come {before} {after} {pulled} {later} stays may = λ is.
     ap (λ (l : List ℕ). l ++ later) end.0 ∙ may end.1
 
 -- a piece at the front is at fault
-pub piece_faulty : (n : ℕ) (old new : Pulled) (g h : List ℕ) (d e lf : Bool) (count : ℕ) (fault : LineFault) → Pulls g h old new → IsFrontPiece new.bytes new.ended count lf → (d ≡ false → e ≡ false)
+pub piece_faulty : (n : ℕ) (old new : Pulled) (g h : Given) (d e lf : Bool) (count : ℕ) (fault : LineFault) → Pulls g h old new → IsFrontPiece new.bytes h.ended count lf → (d ≡ false → e ≡ false)
     → fault_at n (take count new.bytes) ≡ Some fault → TakesPiece n old g d (Err fault) new h e
 piece_faulty n old new g h d e lf count fault pulls front ok is =
     let faulty : (f : LineFault) → fault_at n (take count new.bytes) ≡ Some f → (later : List ℕ) → cut_of (pieces_held n old (pulls.pulled ++ later)) ≡ no_line (Some f) =
     λ (f : LineFault) (at : fault_at n (take count new.bytes) ≡ Some f) (later : List ℕ).
     ap (λ (l : List ℕ). cut_of (raw_lines_from n l)) (sym (append_assoc old.bytes pulls.pulled later) ∙ ap (λ (l : List ℕ). l ++ later) (sym pulls.held))
-    ∙ front_faulty new.bytes new.ended lf count n f front at later in
+    ∙ front_faulty new.bytes h.ended lf count n f front at later in
     at_fault (λ (f : LineFault). fault_at n (take count new.bytes) ≡ Some f → TakesPiece n old g d (Err f) new h e) n (take count new.bytes) fault is
     (λ at. record { pulled = pulls.pulled; given = pulls.given; end = pulls.end; answers = faulty TooManyLines at; failed = ok })
     (λ at. record { pulled = pulls.pulled; given = pulls.given; end = pulls.end; answers = faulty (LineTooLong n) at; failed = ok })
     is
 
+-- a piece is taken, whose place, bytes and successors are these
+module _ (n : ℕ) (old mid new : Pulled) (g h : Given) (t : TakenPiece) (pulls : Pulls g h old mid) (first : TakesFirst h.ended mid.bytes new t) where
+  pub taken_first : (later : List ℕ) → MayCome h.ended later → pieces_held n old (pulls.pulled ++ later) ≡ piece_at n new t ∷ pieces_held (n + 1) new later
+  taken_first later may =
+      ap (raw_lines_from n) (sym (append_assoc old.bytes pulls.pulled later) ∙ ap (λ (l : List ℕ). l ++ later) (sym pulls.held)) ∙ first n later may
+
 -- from the first pull on, only blank lines were taken
-pub record SkipsBlank (first : ℕ) (old : Pulled) (given_before : List ℕ) (failed_before : Bool) (number : ℕ) (now : Pulled) (given_now : List ℕ) (failed_now : Bool) : Type 0 where
+pub record SkipsBlank (first : ℕ) (old : Pulled) (given_before : Given) (failed_before : Bool) (number : ℕ) (now : Pulled) (given_now : Given) (failed_now : Bool) : Type 0 where
   pub pulled : List ℕ
-  pub given : given_now ≡ given_before ++ pulled
-  pub end : StaysEnded old.ended pulled now.ended
-  pub same : (later : List ℕ) → MayCome now.ended later → cut_of (pieces_held first old (pulled ++ later)) ≡ cut_of (pieces_held number now later)
+  pub given : given_now.bytes ≡ given_before.bytes ++ pulled
+  pub end : StaysEnded given_before.ended pulled given_now.ended
+  pub same : (later : List ℕ) → MayCome given_now.ended later → cut_of (pieces_held first old (pulled ++ later)) ≡ cut_of (pieces_held number now later)
   pub sound : failed_before ≡ false → failed_now ≡ false
 
-pub skips_none : (n : ℕ) (old : Pulled) (given : List ℕ) (failed : Bool) → SkipsBlank n old given failed n old given failed
-skips_none n old given failed = record { pulled = []; given = sym (append-nil given); end = λ is. (refl, is); same = λ later may. refl; sound = λ is. is }
+pub skips_none : (n : ℕ) (old : Pulled) (given : Given) (failed : Bool) → SkipsBlank n old given failed n old given failed
+skips_none n old given failed = record { pulled = []; given = sym (append-nil given.bytes); end = λ is. (refl, is); same = λ later may. refl; sound = λ is. is }
 
-module _ (first number : ℕ) (old now new : Pulled) (g h i : List ℕ) (d e f : Bool) (s : SkipsBlank first old g d number now h e) where
-  both_given : (pulled : List ℕ) → i ≡ h ++ pulled → i ≡ g ++ (s.pulled ++ pulled)
-  both_given pulled is = is ∙ ap (λ (l : List ℕ). l ++ pulled) s.given ∙ append_assoc g s.pulled pulled
+module _ (first number : ℕ) (old now new : Pulled) (g h i : Given) (d e f : Bool) (s : SkipsBlank first old g d number now h e) where
+  both_given : (pulled : List ℕ) → i.bytes ≡ h.bytes ++ pulled → i.bytes ≡ g.bytes ++ (s.pulled ++ pulled)
+  both_given pulled is = is ∙ ap (λ (l : List ℕ). l ++ pulled) s.given ∙ append_assoc g.bytes s.pulled pulled
 
-  both_end : (pulled : List ℕ) → StaysEnded now.ended pulled new.ended → StaysEnded old.ended (s.pulled ++ pulled) new.ended
+  both_end : (pulled : List ℕ) → StaysEnded h.ended pulled i.ended → StaysEnded g.ended (s.pulled ++ pulled) i.ended
   both_end pulled stays = λ is.
       let one = s.end is in
       let two = stays one.1 in
       (ap (λ (l : List ℕ). l ++ pulled) one.0 ∙ two.0, two.1)
 
-  both_same : (pulled later : List ℕ) → StaysEnded now.ended pulled new.ended → MayCome new.ended later
+  both_same : (pulled later : List ℕ) → StaysEnded h.ended pulled i.ended → MayCome i.ended later
       → cut_of (pieces_held first old ((s.pulled ++ pulled) ++ later)) ≡ cut_of (pieces_held number now (pulled ++ later))
   both_same pulled later stays may =
       ap (λ (l : List ℕ). cut_of (pieces_held first old l)) (append_assoc s.pulled pulled later)
@@ -155,16 +162,16 @@ module _ (first number : ℕ) (old now new : Pulled) (g h i : List ℕ) (d e f :
   takes_fault Memory p = absurd p.answers
 
 -- an answer of a reader that has answered no fault so far
-pub reads_next : (old new : LinesHeld) (g h : List ℕ) (d e : Bool) (answer : Result (Option (ℕ × Bor (List ℕ))) LineFault) → old.fault ≡ None
+pub reads_next : (old new : LinesHeld) (g h : Given) (d e : Bool) (answer : Result (Option (ℕ × Bor (List ℕ))) LineFault) → old.fault ≡ None
     → IsNextFrom (lines_held old) g d (line_answered answer) (lines_held new) h e → new.fault ≡ fault_answered answer → IsAtLine answer new.number → IsNextRead old g d answer new h e
 reads_next old new g h d e answer sound next fault at = subst (λ (o : Option LineFault). AnswersRead o old g d answer new h e) (sym sound) (next, fault, at)
 
-module _ (number number_after : ℕ) (old new : Pulled) (fault : Option LineFault) (g h : List ℕ) (d e : Bool) (none : fault ≡ None) where
+module _ (number number_after : ℕ) (old new : Pulled) (fault : Option LineFault) (g h : Given) (d e : Bool) (none : fault ≡ None) where
   abbrev before : LinesHeld
-  before = record { bytes = old.bytes; ended = old.ended; number = number; fault = fault }
+  before = record { bytes = old.bytes; number = number; fault = fault }
 
   abbrev after : LinesHeld
-  after = record { bytes = new.bytes; ended = new.ended; number = number_after; fault = fault }
+  after = record { bytes = new.bytes; number = number_after; fault = fault }
 
   -- a line was taken
   pub reads_line : (t : TakenLine) (r : ℕ × Bor (List ℕ)) → TakesLine number old g d (Ok (Some t)) number_after new h e → number ≤ t.number → number_after ≤ most_lines + 1 → line_of r ≡ line_at new t

@@ -4,6 +4,7 @@ use Rattle.std.proofs.lemmas.Bool.Decides.{nat_tests}
 use Rattle.field_lines.specs.RawPieces.{RawLine, raw_lines_from}
 use Rattle.field_lines.specs.Piece.{raw_of}
 use Rattle.field_lines.specs.Fault.{most_bytes}
+use Rattle.field_lines.specs.Source.{Given}
 use Rattle.field_lines.specs.HeldBytes.{Pulled, Pulls}
 use Rattle.field_lines.specs.Front.{IsFrontPiece}
 use Rattle.field_lines.specs.TakenPieces.{piece_at}
@@ -32,30 +33,40 @@ raw_fault_by P n count f true d test last long past is = let same : LineTooLong 
 raw_fault_by P n count f false true test last long past is = let same : Memory ≡ f = cc in subst P same (past (eqb-true n (2 ^ 64 - 1) last))
 raw_fault_by P n count f false false test last long past is = absurd cc
 
+raw_sound_by : (n count : ℕ) (b d : Bool) → nat_lt most_bytes count ≡ b → (n == 2 ^ 64 - 1) ≡ d → n < 2 ^ 64 → (if b then Some (LineTooLong n) else if d then Some Memory else None) ≡ None
+    → (count ≤ most_bytes) × (n + 1 < 2 ^ 64)
+raw_sound_by n count true d test last low is = absurd cc
+raw_sound_by n count false true test last low is = absurd cc
+raw_sound_by n count false false test last low is = (grind (arith, nat_tests), grind (arith, nat_tests))
+
+-- a piece without a fault isn't too long, and its number isn't the last
+pub raw_sound : (n count : ℕ) → n < 2 ^ 64 → raw_fault_at n count ≡ None → (count ≤ most_bytes) × (n + 1 < 2 ^ 64)
+raw_sound n count low is = raw_sound_by n count (nat_lt most_bytes count) (n == 2 ^ 64 - 1) refl refl low is
+
 -- a piece at the front is at fault
-pub raw_faulty : (n : ℕ) (old new : Pulled) (g h : List ℕ) (d e lf : Bool) (count : ℕ) (fault : LineFault) → Pulls g h old new → IsFrontPiece new.bytes new.ended count lf → (d ≡ false → e ≡ false)
+pub raw_faulty : (n : ℕ) (old new : Pulled) (g h : Given) (d e lf : Bool) (count : ℕ) (fault : LineFault) → Pulls g h old new → IsFrontPiece new.bytes h.ended count lf → (d ≡ false → e ≡ false)
     → raw_fault_at n count ≡ Some fault → TakesRaw n old g d (Err fault) new h e
 raw_faulty n old new g h d e lf count fault pulls front ok is =
     let begins : most_bytes < count → (later : List ℕ) → BeginsTooLong n (pieces_held n old (pulls.pulled ++ later)) =
     λ (long : most_bytes < count) (later : List ℕ).
     subst (λ (l : List ℕ). BeginsTooLong n (raw_lines_from n l)) (ap (λ (l : List ℕ). l ++ later) pulls.held ∙ append_assoc old.bytes pulls.pulled later)
-    (front_long new.bytes new.ended lf count n front long later) in
+    (front_long new.bytes h.ended lf count n front long later) in
     raw_fault_by (λ (f : LineFault). TakesRaw n old g d (Err f) new h e) n count fault (nat_lt most_bytes count) (n == 2 ^ 64 - 1) refl refl
     (λ long. record { pulled = pulls.pulled; given = pulls.given; end = pulls.end; answers = (refl, begins long); failed = ok })
     (λ past. record { pulled = pulls.pulled; given = pulls.given; end = pulls.end; answers = past; failed = ok })
     is
 
 -- an answer of a reader that has answered no fault so far
-reads_next : (old new : LinesHeld) (g h : List ℕ) (d e : Bool) (answer : Result (Option Piece) LineFault) → old.fault ≡ None
+reads_next : (old new : LinesHeld) (g h : Given) (d e : Bool) (answer : Result (Option Piece) LineFault) → old.fault ≡ None
     → IsNextPieceFrom (pieces_left old) g d answer (pieces_left new) h e → new.fault ≡ fault_answered answer → IsAtLine answer new.number → IsPastNumbers answer new.number → IsRawRead old g d answer new h e
 reads_next old new g h d e answer sound next fault at past = subst (λ (o : Option LineFault). AnswersRaw o old g d answer new h e) (sym sound) (next, fault, at, past)
 
-module _ (number : ℕ) (old new : Pulled) (fault : Option LineFault) (g h : List ℕ) (d e : Bool) (none : fault ≡ None) where
+module _ (number : ℕ) (old new : Pulled) (fault : Option LineFault) (g h : Given) (d e : Bool) (none : fault ≡ None) where
   abbrev before : LinesHeld
-  before = record { bytes = old.bytes; ended = old.ended; number = number; fault = fault }
+  before = record { bytes = old.bytes; number = number; fault = fault }
 
   abbrev after : ℕ → LinesHeld
-  after n = record { bytes = new.bytes; ended = new.ended; number = n; fault = fault }
+  after n = record { bytes = new.bytes; number = n; fault = fault }
 
   -- a piece was taken
   pub reads_piece : (t : TakenPiece) (p : Piece) → TakesRaw number old g d (Ok (Some t)) new h e → raw_of p ≡ piece_at number new t → IsRawRead before g d (Ok (Some p)) (after (number + 1)) h e

@@ -27,6 +27,10 @@ abbrev pub IsFrontPiece : List ℕ → Bool → ℕ → Bool → Type 0
 IsFrontPiece bytes ended count true = HasLfAt bytes count
 IsFrontPiece bytes ended count false = IsAllOf bytes ended count
 
+-- so many bytes stand at the front, and an LF behind them, if there is one
+abbrev pub IsWithin : List ℕ → ℕ → Bool → Type 0
+IsWithin bytes count ended = (count ≤ length bytes) × (ended ≡ true → count < length bytes)
+
 -- the piece at the front, or the end
 abbrev pub HasFront : List ℕ → Bool → Option FrontPiece → Type 0
 HasFront bytes ended (Some front) = IsFrontPiece bytes ended front.length front.ended

@@ -4,17 +4,17 @@ use Rattle.std.specs.Prelude.{Result, Ok, Err, OnOk, OnSome, IfOk}
 use Rattle.field_lines.specs.RawPieces.{RawLine, raw_lines_from}
 use Rattle.field_lines.specs.Piece.{raw_of}
 use Rattle.field_lines.specs.Fault.{most_bytes}
+use Rattle.field_lines.specs.Source.{Given}
 use Rattle.field_lines.specs.HeldBytes.{MayCome, StaysEnded}
 use Rattle.field_lines.specs.LinesFrom.{LinesHeld, FailsOnly, fault_answered, IsAtLine}
 use Rattle.field_lines.specs.declared.raw_pieces.Piece.{Piece}
 use Rattle.field_lines.specs.declared.fault.LineFault.{LineFault}
 use Rattle.field_lines.specs.declared.fault.LineFault.TheVariants.{LineTooLong, TooManyLines, ReadFault, Memory}
 
--- what is left of pieces that are read: the pieces, by the bytes that come later; whether the source has ended; the
--- fault that was answered; and how many pieces there are at most
+-- what is left of pieces that are read: the pieces, by the bytes that come later; the fault that was answered; and how
+-- many pieces there are at most
 pub record PiecesLeft : Type 0 where
   pub pieces : List ℕ → List RawLine
-  pub ended : Bool
   pub fault : Option LineFault
   pub most : ℕ
 
@@ -22,14 +22,13 @@ pub record PiecesLeft : Type 0 where
 abbrev pub pieces_left : LinesHeld → PiecesLeft
 pieces_left h = record {
   pieces = λ later. raw_lines_from h.number (h.bytes ++ later);
-  ended = h.ended;
   fault = h.fault;
   most = 2 ^ 64 - h.number;
 }
 
 -- what pieces of a text in memory have left: no byte comes later
 abbrev pub pieces_of_text : List RawLine → PiecesLeft
-pieces_of_text ps = record { pieces = λ later. ps; ended = true; fault = None; most = length ps }
+pieces_of_text ps = record { pieces = λ later. ps; fault = None; most = length ps }
 
 -- the first piece has this number, and more bytes than a line may have
 abbrev pub BeginsTooLong : ℕ → List RawLine → Type 0
@@ -50,13 +49,13 @@ AnswersPieces old pulled new ended (Err Memory) = Unit {0}
 AnswersPieces old pulled new ended (Err TooManyLines) = ⊥
 
 -- What a call answers that has answered no fault so far. The source gave `pulled` meanwhile.
-pub record IsNextPieceFrom (old : PiecesLeft) (given_before : List ℕ) (failed_before : Bool)
-    (answer : Result (Option Piece) LineFault) (new : PiecesLeft) (given_after : List ℕ)
+pub record IsNextPieceFrom (old : PiecesLeft) (given_before : Given) (failed_before : Bool)
+    (answer : Result (Option Piece) LineFault) (new : PiecesLeft) (given_after : Given)
     (failed_after : Bool) : Type 0 where
   pub pulled : List ℕ
-  pub given : given_after ≡ given_before ++ pulled
-  pub end : StaysEnded old.ended pulled new.ended
-  pub answers : AnswersPieces old.pieces pulled new.pieces new.ended answer
+  pub given : given_after.bytes ≡ given_before.bytes ++ pulled
+  pub end : StaysEnded given_before.ended pulled given_after.ended
+  pub answers : AnswersPieces old.pieces pulled new.pieces given_after.ended answer
   pub failed : FailsOnly failed_before answer failed_after
   pub sound : OnOk answer (new.fault ≡ None)
   pub fewer : IfOk answer (λ next. OnSome next (new.most < old.most))
@@ -67,8 +66,8 @@ IsPastNumbers (Err Memory) number = number ≡ 2 ^ 64 - 1
 IsPastNumbers answer number = Unit {0}
 
 -- What a reader answers that has this fault: it stays, and nothing is pulled. Without one it answers the next piece.
-abbrev pub AnswersRaw : Option LineFault → LinesHeld → List ℕ → Bool → Result (Option Piece) LineFault → LinesHeld
-    → List ℕ → Bool → Type 0
+abbrev pub AnswersRaw : Option LineFault → LinesHeld → Given → Bool → Result (Option Piece) LineFault → LinesHeld → Given
+    → Bool → Type 0
 AnswersRaw (Some fault) old given_before failed_before answer new given_after failed_after =
     (answer ≡ Err fault) × (new ≡ old) × (given_after ≡ given_before) × (failed_after ≡ failed_before)
 AnswersRaw None old given_before failed_before answer new given_after failed_after =
@@ -76,12 +75,11 @@ AnswersRaw None old given_before failed_before answer new given_after failed_aft
     × (new.fault ≡ fault_answered answer) × IsAtLine answer new.number × IsPastNumbers answer new.number
 
 -- what a call of a reader of pieces answers
-abbrev pub IsRawRead : LinesHeld → List ℕ → Bool → Result (Option Piece) LineFault → LinesHeld → List ℕ → Bool → Type 0
+abbrev pub IsRawRead : LinesHeld → Given → Bool → Result (Option Piece) LineFault → LinesHeld → Given → Bool → Type 0
 IsRawRead old given_before failed_before answer new given_after failed_after =
     AnswersRaw old.fault old given_before failed_before answer new given_after failed_after
 
 -- what a call of any reader of pieces answers, where the reader has answered no fault so far
-abbrev pub IsNextPieceOf : PiecesLeft → List ℕ → Bool → Result (Option Piece) LineFault → PiecesLeft → List ℕ → Bool
-    → Type 0
+abbrev pub IsNextPieceOf : PiecesLeft → Given → Bool → Result (Option Piece) LineFault → PiecesLeft → Given → Bool → Type 0
 IsNextPieceOf old given_before failed_before answer new given_after failed_after =
     old.fault ≡ None → IsNextPieceFrom old given_before failed_before answer new given_after failed_after

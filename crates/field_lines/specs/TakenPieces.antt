@@ -1,5 +1,5 @@
 -- What is taken of the bytes that were pulled.
-use Rattle.std.specs.Prelude.{◌≡◌, ℕ, ◌+◌, ◌≤◌, List, ◌∷◌, ◌++◌, slice_range, length, Option, Some, None, Result}
+use Rattle.std.specs.Prelude.{◌≡◌, ℕ, ◌+◌, ◌≤◌, Bool, List, ◌∷◌, ◌++◌, slice_range, length, Option, Some, None, Result}
 use Rattle.std.specs.Prelude.{Ok, Err}
 use Rattle.field_lines.specs.RawPieces.{RawLine, raw_lines_from}
 use Rattle.field_lines.specs.Cut.{Line, line_bytes}
@@ -21,9 +21,9 @@ abbrev pub piece_at : ℕ → Pulled → TakenPiece → RawLine
 piece_at number held t = record { number = number; bytes = taken_bytes held t; ended = t.ended }
 
 -- Whatever comes later, the first of the pieces is the one that was taken, and the others are those of the bytes after.
-abbrev pub TakesFirst : List ℕ → Pulled → TakenPiece → Type 0
-TakesFirst before after t =
-    (number : ℕ) (later : List ℕ) → MayCome after.ended later
+abbrev pub TakesFirst : Bool → List ℕ → Pulled → TakenPiece → Type 0
+TakesFirst ended before after t =
+    (number : ℕ) (later : List ℕ) → MayCome ended later
     → raw_lines_from number (before ++ later)
     ≡ piece_at number after t ∷ raw_lines_from (number + 1) (after.bytes ++ later)
 

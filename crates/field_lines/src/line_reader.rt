@@ -73,6 +73,7 @@ pub struct LineReader {
     pulled: PulledBytes,
     number: u64,
     fault: Option<LineFault>,
+    last: TakenLine,
 }
 
 impl Model for LineReader {
@@ -80,11 +81,10 @@ impl Model for LineReader {
     ghost use Rattle.field_lines.specs.Fault.{most_lines, line_of_fault};
     ghost use Rattle.field_lines.specs.LinesFrom.{LinesHeld};
 
-    /// The bytes that are held, whether the source has ended, the number of the next line, and the fault that was
-    /// answered.
+    /// The bytes that are held, the number of the next line, and the fault that was answered.
     ghost Value = { LinesHeld };
 
-    ghost view = { λ r. record { bytes = r.pulled.bytes; ended = r.pulled.ended; number = r.number; fault = r.fault } };
+    ghost view = { λ r. record { bytes = r.pulled.bytes; number = r.number; fault = r.fault } };
 
     ghost invariant = { λ r. (1 ≤ r.number) × (r.number ≤ most_lines + 1) × IfSome r.fault (λ f. (1 ≤ line_of_fault f) × (line_of_fault f ≤ most_lines + 1)) };
 }
@@ -111,6 +111,7 @@ impl LineReader {
                 pulled,
                 number: 1,
                 fault: None,
+                last: TakenLine::none(),
             }),
             Err(_) => Err(LineFault::Memory),
         }
@@ -137,6 +138,7 @@ impl LineReader {
         }
         match take_line(&mut self.pulled, &mut self.number, source) {
             Ok(Some(line)) => {
+                self.last = line;
                 let bytes = self.pulled.taken(line.from, line.to);
                 Ok(Some((line.number, line_in(u64::from(line.number), bytes))))
             }
@@ -146,5 +148,13 @@ impl LineReader {
                 Err(fault)
             }
         }
+    }
+
+    /// Returns the bytes of the line at which the reader stands: those of the last one that it lent, or the first
+    /// 65,536 of one that is too long. They are for whoever shows the line to a person. No clause speaks of them.
+    pub fn line(&self) -> &[u8] {
+        let is_too_long = matches!(self.fault, Some(LineFault::LineTooLong(_)));
+        self.pulled
+            .piece_at_fault(is_too_long, self.last.from, self.last.to)
     }
 }

@@ -1,9 +1,10 @@
 //! The lines of a cut text, either in memory or pulled from a source.
 
-ghost use Rattle.std.specs.Prelude.{ℕ, Bool, false, List, [], ◌≤◌, ◌+◌, IfOk, IfErr, IfSome, length};
+ghost use Rattle.std.specs.Prelude.{Bool, false, ◌≤◌, ◌+◌, IfOk, IfErr, IfSome, length};
 ghost use Rattle.std.specs.Borrow.{sem};
 ghost use Rattle.std.specs.Io.BufRead.{Rests};
 ghost use Rattle.field_lines.specs.Fault.{most_lines, most_bytes, line_of_fault};
+ghost use Rattle.field_lines.specs.Source.{Given, nothing_comes};
 ghost use Rattle.field_lines.specs.LinesFrom.{LinesLeft, lines_of_cut, lines_held, IsNextAnswer};
 
 use crate::fault::LineFault;
@@ -13,8 +14,8 @@ use crate::source::Source;
 
 /// The lines of a cut text, whether it stands in memory or is pulled from a source: one body reads both.
 pub trait LinesFrom<F> {
-    /// All bytes that were given so far.
-    ghost given: { F → List ℕ };
+    /// What was given so far, and whether more may come.
+    ghost given: { F → Given };
 
     /// Whether the last pull answered an error.
     ghost is_failed: { F → Bool };
@@ -33,11 +34,15 @@ pub trait LinesFrom<F> {
         ensures bytes { IfOk result (λ next. IfSome next (λ l. (1 ≤ length l.1.now) × (length l.1.now ≤ most_bytes))) }
         ensures fault { IfErr result (λ f. (1 ≤ line_of_fault f) × (line_of_fault f ≤ most_lines + 1)) }
         ensures* next { sem 𝓛 (Rests Self.row self.entry (λ new. IsNextAnswer (left self.old) (given from.old) (is_failed from.old) result (left new) (given from.new) (is_failed from.new))) };
+
+    /// Returns the bytes of the line at which the reader stands, as `LineReader::line`; none of a text in memory, whose
+    /// caller has the text.
+    fn line(&self) -> &[u8];
 }
 
 /// Nothing is pulled: the text stands in memory.
 impl LinesFrom<()> for Lines<'_> {
-    ghost given = { λ _. [] };
+    ghost given = { λ _. nothing_comes };
 
     ghost is_failed = { λ _. false };
 
@@ -47,6 +52,10 @@ impl LinesFrom<()> for Lines<'_> {
         let next = self.next_line();
         let _left = &*self;
         next
+    }
+
+    fn line(&self) -> &[u8] {
+        b""
     }
 }
 
@@ -59,5 +68,9 @@ impl<S: Source> LinesFrom<S> for LineReader {
 
     fn next_from(&mut self, from: &mut S) -> Result<Option<(u32, &[u8])>, LineFault> {
         self.next_line(from)
+    }
+
+    fn line(&self) -> &[u8] {
+        LineReader::line(self)
     }
 }

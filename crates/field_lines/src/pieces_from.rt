@@ -1,8 +1,9 @@
 //! The pieces of a text, either in memory or pulled from a source.
 
-ghost use Rattle.std.specs.Prelude.{ℕ, Bool, false, List, []};
+ghost use Rattle.std.specs.Prelude.{Bool, false};
 ghost use Rattle.std.specs.Borrow.{sem};
 ghost use Rattle.std.specs.Io.BufRead.{Rests};
+ghost use Rattle.field_lines.specs.Source.{Given, nothing_comes};
 ghost use Rattle.field_lines.specs.PiecesFrom.{PiecesLeft, pieces_of_text, pieces_left, IsNextPieceOf};
 
 use crate::fault::LineFault;
@@ -12,8 +13,8 @@ use crate::source::Source;
 
 /// The pieces of a text, whether it stands in memory or is pulled from a source: one body reads both.
 pub trait PiecesFrom<F> {
-    /// All bytes that were given so far.
-    ghost given: { F → List ℕ };
+    /// What was given so far, and whether more may come.
+    ghost given: { F → Given };
 
     /// Whether the last pull answered an error.
     ghost is_failed: { F → Bool };
@@ -32,7 +33,7 @@ pub trait PiecesFrom<F> {
 
 /// Nothing is pulled: the text stands in memory.
 impl PiecesFrom<()> for RawLines<'_> {
-    ghost given = { λ _. [] };
+    ghost given = { λ _. nothing_comes };
 
     ghost is_failed = { λ _. false };
 

@@ -20,17 +20,16 @@ pub(crate) struct PulledBytes {
     buffer: Vec<u8>,
     start: usize,
     end: usize,
-    ended: bool,
 }
 
 impl Model for PulledBytes {
     ghost use Rattle.std.specs.Prelude.{◌≡◌, ◌≤◌, vec_len, take, slice_range};
     ghost use Rattle.field_lines.specs.HeldBytes.{Pulled};
 
-    /// The bytes that were taken since the last pull, those that are held, and whether the source has ended.
+    /// The bytes that were taken since the last pull, and those that are held.
     ghost Value = { Pulled };
 
-    ghost view = { λ p. record { taken = take p.start p.buffer.items; bytes = slice_range p.buffer.items p.start p.end; ended = p.ended } };
+    ghost view = { λ p. record { taken = take p.start p.buffer.items; bytes = slice_range p.buffer.items p.start p.end } };
 
     ghost invariant = { λ p. (p.start ≤ p.end) × (p.end ≤ 131072) × (vec_len p.buffer ≡ 131072) };
 }
@@ -44,7 +43,8 @@ fn pull_behind<S: Source>(
     requires { end < length buffer.old }
     ensures same { take end buffer.new ≡ take end buffer.old }
     ensures bound { IfOk result (λ n. end + n ≤ length buffer.new) }
-    ensures given { IfOk result (λ n. S.given source.new ≡ S.given source.old ++ slice_range buffer.new end (end + n)) }
+    ensures given { IfOk result (λ n. (S.given source.new).bytes ≡ (S.given source.old).bytes ++ slice_range buffer.new end (end + n)) }
+    ensures ended { IfOk result (λ n. (S.given source.new).ended ≡ (n == 0)) }
     ensures none { OnErr result (S.given source.new ≡ S.given source.old) }
     ensures failed { S.is_failed source.new ≡ is_err result }
 {
@@ -69,7 +69,7 @@ impl PulledBytes {
     ghost use Rattle.std.specs.Prelude.{length, IfOk, OnOk, OnErr, MatchOption, slice_range, vec_len};
     ghost use Rattle.std.specs.Result.{is_err};
     ghost use Rattle.field_lines.specs.HeldBytes.{no_bytes, Pulls};
-    ghost use Rattle.field_lines.specs.Front.{IsFrontPiece, HasFront};
+    ghost use Rattle.field_lines.specs.Front.{IsFrontPiece, IsWithin, HasFront};
     ghost use Rattle.field_lines.specs.TakenPieces.{IsPlace, taken_bytes, TakesFirst};
 
     /// No byte so far.
@@ -82,7 +82,6 @@ impl PulledBytes {
             buffer,
             start: 0,
             end: 0,
-            ended: false,
         })
     }
 
@@ -114,7 +113,6 @@ impl PulledBytes {
         ensures small { result ≤ 131072 }
         ensures taken { self.new.taken ≡ self.old.taken ++ take count self.old.bytes }
         ensures bytes { self.new.bytes ≡ drop count self.old.bytes }
-        ensures ended { self.new.ended ≡ self.old.ended }
     {
         let start = self.start;
         self.start = start + count;
@@ -125,7 +123,6 @@ impl PulledBytes {
     fn move_to_front(&mut self)
         ensures taken { self.new.taken ≡ [] }
         ensures bytes { self.new.bytes ≡ self.old.bytes }
-        ensures ended { self.new.ended ≡ self.old.ended }
     {
         if self.start > 0 {
             self.buffer.copy_within(self.start..self.end, 0);
@@ -134,14 +131,13 @@ impl PulledBytes {
         }
     }
 
-    /// Pulls further bytes, 65,536 or more if there are so many. The source has ended where it gives none.
+    /// Pulls further bytes, 65,536 or more if there are so many, of a source that hasn't ended.
     fn pull<S: Source>(&mut self, source: &mut S) -> Result<usize, SourceFault>
         requires few { length self.old.bytes ≤ 65536 }
-        requires open { self.old.ended ≡ false }
+        requires open { (S.given source.old).ended ≡ false }
         ensures pulls { Pulls (S.given source.old) (S.given source.new) self.old self.new }
         ensures count { IfOk result (λ n. length self.new.bytes ≡ length self.old.bytes + n) }
-        ensures ended { IfOk result (λ n. self.new.ended ≡ (n == 0)) }
-        ensures still { OnErr result (self.new.ended ≡ self.old.ended) }
+        ensures ended { IfOk result (λ n. (S.given source.new).ended ≡ (n == 0)) }
         ensures few { length self.new.bytes ≤ 131072 }
         ensures failed { S.is_failed source.new ≡ is_err result }
     {
@@ -149,7 +145,6 @@ impl PulledBytes {
         let end = self.end;
         let count = pull_behind(source, &mut self.buffer, end)?;
         self.end = end + count;
-        self.ended = count == 0;
         Ok(count)
     }
 
@@ -160,7 +155,7 @@ impl PulledBytes {
         source: &mut S,
     ) -> Result<Option<FrontPiece>, SourceFault>
         ensures pulls { Pulls (S.given source.old) (S.given source.new) self.old self.new }
-        ensures front { IfOk result (HasFront self.new.bytes self.new.ended) }
+        ensures front { IfOk result (HasFront self.new.bytes (S.given source.new).ended) }
         ensures failed { OnErr result (S.is_failed source.new ≡ true) }
         ensures sound { OnOk result (S.is_failed source.old ≡ false → S.is_failed source.new ≡ false) }
     {
@@ -174,15 +169,27 @@ impl PulledBytes {
                 }));
             }
             searched = held.len();
-            if searched > MAX_LINE || self.ended {
+            if searched > MAX_LINE || source.ended() {
                 return Ok(rest_of(searched));
             }
             self.pull(source)?;
         }
     }
+
+    /// Returns the bytes that were taken, from a place to another, or none if they are no place. The first 65,536 bytes
+    /// that are held stand in their place if a piece was too long to be taken.
+    pub(crate) fn piece_at_fault(&self, is_too_long: bool, from: usize, to: usize) -> &[u8] {
+        let piece = if is_too_long {
+            self.held().get(..MAX_LINE)
+        } else {
+            self.buffer.as_slice().get(from..to)
+        };
+        piece.unwrap_or(b"")
+    }
+
     /// The bytes of the piece at the front.
     pub(crate) fn piece(&self, front: FrontPiece) -> &[u8]
-        requires { IsFrontPiece self.now.bytes self.now.ended front.length front.ended }
+        requires { IsWithin self.now.bytes front.length front.ended }
         ensures value { result.now ≡ take front.length self.now.bytes }
         ensures length { length result.now ≡ front.length }
     {
@@ -191,12 +198,12 @@ impl PulledBytes {
 
     /// Takes the piece at the front, and says where it lies.
     pub(crate) fn take_piece(&mut self, front: FrontPiece) -> TakenPiece
-        requires front { IsFrontPiece self.old.bytes self.old.ended front.length front.ended }
+        requires within { IsWithin self.old.bytes front.length front.ended }
         requires short { front.length ≤ 65536 }
         ensures place { IsPlace self.new result.from result.to }
         ensures bytes { taken_bytes self.new result ≡ take front.length self.old.bytes }
-        ensures ended { self.new.ended ≡ self.old.ended }
-        ensures first { TakesFirst self.old.bytes self.new result }
+        ensures first { (ended : Bool) → IsFrontPiece self.old.bytes ended front.length front.ended
+            → TakesFirst ended self.old.bytes self.new result }
     {
         let length = front.length;
         let from = self.take(if front.ended { length + 1 } else { length });

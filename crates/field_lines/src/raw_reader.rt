@@ -52,16 +52,16 @@ pub struct RawReader {
     pulled: PulledBytes,
     number: u64,
     fault: Option<LineFault>,
+    last: TakenPiece,
 }
 
 impl Model for RawReader {
     ghost use Rattle.field_lines.specs.LinesFrom.{LinesHeld};
 
-    /// The bytes that are held, whether the source has ended, the number of the next piece, and the fault that was
-    /// answered.
+    /// The bytes that are held, the number of the next piece, and the fault that was answered.
     ghost Value = { LinesHeld };
 
-    ghost view = { λ r. record { bytes = r.pulled.bytes; ended = r.pulled.ended; number = r.number; fault = r.fault } };
+    ghost view = { λ r. record { bytes = r.pulled.bytes; number = r.number; fault = r.fault } };
 }
 
 impl RawReader {
@@ -87,6 +87,7 @@ impl RawReader {
                 pulled,
                 number: 1,
                 fault: None,
+                last: TakenPiece::none(),
             }),
             Err(_) => Err(LineFault::Memory),
         }
@@ -111,6 +112,7 @@ impl RawReader {
         match take_raw(&mut self.pulled, number, source) {
             Ok(Some(piece)) => {
                 self.number = number + 1;
+                self.last = piece;
                 let bytes = self.pulled.taken(piece.from, piece.to);
                 Ok(Some(Piece {
                     number,
@@ -118,11 +120,23 @@ impl RawReader {
                     ended: piece.ended,
                 }))
             }
-            Ok(None) => Ok(None),
+            Ok(None) => {
+                self.last = TakenPiece::none();
+                Ok(None)
+            }
             Err(fault) => {
                 self.fault = Some(fault);
                 Err(fault)
             }
         }
+    }
+
+    /// Returns the bytes of the piece at which the reader stands: those of the last one that it lent, the first 65,536
+    /// of one that is too long, or none at the end. They are for whoever shows the line to a person. No clause speaks
+    /// of them.
+    pub fn line(&self) -> &[u8] {
+        let is_too_long = matches!(self.fault, Some(LineFault::LineTooLong(_)));
+        self.pulled
+            .piece_at_fault(is_too_long, self.last.from, self.last.to)
     }
 }

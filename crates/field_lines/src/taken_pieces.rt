@@ -11,6 +11,17 @@ pub(crate) struct TakenPiece {
     pub(crate) ended: bool,
 }
 
+impl TakenPiece {
+    /// No piece, where none was taken.
+    pub(crate) fn none() -> Self {
+        TakenPiece {
+            from: 0,
+            to: 0,
+            ended: false,
+        }
+    }
+}
+
 /// Where a line lies among the bytes that were taken since the last pull, with its CR and its byte order mark.
 #[derive(Clone, Copy, Debug, PartialEq, Eq)]
 pub(crate) struct TakenLine {
@@ -20,4 +31,15 @@ pub(crate) struct TakenLine {
     pub(crate) from: usize,
     /// Where they end, before the LF.
     pub(crate) to: usize,
+}
+
+impl TakenLine {
+    /// No line, where none was taken.
+    pub(crate) fn none() -> Self {
+        TakenLine {
+            number: 0,
+            from: 0,
+            to: 0,
+        }
+    }
 }

@@ -27,7 +27,7 @@ returns-in-Ok-Some g c =
     let some : 1 ≤ length c.line_in.result.now = subst (λ (l : List ℕ). 1 ≤ length l) (sym (ap (λ (l : Line). l.bytes) is)) takes.place.2 in
     let short : length c.line_in.result.now ≤ most_bytes = omega (arith, c.line_in.ensures.shorter, ap length c.taken-bytes.ensures, takes.place.3) in
     let next = reads_line inside.number n inside.pulled new inside.fault given_before given_after failed_before failed_after c.in_default.is t (t.number, c.line_in.result) takes from c.take_line.ensures.to is in (
-      (refl, λ _. tt, subst (λ (old : LinesHeld). IsNextRead old given_before failed_before (Ok (Some (t.number, c.line_in.result))) (record { bytes = new.bytes; ended = new.ended; number = n; fault = inside.fault }) given_after failed_after) c.self.view_is next),
+      (refl, λ _. tt, subst (λ (old : LinesHeld). IsNextRead old given_before failed_before (Ok (Some (t.number, c.line_in.result))) (record { bytes = new.bytes; number = n; fault = inside.fault }) given_after failed_after) c.self.view_is next),
       record { number = (omega arith, omega arith); bytes = (some, short); fault = tt; next = tt },
     )
 
@@ -42,6 +42,6 @@ returns-in-Ok-None g c =
     let failed_after = g.S.Source.is_failed c.take_line.new.source in
     let takes : TakesLine inside.number inside.pulled given_before failed_before (Ok None) n new given_after failed_after = rw c.in-Ok-None.field-0-is at c.in-Ok-None.ensures.takes in
     let next = reads_none inside.number n inside.pulled new inside.fault given_before given_after failed_before failed_after c.in_default.is takes in (
-      (refl, λ _. tt, subst (λ (old : LinesHeld). IsNextRead old given_before failed_before (Ok None) (record { bytes = new.bytes; ended = new.ended; number = n; fault = inside.fault }) given_after failed_after) c.self.view_is next),
+      (refl, λ _. tt, subst (λ (old : LinesHeld). IsNextRead old given_before failed_before (Ok None) (record { bytes = new.bytes; number = n; fault = inside.fault }) given_after failed_after) c.self.view_is next),
       record { number = tt; bytes = tt; fault = tt; next = tt },
     )

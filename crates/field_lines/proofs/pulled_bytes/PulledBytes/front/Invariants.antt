@@ -14,4 +14,4 @@ invariant-loop-length g l = record {
 
 -- a pull gives bytes, or the source has ended
 abbrev pub decreases-loop-length : goal.decreases-loop-length
-decreases-loop-length g l = 131072 - length l.self.bytes + (if l.self.ended then 0 else 1)
+decreases-loop-length g l = 131072 - length l.self.bytes + (if (g.S.Source.given l.source).ended then 0 else 1)

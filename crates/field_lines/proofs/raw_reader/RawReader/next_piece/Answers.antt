@@ -24,7 +24,7 @@ returns-in-Ok-Some g c =
     let is : raw_of p ≡ piece_at n new t = ap (λ (l : List ℕ). record { number = n; bytes = l; ended = t.ended }) c.taken-bytes.ensures in
     let next = reads_piece n inside.pulled new inside.fault given_before given_after failed_before failed_after c.in_default.is t p takes is in
     let short : length c.taken-bytes.result.now ≤ most_bytes = subst (λ (l : List ℕ). length l ≤ most_bytes) (sym c.taken-bytes.ensures) takes.answers.1 in (
-      (refl, λ _. tt, subst (λ (old : LinesHeld). IsRawRead old given_before failed_before (Ok (Some p)) (record { bytes = new.bytes; ended = new.ended; number = n + 1; fault = inside.fault }) given_after failed_after) c.self.view_is next),
+      (refl, λ _. tt, subst (λ (old : LinesHeld). IsRawRead old given_before failed_before (Ok (Some p)) (record { bytes = new.bytes; number = n + 1; fault = inside.fault }) given_after failed_after) c.self.view_is next),
       record { bytes = short; next = tt },
     )
 
@@ -39,6 +39,6 @@ returns-in-Ok-None g c =
     let failed_after = g.S.Source.is_failed c.take_raw.new.source in
     let takes : TakesRaw n inside.pulled given_before failed_before (Ok None) new given_after failed_after = rw c.in-Ok-None.field-0-is at c.in-Ok-None.ensures in
     let next = reads_no_piece n inside.pulled new inside.fault given_before given_after failed_before failed_after c.in_default.is takes in (
-      (refl, λ _. tt, subst (λ (old : LinesHeld). IsRawRead old given_before failed_before (Ok None) (record { bytes = new.bytes; ended = new.ended; number = n; fault = inside.fault }) given_after failed_after) c.self.view_is next),
+      (refl, λ _. tt, subst (λ (old : LinesHeld). IsRawRead old given_before failed_before (Ok None) (record { bytes = new.bytes; number = n; fault = inside.fault }) given_after failed_after) c.self.view_is next),
       record { bytes = tt; next = tt },
     )

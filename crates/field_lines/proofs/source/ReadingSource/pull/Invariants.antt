@@ -7,4 +7,5 @@ abbrev pub invariant-loop : goal.invariant-loop
 invariant-loop g l = record {
   kept : Keeps (g.R.Read.remaining l.fn.self.reader) (g.R.Read.remaining l.self.reader);
   same : l.self.log.bytes ≡ l.fn.self.log.bytes;
+  still : l.self.ended ≡ l.fn.self.ended;
 }
