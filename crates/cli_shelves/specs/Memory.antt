@@ -1,5 +1,5 @@
 -- A shelf in memory.
-use Rattle.std.specs.Prelude.{◌≡◌, ◌<◌, ◌++◌, ◌∷◌, [], ℕ, List, Option, Some, None, Result, Ok, Err, length, slice_set}
+use Rattle.std.specs.Prelude.{◌≡◌, ◌<◌, ◌++◌, ◌∷◌, [], ℕ, Bool, List, Option, Some, None, Result, Ok, Err, length, slice_set}
 use Rattle.std.specs.Prelude.{map, string_bytes}
 use Rattle.std.specs.Option.{option_map}
 use Rattle.std.specs.Borrow.{Bor}
@@ -16,11 +16,13 @@ pub record MemoryValue : Type 0 where
   pub stored : List NamedFile
   pub events : List ShelfEvent
 
--- a reader of a file in memory: the bytes of the file, those that were given, and how many these are
+-- a reader of a file in memory: the bytes of the file, those that were given, how many these are, and whether a pull
+-- gave none
 pub record ReaderValue : Type 0 where
   pub bytes : List ℕ
   pub given : List ℕ
   pub at : ℕ
+  pub ended : Bool
 
 -- files with their names and bytes
 abbrev pub files_of : List MemoryFile → List NamedFile
@@ -38,7 +40,7 @@ HasPlace files name (Some i) =
 HasPlace files name None =
     (bytes : List ℕ) → with_file files name bytes ≡ files ++ record { name = name; bytes = bytes } ∷ []
 
--- where a reader stood that gave these bytes of a file: at its end, or before
+-- where a reader stood that gave these bytes of a file: at its end, where it gave all of them, or before
 abbrev pub ReaderEndsIn : Option (List ℕ) → List ℕ → Result ReadEnd ShelfFault → Type 0
 ReaderEndsIn file given (Ok Whole) = file ≡ Some given
 ReaderEndsIn file given (Ok Part) = (later : List ℕ) × (file ≡ Some (given ++ later))

@@ -1,5 +1,6 @@
 -- Named files, as a shelf tells them.
-use Rattle.std.specs.Prelude.{◌≡◌, ◌<◌, ◌≤◌, ◌-◌, ◌^◌, ◌⊎◌, ℕ, List, ◌++◌, length, Option, Some, None, Result, Ok, Err}
+use Rattle.std.specs.Prelude.{◌≡◌, ◌<◌, ◌≤◌, ◌-◌, ◌^◌, ◌⊎◌, ℕ, Bool, true, false, List, ◌++◌, length, Option, Some, None}
+use Rattle.std.specs.Prelude.{Result, Ok, Err}
 use Rattle.cli_shelves.specs.declared.shelf.ReadEnd.{ReadEnd}
 use Rattle.cli_shelves.specs.declared.shelf.ReadEnd.TheVariants.{Whole, Part}
 use Rattle.cli_shelves.specs.declared.shelf.ShelfFault.{ShelfFault}
@@ -27,6 +28,11 @@ abbrev pub Opens : {X : Type 0} → Option Files → ℕ → List ℕ → Result
 Opens None failures name opened = Unit {0}
 Opens (Some files) failures name (Ok x) = (bytes : List ℕ) × (files name ≡ Some bytes)
 Opens (Some files) failures name (Err fault) = Loads {X = List ℕ} (λ bytes. bytes) files failures name (Err fault)
+
+-- where a reader stood: at the end of its file, if a pull gave no byte
+abbrev pub read_end : Bool → ReadEnd
+read_end true = Whole
+read_end false = Part
 
 -- What a reader of a name gave, where the shelf tells its files: all bytes of the file, or a beginning of them. A
 -- reader that failed says nothing of the files.

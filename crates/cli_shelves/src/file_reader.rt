@@ -1,9 +1,10 @@
 //! A file of the machine, read as it comes.
 
-ghost use Rattle.std.specs.Prelude.{◌≡◌, ◌==◌, [], IfSome, false, if◌then◌else◌};
+ghost use Rattle.std.specs.Prelude.{◌≡◌, IfSome, false};
 ghost use Rattle.std.specs.Option.{is_some};
 ghost use Rattle.cli_record_text.specs.Sums.{sum_of as sum_of_bytes};
-ghost use Rattle.cli_shelves.specs.declared.shelf.ReadEnd.TheVariants.{Whole, Part};
+ghost use Rattle.field_lines.specs.Source.{nothing_given};
+ghost use Rattle.cli_shelves.specs.Shelf.{read_end};
 
 use crate::given_bytes::GivenBytes;
 use crate::given_sum::GivenSum;
@@ -20,40 +21,35 @@ const MAX_TRIES: u32 = 1_000;
 #[derive(Drop)]
 pub struct FileReader<F> {
     file: F,
-    end: ReadEnd,
+    ended: bool,
     reason: Option<ErrorKind>,
     log: GivenSum,
-}
-
-/// Where a reader stands after a pull that gave so many bytes.
-fn end_after(count: usize) -> ReadEnd
-    ensures { result ≡ (if count == 0 then Whole else Part) }
-{
-    if count == 0 {
-        ReadEnd::Whole
-    } else {
-        ReadEnd::Part
-    }
 }
 
 impl<F: Read> FileReader<F> {
     /// A reader of what is left in a file. It has given nothing, and hasn't failed. If a sum is asked for, it sums what
     /// it gives.
     pub(crate) fn new(file: F, is_summed: bool) -> Self
-        ensures given { ⟦<FileReader<F> as Source>⟧.given result ≡ [] }
+        ensures given { ⟦<FileReader<F> as Source>⟧.given result ≡ nothing_given }
         ensures failed { ⟦<FileReader<F> as Source>⟧.is_failed result ≡ false }
     {
         FileReader {
             file,
-            end: ReadEnd::Part,
+            ended: false,
             reason: None,
             log: GivenSum::new(is_summed),
         }
     }
 
-    /// Where it stands.
-    pub(crate) fn end(&self) -> ReadEnd {
-        self.end
+    /// Returns where it stands: at the end of its file, if a pull gave no byte.
+    pub(crate) fn end(&self) -> ReadEnd
+        ensures { result ≡ read_end (⟦<FileReader<F> as Source>⟧.given self.now).ended }
+    {
+        if self.ended {
+            ReadEnd::Whole
+        } else {
+            ReadEnd::Part
+        }
     }
 
     /// What sort of error the last pull met; none where it didn't fail.
@@ -67,8 +63,8 @@ impl<F: Read> FileReader<F> {
 impl<F: Read + Drop> FileReader<F> {
     /// The bytes that were given, as the log has them, and their sum if it was asked for.
     pub(crate) fn into_given(self) -> (GivenBytes, Option<ByteSum>)
-        ensures given { result.0.bytes ≡ ⟦<FileReader<F> as Source>⟧.given self }
-        ensures sum { IfSome result.1 (λ sum. sum ≡ sum_of_bytes (⟦<FileReader<F> as Source>⟧.given self)) }
+        ensures given { result.0.bytes ≡ (⟦<FileReader<F> as Source>⟧.given self).bytes }
+        ensures sum { IfSome result.1 (λ sum. sum ≡ sum_of_bytes (⟦<FileReader<F> as Source>⟧.given self).bytes) }
     {
         self.log.finish()
     }
@@ -77,7 +73,7 @@ impl<F: Read + Drop> FileReader<F> {
 impl<F: Read> Source for FileReader<F> {
     ghost content = { λ r. F.remaining r.file };
 
-    ghost given = { λ r. r.log };
+    ghost given = { λ r. record { bytes = r.log; ended = r.ended } };
 
     ghost is_failed = { λ r. is_some r.reason };
 
@@ -88,7 +84,7 @@ impl<F: Read> Source for FileReader<F> {
                 Ok(count) => {
                     self.log.note(&buffer[..count]);
                     self.reason = None;
-                    self.end = end_after(count);
+                    self.ended = count == 0;
                     return Ok(count);
                 }
                 Err(error) => {
@@ -101,6 +97,10 @@ impl<F: Read> Source for FileReader<F> {
         }
         self.reason = Some(reason);
         Err(SourceFault)
+    }
+
+    fn ended(&self) -> bool {
+        self.ended
     }
 
     fn failed(&self) -> bool {

@@ -4,7 +4,7 @@ ghost use Rattle.std.specs.Prelude.{◌≡◌, ℕ, List, [], Option, Some, None
 ghost use Rattle.std.specs.Prelude.{option_map, string_bytes, map, ◌≤◌, vec_len};
 ghost use Rattle.std.specs.Option.{option_or};
 ghost use Rattle.cli_shelves.specs.Files.{held, with_file};
-ghost use Rattle.cli_shelves.specs.Shelf.{Loads, Opens, CountsFailures};
+ghost use Rattle.cli_shelves.specs.Shelf.{Loads, Opens, CountsFailures, read_end};
 ghost use Rattle.cli_shelves.specs.Memory.{bytes_in, files_of, HasPlace, ReaderEndsIn};
 ghost use Rattle.cli_shelves.specs.declared.shelf.ShelfFault.TheVariants.{Memory};
 
@@ -167,19 +167,20 @@ fn rest_behind<'a>(bytes: &'a [u8], given: &[u8]) -> Option<&'a [u8]>
     if front == given { Some(rest) } else { None }
 }
 
-/// Where a reader stood that gave these bytes of the file of a name. `Missing` where there is no such file, or where it
-/// doesn't begin with them.
-fn end_in(file: Option<&MemoryFile>, given: &[u8]) -> Result<ReadEnd, ShelfFault>
+/// Returns where a reader stood that gave the bytes `given` of `file`: at the end of the file if the reader has ended.
+/// `Missing` where there is no such file, where it doesn't begin with them, or where the reader has ended before it.
+fn end_in(file: Option<&MemoryFile>, given: &[u8], has_ended: bool) -> Result<ReadEnd, ShelfFault>
     ensures told { ReaderEndsIn (bytes_in file.entry) given.now result }
+    ensures end { IfOk result (λ end. end ≡ read_end has_ended) }
     ensures counted { CountsFailures 0 0 result }
 {
     let Some(file) = file else {
         return Err(ShelfFault::Missing);
     };
     match rest_behind(file.bytes.as_slice(), given) {
-        Some([]) => Ok(ReadEnd::Whole),
-        Some(_) => Ok(ReadEnd::Part),
-        None => Err(ShelfFault::Missing),
+        Some([]) if has_ended => Ok(ReadEnd::Whole),
+        Some(_) if !has_ended => Ok(ReadEnd::Part),
+        _ => Err(ShelfFault::Missing),
     }
 }
 
@@ -209,7 +210,7 @@ impl Shelf for MemoryShelf {
     }
 
     fn give_back(&mut self, name: &str, reader: MemoryReader) -> Result<ReadEnd, ShelfFault> {
-        let answer = end_in(self.file(name), reader.given());
+        let answer = end_in(self.file(name), reader.given(), reader.has_ended());
         let sum = reader.sum_if(self.log.are_kept());
         self.log.note_read(name, reader.log(), sum, &answer);
         answer

@@ -14,6 +14,7 @@ use std::marker::Model;
 pub struct MemoryReader {
     bytes: Vec<u8>,
     at: usize,
+    ended: bool,
     log: GivenBytes,
 }
 
@@ -21,10 +22,10 @@ impl Model for MemoryReader {
     ghost use Rattle.std.specs.Prelude.{◌≡◌, ◌≤◌, vec_len, take};
     ghost use Rattle.cli_shelves.specs.Memory.{ReaderValue};
 
-    /// The bytes of the file, and those that were given.
+    /// The bytes of the file, those that were given, how many these are, and whether a pull gave none.
     ghost Value = { ReaderValue };
 
-    ghost view = { λ r. record { bytes = r.bytes.items; given = r.log.bytes; at = r.at } };
+    ghost view = { λ r. record { bytes = r.bytes.items; given = r.log.bytes; at = r.at; ended = r.ended } };
 
     ghost invariant = { λ r. (r.at ≤ vec_len r.bytes) × (r.log.bytes ≡ take r.at r.bytes.items) };
 }
@@ -46,10 +47,12 @@ impl MemoryReader {
     pub(crate) fn new(bytes: Vec<u8>) -> Self
         ensures bytes { result.bytes ≡ bytes.items }
         ensures given { result.given ≡ [] }
+        ensures open { result.ended ≡ false }
     {
         MemoryReader {
             bytes,
             at: 0,
+            ended: false,
             log: GivenBytes::new(),
         }
     }
@@ -72,6 +75,13 @@ impl MemoryReader {
         }
     }
 
+    /// Returns whether a pull gave no byte.
+    pub(crate) fn has_ended(&self) -> bool
+        ensures { result ≡ self.now.ended }
+    {
+        self.ended
+    }
+
     /// The bytes that were given, as the log has them.
     pub(crate) fn log(&self) -> &GivenBytes
         ensures { result.now.bytes ≡ self.now.given }
@@ -83,7 +93,7 @@ impl MemoryReader {
 impl Source for MemoryReader {
     ghost content = { λ r. Some (drop r.at r.bytes) };
 
-    ghost given = { λ r. r.given };
+    ghost given = { λ r. record { bytes = r.given; ended = r.ended } };
 
     ghost is_failed = { λ _. false };
 
@@ -92,7 +102,12 @@ impl Source for MemoryReader {
         let count = copy_front(rest, buffer);
         self.log.note(&buffer[..count]);
         self.at += count;
+        self.ended = count == 0;
         Ok(count)
+    }
+
+    fn ended(&self) -> bool {
+        self.ended
     }
 
     fn failed(&self) -> bool {

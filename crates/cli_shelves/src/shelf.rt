@@ -1,9 +1,10 @@
 //! Shelves: named files that are loaded, opened and stored.
 
-ghost use Rattle.std.specs.Prelude.{◌≡◌, ℕ, ◌-◌, ◌^◌, ◌<◌, ◌≤◌, false, List, [], Option, IfOk, IfSome, OnOk, OnErr};
+ghost use Rattle.std.specs.Prelude.{◌≡◌, ◌-◌, ◌^◌, ◌<◌, ◌≤◌, false, List, Option, IfOk, IfSome, OnOk, OnErr};
 ghost use Rattle.std.specs.Prelude.{length, min, option_map, vec_len};
 ghost use Rattle.cli_shelves.specs.Files.{NamedFile, Files, with_file, with_bytes};
-ghost use Rattle.cli_shelves.specs.Shelf.{IsLoad, Opens, IsRead, IsStore};
+ghost use Rattle.field_lines.specs.Source.{nothing_given};
+ghost use Rattle.cli_shelves.specs.Shelf.{IsLoad, Opens, IsRead, IsStore, read_end};
 ghost use Rattle.cli_shelves.specs.History.{History, HasLoaded, HasOpened, HasRead, HasPut};
 ghost use Rattle.cli_shelves.specs.Sums.{AreOfLast};
 ghost use Rattle.cli_shelves.specs.declared.shelf.ShelfFault.TheVariants.{Memory};
@@ -36,9 +37,9 @@ pub enum ShelfFault {
 /// Where a reader stood when it was given back.
 #[derive(Clone, Copy, Debug, PartialEq, Eq)]
 pub enum ReadEnd {
-    /// At the end of its file: it gave all bytes.
+    /// At the end of its file: it gave all bytes, and a pull gave none.
     Whole,
-    /// Before the end, so far as it was told: it gave a beginning of the bytes.
+    /// No pull gave none: it gave a beginning of the bytes, or all of them.
     Part,
 }
 
@@ -86,7 +87,7 @@ pub trait Shelf {
     ///
     /// As `load`, but that no file is too large. The fault is then the last event of the history, as of a load.
     fn reader(&mut self, alloc: Global, name: &str) -> Result<Self::Reader, ShelfFault>
-        ensures given { IfOk result (λ reader. Self.Reader.given reader ≡ []) }
+        ensures given { IfOk result (λ reader. Self.Reader.given reader ≡ nothing_given) }
         ensures sound { IfOk result (λ reader. Self.Reader.is_failed reader ≡ false) }
         ensures opened { Opens (contents self.old) (history self.old).failures name.now result }
         ensures same { contents self.new ≡ contents self.old }
@@ -103,11 +104,12 @@ pub trait Shelf {
     /// with the count at its last value, or where the shelf tells its files and that of the name doesn't begin with
     /// what the reader gave.
     fn give_back(&mut self, name: &str, reader: Self::Reader) -> Result<ReadEnd, ShelfFault>
-        ensures read { IsRead (contents self.old) name.now (Self.Reader.given reader) result }
+        ensures read { IsRead (contents self.old) name.now (Self.Reader.given reader).bytes result }
+        ensures end { IfOk result (λ end. end ≡ read_end (Self.Reader.given reader).ended) }
         ensures sound { OnOk result (Self.Reader.is_failed reader ≡ false) }
         ensures same { contents self.new ≡ contents self.old }
         ensures kept { stored self.new ≡ stored self.old }
-        ensures logged { HasRead (history self.old) (history self.new) name.now (Self.Reader.given reader) result };
+        ensures logged { HasRead (history self.old) (history self.new) name.now (Self.Reader.given reader).bytes result };
 
     /// Puts a file under a name, in the place of the one that was there. The last event of the history is then the
     /// name, the bytes, and whether they were taken.

@@ -7,4 +7,5 @@ abbrev pub invariant-loop : goal.invariant-loop
 invariant-loop g l = record {
   kept : Keeps (g.F.Read.remaining l.fn.self.file) (g.F.Read.remaining l.self.file);
   same : l.self.log ≡ l.fn.self.log;
+  still : l.self.ended ≡ l.fn.self.ended;
 }
