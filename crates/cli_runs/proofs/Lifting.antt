@@ -12,7 +12,8 @@ use Rattle.cli_shelves.specs.Shelf.{IsLoad}
 use Rattle.cli_shelves.specs.History.{ShelfEvent, History}
 use Rattle.cli_answers.specs.Answer.{Answered}
 use Rattle.cli_runs.specs.Course.{Course, ◌>>=◌, CourseEndsIn, load_step, call_step, value_step, optional_step}
-use Rattle.cli_runs.specs.Reading.{GivenBack, open_step, read_step, whole_step, either_step, read_one, text_course, back_step, read_both, whole_pair, load_pair, texts_of}
+use Rattle.field_lines.specs.Source.{Given}
+use Rattle.cli_runs.specs.Reading.{GivenBack, open_step, read_step, given_step, read_one, given_of, back_step, read_both, given_pair, given_of_both}
 use Rattle.cli_runs.specs.Loads.{HasAnswer, Answers, AnsweredBy}
 
 -- the events of one history are those of another and then more
@@ -152,31 +153,19 @@ module _ (given : Option Files) (files : Files) where
   lifts_read : (name : List ℕ) → Lifts (read_step given name) (read_step (Some files) name)
   lifts_read name = record { extends = read_extends name; lifts = read_lifted name }
 
-  whole_same : (name : List ℕ) (g : GivenBack) (before after : History) (end : Result (List ℕ) Answered) → whole_step name g before after end → after ≡ before
-  whole_same name g before after (Ok bytes) h = h.0
-  whole_same name g before after (Err a) h = h.0
+  given_same : (name : List ℕ) (g : GivenBack) (before after : History) (end : Result Given Answered) → given_step name g before after end → after ≡ before
+  given_same name g before after (Ok given) h = h.0
+  given_same name g before after (Err a) h = h.0
 
-  lifts_whole : (name : List ℕ) (g : GivenBack) → Lifts (whole_step name g) (whole_step name g)
-  lifts_whole name g = lifts_same (whole_step name g) (whole_same name g)
+  lifts_given : (name : List ℕ) (g : GivenBack) → Lifts (given_step name g) (given_step name g)
+  lifts_given name g = lifts_same (given_step name g) (given_same name g)
 
-  module _ {X : Type 0} (one told_one other told_other : Course X) (f : Lifts one told_one) (n : Lifts other told_other) where
-    either_extends : (before after : History) (end : Result X Answered) → either_step one other before after end → Extends before after
-    either_extends before after end (inl h) = f.extends before after end h
-    either_extends before after end (inr h) = n.extends before after end h
-
-    either_lifted : (before after : History) (end : Result X Answered) → either_step one other before after end → AnsweredBy files before after → either_step told_one told_other before after end
-    either_lifted before after end (inl h) by = inl (f.lifts before after end h by)
-    either_lifted before after end (inr h) by = inr (n.lifts before after end h by)
-
-  lifts_either : {X : Type 0} {one told_one other told_other : Course X} → Lifts one told_one → Lifts other told_other → Lifts (either_step one other) (either_step told_one told_other)
-  lifts_either f n = record { extends = either_extends _ _ _ _ f n; lifts = either_lifted _ _ _ _ f n }
-
-  -- the whole texts of one file, and of two
+  -- what the reader of one file gave, and those of two
   lifts_read_one : (name : List ℕ) → Lifts (read_one given name) (read_one (Some files) name)
   lifts_read_one name = lifts_bind (lifts_open name) (λ opened. lifts_read name)
 
-  pub lifts_text : (name : List ℕ) → Lifts (text_course given name) (text_course (Some files) name)
-  lifts_text name = lifts_bind (lifts_read_one name) (λ g. lifts_either (lifts_whole name g) (lifts_load name))
+  pub lifts_given_of : (name : List ℕ) → Lifts (given_of given name) (given_of (Some files) name)
+  lifts_given_of name = lifts_bind (lifts_read_one name) (lifts_given name)
 
   lifts_back : (first second : List ℕ) → Lifts (back_step given first second) (back_step (Some files) first second)
   lifts_back first second = lifts_bind (lifts_read second) (λ h. lifts_bind (lifts_read first) (λ g. lifts_value (λ pair. pair ≡ (g, h))))
@@ -184,11 +173,8 @@ module _ (given : Option Files) (files : Files) where
   lifts_read_both : (first second : List ℕ) → Lifts (read_both given first second) (read_both (Some files) first second)
   lifts_read_both first second = lifts_bind (lifts_open first) (λ opened. lifts_bind (lifts_open second) (λ both. lifts_back first second))
 
-  lifts_whole_pair : (first second : List ℕ) (given : GivenBack × GivenBack) → Lifts (whole_pair first second given) (whole_pair first second given)
-  lifts_whole_pair first second given = lifts_bind (lifts_whole second given.1) (λ y. lifts_bind (lifts_whole first given.0) (λ x. lifts_value (λ pair. pair ≡ (x, y))))
+  lifts_given_pair : (first second : List ℕ) (both : GivenBack × GivenBack) → Lifts (given_pair first second both) (given_pair first second both)
+  lifts_given_pair first second both = lifts_bind (lifts_given second both.1) (λ y. lifts_bind (lifts_given first both.0) (λ x. lifts_value (λ pair. pair ≡ (x, y))))
 
-  pub lifts_load_pair : (first second : List ℕ) → Lifts (load_pair given first second) (load_pair (Some files) first second)
-  lifts_load_pair first second = lifts_bind (lifts_load first) (λ x. lifts_bind (lifts_load second) (λ y. lifts_value (λ pair. pair ≡ (x, y))))
-
-  pub lifts_texts : (first second : List ℕ) → Lifts (texts_of given first second) (texts_of (Some files) first second)
-  lifts_texts first second = lifts_bind (lifts_read_both first second) (λ given. lifts_either (lifts_whole_pair first second given) (lifts_load_pair first second))
+  pub lifts_given_of_both : (first second : List ℕ) → Lifts (given_of_both given first second) (given_of_both (Some files) first second)
+  lifts_given_of_both first second = lifts_bind (lifts_read_both first second) (lifts_given_pair first second)

@@ -48,12 +48,13 @@ use Rattle.cli_runs.specs.ShareCourse.{share_answer, share_course, joined_file}
 use Rattle.cli_runs.specs.PieceCourse.{piece_said, piece_course}
 use Rattle.cli_record.specs.RecordFiles.{record_name_of}
 use Rattle.cli_runs.specs.Course.{Course, CourseEndsIn}
+use Rattle.cli_runs.specs.Reading.{OfTexts}
 use Rattle.cli_runs.specs.Storing.{EndsStoring, named_file, store_steps}
 use Rattle.cli_runs.specs.Recording.{RecordEnds}
 use Rattle.cli_runs.specs.Run.{CommandEnds, CommandRun, IsRunAnswer, RunsAsAsked}
 use Rattle.cli_runs.specs.Loads.{AnsweredBy, RunsAreOfTheirLoads}
 use Rattle.cli_runs.specs.ToldFiles.{IsStoreTaken}
-use Rattle.cli_runs.proofs.Lifting.{Extends, extends_same, extends_twice, answered_split, Lifts, lifts_load, lifts_load_pair, lifts_text, lifts_texts, lifts_call, lifts_value, lifts_bind, lifts_optional, ends_lift}
+use Rattle.cli_runs.proofs.Lifting.{Extends, extends_same, extends_twice, answered_split, Lifts, lifts_load, lifts_given_of, lifts_given_of_both, lifts_call, lifts_value, lifts_bind, lifts_optional, ends_lift}
 
 -- files that are stored add events
 stores_extend : (list : List NamedFile) (before after : History) (stored : List NamedFile) (refusal : Option Answered) → store_steps list before after stored refusal → Extends before after
@@ -72,8 +73,8 @@ record_extends words command name before between after last said a (inr (is, inr
 
 module _ (given : Option Files) (files : Files) where
   counties_lift : (words : CommonWords) → Lifts given files (counties_course given words) (counties_course (Some files) words)
-  counties_lift words = lifts_bind given files (lifts_texts given files words.geo.now words.segment.now) (λ texts.
-      lifts_call given files pl94_answer (λ counties. county_list texts.0 texts.1 words.state ≡ counties))
+  counties_lift words = lifts_bind given files (lifts_given_of_both given files words.geo.now words.segment.now) (λ read.
+      lifts_call given files pl94_answer (λ counties. OfTexts (λ g s. county_list g s words.state ≡ counties) read.0 read.1))
 
   pairs_lift : (listed name : List ℕ) → Lifts given files (pairs_of given listed name) (pairs_of (Some files) listed name)
   pairs_lift listed name = lifts_bind given files (lifts_load given files name) (λ text. lifts_call given files (code_file_answer input.Adjacency) (IsPairsAnswer text listed))
@@ -96,8 +97,8 @@ module _ (given : Option Files) (files : Files) where
   problem_lifts words = lifts_bind given files (counties_lift words.common) (λ counties. over_lifts words counties)
 
   named_lift : (words : CommonWords) → Lifts given files (named_counties_of given words) (named_counties_of (Some files) words)
-  named_lift words = lifts_bind given files (lifts_load_pair given files words.geo.now words.segment.now) (λ texts.
-      lifts_call given files named_answer (λ counties. named_list texts.0 texts.1 words.state ≡ counties))
+  named_lift words = lifts_bind given files (lifts_given_of_both given files words.geo.now words.segment.now) (λ read.
+      lifts_call given files named_answer (λ counties. OfTexts (λ g s. named_list g s words.state ≡ counties) read.0 read.1))
 
   tabled_lifts : (words : ProblemWords) (table : Option (Bor (List ℕ))) → Lifts given files (tabled_problem_in given words table) (tabled_problem_in (Some files) words table)
   tabled_lifts words None = lifts_bind given files (problem_lifts words) (λ v. lifts_value given files (λ t. t ≡ untabled v))
@@ -108,8 +109,8 @@ module _ (given : Option Files) (files : Files) where
   grouping_lifts name = lifts_bind given files (lifts_load given files name) (λ text. lifts_call given files (code_file_answer input.Grouping) (λ grouping. grouping_list text ≡ grouping))
 
   blocks_lift : (words : CommonWords) → Lifts given files (blocks_of given words) (blocks_of (Some files) words)
-  blocks_lift words = lifts_bind given files (lifts_texts given files words.geo.now words.segment.now) (λ texts.
-      lifts_call given files pl94_answer (λ blocks. block_list texts.0 texts.1 words.state ≡ blocks))
+  blocks_lift words = lifts_bind given files (lifts_given_of_both given files words.geo.now words.segment.now) (λ read.
+      lifts_call given files pl94_answer (λ blocks. OfTexts (λ g s. block_list g s words.state ≡ blocks) read.0 read.1))
 
   assignments_lift : (name : List ℕ) → Lifts given files (plan_assignments given name) (plan_assignments (Some files) name)
   assignments_lift name = lifts_bind given files (lifts_load given files name) (λ text. lifts_call given files assignment_answer (λ lines. assignment_list text ≡ lines))
@@ -131,7 +132,7 @@ module _ (given : Option Files) (files : Files) where
       lifts_bind given files (assignments_lift words.assignments.now) (λ lines. lifts_value given files (IsAudited v g blocks lines)))))
 
   check_lifts : (words : CheckWords) → Lifts given files (check_course given words) (check_course (Some files) words)
-  check_lifts words = lifts_bind given files (tabled_lifts words.check.problem words.table) (λ t. lifts_bind given files (lifts_text given files words.check.certificate.now) (λ text. lifts_value given files (IsChecked t words.check.budget text)))
+  check_lifts words = lifts_bind given files (tabled_lifts words.check.problem words.table) (λ t. lifts_bind given files (lifts_given_of given files words.check.certificate.now) (λ read. lifts_value given files (IsChecked t words.check.budget read)))
 
   solve_lifts : (words : SolveWords) → Lifts given files (solve_course given words) (solve_course (Some files) words)
   solve_lifts words = lifts_bind given files (tabled_lifts words.problem words.table) (λ t. lifts_value given files (IsSolved t words.steps))

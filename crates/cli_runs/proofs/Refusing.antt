@@ -38,10 +38,11 @@ use Rattle.cli_answers.specs.Refusals.{shelf_answer, file_answer, pl94_answer, c
 use Rattle.cli_words.specs.declared.words.CommonWords.{CommonWords}
 use Rattle.cli_words.specs.declared.words.ProblemWords.{ProblemWords}
 use Rattle.cli_runs.specs.Course.{Course, ◌>>=◌, load_step, call_step, value_step, optional_step}
-use Rattle.cli_runs.specs.Reading.{load_pair, text_course, texts_of}
+use Rattle.field_lines.specs.Source.{Given}
+use Rattle.cli_runs.specs.Reading.{given_of, given_of_both, OfTexts}
 use Rattle.cli_runs.specs.PlanCourse.{blocks_of, plan_assignments}
 use Rattle.cli_runs.specs.TableCourse.{untabled, tabled_by, named_counties_of, tabled_problem_in}
-use Rattle.cli_runs.proofs.Texts.{shelf_status, load_pair_cuts, text_cuts, texts_cut}
+use Rattle.cli_runs.proofs.Texts.{shelf_status, given_of_cuts, given_of_both_cuts}
 use Rattle.cli_runs.specs.ProblemCourse.{counties_course, pairs_of, pairs_in, links_of, links_in, withdrawn_of, withdrawn_in, adjacency_of, IsBuilt, problem_over, problem_course, grouping_in, grouping_of}
 
 -- the status of a refusal: 4 for a file, a problem or a board, 5 for a shelf or for memory, and 3 for a budget that is
@@ -143,18 +144,18 @@ optional_refuses : {X : Type 0} (value : X) (steps : List ℕ → Course X) (nam
 optional_refuses value steps None all = value_refuses (λ x. x ≡ value)
 optional_refuses value steps (Some name) all = all name.now
 
--- a text that isn't had
-pub text_refuses : (files : Option Files) (name : List ℕ) → Refuses (text_course files name)
-text_refuses files name before after a h = inr (inl (text_cuts files name before after a h))
+-- a file that isn't read
+pub given_refuses : (files : Option Files) (name : List ℕ) → Refuses (given_of files name)
+given_refuses files name before after a h = inr (inl (given_of_cuts files name before after a h))
 
--- texts that aren't had
-texts_refuse : (files : Option Files) (first second : List ℕ) → Refuses (texts_of files first second)
-texts_refuse files first second before after a h = inr (inl (texts_cut files first second before after a h))
+-- files that aren't read
+both_refuse : (files : Option Files) (first second : List ℕ) → Refuses (given_of_both files first second)
+both_refuse files first second before after a h = inr (inl (given_of_both_cuts files first second before after a h))
 
 counties_refuse : (files : Option Files) (words : CommonWords) → Refuses (counties_course files words)
 counties_refuse files words =
-    bind_refuses (texts_of files words.geo.now words.segment.now) _ (texts_refuse files words.geo.now words.segment.now) (λ texts.
-    call_refuses pl94_answer (λ counties. county_list texts.0 texts.1 words.state ≡ counties) (λ fault. file_status _ fault.kind fault.line))
+    bind_refuses (given_of_both files words.geo.now words.segment.now) _ (both_refuse files words.geo.now words.segment.now) (λ given.
+    call_refuses pl94_answer (λ counties. OfTexts (λ g s. county_list g s words.state ≡ counties) given.0 given.1) (λ fault. file_status _ fault.kind fault.line))
 
 code_file_refuses : {X : Type 0} (file : InputFile) (R : Result X CodeLineFault → Type 0) → Refuses (call_step (code_file_answer file) R)
 code_file_refuses file R = call_refuses (code_file_answer file) R (λ fault. code_line_status file fault.kind fault.line)
@@ -190,8 +191,8 @@ named_status (names.BadName line) = inl refl
 
 named_refuse : (files : Option Files) (words : CommonWords) → Refuses (named_counties_of files words)
 named_refuse files words =
-    bind_refuses (load_pair files words.geo.now words.segment.now) _ (λ before after a h. inr (inl (load_pair_cuts files words.geo.now words.segment.now before after a h))) (λ texts.
-    call_refuses named_answer (λ counties. named_list texts.0 texts.1 words.state ≡ counties) named_status)
+    bind_refuses (given_of_both files words.geo.now words.segment.now) _ (both_refuse files words.geo.now words.segment.now) (λ given.
+    call_refuses named_answer (λ counties. OfTexts (λ g s. named_list g s words.state ≡ counties) given.0 given.1) named_status)
 
 pub tabled_refuses : (files : Option Files) (words : ProblemWords) (table : Option (Bor (List ℕ))) → Refuses (tabled_problem_in files words table)
 tabled_refuses files words None = bind_refuses _ _ (problem_refuses files words) (λ v. value_refuses (λ t. t ≡ untabled v))
@@ -202,8 +203,8 @@ tabled_refuses files words (Some table) =
 -- census blocks that aren't had
 pub blocks_refuse : (files : Option Files) (words : CommonWords) → Refuses (blocks_of files words)
 blocks_refuse files words =
-    bind_refuses (texts_of files words.geo.now words.segment.now) _ (texts_refuse files words.geo.now words.segment.now) (λ texts.
-    call_refuses pl94_answer (λ blocks. block_list texts.0 texts.1 words.state ≡ blocks) (λ fault. file_status _ fault.kind fault.line))
+    bind_refuses (given_of_both files words.geo.now words.segment.now) _ (both_refuse files words.geo.now words.segment.now) (λ given.
+    call_refuses pl94_answer (λ blocks. OfTexts (λ g s. block_list g s words.state ≡ blocks) given.0 given.1) (λ fault. file_status _ fault.kind fault.line))
 
 -- assignments that aren't had
 pub assignments_refuse : (files : Option Files) (name : List ℕ) → Refuses (plan_assignments files name)

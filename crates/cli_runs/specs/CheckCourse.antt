@@ -12,7 +12,8 @@ use Rattle.cli_shelves.specs.History.{History}
 use Rattle.cli_answers.specs.Answer.{Answered, success, budget_answer}
 use Rattle.cli_answers.specs.CheckLines.{no_answer}
 use Rattle.cli_runs.specs.Course.{Course, ◌>>=◌, value_step}
-use Rattle.cli_runs.specs.Reading.{text_course}
+use Rattle.field_lines.specs.Source.{Given}
+use Rattle.cli_runs.specs.Reading.{given_of, OfText}
 use Rattle.cli_runs.specs.TableCourse.{Tabled, Reported, tabled_problem_in, table_of}
 use Rattle.cli_runs.specs.Storing.{EndsStoring, named_file}
 
@@ -31,25 +32,26 @@ verdict_table t Impossible = None
 verdict_table t (No fault line) = None
 verdict_table t Budget = None
 
--- what `check` says of a text is the verdict of a checker with such a budget
-pub record IsChecked (t : Tabled) (budget : ℕ) (text : List ℕ) (r : Reported) : Type 0 where
+-- What `check` says of a certificate is the verdict of a checker with such a budget. It is that on each text which
+-- begins with what was read.
+pub record IsChecked (t : Tabled) (budget : ℕ) (given : Given) (r : Reported) : Type 0 where
   pub verdict : Verdict
-  pub is : IsCheckAnswer (problem_of t.problem) text budget verdict
+  pub is : OfText (λ text. IsCheckAnswer (problem_of t.problem) text budget verdict) given
   pub best : CheckIsRight (problem_of t.problem) verdict
   pub impossible : ShowsImpossible (problem_of t.problem) verdict
   pub said : r ≡ record { answer = verdict_said t.problem verdict; table = verdict_table t verdict }
 
 -- what `check` says of the bytes that a source gave meanwhile
-pub record ChecksGiven (t : Tabled) (budget : ℕ) (before after : List ℕ) (r : Reported) : Type 0 where
-  pub given : List ℕ
-  pub is_given : after ≡ before ++ given
-  pub checked : IsChecked t budget given r
+pub record ChecksGiven (t : Tabled) (budget : ℕ) (before after : Given) (r : Reported) : Type 0 where
+  pub bytes : List ℕ
+  pub are_given : after.bytes ≡ before.bytes ++ bytes
+  pub checked : IsChecked t budget (record { bytes = bytes; ended = after.ended }) r
 
--- `check`: the problem is built before the certificate is opened
+-- `check`: the problem is built before the certificate is opened, which is then read once
 abbrev pub check_course : Option Files → CheckWords → Course Reported
 check_course files words =
-    tabled_problem_in files words.check.problem words.table >>= λ t. text_course files words.check.certificate.now
-    >>= λ text. value_step (IsChecked t words.check.budget text)
+    tabled_problem_in files words.check.problem words.table >>= λ t. given_of files words.check.certificate.now
+    >>= λ given. value_step (IsChecked t words.check.budget given)
 
 -- `check` ends: at a fault that it met before anything was stored, or with its table stored and its answer, unless the
 -- table was refused

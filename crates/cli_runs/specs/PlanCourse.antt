@@ -7,18 +7,19 @@ use Rattle.baf_auditor.specs.Assignments.{assignment_list}
 use Rattle.cli_words.specs.declared.words.CommonWords.{CommonWords}
 use Rattle.cli_shelves.specs.Files.{Files}
 use Rattle.cli_answers.specs.Refusals.{pl94_answer, assignment_answer}
-use Rattle.cli_runs.specs.Reading.{texts_of}
+use Rattle.field_lines.specs.Source.{Given}
+use Rattle.cli_runs.specs.Reading.{given_of_both, OfTexts}
 use Rattle.cli_runs.specs.Course.{Course, ◌>>=◌, load_step, call_step}
 
--- the blocks that two files give
-abbrev pub blocks_in : ℕ → List ℕ → List ℕ → Course (List Block)
-blocks_in state geo segment = call_step pl94_answer (λ blocks. block_list geo segment state ≡ blocks)
+-- The blocks that two files give, or their first fault: those of each two texts that begin with what was read.
+abbrev pub blocks_in : ℕ → Given → Given → Course (List Block)
+blocks_in state geo segment =
+    call_step pl94_answer (λ blocks. OfTexts (λ g s. block_list g s state ≡ blocks) geo segment)
 
--- The census blocks of the state: those that the whole texts of the geographic header and of segment 1 give, which are
--- had anew.
+-- The census blocks of the state: the geographic header and segment 1 are opened anew, and each is read once.
 abbrev pub blocks_of : Option Files → CommonWords → Course (List Block)
 blocks_of files words =
-    texts_of files words.geo.now words.segment.now >>= λ texts. blocks_in words.state texts.0 texts.1
+    given_of_both files words.geo.now words.segment.now >>= λ given. blocks_in words.state given.0 given.1
 
 -- the assignments that a file gives
 abbrev pub assignments_in : List ℕ → Course (List Assignment)

@@ -20,17 +20,19 @@ use Rattle.cli_words.specs.declared.words.ProblemWords.{ProblemWords}
 use Rattle.cli_shelves.specs.Files.{Files}
 use Rattle.cli_answers.specs.declared.refusal.InputFile.TheVariants.{Adjacency, Links, Withdrawn, Grouping}
 use Rattle.cli_answers.specs.Refusals.{pl94_answer, code_file_answer, problem_answer}
-use Rattle.cli_runs.specs.Reading.{texts_of}
+use Rattle.field_lines.specs.Source.{Given}
+use Rattle.cli_runs.specs.Reading.{given_of_both, OfTexts}
 use Rattle.cli_runs.specs.Course.{Course, ◌>>=◌, load_step, call_step, value_step, optional_step}
 
--- the counties that two files give
-abbrev pub counties_in : ℕ → List ℕ → List ℕ → Course (List County)
-counties_in state geo segment = call_step pl94_answer (λ counties. county_list geo segment state ≡ counties)
+-- The counties that two files give, or their first fault: those of each two texts that begin with what was read.
+abbrev pub counties_in : ℕ → Given → Given → Course (List County)
+counties_in state geo segment =
+    call_step pl94_answer (λ counties. OfTexts (λ g s. county_list g s state ≡ counties) geo segment)
 
--- The counties of the state: those that the whole texts of the geographic header and of segment 1 give.
+-- The counties of the state: the geographic header and segment 1 are read once.
 abbrev pub counties_course : Option Files → CommonWords → Course (List County)
 counties_course files words =
-    texts_of files words.geo.now words.segment.now >>= λ texts. counties_in words.state texts.0 texts.1
+    given_of_both files words.geo.now words.segment.now >>= λ given. counties_in words.state given.0 given.1
 
 -- the pairs of listed counties that an adjacency file gives
 abbrev pub pairs_in : List ℕ → List ℕ → Course (List (ℕ × ℕ))

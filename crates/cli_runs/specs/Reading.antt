@@ -1,10 +1,11 @@
 -- Steps that read files: a file is opened, and the history has what its reader gave once it is given back.
-use Rattle.std.specs.Prelude.{◌≡◌, ◌⊎◌, ℕ, List, Option, Result, Ok, Err}
+use Rattle.std.specs.Prelude.{◌≡◌, ℕ, List, Option, Result, Ok, Err}
+use Rattle.field_lines.specs.Source.{Given}
+use Rattle.field_lines.specs.HeldBytes.{Foresees}
 use Rattle.cli_shelves.specs.declared.shelf.ReadEnd.{ReadEnd}
-use Rattle.cli_shelves.specs.declared.shelf.ReadEnd.TheVariants.{Whole}
 use Rattle.cli_shelves.specs.declared.shelf.ShelfFault.{ShelfFault}
 use Rattle.cli_shelves.specs.Files.{Files}
-use Rattle.cli_shelves.specs.Shelf.{IsRead}
+use Rattle.cli_shelves.specs.Shelf.{IsRead, read_end}
 use Rattle.cli_shelves.specs.History.{HasRead}
 use Rattle.cli_answers.specs.Refusals.{shelf_answer}
 use Rattle.cli_runs.specs.Course.{Course, ◌>>=◌, load_step, value_step}
@@ -25,24 +26,21 @@ read_step files name before after (Ok g) =
     IsRead files name g.bytes g.answer × HasRead before after name g.bytes g.answer
 read_step files name before after (Err a) = ⊥
 
--- The whole text, if the reader stood at its end. If the reader failed, the end is the answer to what the shelf says of
--- the name.
-abbrev pub whole_step : List ℕ → GivenBack → Course (List ℕ)
-whole_step name g before after (Ok bytes) = (after ≡ before) × (g.answer ≡ Ok Whole) × (bytes ≡ g.bytes)
-whole_step name g before after (Err a) =
+-- What the reader gave, and whether it stood at the end of its file. If the reader failed, the end is the answer to
+-- what the shelf says of the name.
+abbrev pub given_step : List ℕ → GivenBack → Course Given
+given_step name g before after (Ok given) =
+    (after ≡ before) × (given.bytes ≡ g.bytes) × (g.answer ≡ Ok (read_end given.ended))
+given_step name g before after (Err a) =
     (after ≡ before) × ((fault : ShelfFault) × (g.answer ≡ Err fault) × (a ≡ shelf_answer name fault))
-
--- the one steps or the others
-abbrev pub either_step : {X : Type 0} → Course X → Course X → Course X
-either_step one other before after end = one before after end ⊎ other before after end
 
 -- a file is opened, and its reader is given back
 abbrev pub read_one : Option Files → List ℕ → Course GivenBack
 read_one files name = open_step files name >>= λ opened. read_step files name
 
--- The whole text of a file: what its reader gave, if it stood at its end; else the file is loaded behind the reading.
-abbrev pub text_course : Option Files → List ℕ → Course (List ℕ)
-text_course files name = read_one files name >>= λ g. either_step (whole_step name g) (load_step files name)
+-- what the reader of a file gave, which is read once and no further than was asked
+abbrev pub given_of : Option Files → List ℕ → Course Given
+given_of files name = read_one files name >>= given_step name
 
 -- two readers are given back, that of the second file first
 abbrev pub back_step : Option Files → List ℕ → List ℕ → Course (GivenBack × GivenBack)
@@ -54,18 +52,19 @@ abbrev pub read_both : Option Files → List ℕ → List ℕ → Course (GivenB
 read_both files first second =
     open_step files first >>= λ opened. open_step files second >>= λ both. back_step files first second
 
--- the whole texts of two files, from what both their readers gave
-abbrev pub whole_pair : List ℕ → List ℕ → GivenBack × GivenBack → Course (List ℕ × List ℕ)
-whole_pair first second given =
-    whole_step second given.1 >>= λ y. whole_step first given.0 >>= λ x. value_step (λ pair. pair ≡ (x, y))
+-- what two readers gave
+abbrev pub given_pair : List ℕ → List ℕ → GivenBack × GivenBack → Course (Given × Given)
+given_pair first second both =
+    given_step second both.1 >>= λ y. given_step first both.0 >>= λ x. value_step (λ pair. pair ≡ (x, y))
 
--- the whole texts of two files that are loaded
-abbrev pub load_pair : Option Files → List ℕ → List ℕ → Course (List ℕ × List ℕ)
-load_pair files first second =
-    load_step files first >>= λ x. load_step files second >>= λ y. value_step (λ pair. pair ≡ (x, y))
+-- what the readers of two files gave, which are read once and no further than was asked
+abbrev pub given_of_both : Option Files → List ℕ → List ℕ → Course (Given × Given)
+given_of_both files first second = read_both files first second >>= given_pair first second
 
--- The whole texts of two files: what their readers gave, if both stood at their ends; else both files are loaded behind
--- the reading.
-abbrev pub texts_of : Option Files → List ℕ → List ℕ → Course (List ℕ × List ℕ)
-texts_of files first second =
-    read_both files first second >>= λ given. either_step (whole_pair first second given) (load_pair files first second)
+-- This holds of each text that begins with what a reader gave. If the reader stood at the end, that is one text.
+abbrev pub OfText : (List ℕ → Type 0) → Given → Type 0
+OfText Holds given = (text : List ℕ) → Foresees given text → Holds text
+
+-- the same of two texts
+abbrev pub OfTexts : (List ℕ → List ℕ → Type 0) → Given → Given → Type 0
+OfTexts Holds first second = (x y : List ℕ) → Foresees first x → Foresees second y → Holds x y

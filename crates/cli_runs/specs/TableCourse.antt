@@ -10,19 +10,21 @@ use Rattle.cli_words.specs.declared.words.ProblemWords.{ProblemWords}
 use Rattle.cli_shelves.specs.Files.{Files}
 use Rattle.cli_answers.specs.Answer.{Answered}
 use Rattle.cli_answers.specs.Refusals.{named_answer}
-use Rattle.cli_runs.specs.Reading.{load_pair}
+use Rattle.field_lines.specs.Source.{Given}
+use Rattle.cli_runs.specs.Reading.{given_of_both, OfTexts}
 use Rattle.cli_runs.specs.Course.{Course, ◌>>=◌, call_step, value_step}
 use Rattle.cli_runs.specs.ProblemCourse.{problem_over, problem_course}
 
--- the counties with their names that two files give
-abbrev pub named_counties_in : ℕ → List ℕ → List ℕ → Course (List CountyName)
-named_counties_in state geo segment = call_step named_answer (λ counties. named_list geo segment state ≡ counties)
+-- The counties with their names that two files give, or their first fault: those of each two texts that begin with what
+-- was read.
+abbrev pub named_counties_in : ℕ → Given → Given → Course (List CountyName)
+named_counties_in state geo segment =
+    call_step named_answer (λ counties. OfTexts (λ g s. named_list g s state ≡ counties) geo segment)
 
--- The counties of the state with their names: the geographic header is loaded, and then segment 1, and then both are
--- read.
+-- The counties of the state with their names: the geographic header and segment 1 are read once.
 abbrev pub named_counties_of : Option Files → CommonWords → Course (List CountyName)
 named_counties_of files words =
-    load_pair files words.geo.now words.segment.now >>= λ texts. named_counties_in words.state texts.0 texts.1
+    given_of_both files words.geo.now words.segment.now >>= λ given. named_counties_in words.state given.0 given.1
 
 -- a problem, with all listed counties and their names exactly if a table is asked for
 pub record Tabled : Type 0 where

@@ -1,5 +1,5 @@
 -- Bytes that are held in a buffer, and the first LF among them.
-use Rattle.std.proofs.Common.{◌≡◌, ℕ, ◌+◌, ◌-◌, ◌<◌, ◌≤◌, true, false, List, ◌∷◌, ◌++◌, length, take, drop, get_or, All, Some, None, slice_range, sym, ap, ◌∙◌, append_assoc, arith, subst, length-take, length-drop, drop-drop, take_all, eqb-true}
+use Rattle.std.proofs.Common.{◌≡◌, ℕ, ◌+◌, ◌-◌, ◌<◌, ◌≤◌, false, List, ◌∷◌, ◌++◌, length, take, drop, get_or, Some, None, slice_range, sym, ap, ◌∙◌, append_assoc, arith, subst, length-take, length-drop, drop-drop, take_all, eqb-true}
 use Rattle.std.proofs.Math.Seq.{take-add}
 use Rattle.std.proofs.lemmas.List.{drop-take, take-append-le, take-append-drop, get_or-drop}
 use Rattle.std.proofs.lemmas.List.Elements.{All-append}

@@ -15,6 +15,12 @@ no_bytes = record { taken = []; bytes = [] }
 abbrev pub MayCome : Bool → List ℕ → Type 0
 MayCome ended later = ended ≡ true → later ≡ []
 
+-- A source that gave these bytes may give this text in the end.
+pub record Foresees (given : Given) (all : List ℕ) : Type 0 where
+  pub later : List ℕ
+  pub text : all ≡ given.bytes ++ later
+  pub may : MayCome given.ended later
+
 -- after the end nothing is pulled, and it stays
 abbrev pub StaysEnded : Bool → List ℕ → Bool → Type 0
 StaysEnded before pulled after = before ≡ true → (pulled ≡ []) × (after ≡ true)

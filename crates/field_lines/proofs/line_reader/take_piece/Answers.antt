@@ -2,7 +2,6 @@ use Rattle.std.proofs.Common.{◌≡◌, Some, None, take, sym, ap, ◌∙◌, r
 use Rattle.field_lines.specs.Cut.{fault_at}
 use Rattle.field_lines.specs.Front.{IsFrontPiece}
 use Rattle.field_lines.specs.TakenPieces.{taken_bytes}
-use Rattle.field_lines.proofs.FrontLemmas.{front_within}
 use Rattle.field_lines.proofs.ReadLineLemmas.{piece_faulty, taken_first}
 use Rattle.field_lines.proofs.line_reader.take_piece.Goals as goal
 

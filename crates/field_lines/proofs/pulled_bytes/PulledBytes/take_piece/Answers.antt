@@ -1,4 +1,4 @@
-use Rattle.std.proofs.Common.{◌≡◌, ◌≤◌, ◌+◌, ◌++◌, ℕ, List, length, take, slice_range, refl, ap, ◌∙◌, arith}
+use Rattle.std.proofs.Common.{◌≡◌, ◌≤◌, ◌+◌, ◌++◌, ℕ, List, take, slice_range, refl, ap, ◌∙◌, arith}
 use Rattle.field_lines.proofs.FrontLemmas.{with_end, taken_at, takes_first}
 use Rattle.field_lines.proofs.pulled_bytes.PulledBytes.take_piece.Goals as goal
 use Rattle.field_lines.proofs.pulled_bytes.PulledBytes.take_piece.Goals.{then-front, else-front}
