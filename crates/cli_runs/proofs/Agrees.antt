@@ -18,14 +18,13 @@ use Rattle.cli_runs.specs.TableCourse.{Tabled, Reported, table_of}
 use Rattle.cli_runs.specs.FilesProblem.{IsTableOfFiles}
 use Rattle.cli_runs.specs.SolveCourse.{Solved, SaysSolved, IsSolved, solve_course, files_to_store}
 use Rattle.cli_runs.specs.JudgeWithCertificate.{best_answer}
-use Rattle.cli_runs.specs.CheckCourse.{IsChecked}
 use Rattle.cli_runs.specs.Storing.{IsStoredAs, named_file}
 use Rattle.cli_runs.specs.Run.{CommandRun}
 use Rattle.cli_runs.specs.Headline.{ChecksAs, IsStoredProof, ShowsBest, RunShowsImpossible, RunsAgree}
 use Rattle.cli_runs.proofs.Refusing.{Refuses, bind_refuses, tabled_refuses, value_refuses}
 use Rattle.cli_runs.proofs.Ending.{same_status, not_refused, has_ended}
 use Rattle.cli_runs.proofs.FilesRead.{ReadsTabled, tabled_reads, problem_of_files, table_stored, reads_again}
-use Rattle.cli_runs.proofs.Checking.{IsAgreed, impossible_answer, checked_best, checked_impossible, check_agrees}
+use Rattle.cli_runs.proofs.Checking.{IsAgreed, ChecksText, impossible_answer, checked_best, checked_impossible, check_agrees}
 
 -- what a run said, after it stored all its files
 pub record HasSaid (files : Files) (words : SolveWords) (stored : List NamedFile) (a : Answered) : Type 0 where
@@ -59,7 +58,7 @@ stored_first words s name text named spelled =
 
 -- what every check of a text says, every check of the stored certificate says
 module _ (files : Files) (words : SolveWords) (stored : List NamedFile) (a : Answered) (h : HasSaid files words stored a) (text : List ℕ)
-    (checked : (budget : ℕ) (t : Tabled) (r : Reported) → t.problem ≡ h.t.problem → IsChecked t budget text r → IsAgreed a r.answer) where
+    (checked : (budget : ℕ) (t : Tabled) (r : Reported) → t.problem ≡ h.t.problem → ChecksText t budget text r → IsAgreed a r.answer) where
   checks_as : ChecksAs files words.problem text a
   checks_as others check start end none b same certificate (inl memory) = inr (inl (inr (same_status b memory_answer memory.0)))
   checks_as others check start end none b same certificate (inr run) =

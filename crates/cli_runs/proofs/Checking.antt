@@ -23,13 +23,14 @@ use Rattle.cli_runs.specs.JudgeWithCertificate.{best_answer}
 use Rattle.cli_runs.specs.CheckCourse.{IsChecked, check_course, CheckEnds, verdict_said}
 use Rattle.cli_runs.specs.Storing.{named_file, store_steps, said_after}
 use Rattle.cli_runs.specs.Headline.{IsCutOff, IsUnnamed}
-use Rattle.cli_runs.specs.Reading.{text_course}
+use Rattle.field_lines.specs.Source.{Given}
+use Rattle.field_lines.specs.HeldBytes.{Foresees}
+use Rattle.cli_runs.specs.Reading.{given_of}
 use Rattle.cli_runs.proofs.Ending.{same_status}
 use Rattle.cli_runs.proofs.StoreLemmas.{refusal_status}
 use Rattle.cli_runs.proofs.FilesRead.{ReadsProblem}
-use Rattle.cli_runs.proofs.Repeating.{EndsBy, bind_ends, bind_gives, value_ends, text_gives}
+use Rattle.cli_runs.proofs.Repeating.{EndsBy, bind_ends, value_ends, given_begins}
 use Rattle.cli_runs.proofs.SameProblem.{tabled_again}
-use Rattle.cli_runs.proofs.Texts.{text_told, text_cuts}
 
 -- the answer of a run and that of a check are one, unless the check is cut off
 abbrev pub IsAgreed : Answered → Answered → Type 0
@@ -52,13 +53,23 @@ said_impossible v Impossible says = inl refl
 said_impossible v (No fault line) says = absurd says
 said_impossible v Budget says = inr (inl refl)
 
+-- what `check` says of one text
+pub record ChecksText (t : Tabled) (budget : ℕ) (text : List ℕ) (r : Reported) : Type 0 where
+  pub verdict : Verdict
+  pub is : IsCheckAnswer (problem_of t.problem) text budget verdict
+  pub said : r.answer ≡ verdict_said t.problem verdict
+
+-- what `check` says of what was read is said of the text that begins with it
+checks_text : (t : Tabled) (budget : ℕ) (given : Given) (text : List ℕ) (r : Reported) → IsChecked t budget given r → Foresees given text → ChecksText t budget text r
+checks_text t budget given text r h sees = record { verdict = h.verdict; is = h.is text sees; said = ap (λ (x : Reported). x.answer) h.said }
+
 -- what is said of a text whose every verdict says so, by a check of the same problem
-module _ (v : ProblemValue) (text : List ℕ) (budget : ℕ) (t : Tabled) (same : t.problem ≡ v) (r : Reported) (h : IsChecked t budget text r) where
+module _ (v : ProblemValue) (text : List ℕ) (budget : ℕ) (t : Tabled) (same : t.problem ≡ v) (r : Reported) (h : ChecksText t budget text r) where
   verdict_is : IsCheckAnswer (problem_of v) text budget h.verdict
   verdict_is = subst (λ (w : ProblemValue). IsCheckAnswer (problem_of w) text budget h.verdict) same h.is
 
   answer_is : r.answer ≡ verdict_said v h.verdict
-  answer_is = ap (λ (x : Reported). x.answer) h.said ∙ ap (λ (w : ProblemValue). verdict_said w h.verdict) same
+  answer_is = h.said ∙ ap (λ (w : ProblemValue). verdict_said w h.verdict) same
 
   pub checked_best : (g : Grouping) → ((verdict : Verdict) → IsCheckAnswer (problem_of v) text budget verdict → SaysBest g verdict) → IsAgreed (best_answer v g) r.answer
   checked_best g says = subst (λ (x : Answered). IsAgreed (best_answer v g) x) (sym answer_is) (said_best v g h.verdict (says h.verdict verdict_is))
@@ -70,7 +81,7 @@ module _ (v : ProblemValue) (text : List ℕ) (budget : ℕ) (t : Tabled) (same 
 module _ (others : Files) (check : CheckWords) (v : ProblemValue) (text : List ℕ) (a : Answered)
     (reads : ReadsProblem others check.check.problem v)
     (certificate : others check.check.certificate.now ≡ Some text)
-    (checked : (t : Tabled) (r : Reported) → t.problem ≡ v → IsChecked t check.check.budget text r → IsAgreed a r.answer) where
+    (checked : (t : Tabled) (r : Reported) → t.problem ≡ v → ChecksText t check.check.budget text r → IsAgreed a r.answer) where
   -- it ends early at a fault of the shelf, for want of memory, or at a name
   abbrev IsStopped : Answered → Type 0
   IsStopped b = (b.status ≡ 5) ⊎ IsUnnamed check.table b
@@ -81,12 +92,12 @@ module _ (others : Files) (check : CheckWords) (v : ProblemValue) (text : List �
   course_ends : EndsBy (λ (r : Reported). IsAgreed a r.answer) IsStopped (check_course (Some others) check)
   course_ends =
       bind_ends IsStopped (λ (t : Tabled). t.problem ≡ v) (λ (r : Reported). IsAgreed a r.answer) (tabled_problem_in (Some others) check.check.problem check.table)
-      (λ t. text_course (Some others) check.check.certificate.now >>= λ bytes. value_step (IsChecked t check.check.budget bytes))
+      (λ t. given_of (Some others) check.check.certificate.now >>= λ given. value_step (IsChecked t check.check.budget given))
       (tabled_again IsStopped (λ b five. inl five) others check.check.problem v reads check.table at_name) (λ t same.
-      bind_gives IsStopped text (λ (r : Reported). IsAgreed a r.answer) (text_course (Some others) check.check.certificate.now) (λ bytes. value_step (IsChecked t check.check.budget bytes))
-      (text_gives IsStopped (λ b five. inl five) others check.check.certificate.now text (text_course (Some others) check.check.certificate.now)
-      (text_cuts (Some others) check.check.certificate.now) (text_told others check.check.certificate.now) certificate)
-      (value_ends IsStopped (λ (r : Reported). IsAgreed a r.answer) (IsChecked t check.check.budget text) (λ r h. checked t r same h)))
+      bind_ends IsStopped (λ (given : Given). Foresees given text) (λ (r : Reported). IsAgreed a r.answer) (given_of (Some others) check.check.certificate.now)
+      (λ given. value_step (IsChecked t check.check.budget given))
+      (given_begins IsStopped (λ b five. inl five) others check.check.certificate.now text certificate) (λ given sees.
+      value_ends IsStopped (λ (r : Reported). IsAgreed a r.answer) (IsChecked t check.check.budget given) (λ r h. checked t r same (checks_text t check.check.budget given text r h sees))))
 
   -- the answers of a check that is asked for a table
   abbrev IsAgreedOrStopped : Answered → Type 0

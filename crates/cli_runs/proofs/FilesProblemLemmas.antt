@@ -13,20 +13,20 @@ use Rattle.cli_shelves.specs.History.{History}
 use Rattle.cli_runs.specs.ProblemCourse.{problem_course, grouping_of}
 use Rattle.cli_runs.specs.PlanCourse.{blocks_of, plan_assignments}
 use Rattle.cli_runs.specs.FilesProblem.{AreBlocksOfFiles, IsProblemOfFiles, IsGroupingOfFile, AreAssignmentsOfFile}
-use Rattle.cli_runs.proofs.Texts.{texts_told}
+use Rattle.cli_runs.proofs.Texts.{given_of_both_told}
 use Rattle.cli_runs.proofs.FilesRead.{went, problem_reads, problem_of_files}
 
 module _ (files : Files) where
   pub blocks_told : (words : CommonWords) (before after : History) (blocks : List Block) → blocks_of (Some files) words before after (Ok blocks) → AreBlocksOfFiles files words blocks
   blocks_told words before after blocks h =
       let t = went _ _ before after blocks h in
-      let held = texts_told files words.geo.now words.segment.now before t.between t.value t.given in
+      let begun = given_of_both_told files words.geo.now words.segment.now before t.between t.value t.given in
       record {
-        geo = t.value.0;
-        segment = t.value.1;
-        geo_is = held.0;
-        segment_is = held.1;
-        are = are_blocks t.value.0 t.value.1 words.state blocks t.goes_on.1;
+        geo = begun.0.text;
+        segment = begun.1.text;
+        geo_is = begun.0.is;
+        segment_is = begun.1.is;
+        are = are_blocks begun.0.text begun.1.text words.state blocks (t.goes_on.1 begun.0.text begun.1.text begun.0.sees begun.1.sees);
       }
 
   pub problem_told : (words : ProblemWords) (before after : History) (v : ProblemValue) → problem_course (Some files) words before after (Ok v) → IsProblemOfFiles files words v

@@ -28,7 +28,7 @@ use Rattle.cli_runs.specs.TableCourse.{Tabled, named_counties_of, tabled_problem
 use Rattle.cli_runs.specs.FilesProblem.{IsReadAsIfNamed, AreNamedByFiles, IsProblemOfFiles, IsTableOfFiles}
 use Rattle.cli_runs.specs.Storing.{IsStoredAs, named_file}
 use Rattle.cli_runs.specs.Headline.{HoldsSameIfNamed, HasSameProblem}
-use Rattle.cli_runs.proofs.Texts.{load_told, texts_told}
+use Rattle.cli_runs.proofs.Texts.{given_of_both_told}
 use Rattle.cli_runs.proofs.NamedLists.{counties_named}
 
 -- the readers' values behind the counties, and the problem that is built of them
@@ -99,14 +99,14 @@ module _ (files : Files) where
   problem_reads words before after v h =
       let c = went _ _ before after v h in
       let t = went _ _ before c.between c.value c.given in
-      let held = texts_told files words.common.geo.now words.common.segment.now before t.between t.value t.given in
+      let begun = given_of_both_told files words.common.geo.now words.common.segment.now before t.between t.value t.given in
       record {
-        geo = t.value.0;
-        segment = t.value.1;
-        geo_is = held.0;
-        segment_is = held.1;
+        geo = begun.0.text;
+        segment = begun.1.text;
+        geo_is = begun.0.is;
+        segment_is = begun.1.is;
         counties = c.value;
-        counties_are = t.goes_on.1;
+        counties_are = t.goes_on.1 begun.0.text begun.1.text begun.0.sees begun.1.sees;
         over = over_told words c.value c.between after v c.goes_on;
       }
 
@@ -114,8 +114,14 @@ module _ (files : Files) where
   named_told : (words : CommonWords) (before after : History) (named : List CountyName) → named_counties_of (Some files) words before after (Ok named) → AreNamedByFiles files words named
   named_told words before after named h =
       let t = went _ _ before after named h in
-      let held = load_told files words.geo.now words.segment.now before t.between t.value t.given in
-      record { geo = t.value.0; segment = t.value.1; geo_is = held.0; segment_is = held.1; are = t.goes_on.1 }
+      let begun = given_of_both_told files words.geo.now words.segment.now before t.between t.value t.given in
+      record {
+        geo = begun.0.text;
+        segment = begun.1.text;
+        geo_is = begun.0.is;
+        segment_is = begun.1.is;
+        are = t.goes_on.1 begun.0.text begun.1.text begun.0.sees begun.1.sees;
+      }
 
   -- the names of counties, if a table is asked for
   abbrev pub IsNamedIf : ProblemWords → Option (Bor (List ℕ)) → Option (List CountyName) → Type 0

@@ -7,8 +7,10 @@ use Rattle.cli_shelves.specs.History.{History}
 use Rattle.cli_answers.specs.Answer.{Answered}
 use Rattle.cli_runs.specs.Course.{Course, ◌>>=◌, load_step, call_step, value_step, optional_step}
 use Rattle.cli_runs.specs.FilesProblem.{IsReadAsIfNamed}
-use Rattle.cli_runs.specs.Reading.{load_pair, texts_of}
-use Rattle.cli_runs.proofs.Texts.{CutsOff, load_cuts, load_pair_cuts, load_told, texts_told, texts_cut}
+use Rattle.field_lines.specs.Source.{Given}
+use Rattle.field_lines.specs.HeldBytes.{Foresees}
+use Rattle.cli_runs.specs.Reading.{given_of, given_of_both}
+use Rattle.cli_runs.proofs.Texts.{CutsOff, load_cuts, given_of_cuts, given_of_both_cuts, given_of_told, given_of_both_told}
 
 -- a value for which P holds, or an answer for which E holds
 abbrev pub IsEnd : {X : Type 0} → (X → Type 0) → (Answered → Type 0) → Result X Answered → Type 0
@@ -62,30 +64,25 @@ module _ (E : Answered → Type 0) (five : (a : Answered) → a.status ≡ 5 →
   one_some : (one : Option (List ℕ)) (bytes more : List ℕ) → one ≡ Some bytes → one ≡ Some more → more ≡ bytes
   one_some one bytes more e f = cc
 
-  one_pair : (p q : List ℕ × List ℕ) → q.0 ≡ p.0 → q.1 ≡ p.1 → q ≡ p
-  one_pair p q e f = λ i. (e i, f i)
-
-  -- steps that have the text of a file
-  pub text_gives : (name text : List ℕ) (steps : Course (List ℕ)) → CutsOff steps → ((start end : History) (bytes : List ℕ) → steps start end (Ok bytes) → files name ≡ Some bytes)
-      → files name ≡ Some text → Gives text E steps
-  text_gives name text steps cuts told held = cut_ends (λ bytes. bytes ≡ text) steps cuts (λ start end bytes h. one_some (files name) text bytes held (told start end bytes h))
-
   pub load_gives : (name text : List ℕ) → files name ≡ Some text → Gives text E (load_step (Some files) name)
-  load_gives name text held = text_gives name text (load_step (Some files) name) (load_cuts (Some files) name) (λ start end bytes h. h.0) held
+  load_gives name text held =
+      cut_ends (λ bytes. bytes ≡ text) (load_step (Some files) name) (load_cuts (Some files) name) (λ start end bytes h. one_some (files name) text bytes held h.0)
 
-  -- those of two files
-  module _ (first second x y : List ℕ) (held : files first ≡ Some x) (held_too : files second ≡ Some y) where
-    pair_gives : (steps : Course (List ℕ × List ℕ)) → CutsOff steps
-        → ((start end : History) (pair : List ℕ × List ℕ) → steps start end (Ok pair) → (files first ≡ Some pair.0) × (files second ≡ Some pair.1)) → Gives (x, y) E steps
-    pair_gives steps cuts told = cut_ends (λ pair. pair ≡ (x, y)) steps cuts (λ start end pair h.
-        let both = told start end pair h in
-        one_pair (x, y) pair (one_some (files first) x pair.0 held both.0) (one_some (files second) y pair.1 held_too both.1))
+  -- what is read of a file begins its text
+  pub given_begins : (name text : List ℕ) → files name ≡ Some text → EndsBy (λ (given : Given). Foresees given text) E (given_of (Some files) name)
+  given_begins name text held = cut_ends (λ (given : Given). Foresees given text) (given_of (Some files) name) (given_of_cuts (Some files) name) (λ start end given h.
+      let begun = given_of_told files name start end given h in
+      subst (λ (bytes : List ℕ). Foresees given bytes) (one_some (files name) text begun.text held begun.is) begun.sees)
 
-    pub texts_give : Gives (x, y) E (texts_of (Some files) first second)
-    texts_give = pair_gives (texts_of (Some files) first second) (texts_cut (Some files) first second) (texts_told files first second)
-
-    pub loads_give : Gives (x, y) E (load_pair (Some files) first second)
-    loads_give = pair_gives (load_pair (Some files) first second) (load_pair_cuts (Some files) first second) (load_told files first second)
+  -- the same of two files
+  pub both_begin : (first second x y : List ℕ) → files first ≡ Some x → files second ≡ Some y
+      → EndsBy (λ (pair : Given × Given). Foresees pair.0 x × Foresees pair.1 y) E (given_of_both (Some files) first second)
+  both_begin first second x y held held_too =
+      cut_ends (λ (pair : Given × Given). Foresees pair.0 x × Foresees pair.1 y) (given_of_both (Some files) first second) (given_of_both_cuts (Some files) first second) (λ start end pair h.
+      let begun = given_of_both_told files first second start end pair h in (
+        subst (λ (bytes : List ℕ). Foresees pair.0 bytes) (one_some (files first) x begun.0.text held begun.0.is) begun.0.sees,
+        subst (λ (bytes : List ℕ). Foresees pair.1 bytes) (one_some (files second) y begun.1.text held_too begun.1.is) begun.1.sees,
+      ))
 
   -- steps that read a file that need not be named
   pub optional_gives : {X F : Type 0} (read : List ℕ → Result (List X) F) (steps : List ℕ → Course (List X)) (name : Option (Bor (List ℕ))) (list : List X)

@@ -29,11 +29,13 @@ use Rattle.cli_answers.specs.Refusals.{pl94_answer, named_answer, code_file_answ
 use Rattle.cli_runs.specs.Course.{◌>>=◌, load_step, value_step}
 use Rattle.cli_runs.specs.ProblemCourse.{counties_course, counties_in, pairs_of, pairs_in, links_of, links_in, withdrawn_of, withdrawn_in, adjacency_of, IsBuilt, build_step, problem_over, problem_course}
 use Rattle.cli_runs.specs.TableCourse.{Tabled, untabled, tabled_by, named_counties_in, named_counties_of, named_problem_over, tabled_problem_in}
-use Rattle.cli_runs.specs.Reading.{load_pair, texts_of}
+use Rattle.field_lines.specs.Source.{Given}
+use Rattle.field_lines.specs.HeldBytes.{Foresees}
+use Rattle.cli_runs.specs.Reading.{given_of_both, OfTexts}
 use Rattle.cli_runs.proofs.OneList.{one_list_of_pairs, one_list_of_counties}
 use Rattle.cli_runs.proofs.NamedLists.{counties_named, name_at_fault}
 use Rattle.cli_runs.proofs.FilesRead.{ReadsOver, ReadsProblem}
-use Rattle.cli_runs.proofs.Repeating.{EndsBy, Gives, bind_ends, bind_gives, call_ends, value_ends, function_gives, load_gives, texts_give, loads_give, optional_gives}
+use Rattle.cli_runs.proofs.Repeating.{EndsBy, Gives, bind_ends, bind_gives, call_ends, value_ends, function_gives, load_gives, both_begin, optional_gives}
 
 -- the pairs of rows, and those after links, are one list
 one_pairs : (listed : List ℕ) (rows pairs others : List (ℕ × ℕ)) → ArePairs listed rows pairs → ArePairs listed rows others → pairs ≡ others
@@ -136,12 +138,18 @@ module _ (E : Answered → Type 0) (five : (a : Answered) → a.status ≡ 5 →
         (bind_gives E h.withdrawn (λ (w : ProblemValue). w ≡ v) (withdrawn_of (Some files) words.withdrawn) (build_step words.common.chamber words.common.window counties h.pairs) withdrawn_again built_again)
 
   module _ (h : ReadsProblem files words v) where
+    -- what was read of both census files begins their texts
+    abbrev AreBegun : Given × Given → Type 0
+    AreBegun given = Foresees given.0 h.geo × Foresees given.1 h.segment
+
     counties_again : Gives h.counties E (counties_course (Some files) words.common)
     counties_again =
-        bind_gives E (h.geo, h.segment) (λ (counties : List County). counties ≡ h.counties) (texts_of (Some files) words.common.geo.now words.common.segment.now)
-        (λ texts. counties_in words.common.state texts.0 texts.1)
-        (texts_give E five files words.common.geo.now words.common.segment.now h.geo h.segment h.geo_is h.segment_is)
-        (function_gives E pl94_answer (county_list h.geo h.segment words.common.state) h.counties h.counties_are)
+        bind_ends E AreBegun (λ (counties : List County). counties ≡ h.counties) (given_of_both (Some files) words.common.geo.now words.common.segment.now)
+        (λ given. counties_in words.common.state given.0 given.1)
+        (both_begin E five files words.common.geo.now words.common.segment.now h.geo h.segment h.geo_is h.segment_is) (λ given begun.
+        call_ends E (λ (counties : List County). counties ≡ h.counties) pl94_answer (λ counties. OfTexts (λ g s. county_list g s words.common.state ≡ counties) given.0 given.1)
+        (λ counties k. one_ok (county_list h.geo h.segment words.common.state) h.counties counties h.counties_are (k h.geo h.segment begun.0 begun.1))
+        (λ fault k. absurd (ok_or_err (county_list h.geo h.segment words.common.state) h.counties fault h.counties_are (k h.geo h.segment begun.0 begun.1))))
 
     -- the problem is had again
     pub problem_again : Gives v E (problem_course (Some files) words)
@@ -150,13 +158,13 @@ module _ (E : Answered → Type 0) (five : (a : Answered) → a.status ≡ 5 →
     -- counties with their names are the same counties
     named_again : ((line : ℕ) → E (named_answer (BadName line))) → EndsBy (λ (named : List CountyName). without_names named ≡ h.counties) E (named_counties_of (Some files) words.common)
     named_again unnamed =
-        bind_gives E (h.geo, h.segment) (λ (named : List CountyName). without_names named ≡ h.counties) (load_pair (Some files) words.common.geo.now words.common.segment.now)
-        (λ texts. named_counties_in words.common.state texts.0 texts.1)
-        (loads_give E five files words.common.geo.now words.common.segment.now h.geo h.segment h.geo_is h.segment_is)
-        (call_ends E (λ (named : List CountyName). without_names named ≡ h.counties) named_answer (λ counties. named_list h.geo h.segment words.common.state ≡ counties)
-        (λ named k. same_ok (county_list h.geo h.segment words.common.state) (without_names named) (counties_named h.geo h.segment words.common.state named k) h.counties_are)
+        bind_ends E AreBegun (λ (named : List CountyName). without_names named ≡ h.counties) (given_of_both (Some files) words.common.geo.now words.common.segment.now)
+        (λ given. named_counties_in words.common.state given.0 given.1)
+        (both_begin E five files words.common.geo.now words.common.segment.now h.geo h.segment h.geo_is h.segment_is) (λ given begun.
+        call_ends E (λ (named : List CountyName). without_names named ≡ h.counties) named_answer (λ counties. OfTexts (λ g s. named_list g s words.common.state ≡ counties) given.0 given.1)
+        (λ named k. same_ok (county_list h.geo h.segment words.common.state) (without_names named) (counties_named h.geo h.segment words.common.state named (k h.geo h.segment begun.0 begun.1)) h.counties_are)
         (λ fault k.
-        let bad = name_at_fault h.geo h.segment words.common.state h.counties fault h.counties_are k in
+        let bad = name_at_fault h.geo h.segment words.common.state h.counties fault h.counties_are (k h.geo h.segment begun.0 begun.1) in
         subst (λ (f : NamedFault). E (named_answer f)) (sym bad.1) (unnamed bad.0)))
       where
         same_ok : (listed : Result (List County) Pl94Fault) (counties : List County) → listed ≡ Ok counties → listed ≡ Ok h.counties → counties ≡ h.counties

@@ -40,8 +40,8 @@ use Rattle.cli_runs.proofs.Ending.{HasEnded, same_status, not_refused, has_ended
 use Rattle.cli_runs.proofs.OfTheirLoads.{as_asked, record_extends, run_taken}
 use Rattle.cli_runs.proofs.Lifting.{Extends}
 use Rattle.cli_runs.proofs.StoreLemmas.{refusal_status}
-use Rattle.cli_runs.proofs.Refusing.{IsRefusal, Refuses, bind_refuses, problem_refuses, tabled_refuses, grouping_refuses, blocks_refuse, assignments_refuse, text_refuses, value_refuses}
-use Rattle.cli_runs.proofs.Texts.{text_told}
+use Rattle.cli_runs.proofs.Refusing.{IsRefusal, Refuses, bind_refuses, problem_refuses, tabled_refuses, grouping_refuses, blocks_refuse, assignments_refuse, given_refuses, value_refuses}
+use Rattle.cli_runs.proofs.Texts.{given_of_told}
 use Rattle.cli_runs.proofs.FilesRead.{ReadsTabled, went, tabled_reads, problem_of_files, table_stored}
 use Rattle.cli_runs.proofs.FilesProblemLemmas.{problem_told, grouping_told, blocks_told, assignments_told}
 
@@ -135,7 +135,7 @@ module _ (files : Files) where
 
   check_refuses : (words : CheckWords) → Refuses (check_course (Some files) words)
   check_refuses words = bind_refuses _ _ (tabled_refuses (Some files) words.check.problem words.table) (λ t.
-      bind_refuses _ _ (text_refuses (Some files) words.check.certificate.now) (λ text. value_refuses (IsChecked t words.check.budget text)))
+      bind_refuses _ _ (given_refuses (Some files) words.check.certificate.now) (λ given. value_refuses (IsChecked t words.check.budget given)))
 
   check_told : (words : CheckWords) (before after : History) (stored : List NamedFile) (a : Answered) → CommandRun (Some files) (Check words) before after stored a
       → HasEnded (check_course (Some files) words) (λ r. named_file words.table r.table) (λ r. r.answer) before stored a → Tells files (Check words) before after a
@@ -144,8 +144,9 @@ module _ (files : Files) where
       let t = went _ _ p.between h.between h.s p.goes_on in
       let c : IsChecked p.value words.check.budget t.value h.s = t.goes_on.1 in
       let reads = tabled_reads files words.check.problem words.table before p.between p.value p.given in
-      verdict_told words before after stored a run p.value reads t.value (text_told files words.check.certificate.now p.between t.between t.value t.given) h.s h.all
-      c.verdict c.is c.best c.impossible (h.said ∙ ap (λ (x : Reported). x.answer) c.said) (ap (λ (x : Reported). x.table) c.said)
+      let begun = given_of_told files words.check.certificate.now p.between t.between t.value t.given in
+      verdict_told words before after stored a run p.value reads begun.text begun.is h.s h.all
+      c.verdict (c.is begun.text begun.sees) c.best c.impossible (h.said ∙ ap (λ (x : Reported). x.answer) c.said) (ap (λ (x : Reported). x.table) c.said)
 
   -- ---- judge
   judge_told : (words : JudgeWords) (before after : History) (stored : List NamedFile) (a : Answered) → CommandRun (Some files) (Judge words) before after stored a → ShowsJudged files words stored a
