@@ -3,6 +3,7 @@ use Rattle.std.proofs.Common.{◌≡◌, ℕ, ◌+◌, Bool, List, [], ◌∷◌
 use Rattle.std.proofs.Math.Seq.{drop-append_seam}
 use Rattle.field_lines.specs.RawPieces.{RawLine, raw_lines_from}
 use Rattle.field_lines.specs.Piece.{raw_of}
+use Rattle.field_lines.specs.Source.{Given}
 use Rattle.field_lines.specs.HeldBytes.{StaysEnded}
 use Rattle.field_lines.specs.LinesFrom.{LinesHeld}
 use Rattle.field_lines.specs.PiecesFrom.{pieces_left, BeginsTooLong, IsNextPieceFrom, IsRawRead, AnswersRaw}
@@ -21,19 +22,18 @@ use Rattle.certificate_lines.specs.declared.item.Wanted.{Wanted}
 use Rattle.certificate_lines.proofs.CourseLaws.{course_first, course_fault, too_long}
 
 -- What a source gave is in front of what it gives then.
-pub record Goes (old_ended new_ended : Bool) (before pulled after all later : List ℕ) : Type 0 where
-  pub back : Foresees old_ended before all
-  pub was : drop (length before) all ≡ pulled ++ later
-  pub is : drop (length after) all ≡ later
+pub record Goes (before after : Given) (pulled all later : List ℕ) : Type 0 where
+  pub back : Foresees before all
+  pub was : drop (length before.bytes) all ≡ pulled ++ later
+  pub is : drop (length after.bytes) all ≡ later
 
-pub goes : (old_ended new_ended : Bool) (before pulled after all : List ℕ) → after ≡ before ++ pulled → StaysEnded old_ended pulled new_ended → (sees : Foresees new_ended after all)
-    → Goes old_ended new_ended before pulled after all sees.later
-goes old_ended new_ended before pulled after all gave end sees =
-    let split : all ≡ before ++ (pulled ++ sees.later) = sees.text ∙ ap (λ (t : List ℕ). t ++ sees.later) gave ∙ append_assoc before pulled sees.later in
+pub goes : (before after : Given) (pulled all : List ℕ) → after.bytes ≡ before.bytes ++ pulled → StaysEnded before.ended pulled after.ended → (sees : Foresees after all) → Goes before after pulled all sees.later
+goes before after pulled all gave end sees =
+    let split : all ≡ before.bytes ++ (pulled ++ sees.later) = sees.text ∙ ap (λ (t : List ℕ). t ++ sees.later) gave ∙ append_assoc before.bytes pulled sees.later in
     record {
-      back = record { later = pulled ++ sees.later; text = split; may = may_come {before = old_ended} {after = new_ended} {pulled = pulled} {later = sees.later} end sees.may };
-      was = ap (drop (length before)) split ∙ drop-append_seam before (pulled ++ sees.later);
-      is = ap (drop (length after)) sees.text ∙ drop-append_seam after sees.later;
+      back = record { later = pulled ++ sees.later; text = split; may = may_come {before = before.ended} {after = after.ended} {pulled = pulled} {later = sees.later} end sees.may };
+      was = ap (drop (length before.bytes)) split ∙ drop-append_seam before.bytes (pulled ++ sees.later);
+      is = ap (drop (length after.bytes)) sees.text ∙ drop-append_seam after.bytes sees.later;
     }
 
 -- the pieces of a reader, by the bytes that come later
@@ -49,13 +49,13 @@ long_end : (n number : ℕ) (lines : List RawLine) → BeginsTooLong number line
 long_end n number [] long = absurd long
 long_end n number (p ∷ ps) long = refl
 
-module _ (old new : LinesHeld) (before after : List ℕ) (failed failed_then : Bool) where
+module _ (old new : LinesHeld) (before after : Given) (failed failed_then : Bool) where
   module _ (w : Wanted) (below : List Wanted) (number : ℕ) where
     pub read_found : (p : Piece) → IsNextPieceFrom (pieces_left old) before failed (Ok (Some p)) (pieces_left new) after failed_then
         → (item : Item) (stack : List Wanted) → item_on w (raw_of p) ≡ Ok item → reverse stack ≡ wanted_after w item ++ reverse below
         → ReadsItem (left_at (w ∷ reverse below) number old) before (Ok item) (left_at (reverse stack) (number + 1) new) after
     read_found p next item stack e stacked all sees =
-        let g = goes old.ended new.ended before next.pulled after all next.given next.end sees in (
+        let g = goes before after next.pulled all next.given next.end sees in (
           g.back,
           ap (λ (t : List ℕ). course_from (w ∷ reverse below) number (pieces old t)) g.was
               ∙ ap (course_from (w ∷ reverse below) number) (next.answers sees.later sees.may)
@@ -68,7 +68,7 @@ module _ (old new : LinesHeld) (before after : List ℕ) (failed failed_then : B
         → (fault : TextFault) (then : List Wanted) (m : ℕ) → ((fault.kind ≡ Memory → ⊥) → item_on w (raw_of p) ≡ Err fault.kind) → fault.line ≡ number
         → ReadsItem (left_at (w ∷ reverse below) number old) before (Err fault) (left_at then m new) after
     read_wrong p next fault then m e line all sees =
-        let g = goes old.ended new.ended before next.pulled after all next.given next.end sees in (
+        let g = goes before after next.pulled all next.given next.end sees in (
           g.back,
           λ unread.
               ap (λ (t : List ℕ). course_from (w ∷ reverse below) number (pieces old t)) g.was
@@ -80,7 +80,7 @@ module _ (old new : LinesHeld) (before after : List ℕ) (failed failed_then : B
     pub read_short : IsNextPieceFrom (pieces_left old) before failed (Ok None) (pieces_left new) after failed_then
         → (then : List Wanted) (m : ℕ) → ReadsItem (left_at (w ∷ reverse below) number old) before (Err (text_fault_at CutShort number)) (left_at then m new) after
     read_short next then m all sees =
-        let g = goes old.ended new.ended before next.pulled after all next.given next.end sees in
+        let g = goes before after next.pulled all next.given next.end sees in
         let none : next.pulled ++ sees.later ≡ next.pulled = ap (λ (t : List ℕ). next.pulled ++ t) (sees.may next.answers.0) ∙ append-nil next.pulled in (
           g.back,
           λ unread.
@@ -91,21 +91,21 @@ module _ (old new : LinesHeld) (before after : List ℕ) (failed failed_then : B
     pub read_off : (fault : LineFault) → IsNextPieceFrom (pieces_left old) before failed (Err fault) (pieces_left new) after failed_then
         → (then : List Wanted) (m : ℕ) → ReadsItem (left_at (w ∷ reverse below) number old) before (Err (fault_of_reader fault BadWord number)) (left_at then m new) after
     read_off (of_line.LineTooLong found) next then m all sees =
-        let g = goes old.ended new.ended before next.pulled after all next.given next.end sees in (
+        let g = goes before after next.pulled all next.given next.end sees in (
           g.back,
           λ unread.
               ap (λ (t : List ℕ). course_from (w ∷ reverse below) number (pieces old t)) g.was
               ∙ long_line w (reverse below) number found (pieces old (next.pulled ++ sees.later)) (next.answers sees.later sees.may),
         )
-    read_off (of_line.ReadFault found) next then m all sees = ((goes old.ended new.ended before next.pulled after all next.given next.end sees).back, λ unread. absurd (unread (inr refl)))
-    read_off of_line.Memory next then m all sees = ((goes old.ended new.ended before next.pulled after all next.given next.end sees).back, λ unread. absurd (unread (inl refl)))
+    read_off (of_line.ReadFault found) next then m all sees = ((goes before after next.pulled all next.given next.end sees).back, λ unread. absurd (unread (inr refl)))
+    read_off of_line.Memory next then m all sees = ((goes before after next.pulled all next.given next.end sees).back, λ unread. absurd (unread (inl refl)))
     read_off of_line.TooManyLines next then m all sees = absurd next.answers
 
   module _ (number : ℕ) where
     pub end_found : IsNextPieceFrom (pieces_left old) before failed (Ok None) (pieces_left new) after failed_then
         → (done : Unit {0}) → ReadsEnd (left_at [] number old) before (Ok done) (left_at [] number new) after
     end_found next done all sees =
-        let g = goes old.ended new.ended before next.pulled after all next.given next.end sees in
+        let g = goes before after next.pulled all next.given next.end sees in
         let later : sees.later ≡ [] = sees.may next.answers.0 in
         let none : next.pulled ++ sees.later ≡ next.pulled = ap (λ (t : List ℕ). next.pulled ++ t) later ∙ append-nil next.pulled in (
           g.back,
@@ -118,7 +118,7 @@ module _ (old new : LinesHeld) (before after : List ℕ) (failed failed_then : B
     pub end_passed : (p : Piece) → IsNextPieceFrom (pieces_left old) before failed (Ok (Some p)) (pieces_left new) after failed_then
         → ReadsEnd (left_at [] number old) before (Err (text_fault_at AfterEnd number)) (left_at [] number new) after
     end_passed p next all sees =
-        let g = goes old.ended new.ended before next.pulled after all next.given next.end sees in (
+        let g = goes before after next.pulled all next.given next.end sees in (
           g.back,
           λ unread. ap (λ (t : List ℕ). course_from [] number (pieces old t)) g.was ∙ ap (course_from [] number) (next.answers sees.later sees.may),
         )
@@ -126,14 +126,14 @@ module _ (old new : LinesHeld) (before after : List ℕ) (failed failed_then : B
     pub end_off : (fault : LineFault) → IsNextPieceFrom (pieces_left old) before failed (Err fault) (pieces_left new) after failed_then
         → ReadsEnd (left_at [] number old) before (Err (fault_of_reader fault AfterEnd number)) (left_at [] number new) after
     end_off (of_line.LineTooLong found) next all sees =
-        let g = goes old.ended new.ended before next.pulled after all next.given next.end sees in (
+        let g = goes before after next.pulled all next.given next.end sees in (
           g.back,
           λ unread.
               ap (λ (t : List ℕ). course_from [] number (pieces old t)) g.was
               ∙ long_end number found (pieces old (next.pulled ++ sees.later)) (next.answers sees.later sees.may),
         )
-    end_off (of_line.ReadFault found) next all sees = ((goes old.ended new.ended before next.pulled after all next.given next.end sees).back, λ unread. absurd (unread (inr refl)))
-    end_off of_line.Memory next all sees = ((goes old.ended new.ended before next.pulled after all next.given next.end sees).back, λ unread. absurd (unread (inl refl)))
+    end_off (of_line.ReadFault found) next all sees = ((goes before after next.pulled all next.given next.end sees).back, λ unread. absurd (unread (inr refl)))
+    end_off of_line.Memory next all sees = ((goes before after next.pulled all next.given next.end sees).back, λ unread. absurd (unread (inl refl)))
     end_off of_line.TooManyLines next all sees = absurd next.answers
 
   -- a reader that has answered no fault
@@ -141,12 +141,12 @@ module _ (old new : LinesHeld) (before after : List ℕ) (failed failed_then : B
       → AnswersRaw None old before failed answer new after failed_then
   raw_next answer raw sound = subst (λ (f : Option LineFault). AnswersRaw f old before failed answer new after failed_then) sound raw
 
-next_same : (old new : ItemsLeft) (before after : List ℕ) (next : Option Item) → ReadsNext old before (Ok next) new after → IsNextItemOf old before (Ok next) new after
+next_same : (old new : ItemsLeft) (before after : Given) (next : Option Item) → ReadsNext old before (Ok next) new after → IsNextItemOf old before (Ok next) new after
 next_same old new before after None h = h
 next_same old new before after (Some item) h = h
 
 -- a call keeps its fault
-module _ (old new : ItemsLeft) (before after : List ℕ) (found : Option TextFault) (none : found ≡ None) (answer : Result (Option Item) TextFault) (read : ReadsNext old before answer new after) where
+module _ (old new : ItemsLeft) (before after : Given) (found : Option TextFault) (none : found ≡ None) (answer : Result (Option Item) TextFault) (read : ReadsNext old before answer new after) where
   pub next_fault : (fault : TextFault) → answer ≡ Err fault → IsNextItemOf (unless_found old found) before answer (unless_found new (Some fault)) after
   next_fault fault e =
       let kept : IsNextItemOf old before (Err fault) (unless_found new (Some fault)) after = λ all sees.

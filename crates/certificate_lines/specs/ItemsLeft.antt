@@ -1,7 +1,8 @@
 -- The items of a text that may yet come from a source.
-use Rattle.std.specs.Prelude.{◌≡◌, ℕ, Bool, true, List, [], ◌∷◌, ◌++◌, length, drop, reverse, Option, Some, None}
+use Rattle.std.specs.Prelude.{◌≡◌, ℕ, List, [], ◌∷◌, ◌++◌, length, drop, reverse, Option, Some, None}
 use Rattle.std.specs.Prelude.{Result, Ok, Err}
 use Rattle.field_lines.specs.RawPieces.{raw_lines_from}
+use Rattle.field_lines.specs.Source.{Given}
 use Rattle.field_lines.specs.HeldBytes.{MayCome}
 use Rattle.field_lines.specs.LinesFrom.{LinesHeld, nothing_read}
 use Rattle.field_lines.specs.declared.fault.LineFault.{LineFault}
@@ -15,23 +16,17 @@ use Rattle.certificate_lines.specs.declared.item.Item.{Item}
 use Rattle.certificate_lines.specs.declared.item.Wanted.{Wanted}
 use Rattle.certificate_lines.specs.declared.item.Wanted.TheVariants as want
 
--- what is to come, by the bytes that come later; and whether the source has ended, so that none comes
-pub record ItemsLeft : Type 0 where
-  pub course : List ℕ → Unread
-  pub ended : Bool
+-- what is to come, by the bytes that come later
+abbrev pub ItemsLeft : Type 0
+ItemsLeft = List ℕ → Unread
 
 -- of a text in memory: no byte comes later
 abbrev pub in_memory : Unread → ItemsLeft
-in_memory course = record { course = λ later. course; ended = true }
+in_memory course = λ later. course
 
 -- of a text that is read, where these things are wanted in turn, the first on a line of this number
 abbrev pub left_at : List Wanted → ℕ → LinesHeld → ItemsLeft
-left_at wanted number held =
-    record {
-      course = λ later. course_from wanted number (raw_lines_from held.number (held.bytes
-          ++ later));
-      ended = held.ended;
-    }
+left_at wanted number held = λ later. course_from wanted number (raw_lines_from held.number (held.bytes ++ later))
 
 -- what a reader of items has: what is wanted, on a stack, whose top is its last; the number of the next line; what its
 -- reader of lines has; and the fault that was answered
@@ -48,44 +43,44 @@ nothing_taken = record { wanted = want.Head ∷ []; number = 1; held = nothing_r
 -- what it has left: a fault, once it was found, else what the rest has
 abbrev pub unless_found : ItemsLeft → Option TextFault → ItemsLeft
 unless_found left None = left
-unless_found left (Some fault) = record { course = λ later. only_fault fault; ended = left.ended }
+unless_found left (Some fault) = λ later. only_fault fault
 
 abbrev pub left_of_reader : ItemsHeld → ItemsLeft
 left_of_reader h = unless_found (left_at (reverse h.wanted) h.number h.held) h.fault
 
--- A source that gave these bytes may give this text in the end.
-pub record Foresees (ended : Bool) (given all : List ℕ) : Type 0 where
+-- A source that gave so much may give this text in the end.
+pub record Foresees (given : Given) (all : List ℕ) : Type 0 where
   pub later : List ℕ
-  pub text : all ≡ given ++ later
-  pub may : MayCome ended later
+  pub text : all ≡ given.bytes ++ later
+  pub may : MayCome given.ended later
 
--- what is to come where the source gave these bytes so far, and gives this text in the end
-abbrev pub course_by : ItemsLeft → List ℕ → List ℕ → Unread
-course_by left given all = left.course (drop (length given) all)
+-- what is to come where the source gave so much so far, and gives this text in the end
+abbrev pub course_by : ItemsLeft → Given → List ℕ → Unread
+course_by left given all = left (drop (length given.bytes) all)
 
 -- Whatever text the source may give in the end: it might before, and of what was to come and what is to come this
 -- holds.
-abbrev pub Through : ItemsLeft → List ℕ → ItemsLeft → List ℕ → (Unread → Unread → Type 0) → Type 0
+abbrev pub Through : ItemsLeft → Given → ItemsLeft → Given → (Unread → Unread → Type 0) → Type 0
 Through old before new after Holds =
-    (all : List ℕ) → Foresees new.ended after all
-    → Foresees old.ended before all × Holds (course_by old before all) (course_by new after all)
+    (all : List ℕ) → Foresees after all
+    → Foresees before all × Holds (course_by old before all) (course_by new after all)
 
 -- what a call of a source of items answers
-abbrev pub IsNextItemOf : ItemsLeft → List ℕ → Result (Option Item) TextFault → ItemsLeft → List ℕ → Type 0
+abbrev pub IsNextItemOf : ItemsLeft → Given → Result (Option Item) TextFault → ItemsLeft → Given → Type 0
 IsNextItemOf old before answer new after = Through old before new after (λ a b. IsNextItem a answer b)
 
 -- what a call of a source of items answers that doesn't keep the fault
-abbrev pub ReadsNext : ItemsLeft → List ℕ → Result (Option Item) TextFault → ItemsLeft → List ℕ → Type 0
+abbrev pub ReadsNext : ItemsLeft → Given → Result (Option Item) TextFault → ItemsLeft → Given → Type 0
 ReadsNext old before answer new after = Through old before new after (λ a b. IsNextItemRead a answer b)
 
 -- the next item is read
-abbrev pub ReadsItem : ItemsLeft → List ℕ → Result Item TextFault → ItemsLeft → List ℕ → Type 0
+abbrev pub ReadsItem : ItemsLeft → Given → Result Item TextFault → ItemsLeft → Given → Type 0
 ReadsItem old before (Ok item) new after = Through old before new after (λ a b. a ≡ first item b)
 ReadsItem old before (Err fault) new after =
     Through old before new after (λ a b. (IsUnread fault → ⊥) → a ≡ only_fault fault)
 
 -- the end is read
-abbrev pub ReadsEnd : ItemsLeft → List ℕ → Result (Unit {0}) TextFault → ItemsLeft → List ℕ → Type 0
+abbrev pub ReadsEnd : ItemsLeft → Given → Result (Unit {0}) TextFault → ItemsLeft → Given → Type 0
 ReadsEnd old before (Ok done) new after = Through old before new after (λ a b. (a ≡ nothing) × (b ≡ nothing))
 ReadsEnd old before (Err fault) new after =
     Through old before new after (λ a b. (IsUnread fault → ⊥) → a ≡ only_fault fault)

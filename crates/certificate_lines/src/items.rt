@@ -1,7 +1,8 @@
 //! The lines of a certificate or of a tree, one at a time.
 
-ghost use Rattle.std.specs.Prelude.{◌≡◌, ℕ, ◌≤◌, List, [], ◌∷◌, None};
+ghost use Rattle.std.specs.Prelude.{◌≡◌, ◌≤◌, [], ◌∷◌, None};
 ghost use Rattle.field_lines.specs.RawPieces.{raw_lines};
+ghost use Rattle.field_lines.specs.Source.{Given, nothing_comes};
 ghost use Rattle.certificate_lines.specs.Lines.{most};
 ghost use Rattle.certificate_lines.specs.Stacks.{HasRoom, IsBounded};
 ghost use Rattle.certificate_lines.specs.Courses.{certificate_course, tree_course, course_from, course_left};
@@ -22,8 +23,8 @@ pub trait ItemSource<F> {
     /// The items to come, by the bytes that come later.
     ghost left: { Self → ItemsLeft };
 
-    /// All bytes that were given so far.
-    ghost given: { F → List ℕ };
+    /// What was given so far, and whether more may come.
+    ghost given: { F → Given };
 
     /// The next item, or `None` after the last, then and at each later call. Each call is lent the same source.
     ///
@@ -32,6 +33,10 @@ pub trait ItemSource<F> {
     /// The first fault, or `Memory` or `ReadFault` in the place of any answer. Each later call answers the same fault.
     fn next_item(&mut self, from: &mut F) -> Result<Option<Item>, TextFault>
         ensures { IsNextItemOf (left self.old) (given from.old) result (left self.new) (given from.new) };
+
+    /// Returns the bytes of the line at which the source stands, for whoever shows it to a person; none of a text in
+    /// memory, whose caller has the text. No clause speaks of them.
+    fn line(&self) -> &[u8];
 }
 
 /// The next item, where these things are wanted in turn, the top of the stack being the last.
@@ -118,7 +123,7 @@ impl<'a> Items<'a> {
 impl<'a> ItemSource<()> for Items<'a> {
     ghost left = { in_memory };
 
-    ghost given = { λ _. [] };
+    ghost given = { λ _. nothing_comes };
 
     fn next_item(&mut self, _from: &mut ()) -> Result<Option<Item>, TextFault> {
         if let Some(fault) = self.fault {
@@ -129,5 +134,9 @@ impl<'a> ItemSource<()> for Items<'a> {
             self.fault = Some(*fault);
         }
         next
+    }
+
+    fn line(&self) -> &[u8] {
+        b""
     }
 }

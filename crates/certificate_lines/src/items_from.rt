@@ -181,4 +181,8 @@ impl<S: Source> ItemSource<S> for ItemsFrom {
         }
         next
     }
+
+    fn line(&self) -> &[u8] {
+        self.pieces.line()
+    }
 }
