@@ -3,7 +3,7 @@ use Rattle.std.specs.Prelude.{◌≡◌, ℕ, List, [], ◌∷◌, ◌++◌, len
 use Rattle.std.specs.Prelude.{Result, Ok, Err}
 use Rattle.field_lines.specs.RawPieces.{raw_lines_from}
 use Rattle.field_lines.specs.Source.{Given}
-use Rattle.field_lines.specs.HeldBytes.{MayCome}
+pub use Rattle.field_lines.specs.HeldBytes.{Foresees}
 use Rattle.field_lines.specs.LinesFrom.{LinesHeld, nothing_read}
 use Rattle.field_lines.specs.declared.fault.LineFault.{LineFault}
 use Rattle.field_lines.specs.declared.fault.LineFault.TheVariants as line
@@ -47,12 +47,6 @@ unless_found left (Some fault) = λ later. only_fault fault
 
 abbrev pub left_of_reader : ItemsHeld → ItemsLeft
 left_of_reader h = unless_found (left_at (reverse h.wanted) h.number h.held) h.fault
-
--- A source that gave so much may give this text in the end.
-pub record Foresees (given : Given) (all : List ℕ) : Type 0 where
-  pub later : List ℕ
-  pub text : all ≡ given.bytes ++ later
-  pub may : MayCome given.ended later
 
 -- what is to come where the source gave so much so far, and gives this text in the end
 abbrev pub course_by : ItemsLeft → Given → List ℕ → Unread

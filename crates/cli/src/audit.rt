@@ -6,9 +6,10 @@ ghost use Rattle.cli_shelves.specs.History.{History};
 ghost use Rattle.cli_answers.specs.Answers.{answer_of, Comes};
 ghost use Rattle.cli_runs.specs.JudgeCourse.{audit_step, audit_course};
 
+use crate::census_files::load_blocks;
 use crate::end::{End, Ending};
 use crate::files::load_grouping;
-use crate::plan_files::{load_assignments, load_blocks};
+use crate::plan_files::load_assignments;
 use crate::problem::load_problem;
 use baf_auditor::{Assignment, Findings, audit as audit_plan};
 use cli_answers::{Refusal, RunAnswer};

@@ -33,7 +33,7 @@ fn events_from(
     match read_events(alloc, &text, language, counties) {
         Ok(events) => Ok(events),
         Err(fault) => {
-            end.note(Ending::Refused(FileOption::Events, FileFault::Events(fault), text));
+            end.note_refused(FileOption::Events, FileFault::Events(fault), text);
             Err(refuse_events(alloc, fault))
         }
     }

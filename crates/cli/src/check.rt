@@ -1,23 +1,23 @@
 //! The subcommand `check`.
 
-ghost use Rattle.std.specs.Prelude.{◌≡◌, ◌≤◌, true, List, Ok, IfSome};
+ghost use Rattle.std.specs.Prelude.{◌≡◌, ◌≤◌, List, MatchResult, IsOkAnd};
 ghost use Rattle.cli_shelves.specs.Files.{NamedFile};
 ghost use Rattle.cli_answers.specs.Answers.{Comes, said_by};
-ghost use Rattle.cli_runs.specs.Reading.{read_one};
 ghost use Rattle.cli_runs.specs.CheckCourse.{check_course};
 ghost use Rattle.cli_runs.specs.Storing.{HasStored};
 ghost use Rattle.cli_runs.specs.Run.{CommandRun};
 ghost use Rattle.cli_runs.specs.Texts.{reported_of, tabled_of};
-ghost use Rattle.cli.specs.Streams.{Streams, checked_text, loaded_check};
+ghost use Rattle.cli.specs.Streams.{checked_file};
 
 use crate::end::{End, Ending, FileOption};
-use crate::files::load;
+use crate::fault_text::FaultText;
+use crate::head_reader::HeadReader;
 use crate::problem::load_tabled_problem;
 use crate::readers::{give_one_back, open};
 use crate::storing::store_reported;
 use certificate_checker::CheckStop;
 use cli_answers::{Refusal, RunAnswer};
-use cli_runs::{Checked, Reported, Tabled, check_and_say, check_from_and_say};
+use cli_runs::{Checked, Reported, Tabled, check_from_and_say};
 use cli_shelves::Shelf;
 use cli_words::{CertificateWords, CheckWords, CommandWords};
 use county_problem::Problem;
@@ -37,7 +37,7 @@ fn unrefuted(status: u8) -> Ending {
 fn verdict(
     fault: Option<(CheckFault, u64)>,
     status: u8,
-    text: Vec<u8>,
+    text: FaultText,
     problem: Problem,
 ) -> Ending {
     match fault {
@@ -46,69 +46,26 @@ fn verdict(
     }
 }
 
-/// The verdict on a certificate that is loaded before it is checked.
-fn check_loaded<H: Shelf>(
-    alloc: Global,
-    words: CertificateWords<'_>,
-    tabled: Tabled,
-    shelf: &mut H,
+/// Returns what a check said, and notes how it ended. Memory was refused if it said nothing.
+fn said(
+    checked: Result<Checked, CheckStop>,
+    text: FaultText,
+    problem: Problem,
     end: &mut End,
 ) -> Result<Reported, Refusal>
-    ensures course { Comes reported_of result (loaded_check (H.contents shelf.old) words.entry (tabled_of tabled) (H.history shelf.old) (H.history shelf.new)) }
-    ensures same { H.contents shelf.new ≡ H.contents shelf.old }
-    ensures kept { H.stored shelf.new ≡ H.stored shelf.old }
-{
-    let text = load(
-        alloc,
-        FileOption::Certificate,
-        words.certificate,
-        shelf,
-        end,
-    )?;
-    let checked = check_and_say(alloc, &tabled, &text, words.budget)?;
-    let status = checked.reported.answer.status;
-    end.note(verdict(checked.fault, status, text, tabled.problem));
-    Ok(checked.reported)
-}
-
-/// What a check said, if it found no fault, and its text was read to the end.
-fn if_unrefuted(checked: Result<Checked, CheckStop>, is_whole: bool) -> Option<Checked>
-    ensures { IfSome result (λ value. (checked ≡ Ok value) × (is_whole ≡ true)) }
+    ensures { MatchResult result (λ r. IsOkAnd checked (λ c. c.reported ≡ r)) (λ refusal. refusal ≡ Refusal.Memory) }
 {
     match checked {
-        Ok(checked) if is_whole && checked.fault.is_none() => Some(checked),
-        _ => None,
+        Ok(checked) => {
+            let status = checked.reported.answer.status;
+            end.note(verdict(checked.fault, status, text, problem));
+            Ok(checked.reported)
+        }
+        Err(_) => Err(Refusal::Memory),
     }
 }
 
-/// The verdict on a certificate that is read as it comes, and read to its end. `None` where a fault is found: the
-/// reader is then given back, and it is left open which fault is the first.
-fn stream_check<H: Shelf>(
-    alloc: Global,
-    words: CertificateWords<'_>,
-    tabled: &Tabled,
-    shelf: &mut H,
-    end: &mut End,
-) -> Result<Option<Checked>, Refusal>
-    ensures course { Streams
-        (λ c. reported_of c.reported)
-        (checked_text (H.contents shelf.old) words.entry (tabled_of tabled.now))
-        (read_one (H.contents shelf.old) words.entry.certificate.now)
-        result
-        (H.history shelf.old)
-        (H.history shelf.new) }
-    ensures same { H.contents shelf.new ≡ H.contents shelf.old }
-    ensures kept { H.stored shelf.new ≡ H.stored shelf.old }
-{
-    let (option, name) = (FileOption::Certificate, words.certificate);
-    let mut reader = open(alloc, option, name, shelf, end)?;
-    let checked = check_from_and_say(alloc, tabled, &mut reader, words.budget);
-    let is_whole = give_one_back(alloc, option, name, reader, shelf, end)?;
-    Ok(if_unrefuted(checked, is_whole))
-}
-
-/// The verdict on the certificate of a file. It is read as it comes; if a fault is found, it is loaded, and the first
-/// fault of the whole text is the answer.
+/// The verdict on the certificate of a file, which is read once, as it comes, and no further than the verdict asks.
 fn check_file<H: Shelf>(
     alloc: Global,
     words: CertificateWords<'_>,
@@ -116,17 +73,18 @@ fn check_file<H: Shelf>(
     shelf: &mut H,
     end: &mut End,
 ) -> Result<Reported, Refusal>
-    ensures course { Comes reported_of result (checked_text (H.contents shelf.old) words.entry (tabled_of tabled) (H.history shelf.old) (H.history shelf.new)) }
+    ensures course { Comes reported_of result (checked_file (H.contents shelf.old) words.entry (tabled_of tabled) (H.history shelf.old) (H.history shelf.new)) }
     ensures same { H.contents shelf.new ≡ H.contents shelf.old }
     ensures kept { H.stored shelf.new ≡ H.stored shelf.old }
 {
-    match stream_check(alloc, words, &tabled, shelf, end)? {
-        Some(checked) => {
-            end.note(unrefuted(checked.reported.answer.status));
-            Ok(checked.reported)
-        }
-        None => check_loaded(alloc, words, tabled, shelf, end),
-    }
+    let (option, name) = (FileOption::Certificate, words.certificate);
+    let reader = open(alloc, option, name, shelf, end)?;
+    let mut source = HeadReader::new(alloc, reader);
+    let mut line = Vec::new(alloc);
+    let checked = check_from_and_say(alloc, &tabled, &mut source, words.budget, &mut line);
+    let (reader, head) = source.into_parts();
+    give_one_back(alloc, option, name, reader, shelf, end)?;
+    said(checked, FaultText::Read { head, line }, tabled.problem, end)
 }
 
 /// The verdict on the certificate of a file, before anything is stored.

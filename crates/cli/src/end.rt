@@ -1,6 +1,7 @@
 //! How a run ended, as a value beside its exit status. It is for whoever explains the run to a person; no clause speaks
 //! of it.
 
+use crate::fault_text::FaultText;
 use baf_auditor::{AssignmentFault, Findings};
 use certificate_lines::TextFault;
 use cli_runs::Unshown;
@@ -9,7 +10,7 @@ use cli_words::WordsEnd;
 use county_codes::{County, Grouping};
 use county_problem::{GroupingFault, Problem, ProblemFault};
 use grouping_reader::CodeLineFault;
-use pl94_counties::Pl94Fault;
+use pl94_counties::{CensusNotes, Pl94Fault};
 use share_board::BoardFault;
 use state_judge::CheckFault;
 use std::alloc::Global;
@@ -118,18 +119,18 @@ pub enum Ending {
     CaseUnread,
     /// Line 1 of the case or the name of a file in it isn't UTF-8.
     CaseNotText,
-    /// The file of an option is refused. The text is the whole file.
-    Refused(FileOption, FileFault, Vec<u8>),
+    /// The file of an option is refused.
+    Refused(FileOption, FileFault, FaultText),
     /// The problem is refused.
     Problem(ProblemFault),
     /// The grouping of this problem isn't lawful.
     Unlawful(GroupingFault, Problem, Grouping),
     /// The grouping is lawful, but this text doesn't show that it is best for the problem, and why.
-    NotShownBest(Unshown, Vec<u8>, Problem),
+    NotShownBest(Unshown, FaultText, Problem),
     /// The audit of this grouping of the problem found something.
     Found(Findings, Problem, Grouping),
     /// This text is no certificate of the problem: its first fault, and the line, which counts from 1.
-    NoCertificate(CheckFault, u64, Vec<u8>, Problem),
+    NoCertificate(CheckFault, u64, FaultText, Problem),
     /// The budget of a check was too small.
     Budget,
     /// The file of an option could not be had. The path is that of the words; none where memory for it was refused.
@@ -167,6 +168,10 @@ pub struct End {
     pub ending: Ending,
     /// How many counties the census files list for the state, and their people; none where they were not read.
     pub counties: Option<(usize, u64)>,
+    /// The people of the state's own line of the census files; none where it was not read.
+    pub state_people: Option<u32>,
+    /// The STUSAB of the first lines of the geographic header and of segment 1; none where they were not read.
+    pub states: (Option<[u8; 2]>, Option<[u8; 2]>),
     /// Whether the adjacency file has a pair of listed counties; none where it was not read.
     pub has_pairs: Option<bool>,
     /// Whether the file of `--certificate` was stored.
@@ -201,6 +206,8 @@ impl End {
         End {
             ending: Ending::Memory,
             counties: None,
+            state_people: None,
+            states: (None, None),
             has_pairs: None,
             has_stored_certificate: false,
             has_stored_out: false,
@@ -235,9 +242,36 @@ impl End {
         self.ending = Ending::Unlawful(*fault, problem, grouping);
     }
 
-    /// Notes the counties that were read.
-    pub(crate) fn note_counties(&mut self, counties: &[County]) {
+    /// Notes that the file of an option, which was loaded, is refused.
+    pub(crate) fn note_refused(&mut self, option: FileOption, fault: FileFault, text: Vec<u8>) {
+        self.ending = Ending::Refused(option, fault, FaultText::Whole(text));
+    }
+
+    /// Notes that the file of an option, which was read as it comes, is refused.
+    pub(crate) fn note_read_refused(
+        &mut self,
+        option: FileOption,
+        fault: FileFault,
+        text: FaultText,
+    ) {
+        self.ending = Ending::Refused(option, fault, text);
+    }
+
+    /// Notes how many counties there are, and their people.
+    pub(crate) fn note_people(&mut self, counties: &[County]) {
         self.counties = Some((counties.len(), people_of(counties)));
+    }
+
+    /// Notes what the census files say besides their counties.
+    pub(crate) fn note_census(&mut self, notes: &CensusNotes) {
+        self.state_people = notes.state_people;
+        self.states = (notes.geo_state, notes.segment_state);
+    }
+
+    /// Notes the counties that were read, and what the census files say besides.
+    pub(crate) fn note_counties(&mut self, counties: &[County], notes: &CensusNotes) {
+        self.note_people(counties);
+        self.note_census(notes);
     }
 
     /// Notes whether there is a pair of listed counties.

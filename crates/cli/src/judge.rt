@@ -11,6 +11,7 @@ ghost use Rattle.cli_runs.specs.Run.{CommandRun};
 ghost use Rattle.cli_runs.specs.Texts.{reported_of, tabled_of};
 
 use crate::end::{End, Ending, FileOption};
+use crate::fault_text::FaultText;
 use crate::files::{load, load_grouping};
 use crate::problem::load_tabled_problem;
 use crate::storing::store_reported;
@@ -45,7 +46,7 @@ fn load_certificate<H: Shelf>(
 /// The end of a run whose grouping is lawful.
 fn lawful_end(unshown: Option<Unshown>, certificate: Option<Vec<u8>>, problem: Problem) -> Ending {
     match (unshown, certificate) {
-        (Some(unshown), Some(text)) => Ending::NotShownBest(unshown, text, problem),
+        (Some(unshown), Some(text)) => Ending::NotShownBest(unshown, FaultText::Whole(text), problem),
         _ => Ending::Done,
     }
 }

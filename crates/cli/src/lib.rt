@@ -4,10 +4,13 @@
 mod audit;
 mod board_files;
 mod case;
+mod census_files;
 mod check;
 mod command;
 mod end;
+mod fault_text;
 mod files;
+mod head_reader;
 mod judge;
 mod list;
 mod piece;
@@ -20,7 +23,6 @@ mod share;
 mod size;
 mod solve;
 mod storing;
-mod table_files;
 
 pub use branch_bound::{NoWatcher, Watcher};
 pub use case::{MAX_CASE, run_case, run_case_with_end};
@@ -30,4 +32,5 @@ pub use cli_shelves::{
 };
 pub use command::{run, run_with_end};
 pub use end::{End, Ending, FileFault, FileOption};
+pub use fault_text::FaultText;
 pub use program::run_program;

@@ -8,6 +8,7 @@ ghost use Rattle.cli_runs.specs.ListCourse.{list_course};
 ghost use Rattle.cli_runs.specs.Run.{CommandRun};
 ghost use Rattle.cli_runs.specs.Texts.{listed_of};
 
+use crate::fault_text::FaultText;
 use crate::end::{End, Ending, FileOption};
 use crate::files::load;
 use crate::problem::load_problem;
@@ -46,7 +47,7 @@ fn listed_end(end: ListEnd, text: Vec<u8>, problem: Problem) -> Ending {
         ListEnd::NoSuchGrouping(count) => Ending::NoSuchGrouping(count),
         ListEnd::Open(_, line) => Ending::ListOpen(line),
         ListEnd::Impossible => Ending::Impossible,
-        ListEnd::NoCertificate(fault, line) => Ending::NoCertificate(fault, line, text, problem),
+        ListEnd::NoCertificate(fault, line) => Ending::NoCertificate(fault, line, FaultText::Whole(text), problem),
         ListEnd::Budget => Ending::Budget,
     }
 }

@@ -7,9 +7,9 @@ ghost use Rattle.cli_runs.specs.ProblemCourse.{build_step, problem_over, problem
 ghost use Rattle.cli_runs.specs.TableCourse.{named_problem_in, tabled_problem_in};
 ghost use Rattle.cli_runs.specs.Texts.{tabled_of};
 
+use crate::census_files::{load_counties, load_named_counties, without_names};
 use crate::end::End;
-use crate::files::{load_adjacency, load_counties, load_withdrawn};
-use crate::table_files::{load_named_counties, without_names};
+use crate::files::{load_adjacency, load_withdrawn};
 use cli_answers::{Refusal, refuse_problem};
 use cli_runs::Tabled;
 use cli_shelves::Shelf;
@@ -96,7 +96,7 @@ fn load_named_problem<H: Shelf>(
 {
     let named = load_named_counties(alloc, words.common, shelf, end)?;
     let counties = without_names(alloc, &named)?;
-    end.note_counties(&counties);
+    end.note_people(&counties);
     let problem = load_problem_over(alloc, words, &counties, shelf, end)?;
     Ok(Tabled {
         problem,

@@ -4,8 +4,8 @@ ghost use Rattle.std.specs.Prelude.{◌≡◌, ◌≤◌};
 ghost use Rattle.cli_answers.specs.Answers.{answer_of, Comes};
 ghost use Rattle.cli_runs.specs.JudgeCourse.{size_course};
 
+use crate::census_files::load_counties;
 use crate::end::{End, Ending};
-use crate::files::load_counties;
 use crate::problem::build;
 use cli_answers::{Refusal, RunAnswer};
 use cli_shelves::Shelf;

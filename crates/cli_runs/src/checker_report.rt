@@ -5,11 +5,11 @@ ghost use Rattle.county_problem.specs.ProblemValue.{problem_of};
 ghost use Rattle.certificate_checker.specs.Answers.{CheckIsRight};
 ghost use Rattle.certificate_checker.specs.declared.verdict.Verdict.TheVariants as verdict;
 ghost use Rattle.cli_answers.specs.Answers.{answer_of};
-ghost use Rattle.cli_runs.specs.CheckCourse.{IsChecked, ChecksGiven, verdict_said, verdict_table};
+ghost use Rattle.cli_runs.specs.CheckCourse.{ChecksGiven, verdict_said, verdict_table};
 ghost use Rattle.cli_runs.specs.Texts.{reported_of, tabled_of};
 
 use crate::table_runs::{Reported, Tabled, table_of};
-use certificate_checker::{CheckStop, Verdict, check, check_from};
+use certificate_checker::{CheckStop, Verdict, check_from_keeping};
 use cli_answers::{RunAnswer, budget_answer, no_answer};
 use county_codes::Grouping;
 use field_lines::Source;
@@ -78,25 +78,9 @@ fn say(alloc: Global, tabled: &Tabled, verdict: Verdict) -> Result<Checked, Allo
     }
 }
 
-/// What `check` says of a text: the verdict of a checker with such a budget, told as a report or as the line that
-/// stands in its place.
-///
-/// # Errors
-///
-/// `AllocError` where memory was refused.
-pub fn check_and_say(
-    alloc: Global,
-    tabled: &Tabled,
-    text: &[u8],
-    budget: u64,
-) -> Result<Checked, AllocError>
-    ensures { IfOk result (λ c. IsChecked (tabled_of tabled.now) budget text.now (reported_of c.reported)) }
-{
-    let verdict = check(alloc, &tabled.problem, text, budget)?;
-    say(alloc, tabled, verdict)
-}
-
-/// What `check` says of the bytes that a source gives up to its end, or to where the checker left it.
+/// Returns what `check` says of the bytes that a source gives up to its end, or to where the checker left it: the
+/// verdict of a checker with such a budget, told as a report or as the line that stands in its place. `line` keeps the
+/// bytes of the line at fault, at most 65,536, for whoever shows it.
 ///
 /// # Errors
 ///
@@ -106,11 +90,12 @@ pub fn check_from_and_say<S: Source>(
     tabled: &Tabled,
     source: &mut S,
     budget: u64,
+    line: &mut Vec<u8>,
 ) -> Result<Checked, CheckStop>
     requires { S.is_failed source.old ≡ false }
     ensures { IfOk result (λ c. ChecksGiven (tabled_of tabled.now) budget (S.given source.old) (S.given source.new) (reported_of c.reported)) }
 {
-    let verdict = match check_from(alloc, &tabled.problem, source, budget) {
+    let verdict = match check_from_keeping(alloc, &tabled.problem, source, budget, line) {
         Ok(verdict) => verdict,
         Err(stop) => return Err(stop),
     };

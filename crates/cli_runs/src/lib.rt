@@ -17,7 +17,7 @@ mod listing_report;
 mod table_runs;
 
 pub use board_reports::{PieceEnd, PieceSaid, language_for, piece_and_say, share_events};
-pub use checker_report::{Checked, check_and_say, check_from_and_say};
+pub use checker_report::{Checked, check_from_and_say};
 pub use desk_report::{Solved, solve_and_say};
 pub use judge_report::{Judged, Unshown, judge_and_say};
 pub use laws::{runs_agree, runs_are_of_their_loads, runs_judge, runs_list, runs_share};

@@ -1,0 +1,223 @@
+//! What the census files give: counties, with or without their names, and census blocks. Both files are read as they
+//! come, each once.
+
+ghost use Rattle.std.specs.Prelude.{◌≡◌, ℕ, ◌≤◌, ◌<◌, All, IfOk, map};
+ghost use Rattle.std.specs.List.Sorted.{IsStrictlyIncreasing};
+ghost use Rattle.field_lines.specs.Source.{Given};
+ghost use Rattle.field_lines.specs.Values.{GivesUnless};
+ghost use Rattle.cli_shelves.specs.History.{History};
+ghost use Rattle.cli_answers.specs.Answers.{Comes};
+ghost use Rattle.pl94_counties.specs.PeopleByCode.{IsPl94Memory};
+ghost use Rattle.pl94_counties.specs.Counties.{county_list, block_list};
+ghost use Rattle.pl94_counties.specs.CountyNames.{IsNoMemory, county_name, named_list};
+ghost use Rattle.cli_runs.specs.Reading.{OfTexts};
+ghost use Rattle.cli_runs.specs.ProblemCourse.{counties_in, counties_course};
+ghost use Rattle.cli_runs.specs.TableCourse.{named_counties_in, named_counties_of};
+ghost use Rattle.cli_runs.specs.PlanCourse.{blocks_in, blocks_of};
+
+use crate::end::{End, FileFault, FileOption};
+use crate::fault_text::FaultText;
+use crate::head_reader::HeadReader;
+use crate::readers::{give_both_back, open_both};
+use cli_answers::{Refusal, refuse_file, refuse_named_counties};
+use cli_shelves::Shelf;
+use cli_words::CommonWords;
+use county_codes::County;
+use pl94_counties::{
+    Block, CensusNotes, File, NamedCounty, NamedFault, Pl94Fault, read_blocks_from,
+    read_counties_from, read_named_counties_from,
+};
+use std::alloc::{AllocError, Global};
+
+/// What was kept of both census files, for whoever explains a fault of one of them. No clause speaks of it.
+#[derive(Drop)]
+struct CensusTexts {
+    geo: Vec<u8>,
+    segment: Vec<u8>,
+    notes: CensusNotes,
+}
+
+impl CensusTexts {
+    /// Notes the fault of one of the files, with what was kept of it.
+    fn note_fault(self, file: File, fault: FileFault, end: &mut End) {
+        let (option, head) = match file {
+            File::Geo => (FileOption::Geo, self.geo),
+            File::Segment1 => (FileOption::Segment, self.segment),
+        };
+        let line = self.notes.line;
+        end.note_read_refused(option, fault, FaultText::Read { head, line });
+    }
+}
+
+/// Returns the counties that were read, or the refusal of the first fault. `texts` is what was kept of the files.
+fn counties_read(
+    alloc: Global,
+    read: Result<Vec<County>, Pl94Fault>,
+    texts: CensusTexts,
+    end: &mut End,
+) -> Result<Vec<County>, Refusal>
+    ensures { (state : ℕ) (geo segment : Given) (now : History)
+        → OfTexts (λ g s. GivesUnless IsPl94Memory (λ v. v.items) read (county_list g s state)) geo segment
+        → Comes (λ v. v.items) result (counties_in state geo segment now now) }
+{
+    match read {
+        Ok(counties) => {
+            end.note_counties(&counties, &texts.notes);
+            Ok(counties)
+        }
+        Err(fault) => {
+            texts.note_fault(fault.file, FileFault::Census(fault), end);
+            Err(refuse_file(alloc, fault))
+        }
+    }
+}
+
+/// Returns the counties of the state. Segment 1 is read before the geographic header, which is opened first; the first
+/// fault of the two is refused.
+pub(crate) fn load_counties<H: Shelf>(
+    alloc: Global,
+    words: CommonWords<'_>,
+    shelf: &mut H,
+    end: &mut End,
+) -> Result<Vec<County>, Refusal>
+    requires { words.state ≤ 99 }
+    ensures course { Comes (λ v. v.items) result (counties_course (H.contents shelf.old) words.entry (H.history shelf.old) (H.history shelf.new)) }
+    ensures same { H.contents shelf.new ≡ H.contents shelf.old }
+    ensures kept { H.stored shelf.new ≡ H.stored shelf.old }
+{
+    let (geo, segment) = open_both(alloc, words, shelf, end)?;
+    let mut geo = HeadReader::new(alloc, geo);
+    let mut segment = HeadReader::new(alloc, segment);
+    let mut notes = CensusNotes::new(alloc);
+    let read = read_counties_from(alloc, &mut geo, &mut segment, words.state, &mut notes);
+    let (geo_reader, geo) = geo.into_parts();
+    let (segment_reader, segment) = segment.into_parts();
+    give_both_back(alloc, words, (geo_reader, segment_reader), shelf, end)?;
+    let texts = CensusTexts {
+        geo,
+        segment,
+        notes,
+    };
+    counties_read(alloc, read, texts, end)
+}
+
+/// Returns named counties without their names.
+pub(crate) fn without_names(alloc: Global, named: &[NamedCounty]) -> Result<Vec<County>, AllocError>
+    ensures { IfOk result (λ v. v.items ≡ map (λ k. k.county) named.now) }
+{
+    let mut counties = Vec::new(alloc);
+    for listed in named {
+        counties.push(listed.county)?;
+    }
+    Ok(counties)
+}
+
+/// Returns the counties with their names that were read, or the refusal of the first fault. `texts` is what was kept of
+/// the files.
+fn named_read(
+    alloc: Global,
+    read: Result<Vec<NamedCounty>, NamedFault>,
+    texts: CensusTexts,
+    end: &mut End,
+) -> Result<Vec<NamedCounty>, Refusal>
+    ensures { (state : ℕ) (geo segment : Given) (now : History)
+        → OfTexts (λ g s. GivesUnless IsNoMemory (λ v. map county_name v.items) read (named_list g s state)) geo segment
+        → Comes (λ v. map county_name v.items) result (named_counties_in state geo segment now now) }
+{
+    match read {
+        Ok(named) => {
+            end.note_census(&texts.notes);
+            Ok(named)
+        }
+        Err(fault) => {
+            match fault {
+                NamedFault::Files(fault) => {
+                    texts.note_fault(fault.file, FileFault::Census(fault), end)
+                }
+                NamedFault::BadName(line) => {
+                    texts.note_fault(File::Geo, FileFault::BadName(line), end)
+                }
+            }
+            Err(refuse_named_counties(alloc, fault))
+        }
+    }
+}
+
+/// Returns the counties of the state with their names, as `load_counties` gives them.
+pub(crate) fn load_named_counties<H: Shelf>(
+    alloc: Global,
+    words: CommonWords<'_>,
+    shelf: &mut H,
+    end: &mut End,
+) -> Result<Vec<NamedCounty>, Refusal>
+    requires { words.state ≤ 99 }
+    ensures course { Comes (λ v. map county_name v.items) result (named_counties_of (H.contents shelf.old) words.entry (H.history shelf.old) (H.history shelf.new)) }
+    ensures same { H.contents shelf.new ≡ H.contents shelf.old }
+    ensures kept { H.stored shelf.new ≡ H.stored shelf.old }
+{
+    let (geo, segment) = open_both(alloc, words, shelf, end)?;
+    let mut geo = HeadReader::new(alloc, geo);
+    let mut segment = HeadReader::new(alloc, segment);
+    let mut notes = CensusNotes::new(alloc);
+    let read = read_named_counties_from(alloc, &mut geo, &mut segment, words.state, &mut notes);
+    let (geo_reader, geo) = geo.into_parts();
+    let (segment_reader, segment) = segment.into_parts();
+    give_both_back(alloc, words, (geo_reader, segment_reader), shelf, end)?;
+    let texts = CensusTexts {
+        geo,
+        segment,
+        notes,
+    };
+    named_read(alloc, read, texts, end)
+}
+
+/// Returns the census blocks that were read, or the refusal of the first fault. `texts` is what was kept of the files.
+fn blocks_read(
+    alloc: Global,
+    read: Result<Vec<Block>, Pl94Fault>,
+    texts: CensusTexts,
+    end: &mut End,
+) -> Result<Vec<Block>, Refusal>
+    ensures course { (state : ℕ) (geo segment : Given) (now : History)
+        → OfTexts (λ g s. GivesUnless IsPl94Memory (λ v. v.items) read (block_list g s state)) geo segment
+        → Comes (λ v. v.items) result (blocks_in state geo segment now now) }
+    ensures same { IfOk result (λ v. read ≡ Ok v) }
+{
+    match read {
+        Ok(blocks) => Ok(blocks),
+        Err(fault) => {
+            texts.note_fault(fault.file, FileFault::Census(fault), end);
+            Err(refuse_file(alloc, fault))
+        }
+    }
+}
+
+/// Returns the census blocks of the state, as `load_counties` gives the counties: the census files are opened anew.
+pub(crate) fn load_blocks<H: Shelf>(
+    alloc: Global,
+    words: CommonWords<'_>,
+    shelf: &mut H,
+    end: &mut End,
+) -> Result<Vec<Block>, Refusal>
+    requires { words.state ≤ 99 }
+    ensures course { Comes (λ v. v.items) result (blocks_of (H.contents shelf.old) words.entry (H.history shelf.old) (H.history shelf.new)) }
+    ensures ascending { IfOk result (λ v. IsStrictlyIncreasing (map (λ b. b.code) v.items)) }
+    ensures small { IfOk result (λ v. All (λ b. b.code < 1000000000000000) v.items) }
+    ensures same { H.contents shelf.new ≡ H.contents shelf.old }
+    ensures kept { H.stored shelf.new ≡ H.stored shelf.old }
+{
+    let (geo, segment) = open_both(alloc, words, shelf, end)?;
+    let mut geo = HeadReader::new(alloc, geo);
+    let mut segment = HeadReader::new(alloc, segment);
+    let mut notes = CensusNotes::new(alloc);
+    let read = read_blocks_from(alloc, &mut geo, &mut segment, words.state, &mut notes);
+    let (geo_reader, geo) = geo.into_parts();
+    let (segment_reader, segment) = segment.into_parts();
+    give_both_back(alloc, words, (geo_reader, segment_reader), shelf, end)?;
+    let texts = CensusTexts {
+        geo,
+        segment,
+        notes,
+    };
+    blocks_read(alloc, read, texts, end)
+}
