@@ -1,10 +1,11 @@
 -- The counties and the blocks that two texts give are those of their lines.
-use Rattle.std.proofs.Common.{◌≡◌, ℕ, zero, suc, ◌+◌, ◌<◌, List, [], ◌∷◌, map, fold, Option, Some, None, Result, Ok, Err, All, refl, sym, subst, get_or, arith}
+use Rattle.std.proofs.Common.{◌≡◌, ℕ, zero, suc, ◌+◌, ◌<◌, ◌≤◌, List, [], ◌∷◌, map, fold, Option, Some, None, Result, Ok, Err, All, refl, sym, ap, ◌∙◌, subst, get_or, arith}
 use Rattle.std.specs.declared.cmp.Ordering.{Ordering}
 use Rattle.std.specs.declared.cmp.Ordering.TheVariants.{Less, Equal, Greater}
 use Rattle.std.specs.Ordering.{nat_cmp, match_ordering}
 use Rattle.std.specs.Cmp.{ranked}
 use Rattle.std.specs.BTreeMap.{insert_entry}
+use Rattle.std.specs.List.{filter_map}
 use Rattle.std.specs.Result.{result_map_both}
 use Rattle.std.specs.List.Sorted.{IsStrictlyIncreasing}
 use Rattle.std.proofs.lemmas.List.Elements.{All-cons, All-map}
@@ -23,10 +24,10 @@ use Rattle.pl94_counties.specs.PeopleByCode.{by_number, unless_entry_fault}
 use Rattle.pl94_counties.specs.Geo.{area_on}
 use Rattle.pl94_counties.specs.PeopleByCode.{entries_on}
 use Rattle.pl94_counties.specs.Areas.{area_list, found_list}
-use Rattle.pl94_counties.specs.Counties.{county_of, block_of, county_list, block_list}
+use Rattle.pl94_counties.specs.Counties.{county_of, county_in, block_of, county_list, block_list}
 use Rattle.pl94_counties.specs.JoinedLines.{IsJoined}
 use Rattle.pl94_counties.specs.ListedAreas.{AreCounties, AreBlocks}
-use Rattle.pl94_counties.proofs.ListLemmas.{codes_made, listed_made}
+use Rattle.pl94_counties.proofs.ListLemmas.{codes_made, listed_made, counties_kept, codes_small}
 use Rattle.pl94_counties.proofs.LawLemmas.{from_lines, each_line}
 use Rattle.pl94_counties.proofs.OfTextLemmas.{areas_found}
 
@@ -119,3 +120,12 @@ module _ (geo segment1 : List ℕ) (state : ℕ) where
         each_line = listed_made block_of areas.Block (cut segment1).lines state entries (cut geo).lines
             (each_line areas.Block geo segment1 state f.records entries f.records_are f.found_are);
       })
+
+-- entries that are listed by ascending codes, as counties
+pub counties_listed : (geo segment1 : List ℕ) (state : ℕ) (entries : List (ℕ × ℕ)) (items : List County) → state ≤ 99 → IsStrictlyIncreasing (map (λ e. e.0) entries)
+    → area_list areas.County geo segment1 state ≡ Ok entries → items ≡ filter_map (λ (e : ℕ × ℕ). county_in e.0 e.1) entries → county_list geo segment1 state ≡ Ok items
+counties_listed geo segment1 state entries items digits rises found is =
+    let f = areas_found areas.County geo segment1 state entries found in
+    let joined = from_lines areas.County geo segment1 state f.records entries f.records_are f.found_are rises in
+    let same : items ≡ map (λ (e : ℕ × ℕ). county_of e.0 e.1) entries = is ∙ counties_kept entries (codes_small (cut geo).lines (cut segment1).lines state entries digits joined) in
+    ap (λ (r : Result (List (ℕ × ℕ)) Pl94Fault). result_map_both (λ es. map (λ e. county_of e.0 e.1) es) (λ fault. fault) r) found ∙ ap (λ (cs : List County). Ok cs) (sym same)

@@ -1,19 +1,24 @@
 -- Reading the lines of a file from any source.
-use Rattle.std.proofs.Common.{◌≡◌, ◌≢◌, inl, inr, ℕ, Bool, false, List, Some, Result, Ok, Err, refl, ap}
+use Rattle.std.proofs.Common.{◌≡◌, ◌≢◌, ◌&&◌, inl, inr, ℕ, Bool, true, false, List, [], ◌++◌, Some, Result, Ok, Err, refl, ap, ◌∙◌, subst}
 use Rattle.std.specs.Borrow.{Bor}
-use Rattle.field_lines.specs.LinesFrom.{LinesLeft, IsNextAnswer, ReadsText}
+use Rattle.field_lines.specs.Source.{Given}
+use Rattle.field_lines.specs.LinesFrom.{LinesHeld, nothing_read, lines_held, LinesLeft, IsNextAnswer, ReadsText}
 use Rattle.field_lines.proofs.ReadingLemmas.{ReadsOn, reads_more, reads_stop, reads_fault, given_fault, never_memory}
-use Rattle.field_lines.specs.Cut.{Cut, Line, in_front, line_of}
+use Rattle.field_lines.specs.Cut.{Cut, Line, cut, in_front, line_of}
+use Rattle.field_lines.specs.Values.{GivesUnless}
 use Rattle.field_lines.specs.declared.fault.LineFault.{LineFault}
 use Rattle.field_lines.specs.declared.fault.LineFault.TheVariants.{LineTooLong, TooManyLines, ReadFault}
 use Rattle.field_lines.specs.declared.fault.LineFault.TheVariants as line_faults
 use Rattle.pl94_counties.specs.declared.fault.Pl94Kind.{Pl94Kind}
 use Rattle.pl94_counties.specs.declared.fault.Pl94Kind.TheVariants.{TooFewFields, BadCode, BadNumber, DoubleRecord, NoRecord, DoubleCounty, DoubleBlock, NoCounties, NoBlocks, TooMany, Lower, Memory}
 use Rattle.pl94_counties.specs.declared.fault.File.{File}
+use Rattle.pl94_counties.specs.declared.fault.File.TheVariants.{Geo, Segment1}
 use Rattle.pl94_counties.specs.declared.fault.Pl94Fault.{Pl94Fault}
-use Rattle.pl94_counties.specs.PeopleByCode.{LineEntry, Rule, with_given, pl94_cut_fault}
+use Rattle.pl94_counties.specs.PeopleByCode.{LineEntry, Rule, with_given, pl94_cut_fault, IsPl94Memory}
+use Rattle.pl94_counties.specs.declared.geo.Area.{Area}
+use Rattle.pl94_counties.specs.Areas.{area_list_in, area_list}
 use Rattle.pl94_counties.specs.TextFaults.{IsPl94OfText}
-use Rattle.pl94_counties.specs.Readers.{is_pl94_read_fault, IsPl94Refused}
+use Rattle.pl94_counties.specs.Readers.{is_pl94_read_fault, same_file, read_failed, IsPl94Refused, ReadsBoth}
 use Rattle.pl94_counties.proofs.CollectLemmas.{collect_from}
 
 -- a text's own fault is no failure of its source
@@ -56,7 +61,7 @@ module _ (read : List ℕ → LineEntry) (rule : Rule) (file : File) where
 abbrev pub StopsAt : Pl94Fault → Result (List (ℕ × ℕ)) Pl94Fault → Type 0
 StopsAt fault given = (IsPl94Refused fault → ⊥) → given ≡ Err fault
 
-module _ (read : List ℕ → LineEntry) (rule : Rule) (file : File) (start now new : LinesLeft) (g h i : List ℕ) (d e : Bool) (Whole : Cut → Result (List (ℕ × ℕ)) Pl94Fault) (placed : List (ℕ × ℕ))
+module _ (read : List ℕ → LineEntry) (rule : Rule) (file : File) (start now new : LinesLeft) (g h i : Given) (d e : Bool) (Whole : Cut → Result (List (ℕ × ℕ)) Pl94Fault) (placed : List (ℕ × ℕ))
     (s : ReadsOn start g Whole now h d (collect_cut read rule file placed)) where
   module _ (r : ℕ × Bor (List ℕ)) (next : IsNextAnswer now h d (Ok (Some r)) new i e) where
     -- a line is added to those before
@@ -70,17 +75,64 @@ module _ (read : List ℕ → LineEntry) (rule : Rule) (file : File) (start now 
         let fault : Pl94Fault = record { kind = kind; file = file; line = r.0 } in
         let comes = reads_stop start now new g h i d e Whole (collect_cut read rule file placed) s r next (IsPl94Refused fault → ⊥) (Err fault)
         (λ (kept : IsPl94Refused fault → ⊥) (c : Cut). line_refused read rule file placed (line_of r) c kind (is (λ (m : kind ≡ Memory). kept (inl m)))) in
-        record { pulled = comes.pulled; given = comes.given; holds = comes.is }
+        record { pulled = comes.pulled; given = comes.given; holds = λ later may kept. comes.is kept later may }
 
   -- the text ends in a fault, or a read failed
   pub text_stops : (fault : LineFault) → IsNextAnswer now h d (Err fault) new i e → ReadsText start.cut g i (λ c. StopsAt (pl94_cut_fault file fault) (Whole c))
   text_stops (LineTooLong line) next =
       let comes = reads_fault start now new g h i d e Whole (collect_cut read rule file placed) s (IsPl94Refused (pl94_cut_fault file (LineTooLong line)) → ⊥) (LineTooLong line) tt next in
-      record { pulled = comes.pulled; given = comes.given; holds = comes.is }
+      record { pulled = comes.pulled; given = comes.given; holds = λ later may kept. comes.is kept later may }
   text_stops TooManyLines next =
       let comes = reads_fault start now new g h i d e Whole (collect_cut read rule file placed) s (IsPl94Refused (pl94_cut_fault file TooManyLines) → ⊥) TooManyLines tt next in
-      record { pulled = comes.pulled; given = comes.given; holds = comes.is }
+      record { pulled = comes.pulled; given = comes.given; holds = λ later may kept. comes.is kept later may }
   text_stops (ReadFault line) next =
       let given = given_fault start now new g h i d e Whole (collect_cut read rule file placed) s (ReadFault line) next in
-      record { pulled = given.0; given = given.1; holds = λ kept. absurd (kept (inr refl)) }
+      record { pulled = given.0; given = given.1; holds = λ later may kept. absurd (kept (inr refl)) }
   text_stops line_faults.Memory next = absurd (never_memory start now new g h i d e Whole (collect_cut read rule file placed) s next)
+
+-- ---- both files
+
+-- a file of which no read failed
+no_failure : (k : Pl94Kind) (f : File) → false ≡ is_pl94_read_fault k && same_file Geo f → false ≡ is_pl94_read_fault k && same_file Segment1 f → is_pl94_read_fault k ≡ true → ⊥
+no_failure k Geo geo segment1 is = let failed : false ≡ true && true = geo ∙ ap (λ (b : Bool). b && true) is in cc
+no_failure k Segment1 geo segment1 is = let failed : false ≡ true && true = segment1 ∙ ap (λ (b : Bool). b && true) is in cc
+
+-- where no read failed, only memory is refused
+pub only_memory : {X Y : Type 0} (view : X → Y) (answer : Result X Pl94Fault) (given : Result Y Pl94Fault) → false ≡ read_failed Geo answer → false ≡ read_failed Segment1 answer
+    → GivesUnless IsPl94Refused view answer given → GivesUnless IsPl94Memory view answer given
+only_memory view (Ok x) given geo segment1 is = is
+only_memory view (Err fault) given geo segment1 is = λ kept. is (λ refused. elim refused as (λ _. ⊥) [
+  | inl memory ↦ kept memory
+  | inr failed ↦ no_failure fault.kind fault.file geo segment1 failed
+])
+
+-- a reading of two sources, said in other words
+pub reads_as : {X Y : Type 0} (view : X → Y) (geo_before geo_after segment1_before segment1_after : Given) (answer : Result X Pl94Fault) (given other : List ℕ → List ℕ → Result Y Pl94Fault)
+    → ((geo segment1 : List ℕ) → given geo segment1 ≡ other geo segment1) → ReadsBoth view geo_before geo_after segment1_before segment1_after answer given
+    → ReadsBoth view geo_before geo_after segment1_before segment1_after answer other
+reads_as view geo_before geo_after segment1_before segment1_after answer given other same reads = record {
+  geo = reads.geo;
+  segment1 = reads.segment1;
+  geo_given = reads.geo_given;
+  segment1_given = reads.segment1_given;
+  value = λ geo_later segment1_later geo_may segment1_may.
+      subst (GivesUnless IsPl94Refused view answer) (same (reads.geo ++ geo_later) (reads.segment1 ++ segment1_later)) (reads.value geo_later segment1_later geo_may segment1_may);
+}
+
+-- readers that have read nothing have the lines of whole texts
+pub fresh_lines : (area : Area) (state : ℕ) (geo segment1 : LinesHeld) → geo ≡ nothing_read → segment1 ≡ nothing_read → (g s : List ℕ)
+    → area_list_in area ((lines_held geo).cut g) ((lines_held segment1).cut s) state ≡ area_list area g s state
+fresh_lines area state geo segment1 geo_is segment1_is g s =
+    ap (λ (h : LinesHeld). area_list_in area ((lines_held h).cut g) ((lines_held segment1).cut s) state) geo_is
+    ∙ ap (λ (h : LinesHeld). area_list_in area (cut g) ((lines_held h).cut s) state) segment1_is
+
+-- what is answered for two texts in memory
+pub texts_value : (area : Area) (state : ℕ) (geo segment1 : List ℕ) (geo_lines segment1_lines : Cut) {X : Type 0} (view : X → List (ℕ × ℕ)) (geo_before geo_after segment1_before segment1_after : Given) (answer : Result X Pl94Fault)
+    → geo_lines ≡ cut geo → segment1_lines ≡ cut segment1 → false ≡ read_failed Geo answer → false ≡ read_failed Segment1 answer
+    → ReadsBoth view geo_before geo_after segment1_before segment1_after answer (λ g s. area_list_in area geo_lines segment1_lines state)
+    → GivesUnless IsPl94Memory view answer (area_list area geo segment1 state)
+texts_value area state geo segment1 geo_lines segment1_lines view geo_before geo_after segment1_before segment1_after answer geo_are segment1_are geo_failed segment1_failed reads =
+    only_memory view answer (area_list area geo segment1 state) geo_failed segment1_failed (
+    subst (λ (c : Cut). GivesUnless IsPl94Refused view answer (area_list_in area c (cut segment1) state)) geo_are
+    (subst (λ (c : Cut). GivesUnless IsPl94Refused view answer (area_list_in area geo_lines c state)) segment1_are
+    (reads.value [] [] (λ ended. refl) (λ ended. refl))))

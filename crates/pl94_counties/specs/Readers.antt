@@ -1,5 +1,7 @@
 -- What reading the files from their sources answers.
 use Rattle.std.specs.Prelude.{◌≡◌, ◌⊎◌, ◌&&◌, ◌++◌, ℕ, Bool, true, false, List, Result, Ok, Err}
+use Rattle.field_lines.specs.Source.{Given}
+use Rattle.field_lines.specs.HeldBytes.{MayCome}
 use Rattle.field_lines.specs.Values.{GivesUnless}
 use Rattle.field_lines.specs.declared.fault.LineFault.TheVariants.{ReadFault}
 use Rattle.pl94_counties.specs.PeopleByCode.{IsPl94Memory}
@@ -29,12 +31,14 @@ read_failed file (Err fault) = is_pl94_read_fault fault.kind && same_file file f
 abbrev pub IsPl94Refused : Pl94Fault → Type 0
 IsPl94Refused fault = IsPl94Memory fault ⊎ (is_pl94_read_fault fault.kind ≡ true)
 
--- What is answered for two sources: the value or the first fault of the bytes that they gave meanwhile, unless it was
--- refused.
-pub record ReadsBoth {X Y : Type 0} (view : X → Y) (geo_before geo_after segment1_before segment1_after : List ℕ)
+-- What is answered for two sources, which gave bytes meanwhile: a value or a fault, it is that of each pair of texts
+-- which begin with these bytes, unless it was refused.
+pub record ReadsBoth {X Y : Type 0} (view : X → Y) (geo_before geo_after segment1_before segment1_after : Given)
     (answer : Result X Pl94Fault) (given : List ℕ → List ℕ → Result Y Pl94Fault) : Type 0 where
   pub geo : List ℕ
   pub segment1 : List ℕ
-  pub geo_given : geo_after ≡ geo_before ++ geo
-  pub segment1_given : segment1_after ≡ segment1_before ++ segment1
-  pub value : GivesUnless IsPl94Refused view answer (given geo segment1)
+  pub geo_given : geo_after.bytes ≡ geo_before.bytes ++ geo
+  pub segment1_given : segment1_after.bytes ≡ segment1_before.bytes ++ segment1
+  pub value : (geo_later segment1_later : List ℕ) → MayCome geo_after.ended geo_later
+      → MayCome segment1_after.ended segment1_later
+      → GivesUnless IsPl94Refused view answer (given (geo ++ geo_later) (segment1 ++ segment1_later))
