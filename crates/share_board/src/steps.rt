@@ -25,9 +25,11 @@ use state_groups::{State, open_places};
 use state_judge::{Branching, LineStop, judge_branch};
 use std::alloc::{AllocError, Global};
 
-/// What each branch of an opening may cost, so that all of them together don't cost more than one event may.
+/// Returns what each branch of an opening may cost, so that all of them together don't cost more than one event may:
+/// the greatest number of steps that is right.
 pub(crate) fn share_of(budget: u64, depth: u8) -> u64
-    ensures { (k : ℕ) → 1 ≤ depth → result < k → budget < k * (depth * (most_opening + 1)) }
+    ensures greatest { (k : ℕ) → 1 ≤ depth → result < k → budget < k * (depth * (most_opening + 1)) }
+    ensures within { result * (depth * (most_opening + 1)) ≤ budget }
 {
     budget / (u64::from(depth).max(1) * 4_097)
 }

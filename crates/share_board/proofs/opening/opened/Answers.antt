@@ -15,7 +15,7 @@ returns-in-Err-clause-stopped g c =
     let share = c.share_of.result in
     let halted = subst (λ (z : OrderedValue). IsHalted (problem_of z.problem) round share c.args.depth (state_at z.order g.C.CountySet.test c.in_ok-state.state) (length c.new-states.result.items) c.in-Err.stop) c.in_ok-graph.ensures.ordered c.in-Err.ensures.stopped in
     let at_empty = subst (λ z. IsHalted p round share c.args.depth z (length c.new-states.result.items) c.in-Err.stop) c.in_ok-state.ensures.value halted in
-    opening_halted p round c.args.budget share c.args.depth c.in-Err.stop c.share_of.ensures (subst (λ z. IsHalted p round share c.args.depth (empty_state p) z c.in-Err.stop) (ap length c.new-states.ensures.items) at_empty)
+    opening_halted p round c.args.budget share c.args.depth c.in-Err.stop c.share_of.ensures.greatest (subst (λ z. IsHalted p round share c.args.depth (empty_state p) z c.in-Err.stop) (ap length c.new-states.ensures.items) at_empty)
 
 pub returns-clause-wait : goal.returns-clause-wait
 returns-clause-wait g c = λ k low lt. c.in_ok-fates.ensures.wait k (omega (arith, lt, c.len.ensures))
