@@ -1,25 +1,23 @@
 -- Counties and names that are collected together, line by line.
-use Rattle.std.proofs.Common.{◌≡◌, ℕ, ◌+◌, ◌<◌, ◌≤◌, ◌&&◌, Bool, true, false, cond, not, nat_lt, List, [], ◌∷◌, ◌++◌, inl, inr, Option, Some, None, IfSome, Result, Ok, Err, is_some, find, map, Contains, option_to_list, if◌then◌else◌, refl, sym, ap, ◌∙◌, subst, append_assoc, arith}
+use Rattle.std.proofs.Common.{◌≡◌, ℕ, ◌+◌, ◌≤◌, ◌&&◌, Bool, true, false, cond, nat_lt, List, [], ◌∷◌, ◌++◌, Option, Some, None, IfSome, Result, Ok, Err, is_some, find, map, Contains, option_to_list, if◌then◌else◌, refl, sym, ap, ◌∙◌, subst, append_assoc, arith}
 use Rattle.std.specs.List.{cons_option, filter_map}
 use Rattle.std.specs.List.Sorted.{IsStrictlyIncreasing}
 use Rattle.std.specs.Option.{option_map, option_and_then}
-use Rattle.std.specs.Str.{is_utf8}
 use Rattle.std.specs.Result.{result_map_both}
 use Rattle.std.proofs.lemmas.Bool.Decides.{nat_tests}
 use Rattle.std.proofs.lemmas.List.{append-nil}
-use Rattle.field_lines.specs.Fault.{line_of_fault}
 use Rattle.field_lines.specs.Chain.{◌>>=◌}
 use Rattle.field_lines.specs.Cut.{Cut, Line, cut}
 use Rattle.field_lines.specs.declared.fault.LineFault.{LineFault}
 use Rattle.pl94_counties.specs.declared.fault.Pl94Kind.{Pl94Kind}
-use Rattle.pl94_counties.specs.declared.fault.Pl94Kind.TheVariants.{TooMany, TooFewFields}
+use Rattle.pl94_counties.specs.declared.fault.Pl94Kind.TheVariants.{TooFewFields}
 use Rattle.pl94_counties.specs.declared.fault.File.{File}
 use Rattle.pl94_counties.specs.declared.fault.File.TheVariants.{Geo, Segment1}
 use Rattle.pl94_counties.specs.declared.fault.Pl94Fault.{Pl94Fault}
 use Rattle.pl94_counties.specs.declared.geo.Area.TheVariants as areas
 use Rattle.pl94_counties.specs.declared.county_names.NamedFault.{NamedFault}
 use Rattle.pl94_counties.specs.declared.county_names.NamedFault.TheVariants.{Files, BadName}
-use Rattle.pl94_counties.specs.PeopleByCode.{LineEntry, Rule, with_given, pl94_cut_fault, pl94_fault_on, people_at_number}
+use Rattle.pl94_counties.specs.PeopleByCode.{LineEntry, Rule, with_given, pl94_cut_fault, people_at_number}
 use Rattle.pl94_counties.specs.Fields.{GeoFields, geo_fields, small_number}
 use Rattle.pl94_counties.specs.Geo.{rule_of, area_on, is_line_of, county_code, joined}
 use Rattle.pl94_counties.specs.Areas.{found_list_in, some_areas, area_list_in, area_list}
@@ -28,7 +26,7 @@ use Rattle.county_codes.specs.Counties.{codes_of}
 use Rattle.pl94_counties.specs.Segment.{record_on, record_rule, record_list_in}
 use Rattle.pl94_counties.specs.Counties.{county_of, county_in, county_list}
 use Rattle.pl94_counties.specs.CountyNames.{CodeName, CountyName, code_in, code_on, has_bad_name, bad_name, named_on, names_on, with_names, is_after, first_named_fault, unless_bad, named_by_lines, named_list}
-use Rattle.pl94_counties.specs.NamedReaders.{NamedEntries, AreInOrder, with_name, with_named_line, entries_unless_bad, entries_by_lines, named_entries_in, named_entries, some_named}
+use Rattle.pl94_counties.specs.NamedReaders.{NamedEntries, AreInOrder, with_name, entries_unless_bad, entries_by_lines, named_entries_in, named_entries, some_named}
 use Rattle.pl94_counties.proofs.CollectLemmas.{collect_from, collected_in}
 use Rattle.pl94_counties.proofs.LawLemmas.{joined_of, with_people}
 use Rattle.pl94_counties.proofs.OfTextLemmas.{segment_stops, geo_stops}
@@ -86,6 +84,7 @@ bad_from state n (l ∷ ls) fault order = by (bad_from state (l.number + 1) ls f
     further : (o : Option ℕ) → IfSome o (λ m. l.number + 1 ≤ m) → IfSome o (λ m. n ≤ m)
     further None le = tt
     further (Some m) le = let from : n ≤ l.number = order.0 in omega arith
+
     by : IfSome (bad_name state ls) (λ m. l.number + 1 ≤ m) → (b : Bool) → has_bad_name state l.bytes ≡ b → IfSome (bad_name state (l ∷ ls)) (λ m. n ≤ m)
     by later true is = subst (λ (o : Option ℕ). IfSome o (λ m. n ≤ m)) (sym (bad_first state l ls true is)) order.0
     by later false is = subst (λ (o : Option ℕ). IfSome o (λ m. n ≤ m)) (sym (bad_first state l ls false is)) (further (bad_name state ls) later)
@@ -136,7 +135,7 @@ module _ (state : ℕ) (records : List (ℕ × ℕ)) where
         ]) ≡ entries_unless_bad (bad_name state (l ∷ ls)) (names ++ names_on state (l ∷ ls)) (collect more ls fault)
     line_named true is =
         sym (name_first l.number (names ++ names_on state (l ∷ ls)) (collect more ls fault) (λ (f : Pl94Fault) (at : collect more ls fault ≡ Err f).
-            (fault_file (area_on areas.County state records) (rule_of areas.County) Geo ls fault more f at, fault_line (area_on areas.County state records) (rule_of areas.County) Geo (l.number + 1) ls fault more f order.1 at)))
+        (fault_file (area_on areas.County state records) (rule_of areas.County) Geo ls fault more f at, fault_line (area_on areas.County state records) (rule_of areas.County) Geo (l.number + 1) ls fault more f order.1 at)))
         ∙ ap (λ (o : Option ℕ). entries_unless_bad o (names ++ names_on state (l ∷ ls)) (collect more ls fault)) (sym (bad_first state l ls true is))
     line_named false is =
         later

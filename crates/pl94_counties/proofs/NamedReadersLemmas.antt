@@ -1,5 +1,5 @@
 -- Reading counties and names of the lines of geo from any source.
-use Rattle.std.proofs.Common.{◌≡◌, inl, inr, ℕ, Bool, false, List, [], ◌++◌, Option, Some, None, Result, Ok, Err, refl, sym, ap, ◌∙◌, subst}
+use Rattle.std.proofs.Common.{◌≡◌, inl, inr, ℕ, Bool, false, List, [], ◌++◌, Some, None, Result, Ok, Err, refl, sym, ap, ◌∙◌, subst}
 use Rattle.std.proofs.lemmas.List.{append-nil}
 use Rattle.std.specs.Borrow.{Bor}
 use Rattle.field_lines.specs.Source.{Given}
@@ -11,6 +11,7 @@ use Rattle.field_lines.specs.declared.fault.LineFault.TheVariants.{LineTooLong, 
 use Rattle.field_lines.specs.declared.fault.LineFault.TheVariants as line_faults
 use Rattle.field_lines.proofs.ReadingLemmas.{ReadsOn, reads_more, reads_stop, reads_end, reads_fault, given_fault, never_memory}
 use Rattle.pl94_counties.specs.declared.fault.File.TheVariants.{Geo, Segment1}
+use Rattle.pl94_counties.specs.declared.fault.Pl94Fault.{Pl94Fault}
 use Rattle.pl94_counties.specs.declared.geo.Area.TheVariants as areas
 use Rattle.pl94_counties.specs.declared.county_names.NamedFault.{NamedFault}
 use Rattle.pl94_counties.specs.declared.county_names.NamedFault.TheVariants.{Files, BadName}
@@ -83,7 +84,7 @@ module _ (state : ℕ) (records : List (ℕ × ℕ)) where
         record { pulled = comes.pulled; given = comes.given; holds = λ later may. comes.is tt later may }
 
     -- the text ends in a fault, or a read failed
-    pub named_text_stops : (fault : LineFault) → IsNextAnswer now h d (Err fault) new i e → ReadsText start.cut g i (λ c. NamedStops (Files (pl94_cut_fault Geo fault)) (named_whole c))
+    named_text_stops : (fault : LineFault) → IsNextAnswer now h d (Err fault) new i e → ReadsText start.cut g i (λ c. NamedStops (Files (pl94_cut_fault Geo fault)) (named_whole c))
     named_text_stops (LineTooLong line) next =
         let comes = reads_fault start now new g h i d e named_whole (named_cut found) s (Unit {0}) (LineTooLong line) tt next in
         record { pulled = comes.pulled; given = comes.given; holds = λ later may kept. comes.is tt later may }
@@ -94,6 +95,10 @@ module _ (state : ℕ) (records : List (ℕ × ℕ)) where
         let given = given_fault start now new g h i d e named_whole (named_cut found) s (ReadFault line) next in
         record { pulled = given.0; given = given.1; holds = λ later may kept. absurd (kept (inr refl)) }
     named_text_stops line_faults.Memory next = absurd (never_memory start now new g h i d e named_whole (named_cut found) s next)
+
+    -- the same of a fault that is that of the cut
+    pub named_cut_stops : (fault : LineFault) (f : Pl94Fault) → f ≡ pl94_cut_fault Geo fault → IsNextAnswer now h d (Err fault) new i e → ReadsText start.cut g i (λ c. NamedStops (Files f) (named_whole c))
+    named_cut_stops fault f is next = subst (λ (k : Pl94Fault). ReadsText start.cut g i (λ c. NamedStops (Files k) (named_whole c))) (sym is) (named_text_stops fault next)
 
 -- ---- both files
 

@@ -1,10 +1,10 @@
 -- The lines of a text are in order, and its fault stands after them.
-use Rattle.std.proofs.Common.{◌≡◌, ℕ, ◌+◌, ◌≤◌, Bool, true, false, List, [], ◌∷◌, length, nat_lt, Option, Some, None, if◌then◌else◌, refl, sym, ap, subst, arith}
+use Rattle.std.proofs.Common.{◌≡◌, ℕ, ◌+◌, ◌≤◌, Bool, true, false, List, [], ◌∷◌, length, nat_lt, Option, Some, None, if◌then◌else◌, refl, sym, subst, arith}
 use Rattle.std.specs.List.{slice_split}
 use Rattle.std.proofs.lemmas.Bool.Decides.{nat_tests}
-use Rattle.field_lines.specs.RawPieces.{RawLine, is_lf, numbered, raw_lines_from}
+use Rattle.field_lines.specs.RawPieces.{RawLine, is_lf, numbered}
 use Rattle.field_lines.specs.Fault.{most_lines, most_bytes, line_of_fault}
-use Rattle.field_lines.specs.Cut.{Cut, Line, cut, cut_of, line_in, fault_in, line_bytes}
+use Rattle.field_lines.specs.Cut.{Cut, Line, cut, cut_of, fault_in, line_bytes}
 use Rattle.field_lines.specs.LinesFrom.{LinesHeld, nothing_read, lines_held}
 use Rattle.field_lines.specs.declared.fault.LineFault.{LineFault}
 use Rattle.field_lines.specs.declared.fault.LineFault.TheVariants.{LineTooLong, TooManyLines}

@@ -1,5 +1,5 @@
 -- Reading the lines of a file from any source.
-use Rattle.std.proofs.Common.{◌≡◌, ◌≢◌, ◌&&◌, inl, inr, ℕ, Bool, true, false, List, [], ◌++◌, Some, Result, Ok, Err, refl, ap, ◌∙◌, subst}
+use Rattle.std.proofs.Common.{◌≡◌, ◌≢◌, ◌&&◌, inl, inr, ℕ, Bool, true, false, List, [], ◌++◌, Some, Result, Ok, Err, refl, sym, ap, ◌∙◌, subst}
 use Rattle.std.specs.Borrow.{Bor}
 use Rattle.field_lines.specs.Source.{Given}
 use Rattle.field_lines.specs.LinesFrom.{LinesHeld, nothing_read, lines_held, LinesLeft, IsNextAnswer, ReadsText}
@@ -78,7 +78,7 @@ module _ (read : List ℕ → LineEntry) (rule : Rule) (file : File) (start now 
         record { pulled = comes.pulled; given = comes.given; holds = λ later may kept. comes.is kept later may }
 
   -- the text ends in a fault, or a read failed
-  pub text_stops : (fault : LineFault) → IsNextAnswer now h d (Err fault) new i e → ReadsText start.cut g i (λ c. StopsAt (pl94_cut_fault file fault) (Whole c))
+  text_stops : (fault : LineFault) → IsNextAnswer now h d (Err fault) new i e → ReadsText start.cut g i (λ c. StopsAt (pl94_cut_fault file fault) (Whole c))
   text_stops (LineTooLong line) next =
       let comes = reads_fault start now new g h i d e Whole (collect_cut read rule file placed) s (IsPl94Refused (pl94_cut_fault file (LineTooLong line)) → ⊥) (LineTooLong line) tt next in
       record { pulled = comes.pulled; given = comes.given; holds = λ later may kept. comes.is kept later may }
@@ -89,6 +89,10 @@ module _ (read : List ℕ → LineEntry) (rule : Rule) (file : File) (start now 
       let given = given_fault start now new g h i d e Whole (collect_cut read rule file placed) s (ReadFault line) next in
       record { pulled = given.0; given = given.1; holds = λ later may kept. absurd (kept (inr refl)) }
   text_stops line_faults.Memory next = absurd (never_memory start now new g h i d e Whole (collect_cut read rule file placed) s next)
+
+  -- the same of a fault that is that of the cut
+  pub cut_stops : (fault : LineFault) (f : Pl94Fault) → f ≡ pl94_cut_fault file fault → IsNextAnswer now h d (Err fault) new i e → ReadsText start.cut g i (λ c. StopsAt f (Whole c))
+  cut_stops fault f is next = subst (λ (k : Pl94Fault). ReadsText start.cut g i (λ c. StopsAt k (Whole c))) (sym is) (text_stops fault next)
 
 -- ---- both files
 

@@ -72,9 +72,9 @@ pub fn read_blocks(
     Ok(blocks)
 }
 
-/// The blocks of a state by code, with their people, as `read_blocks` gives them, from the sources of geo and of
-/// segment 1. Neither has failed. Segment 1 is read first, and geo only where segment 1 has no fault. What is answered
-/// is that of each pair of texts which begin with what the sources gave. `notes` have what the reading noted.
+/// Returns the blocks of a state as `read_blocks` gives them, from the sources of geo and of segment 1. Neither has
+/// failed. Segment 1 is read first, and geo only where segment 1 has no fault. What is answered is that of each pair of
+/// texts which begin with what the sources gave. `notes` have what the reading noted.
 ///
 /// # Errors
 ///

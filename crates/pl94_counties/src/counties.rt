@@ -76,9 +76,9 @@ pub fn read_counties(
     Ok(counties)
 }
 
-/// The counties of a state by code, with their people, as `read_counties` gives them, from the sources of geo and of
-/// segment 1. Neither has failed. Segment 1 is read first, and geo only where segment 1 has no fault. What is answered
-/// is that of each pair of texts which begin with what the sources gave. `notes` have what the reading noted.
+/// Returns the counties of a state as `read_counties` gives them, from the sources of geo and of segment 1. Neither has
+/// failed. Segment 1 is read first, and geo only where segment 1 has no fault. What is answered is that of each pair of
+/// texts which begin with what the sources gave. `notes` have what the reading noted.
 ///
 /// # Errors
 ///

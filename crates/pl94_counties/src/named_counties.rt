@@ -5,16 +5,15 @@ ghost use Rattle.std.specs.List.{filter_map};
 ghost use Rattle.std.specs.List.Sorted.{IsStrictlyIncreasing};
 ghost use Rattle.county_codes.specs.Counties.{codes_of};
 ghost use Rattle.field_lines.specs.Values.{GivesUnless};
-ghost use Rattle.field_lines.specs.Cut.{Line};
 ghost use Rattle.field_lines.specs.LinesFrom.{ReadsText};
 ghost use Rattle.pl94_counties.specs.declared.geo.Area.TheVariants as areas;
 ghost use Rattle.pl94_counties.specs.Areas.{found_list_in};
 ghost use Rattle.pl94_counties.specs.Counties.{county_in, county_list};
 ghost use Rattle.pl94_counties.specs.CountyNames.{IsNoMemory, county_name, with_names as named_by, named_list};
 ghost use Rattle.pl94_counties.specs.Readers.{ReadsTexts};
-ghost use Rattle.pl94_counties.specs.NamedReaders.{NamedEntries, entries_shown, StandInOrder, AddsNamed, entries_by_lines};
-ghost use Rattle.pl94_counties.specs.NamedReaders.{named_entries_in, named_entries, some_named, IsNamedRefused, IsNoReadFailure};
-ghost use Rattle.pl94_counties.specs.NamedReaders.{named_read_failed};
+ghost use Rattle.pl94_counties.specs.NamedReaders.{entries_shown, StandInOrder, AddsNamed, entries_by_lines};
+ghost use Rattle.pl94_counties.specs.NamedReaders.{named_entries_in, named_entries, some_named, IsNamedRefused};
+ghost use Rattle.pl94_counties.specs.NamedReaders.{IsNoReadFailure, named_read_failed};
 
 use crate::area_list::{add_line, no_memory};
 use crate::counties::list;
@@ -36,7 +35,8 @@ struct FoundCounties {
     names: Vec<LineName>,
 }
 
-/// Adds what a line of geo gives to the counties and the names of the lines before. The name is looked at last.
+/// Adds what the line of a number of geo gives to the `people` and the `names` of the lines before. `records` are the
+/// people of each record of segment 1. The name is looked at last.
 fn add_named_line(
     people: &mut BTreeMap<u64, u32>,
     names: &mut Vec<LineName>,
@@ -59,7 +59,8 @@ fn add_named_line(
     }
 }
 
-/// The counties of the state with the names on their lines, or the first fault of geo.
+/// Finds the counties of the state with the names on their lines, or the first fault of geo. `records` are the people
+/// of each record of segment 1.
 fn join_named<F, L: LinesFrom<F>>(
     alloc: Global,
     lines: &mut L,
@@ -82,9 +83,14 @@ fn join_named<F, L: LinesFrom<F>>(
         match lines.next_from(from) {
             Ok(Some((number, line))) => {
                 notes.note_geo_line(state, records, line);
-                if let Err(fault) =
-                    add_named_line(&mut people, &mut names, state, records, number, line)
-                {
+                if let Err(fault) = add_named_line(
+                    &mut people,
+                    &mut names,
+                    state,
+                    records,
+                    number,
+                    line,
+                ) {
                     notes.note_named_fault(fault, line);
                     return Err(fault);
                 }
@@ -98,7 +104,7 @@ fn join_named<F, L: LinesFrom<F>>(
     }
 }
 
-/// The counties that were found; none is a fault.
+/// Returns the counties that were found; none is a fault.
 fn some_found(found: FoundCounties) -> Result<FoundCounties, NamedFault>
     ensures value { GivesUnless IsNoMemory entries_shown result (some_named (entries_shown found)) }
     ensures read { IfErr result IsNoReadFailure }
@@ -114,8 +120,8 @@ fn some_found(found: FoundCounties) -> Result<FoundCounties, NamedFault>
     }
 }
 
-/// The counties of a state with the names on their lines, from the lines of geo and of segment 1. Segment 1 is read
-/// whole, and then geo; that there is no county is a fault only where no line is.
+/// Finds the counties of a state with the names on their lines, from the lines of geo and of segment 1. Segment 1 is
+/// read whole, and then geo once. That there is no county is a fault only where no line is at fault.
 fn find_counties<F, L: LinesFrom<F>, G, M: LinesFrom<G>>(
     alloc: Global,
     geo: &mut L,
@@ -147,7 +153,7 @@ fn find_counties<F, L: LinesFrom<F>, G, M: LinesFrom<G>>(
     some_found(found)
 }
 
-/// The counties that were found, with their names.
+/// Returns the counties that were found, with their names.
 fn named(alloc: Global, found: &FoundCounties) -> Result<Vec<NamedCounty>, AllocError>
     ensures names { IfOk result (λ v. map county_name v.items ≡ named_by found.now.names.items (filter_map (λ e. county_in e.0 e.1) found.now.people.entries)) }
     ensures same { IfOk result (λ v. map (λ k. k.county) v.items ≡ filter_map (λ e. county_in e.0 e.1) found.now.people.entries) }
@@ -156,36 +162,7 @@ fn named(alloc: Global, found: &FoundCounties) -> Result<Vec<NamedCounty>, Alloc
     with_names(alloc, &counties, &found.names)
 }
 
-/// The counties of a state as `read_counties` gives them, each with its NAME: field 88 of its line of geo, or nothing
-/// if the line has fewer fields.
-///
-/// # Errors
-///
-/// `Files` has the fault that `read_counties` answers. If the NAME of a county isn't UTF-8, `BadName` has its line. The
-/// first line of geo at fault answers. `BadName` comes after every other fault of its line, and after each fault of
-/// segment 1.
-pub fn read_named_counties(
-    alloc: Global,
-    geo: &[u8],
-    segment1: &[u8],
-    state: u8,
-) -> Result<Vec<NamedCounty>, NamedFault>
-    requires { state ≤ 99 }
-    ensures value { GivesUnless IsNoMemory (λ v. map county_name v.items) result (named_list geo.now segment1.now state) }
-    ensures agrees { IfOk result (λ v. county_list geo.now segment1.now state ≡ Ok (map (λ k. k.county) v.items)) }
-    ensures ascending { IfOk result (λ v. IsStrictlyIncreasing (codes_of (map (λ k. k.county) v.items))) }
-{
-    let found = match find_in_texts(alloc, geo, segment1, state) {
-        Ok(found) => found,
-        Err(fault) => return Err(fault),
-    };
-    match named(alloc, &found) {
-        Ok(named) => Ok(named),
-        Err(_) => Err(NamedFault::Files(no_memory())),
-    }
-}
-
-/// The counties of a state with the names on their lines, from the texts of geo and of segment 1.
+/// Finds the counties of a state with the names on their lines, from the texts of geo and of segment 1.
 fn find_in_texts(
     alloc: Global,
     geo: &[u8],
@@ -210,7 +187,7 @@ fn find_in_texts(
     )
 }
 
-/// The counties of a state with the names on their lines, from the sources of geo and of segment 1.
+/// Finds the counties of a state with the names on their lines, from the sources of geo and of segment 1.
 fn find_in_sources<G: Source, S: Source>(
     alloc: Global,
     geo: &mut G,
@@ -245,15 +222,43 @@ fn find_in_sources<G: Source, S: Source>(
     )
 }
 
-/// The counties of a state by code with their people and their names, as `read_named_counties` gives them, from the
-/// sources of geo and of segment 1. Neither has failed. Segment 1 is read first, and geo only where segment 1 has no
-/// fault. What is answered is that of each pair of texts which begin with what the sources gave. `notes` have what the
-/// reading noted.
+/// Returns the counties of a state as `read_counties` gives them, each with its NAME: field 88 of its line of geo, or
+/// nothing if the line has fewer fields.
 ///
 /// # Errors
 ///
-/// As `read_named_counties`, for the bytes that the sources gave. Where one failed, the fault is
-/// `Files` with `Lower(ReadFault)`, with its file and the line that was being read.
+/// `Files` has the fault that `read_counties` answers. If the NAME of a county isn't UTF-8, `BadName` has its line. The
+/// first line of geo at fault answers. `BadName` comes after every other fault of its line, and after each fault of
+/// segment 1.
+pub fn read_named_counties(
+    alloc: Global,
+    geo: &[u8],
+    segment1: &[u8],
+    state: u8,
+) -> Result<Vec<NamedCounty>, NamedFault>
+    requires { state ≤ 99 }
+    ensures value { GivesUnless IsNoMemory (λ v. map county_name v.items) result (named_list geo.now segment1.now state) }
+    ensures agrees { IfOk result (λ v. county_list geo.now segment1.now state ≡ Ok (map (λ k. k.county) v.items)) }
+    ensures ascending { IfOk result (λ v. IsStrictlyIncreasing (codes_of (map (λ k. k.county) v.items))) }
+{
+    let found = match find_in_texts(alloc, geo, segment1, state) {
+        Ok(found) => found,
+        Err(fault) => return Err(fault),
+    };
+    match named(alloc, &found) {
+        Ok(named) => Ok(named),
+        Err(_) => Err(NamedFault::Files(no_memory())),
+    }
+}
+
+/// Returns the counties of a state with their names, as `read_named_counties` gives them, from the sources of geo and
+/// of segment 1. Neither has failed. Segment 1 is read first, and geo once, only where segment 1 has no fault. What is
+/// answered is that of each pair of texts which begin with what the sources gave. `notes` have what the reading noted.
+///
+/// # Errors
+///
+/// As `read_named_counties`, for the bytes that the sources gave. Where one failed, the fault is `Files` of
+/// `Lower(ReadFault)`, with its file and the line that was being read.
 pub fn read_named_counties_from<G: Source, S: Source>(
     alloc: Global,
     geo: &mut G,

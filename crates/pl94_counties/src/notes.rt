@@ -22,7 +22,7 @@ pub struct CensusNotes {
     pub segment_state: Option<[u8; 2]>,
     /// The people of the state's own line. `None` if geo was not read up to such a line, or segment 1 lacks its record.
     pub state_people: Option<u32>,
-    /// The bytes of the line at fault, at most 65,536. It is empty if no line is at fault, or memory for it was refused.
+    /// The bytes of the line at fault, at most 65,536. There are none if no line is at fault, or memory was refused.
     pub line: Vec<u8>,
     has_geo_line: bool,
     has_segment_line: bool,

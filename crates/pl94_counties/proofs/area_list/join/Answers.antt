@@ -1,15 +1,14 @@
-use Rattle.std.proofs.Common.{ℕ, List, Option, Result, Ok, sym, ap, ◌∙◌, subst}
+use Rattle.std.proofs.Common.{ℕ, List, Option, Result, Ok, ap, ◌∙◌, subst}
 use Rattle.std.specs.Borrow.{Bor}
 use Rattle.field_lines.specs.Cut.{Cut}
-use Rattle.field_lines.specs.LinesFrom.{IsNextAnswer, ReadsText}
+use Rattle.field_lines.specs.LinesFrom.{IsNextAnswer}
 use Rattle.field_lines.specs.declared.fault.LineFault.{LineFault}
 use Rattle.field_lines.proofs.ReadingLemmas.{reads_start}
-use Rattle.pl94_counties.specs.declared.fault.Pl94Fault.{Pl94Fault}
 use Rattle.pl94_counties.specs.declared.fault.File.TheVariants.{Geo}
 use Rattle.pl94_counties.specs.Geo.{rule_of, area_on}
 use Rattle.pl94_counties.specs.Areas.{found_list_in}
 use Rattle.pl94_counties.proofs.CollectLemmas.{collected_in}
-use Rattle.pl94_counties.proofs.ReadersLemmas.{collect_cut, StopsAt, line_more, line_stops, text_stops}
+use Rattle.pl94_counties.proofs.ReadersLemmas.{collect_cut, line_more, line_stops, cut_stops}
 use Rattle.pl94_counties.proofs.area_list.join.Goals as goal
 
 pub loop-line_number-init : goal.loop-line_number-init
@@ -55,5 +54,4 @@ returns-in-Err-clause-reads g c =
     let fault = c.in-Err.fault in
     let next = subst (λ (a : Result (Option (ℕ × Bor (List ℕ))) LineFault). IsNextAnswer (left now.lines) (given now.from) (failed now.from) a (left new) (given after) (failed after))
     c.in-Err.is c.next_from.follows.holds-at-none in
-    subst (λ (f : Pl94Fault). ReadsText (left c.args.lines.now).cut (given c.args.from.now) (given after) (λ k. StopsAt f ((found_list_in c.args.area c.args.state c.args.records.now.entries) k))) (sym c.of_cut.ensures)
-    (text_stops (area_on c.args.area c.args.state c.args.records.now.entries) (rule_of c.args.area) Geo (left c.args.lines.now) (left now.lines) (left new) (given c.args.from.now) (given now.from) (given after) (failed now.from) (failed after) (found_list_in c.args.area c.args.state c.args.records.now.entries) now.found.entries now.invariant fault next)
+    cut_stops (area_on c.args.area c.args.state c.args.records.now.entries) (rule_of c.args.area) Geo (left c.args.lines.now) (left now.lines) (left new) (given c.args.from.now) (given now.from) (given after) (failed now.from) (failed after) (found_list_in c.args.area c.args.state c.args.records.now.entries) now.found.entries now.invariant fault c.of_cut.result c.of_cut.ensures next

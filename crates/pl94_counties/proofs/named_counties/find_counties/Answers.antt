@@ -1,8 +1,7 @@
-use Rattle.std.proofs.Common.{◌++◌, [], Result, sym, subst}
+use Rattle.std.proofs.Common.{◌++◌, [], sym, subst}
 use Rattle.std.proofs.lemmas.List.{append-nil}
 use Rattle.field_lines.specs.Values.{GivesUnless}
-use Rattle.pl94_counties.specs.declared.county_names.NamedFault.{NamedFault}
-use Rattle.pl94_counties.specs.NamedReaders.{NamedEntries, entries_shown, some_named, IsNamedRefused}
+use Rattle.pl94_counties.specs.NamedReaders.{entries_shown, some_named, IsNamedRefused}
 use Rattle.pl94_counties.proofs.NamedLemmas.{segment1_stops, found_answers, found_stops}
 use Rattle.pl94_counties.proofs.NamedReadersLemmas.{kept_more}
 use Rattle.pl94_counties.proofs.named_counties.find_counties.Goals as goal

@@ -1,10 +1,8 @@
-use Rattle.std.proofs.Common.{ℕ, List, Option, Result, Ok, sym, ap, ◌∙◌, subst}
+use Rattle.std.proofs.Common.{ℕ, List, Option, Result, Ok, ap, ◌∙◌, subst}
 use Rattle.std.specs.Borrow.{Bor}
-use Rattle.field_lines.specs.LinesFrom.{IsNextAnswer, ReadsText}
+use Rattle.field_lines.specs.LinesFrom.{IsNextAnswer}
 use Rattle.field_lines.specs.declared.fault.LineFault.{LineFault}
-use Rattle.pl94_counties.specs.declared.fault.Pl94Fault.{Pl94Fault}
-use Rattle.pl94_counties.specs.declared.county_names.NamedFault.TheVariants.{Files}
-use Rattle.pl94_counties.proofs.NamedReadersLemmas.{named_whole, NamedStops, no_entries, named_start, named_more, named_stops, named_text_stops}
+use Rattle.pl94_counties.proofs.NamedReadersLemmas.{no_entries, named_start, named_more, named_stops, named_cut_stops}
 use Rattle.pl94_counties.proofs.named_counties.join_named.Goals as goal
 
 pub loop-number-init : goal.loop-number-init
@@ -48,5 +46,4 @@ returns-in-Err-clause-reads g c =
     let new = c.next_from.follows.lender-at-none in
     let next = subst (λ (a : Result (Option (ℕ × Bor (List ℕ))) LineFault). IsNextAnswer (left now.lines) (given now.from) (failed now.from) a (left new) (given after) (failed after))
     c.in-Err.is c.next_from.follows.holds-at-none in
-    subst (λ (f : Pl94Fault). ReadsText (left c.args.lines.now).cut (given c.args.from.now) (given after) (λ k. NamedStops (Files f) (named_whole c.args.state c.args.records.now.entries k))) (sym c.of_cut.ensures)
-    (named_text_stops c.args.state c.args.records.now.entries (left c.args.lines.now) (left now.lines) (left new) (given c.args.from.now) (given now.from) (given after) (failed now.from) (failed after) (record { entries = now.people.entries; names = now.names.items }) now.invariant c.in-Err.fault next)
+    named_cut_stops c.args.state c.args.records.now.entries (left c.args.lines.now) (left now.lines) (left new) (given c.args.from.now) (given now.from) (given after) (failed now.from) (failed after) (record { entries = now.people.entries; names = now.names.items }) now.invariant c.in-Err.fault c.of_cut.result c.of_cut.ensures next

@@ -1,14 +1,13 @@
-use Rattle.std.proofs.Common.{ℕ, List, Option, Result, Ok, sym, ap, ◌∙◌, subst}
+use Rattle.std.proofs.Common.{ℕ, List, Option, Result, Ok, ap, ◌∙◌, subst}
 use Rattle.std.specs.Borrow.{Bor}
 use Rattle.field_lines.specs.Cut.{Cut}
-use Rattle.field_lines.specs.LinesFrom.{IsNextAnswer, ReadsText}
+use Rattle.field_lines.specs.LinesFrom.{IsNextAnswer}
 use Rattle.field_lines.specs.declared.fault.LineFault.{LineFault}
 use Rattle.field_lines.proofs.ReadingLemmas.{reads_start}
-use Rattle.pl94_counties.specs.declared.fault.Pl94Fault.{Pl94Fault}
 use Rattle.pl94_counties.specs.declared.fault.File.TheVariants.{Segment1}
 use Rattle.pl94_counties.specs.Segment.{record_on, record_rule, record_list_in}
 use Rattle.pl94_counties.proofs.CollectLemmas.{collected_in}
-use Rattle.pl94_counties.proofs.ReadersLemmas.{collect_cut, StopsAt, line_more, line_stops, text_stops}
+use Rattle.pl94_counties.proofs.ReadersLemmas.{collect_cut, line_more, line_stops, cut_stops}
 use Rattle.pl94_counties.proofs.segment.read_records.Goals as goal
 
 pub loop-line_number-init : goal.loop-line_number-init
@@ -54,5 +53,4 @@ returns-in-Err-clause-reads g c =
     let fault = c.in-Err.fault in
     let next = subst (λ (a : Result (Option (ℕ × Bor (List ℕ))) LineFault). IsNextAnswer (left now.lines) (given now.from) (failed now.from) a (left new) (given after) (failed after))
     c.in-Err.is c.next_from.follows.holds-at-none in
-    subst (λ (f : Pl94Fault). ReadsText (left c.args.lines.now).cut (given c.args.from.now) (given after) (λ k. StopsAt f (record_list_in k))) (sym c.of_cut.ensures)
-    (text_stops record_on record_rule Segment1 (left c.args.lines.now) (left now.lines) (left new) (given c.args.from.now) (given now.from) (given after) (failed now.from) (failed after) record_list_in now.records.entries now.invariant fault next)
+    cut_stops record_on record_rule Segment1 (left c.args.lines.now) (left now.lines) (left new) (given c.args.from.now) (given now.from) (given after) (failed now.from) (failed after) record_list_in now.records.entries now.invariant fault c.of_cut.result c.of_cut.ensures next
