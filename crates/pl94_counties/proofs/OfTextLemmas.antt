@@ -209,3 +209,10 @@ module _ (area : Area) (geo segment1 : List ℕ) (state : ℕ) where
 pub segment_stops : (area : Area) (geo segment1 : Cut) (state : ℕ) (fault : Pl94Fault) → record_list_in segment1 ≡ Err fault → area_list_in area geo segment1 state ≡ Err fault
 segment_stops area geo segment1 state fault is =
     ap (λ (r : Result (List (ℕ × ℕ)) Pl94Fault). r >>= (λ records. found_list_in area state records geo >>= (λ found. some_areas area found))) is
+
+-- a fault of geo is the first of both, where segment 1 has none
+pub geo_stops : (area : Area) (geo segment1 : Cut) (state : ℕ) (records : List (ℕ × ℕ)) (fault : Pl94Fault) → record_list_in segment1 ≡ Ok records → found_list_in area state records geo ≡ Err fault
+    → area_list_in area geo segment1 state ≡ Err fault
+geo_stops area geo segment1 state records fault are is =
+    ap (λ (r : Result (List (ℕ × ℕ)) Pl94Fault). r >>= (λ records. found_list_in area state records geo >>= (λ found. some_areas area found))) are
+    ∙ ap (λ (r : Result (List (ℕ × ℕ)) Pl94Fault). r >>= (λ found. some_areas area found)) is

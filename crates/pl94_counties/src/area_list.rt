@@ -14,6 +14,7 @@ ghost use Rattle.pl94_counties.specs.TextFaults.{IsPl94OfText};
 
 use crate::fault::{File, Pl94Fault, Pl94Kind};
 use crate::geo::{Area, area_in};
+use crate::notes::CensusNotes;
 use crate::segment::read_records;
 use field_lines::{LineReader, Lines, LinesFrom, Source};
 use std::alloc::Global;
@@ -64,6 +65,7 @@ fn join<F, L: LinesFrom<F>>(
     area: Area,
     state: u8,
     records: &BTreeMap<u32, u32>,
+    notes: &mut CensusNotes,
 ) -> Result<BTreeMap<u64, u32>, Pl94Fault>
     requires digits { state ≤ 99 }
     requires sound { (L.left lines.old).fault ≡ None }
@@ -76,7 +78,9 @@ fn join<F, L: LinesFrom<F>>(
     loop {
         match lines.next_from(from) {
             Ok(Some((line_number, line))) => {
+                notes.note_geo_line(state, records, line);
                 if let Err(kind) = add_line(&mut found, area, state, records, line) {
+                    notes.note_fault(kind, line);
                     return Err(Pl94Fault {
                         kind,
                         file: File::Geo,
@@ -85,7 +89,10 @@ fn join<F, L: LinesFrom<F>>(
                 }
             }
             Ok(None) => return Ok(found),
-            Err(fault) => return Err(Pl94Fault::of_cut(fault, File::Geo)),
+            Err(fault) => {
+                notes.note_long_line(fault, lines.line());
+                return Err(Pl94Fault::of_cut(fault, File::Geo));
+            }
         }
     }
 }
@@ -116,6 +123,7 @@ fn read_lines<F, L: LinesFrom<F>, G, M: LinesFrom<G>>(
     segment1: &mut M,
     segment1_from: &mut G,
     state: u8,
+    notes: &mut CensusNotes,
 ) -> Result<BTreeMap<u64, u32>, Pl94Fault>
     requires digits { state ≤ 99 }
     requires geo_sound { (L.left geo.old).fault ≡ None }
@@ -127,8 +135,8 @@ fn read_lines<F, L: LinesFrom<F>, G, M: LinesFrom<G>>(
     ensures segment1_failed { M.is_failed segment1_from.new ≡ read_failed File.Segment1 result }
     ensures ascending { IfOk result (λ m. IsStrictlyIncreasing (map (λ e. e.0) m.entries)) }
 {
-    let records = read_records(alloc, segment1, segment1_from)?;
-    let found = join(alloc, geo, geo_from, area, state, &records)?;
+    let records = read_records(alloc, segment1, segment1_from, notes)?;
+    let found = join(alloc, geo, geo_from, area, state, &records, notes)?;
     some_areas(found, area)
 }
 
@@ -146,6 +154,7 @@ fn read_texts(
 {
     let mut geo_lines = Lines::new(geo);
     let mut segment1_lines = Lines::new(segment1);
+    let mut notes = CensusNotes::new(alloc);
     read_lines(
         alloc,
         area,
@@ -154,6 +163,7 @@ fn read_texts(
         &mut segment1_lines,
         &mut (),
         state,
+        &mut notes,
     )
 }
 
@@ -185,6 +195,7 @@ pub(crate) fn read_areas_from<G: Source, S: Source>(
     geo: &mut G,
     segment1: &mut S,
     state: u8,
+    notes: &mut CensusNotes,
 ) -> Result<BTreeMap<u64, u32>, Pl94Fault>
     requires digits { state ≤ 99 }
     requires geo_works { G.is_failed geo.old ≡ false }
@@ -210,6 +221,7 @@ pub(crate) fn read_areas_from<G: Source, S: Source>(
         &mut segment1_lines,
         segment1,
         state,
+        notes,
     )
 }
 

@@ -14,6 +14,7 @@ ghost use Rattle.pl94_counties.specs.declared.geo.Area.TheVariants as areas;
 use crate::area_list::{no_memory, read_areas, read_areas_from};
 use crate::fault::{File, Pl94Fault, Pl94Kind};
 use crate::geo::Area;
+use crate::notes::CensusNotes;
 use field_lines::Source;
 use std::alloc::{AllocError, Global};
 use std::collections::BTreeMap;
@@ -72,7 +73,8 @@ pub fn read_blocks(
 }
 
 /// The blocks of a state by code, with their people, as `read_blocks` gives them, from the sources of geo and of
-/// segment 1. Neither has failed. Segment 1 is read first, and geo only where segment 1 has no fault.
+/// segment 1. Neither has failed. Segment 1 is read first, and geo only where segment 1 has no fault. What is answered
+/// is that of each pair of texts which begin with what the sources gave. `notes` have what the reading noted.
 ///
 /// # Errors
 ///
@@ -83,6 +85,7 @@ pub fn read_blocks_from<G: Source, S: Source>(
     geo: &mut G,
     segment1: &mut S,
     state: u8,
+    notes: &mut CensusNotes,
 ) -> Result<Vec<Block>, Pl94Fault>
     requires digits { state ≤ 99 }
     requires geo_works { G.is_failed geo.old ≡ false }
@@ -93,7 +96,7 @@ pub fn read_blocks_from<G: Source, S: Source>(
     ensures ascending { IfOk result (λ v. IsStrictlyIncreasing (map (λ b. b.code) v.items)) }
     ensures small { IfOk result (λ v. All (λ b. b.code < 1000000000000000) v.items) }
 {
-    let found = match read_areas_from(alloc, Area::Block, geo, segment1, state) {
+    let found = match read_areas_from(alloc, Area::Block, geo, segment1, state, notes) {
         Ok(found) => found,
         Err(fault) => return Err(fault),
     };

@@ -15,6 +15,7 @@ ghost use Rattle.pl94_counties.specs.declared.geo.Area.TheVariants as areas;
 use crate::area_list::{no_memory, read_areas, read_areas_from};
 use crate::fault::{File, Pl94Fault, Pl94Kind};
 use crate::geo::Area;
+use crate::notes::CensusNotes;
 use county_codes::{County, CountyCode};
 use field_lines::Source;
 use std::alloc::{AllocError, Global};
@@ -76,7 +77,8 @@ pub fn read_counties(
 }
 
 /// The counties of a state by code, with their people, as `read_counties` gives them, from the sources of geo and of
-/// segment 1. Neither has failed. Segment 1 is read first, and geo only where segment 1 has no fault.
+/// segment 1. Neither has failed. Segment 1 is read first, and geo only where segment 1 has no fault. What is answered
+/// is that of each pair of texts which begin with what the sources gave. `notes` have what the reading noted.
 ///
 /// # Errors
 ///
@@ -87,6 +89,7 @@ pub fn read_counties_from<G: Source, S: Source>(
     geo: &mut G,
     segment1: &mut S,
     state: u8,
+    notes: &mut CensusNotes,
 ) -> Result<Vec<County>, Pl94Fault>
     requires digits { state ≤ 99 }
     requires geo_works { G.is_failed geo.old ≡ false }
@@ -95,7 +98,7 @@ pub fn read_counties_from<G: Source, S: Source>(
     ensures geo_failed { G.is_failed geo.new ≡ read_failed File.Geo result }
     ensures segment1_failed { S.is_failed segment1.new ≡ read_failed File.Segment1 result }
 {
-    let found = match read_areas_from(alloc, Area::County, geo, segment1, state) {
+    let found = match read_areas_from(alloc, Area::County, geo, segment1, state, notes) {
         Ok(found) => found,
         Err(fault) => return Err(fault),
     };

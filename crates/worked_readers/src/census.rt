@@ -5,7 +5,7 @@ use crate::script::{Manner, source_of};
 use anyhow::{Error, Result};
 use county_codes::County;
 use pl94_counties::{
-    Block, File, Pl94Fault, Pl94Kind, read_blocks, read_blocks_from, read_counties,
+    Block, CensusNotes, File, Pl94Fault, Pl94Kind, read_blocks, read_blocks_from, read_counties,
     read_counties_from,
 };
 use std::alloc::Global;
@@ -104,14 +104,15 @@ impl Call for Census<'_> {
         let (geo_manner, segment1_manner) = self.manners(manner);
         let mut geo = source_of(self.geo.as_bytes(), geo_manner);
         let mut segment1 = source_of(self.segment1.as_bytes(), segment1_manner);
+        let mut notes = CensusNotes::new(alloc);
         match self.list {
             List::Counties => counties_said(
                 alloc,
-                read_counties_from(alloc, &mut geo, &mut segment1, STATE),
+                read_counties_from(alloc, &mut geo, &mut segment1, STATE, &mut notes),
             ),
             List::Blocks => blocks_said(
                 alloc,
-                read_blocks_from(alloc, &mut geo, &mut segment1, STATE),
+                read_blocks_from(alloc, &mut geo, &mut segment1, STATE, &mut notes),
             ),
         }
     }
