@@ -40,11 +40,17 @@ struct CensusTexts {
 impl CensusTexts {
     /// Notes the fault of one of the files, with what was kept of it.
     fn note_fault(self, file: File, fault: FileFault, end: &mut End) {
-        let (option, head) = match file {
-            File::Geo => (FileOption::Geo, self.geo),
-            File::Segment1 => (FileOption::Segment, self.segment),
+        end.note_census(&self.notes);
+        let CensusTexts {
+            geo,
+            segment,
+            notes,
+        } = self;
+        let (option, head, _other) = match file {
+            File::Geo => (FileOption::Geo, geo, segment),
+            File::Segment1 => (FileOption::Segment, segment, geo),
         };
-        let line = self.notes.line;
+        let line = notes.line;
         end.note_read_refused(option, fault, FaultText::Read { head, line });
     }
 }
