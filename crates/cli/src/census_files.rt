@@ -40,7 +40,7 @@ struct CensusTexts {
 impl CensusTexts {
     /// Notes the fault of one of the files, with what was kept of it.
     fn note_fault(self, file: File, fault: FileFault, end: &mut End) {
-        end.note_census(&self.notes);
+        end.note_states(&self.notes);
         let CensusTexts {
             geo,
             segment,

@@ -266,10 +266,16 @@ impl End {
         self.counties = Some((counties.len(), people_of(counties)));
     }
 
+    /// Notes the states that the first lines of the census files name, so far as they were read.
+    pub(crate) fn note_states(&mut self, notes: &CensusNotes) {
+        let (geo, segment) = self.states;
+        self.states = (notes.geo_state.or(geo), notes.segment_state.or(segment));
+    }
+
     /// Notes what the census files say besides their counties.
     pub(crate) fn note_census(&mut self, notes: &CensusNotes) {
         self.state_people = notes.state_people;
-        self.states = (notes.geo_state, notes.segment_state);
+        self.note_states(notes);
     }
 
     /// Notes the counties that were read, and what the census files say besides.
