@@ -1,27 +1,34 @@
 -- What the readers of files come to.
-use Rattle.std.proofs.Common.{◌≡◌, ℕ, Bool, true, false, List, [], Option, Some, None, inl, inr, refl, sym, ap, ap₂, ◌∙◌, subst}
-use Rattle.pl94_counties.specs.declared.fault.Pl94Fault.{Pl94Fault}
-use Rattle.pl94_counties.specs.Readers.{ReadsBoth}
-use Rattle.std.specs.Prelude.{Result, Ok, Err, IfOk, IfSome}
+use Rattle.std.proofs.Common.{◌≡◌, ◌&&◌, ℕ, Bool, true, false, List, [], ◌++◌, Option, Some, None, inl, inr, refl, sym, ap, ◌∙◌, subst, subst₂, ⊎_elim}
+use Rattle.std.specs.Prelude.{Result, Ok, Err, IfOk}
 use Rattle.std.specs.Result.{IsErrAnd}
-use Rattle.cli_shelves.specs.declared.shelf.ReadEnd.TheVariants.{Whole}
+use Rattle.std.proofs.lemmas.Bool.{false≢true}
+use Rattle.field_lines.specs.Source.{Given, nothing_given}
+use Rattle.field_lines.specs.HeldBytes.{Foresees}
+use Rattle.field_lines.specs.Values.{GivesUnless}
+use Rattle.pl94_counties.specs.declared.fault.File.{File}
+use Rattle.pl94_counties.specs.declared.fault.File.TheVariants.{Geo, Segment1}
+use Rattle.pl94_counties.specs.declared.fault.Pl94Fault.{Pl94Fault}
+use Rattle.pl94_counties.specs.declared.county_names.NamedFault.{NamedFault}
+use Rattle.pl94_counties.specs.declared.county_names.NamedFault.TheVariants as names
+use Rattle.pl94_counties.specs.PeopleByCode.{IsPl94Memory}
+use Rattle.pl94_counties.specs.CountyNames.{IsNoMemory}
+use Rattle.pl94_counties.specs.Readers.{IsPl94Refused, is_pl94_read_fault, same_file, read_failed, ReadsTexts}
+use Rattle.pl94_counties.specs.NamedReaders.{IsNamedRefused, named_read_failed}
+use Rattle.cli_shelves.specs.declared.shelf.ReadEnd.{ReadEnd}
 use Rattle.cli_shelves.specs.declared.shelf.ShelfFault.{ShelfFault}
 use Rattle.cli_shelves.specs.Files.{Files}
-use Rattle.cli_shelves.specs.Shelf.{IsLoad, Opens}
-use Rattle.cli_shelves.specs.History.{History, HasLoaded}
+use Rattle.cli_shelves.specs.Shelf.{IsLoad, Opens, IsRead, read_end}
+use Rattle.cli_shelves.specs.History.{History, HasLoaded, HasRead}
 use Rattle.cli_answers.specs.declared.answer.Refusal.{Refusal}
 use Rattle.cli_answers.specs.declared.answer.Refusal.TheVariants.{Shown, Memory}
 use Rattle.cli_answers.specs.Answer.{Answered}
 use Rattle.cli_answers.specs.Answers.{Comes, AnswerMeets, RefusalShows}
-use Rattle.certificate_checker.specs.declared.fault.CheckStop.{CheckStop}
-use Rattle.cli_runs.specs.declared.checker_report.Checked.{Checked}
-use Rattle.cli_runs.specs.CheckCourse.{IsChecked, ChecksGiven}
-use Rattle.cli_runs.specs.TableCourse.{Tabled}
-use Rattle.cli_runs.specs.Texts.{reported_of}
-use Rattle.cli_answers.specs.Refusals.{pl94_answer, shelf_answer}
-use Rattle.cli_runs.specs.Course.{Course, ◌>>=◌, load_step, call_step, value_step}
-use Rattle.cli_runs.specs.Reading.{GivenBack, open_step, read_step, whole_step, read_one, text_course, back_step, read_both, whole_pair, load_pair, texts_of}
-use Rattle.cli.specs.Streams.{IsWholeReader, AreWhole, Streams}
+use Rattle.cli_answers.specs.Refusals.{shelf_answer}
+use Rattle.cli_runs.specs.Course.{Course, ◌>>=◌}
+use Rattle.cli_runs.specs.Reading.{GivenBack, open_step, read_step, given_step, given_of, back_step, read_both, given_pair, given_of_both, OfTexts}
+use Rattle.cli_runs.proofs.RunLemmas.{came, went_on}
+use Rattle.cli.specs.Streams.{given_back, both_given_back, AreBack}
 
 -- an answer that is shown
 pub shown : (refusal : Refusal) (want : Answered) (P : Answered → Type 0) → RefusalShows want refusal → P want → AnswerMeets refusal P
@@ -44,46 +51,80 @@ pub unopened : (X : Type 0) (files : Option Files) (name : List ℕ) (fault : Sh
 unopened X files name fault before after refusal opened logged is =
     shown refusal (shelf_answer name fault) (λ a. open_step files name before after (Err a)) is (fault, opening_fault X files before.failures name fault opened, logged, refl)
 
-ok_same : {X E : Type 0} (r : Result X E) (x y : X) → r ≡ Ok x → r ≡ Ok y → x ≡ y
-ok_same r x y e f = cc
+-- what a call came to where the steps end in what was refused
+pub came_to_end : {S X : Type 0} (view : S → X) (steps : Result X Answered → Type 0) (end : Result S Refusal) (refusal : Refusal) → IsErrAnd end (λ e. e ≡ refusal)
+    → AnswerMeets refusal (λ a. steps (Err a)) → Comes view end steps
+came_to_end view steps (Ok found) refusal is h = absurd is
+came_to_end view steps (Err e) refusal is h = subst (λ (r : Refusal). AnswerMeets r (λ a. steps (Err a))) (sym is) h
 
-err_ok : {X E : Type 0} (r : Result X E) (fault : E) (x : X) → r ≡ Err fault → r ≡ Ok x → ⊥
-err_ok r fault x e f = cc
+-- one reader was given back
+module _ (files : Option Files) (name : List ℕ) (given : Given) (answer : Result ReadEnd ShelfFault) (before after : History)
+    (read : IsRead files name given.bytes answer) (logged : HasRead before after name given.bytes answer) where
+  abbrev back : GivenBack
+  back = record { bytes = given.bytes; answer = answer }
 
--- what holds of a value that was read holds of what is kept of it
-pub kept_holds : {T E : Type 0} (P : T → Type 0) (read : Result T E) (is_whole : Bool) (found : Option T) → IfOk read P → IfSome found (λ value. (read ≡ Ok value) × (is_whole ≡ true)) → IfSome found P
-kept_holds P read is_whole None holds h = tt
-kept_holds P (Ok value) is_whole (Some kept) holds h = subst P (ok_same (Ok value) value kept refl h.0) holds
-kept_holds P (Err fault) is_whole (Some kept) holds h = absurd (err_ok (Err fault) fault kept refl h.0)
+  pub one_sound : (end : ReadEnd) → answer ≡ Ok end → end ≡ read_end given.ended → given_back files name before after (Ok given)
+  one_sound end is at =
+      came (read_step files name) (given_step name) back before after after (Ok given) (read, logged) (refl, refl, is ∙ ap (λ (e : ReadEnd). Ok e) at)
 
--- what was read of two census files, if their readers stood at their ends
-pub census_read : {T Y : Type 0} (view : T → List Y) (list : List ℕ → List ℕ → Result (List Y) Pl94Fault) (first second geo segment : List ℕ) (both : GivenBack × GivenBack) (now : History) (read : Result T Pl94Fault)
-    (is_whole : Bool) (found : Option T) → ReadsBoth view [] geo [] segment read list → both.0.bytes ≡ geo → both.1.bytes ≡ segment → AreWhole first second both now (Ok is_whole)
-    → IfSome found (λ value. (read ≡ Ok value) × (is_whole ≡ true))
-    → IfSome found (λ value. (both.0.answer ≡ Ok Whole) × (both.1.answer ≡ Ok Whole) × call_step pl94_answer (λ answer. list both.0.bytes both.1.bytes ≡ answer) now now (Ok (view value)))
-census_read view list first second geo segment both now read is_whole None reads one other whole h = tt
-census_read view list first second geo segment both now (Ok value) true (Some found) reads one other whole h =
-    let same : value ≡ found = ok_same (Ok value) value found refl h.0 in
-    let texts : list both.0.bytes both.1.bytes ≡ list reads.geo reads.segment1 = ap₂ list (one ∙ reads.geo_given) (other ∙ reads.segment1_given) in
-    (whole.0, whole.1, (refl, texts ∙ reads.value ∙ ap (λ v. Ok (view v)) same))
-census_read view list first second geo segment both now (Err fault) true (Some found) reads one other whole h = absurd (err_ok (Err fault) fault found refl h.0)
-census_read view list first second geo segment both now read false (Some found) reads one other whole h = absurd (false_true h.1)
-  where
-    false_true : false ≡ true → ⊥
-    false_true e = cc
+  pub one_failed : (fault : ShelfFault) (refusal : Refusal) → answer ≡ Err fault → RefusalShows (shelf_answer name fault) refusal
+      → AnswerMeets refusal (λ a. given_back files name before after (Err a))
+  one_failed fault refusal is shows =
+      shown refusal (shelf_answer name fault) (λ a. given_back files name before after (Err a)) shows
+      (came (read_step files name) (given_step name) back before after after (Err (shelf_answer name fault)) (read, logged) (refl, (fault, is, refl)))
 
--- the second of two readers failed, or the first did
-pub second_failed : (first second : List ℕ) (g : GivenBack) (bytes : List ℕ) (fault : ShelfFault) (now : History) (refusal : Refusal) → RefusalShows (shelf_answer second fault) refusal
-    → AnswerMeets refusal (λ a. whole_pair first second (g, record { bytes = bytes; answer = Err fault }) now now (Err a))
-second_failed first second g bytes fault now refusal is =
-    shown refusal (shelf_answer second fault) (λ a. whole_pair first second (g, record { bytes = bytes; answer = Err fault }) now now (Err a)) is (inl (refl, (fault, refl, refl)))
+-- two readers were given back, that of the second file first
+module _ (files : Option Files) (first second : List ℕ) (x y : Given) (before between after : History) where
+  both_sound : (a b : Result ReadEnd ShelfFault) → back_step files first second before after (Ok (record { bytes = x.bytes; answer = a }, record { bytes = y.bytes; answer = b }))
+      → a ≡ Ok (read_end x.ended) → b ≡ Ok (read_end y.ended) → both_given_back files first second before after (Ok (x, y))
+  both_sound a b back one other =
+      came (back_step files first second) (given_pair first second) (record { bytes = x.bytes; answer = a }, record { bytes = y.bytes; answer = b }) before after after (Ok (x, y)) back
+      (inr (record { value = y; between = after; given = (refl, refl, other); goes_on = inr (record { value = x; between = after; given = (refl, refl, one); goes_on = (refl, refl) }) }))
 
-pub first_failed : (first second : List ℕ) (bytes others : List ℕ) (fault : ShelfFault) (now : History) (refusal : Refusal) → RefusalShows (shelf_answer first fault) refusal
-    → AnswerMeets refusal (λ a. whole_pair first second (record { bytes = bytes; answer = Err fault }, record { bytes = others; answer = Ok Whole }) now now (Err a))
-first_failed first second bytes others fault now refusal is =
-    shown refusal (shelf_answer first fault) (λ a. whole_pair first second (record { bytes = bytes; answer = Err fault }, record { bytes = others; answer = Ok Whole }) now now (Err a)) is
-    (inr (record { value = others; between = now; given = (refl, refl, refl); goes_on = inl (refl, (fault, refl, refl)) }))
+  second_failed : (a b : Result ReadEnd ShelfFault) (fault : ShelfFault) (refusal : Refusal)
+      → back_step files first second before after (Ok (record { bytes = x.bytes; answer = a }, record { bytes = y.bytes; answer = b }))
+      → b ≡ Err fault → RefusalShows (shelf_answer second fault) refusal → AnswerMeets refusal (λ r. both_given_back files first second before after (Err r))
+  second_failed a b fault refusal back is shows =
+      shown refusal (shelf_answer second fault) (λ r. both_given_back files first second before after (Err r)) shows
+      (came (back_step files first second) (given_pair first second) (record { bytes = x.bytes; answer = a }, record { bytes = y.bytes; answer = b }) before after after (Err (shelf_answer second fault)) back
+      (inl (refl, (fault, is, refl))))
 
+  first_failed : (a b : Result ReadEnd ShelfFault) (fault : ShelfFault) (refusal : Refusal)
+      → back_step files first second before after (Ok (record { bytes = x.bytes; answer = a }, record { bytes = y.bytes; answer = b }))
+      → a ≡ Err fault → b ≡ Ok (read_end y.ended) → RefusalShows (shelf_answer first fault) refusal → AnswerMeets refusal (λ r. both_given_back files first second before after (Err r))
+  first_failed a b fault refusal back is other shows =
+      shown refusal (shelf_answer first fault) (λ r. both_given_back files first second before after (Err r)) shows
+      (came (back_step files first second) (given_pair first second) (record { bytes = x.bytes; answer = a }, record { bytes = y.bytes; answer = b }) before after after (Err (shelf_answer first fault)) back
+      (inr (record { value = y; between = after; given = (refl, refl, other); goes_on = inl (refl, (fault, is, refl)) })))
+
+  came_back : (a b : Result ReadEnd ShelfFault) (end : Result (Unit {0}) Refusal)
+      → back_step files first second before after (Ok (record { bytes = x.bytes; answer = a }, record { bytes = y.bytes; answer = b }))
+      → AreBack first second a b end → IfOk a (λ e. e ≡ read_end x.ended) → IfOk b (λ e. e ≡ read_end y.ended)
+      → Comes (λ _. (x, y)) end (both_given_back files first second before after)
+  came_back (Ok d) (Ok e) (Ok done) back are one other = both_sound (Ok d) (Ok e) back (ap (λ (z : ReadEnd). Ok z) one) (ap (λ (z : ReadEnd). Ok z) other)
+  came_back (Ok d) (Ok e) (Err refusal) back are one other = absurd are
+  came_back (Ok d) (Err fault) (Ok done) back are one other = absurd are
+  came_back (Ok d) (Err fault) (Err refusal) back are one other = second_failed (Ok d) (Err fault) fault refusal back refl are
+  came_back (Err kind) (Ok e) (Ok done) back are one other = absurd are
+  came_back (Err kind) (Ok e) (Err refusal) back are one other = first_failed (Err kind) (Ok e) kind refusal back refl (ap (λ (z : ReadEnd). Ok z) other) are
+  came_back (Err kind) (Err fault) (Ok done) back are one other = absurd are
+  came_back (Err kind) (Err fault) (Err refusal) back are one other = second_failed (Err kind) (Err fault) fault refusal back refl are
+
+  pub both_back : (a b : Result ReadEnd ShelfFault) (end : Result (Unit {0}) Refusal)
+      → IsRead files second y.bytes b → HasRead before between second y.bytes b → IsRead files first x.bytes a → HasRead between after first x.bytes a
+      → AreBack first second a b end → IfOk a (λ e. e ≡ read_end x.ended) → IfOk b (λ e. e ≡ read_end y.ended)
+      → Comes (λ _. (x, y)) end (both_given_back files first second before after)
+  both_back a b end read_second logged_second read_first logged_first are one other =
+      came_back a b end
+      (inr (record {
+        value = record { bytes = y.bytes; answer = b };
+        between = between;
+        given = (read_second, logged_second);
+        goes_on = inr (record { value = record { bytes = x.bytes; answer = a }; between = after; given = (read_first, logged_first); goes_on = (refl, refl) });
+      }))
+      are one other
+
+-- both files were opened, and both readers were given back
 module _ (files : Option Files) (first second : List ℕ) where
   -- the first file could not be opened, or the second
   pub first_unopened : (before after : History) (refusal : Refusal) → AnswerMeets refusal (λ a. open_step files first before after (Err a)) → AnswerMeets refusal (λ a. read_both files first second before after (Err a))
@@ -95,162 +136,62 @@ module _ (files : Option Files) (first second : List ℕ) where
   second_unopened before between after (Shown a) same h = inr (record { value = tt; between = between; given = same; goes_on = inl h })
   second_unopened before between after Memory same h = tt
 
-  -- both readers were given back
-  pub both_back : (before between after : History) (g h : GivenBack) → read_step files second before between (Ok h) → read_step files first between after (Ok g)
-      → back_step files first second before after (Ok (g, h))
-  both_back before between after g h other one =
-      inr (record { value = h; between = between; given = other; goes_on = inr (record { value = g; between = after; given = one; goes_on = (refl, refl) }) })
-
-  -- both were opened, and both readers were given back
-  pub both_read : (before between after : History) (given : GivenBack × GivenBack) → between ≡ before → back_step files first second between after (Ok given)
-      → read_both files first second before after (Ok given)
-  both_read before between after given same back =
+  both_read : (before between after : History) (end : Result (GivenBack × GivenBack) Answered) → between ≡ before → back_step files first second between after end
+      → read_both files first second before after end
+  both_read before between after end same back =
       inr (record { value = tt; between = between; given = same; goes_on = inr (record { value = tt; between = between; given = refl; goes_on = back }) })
 
-  module _ {S X : Type 0} (view : S → X) (next : List ℕ × List ℕ → Course X) where
+  pair_given : (before between after : History) (end : Result (Given × Given) Answered) → between ≡ before → both_given_back files first second between after end
+      → given_of_both files first second before after end
+  pair_given before between after (Ok pair) same (inl stop) = absurd stop
+  pair_given before between after (Err a) same (inl stop) = inl (both_read before between after (Err a) same stop)
+  pair_given before between after end same (inr on) =
+      inr (record { value = on.value; between = on.between; given = both_read before between on.between (Ok on.value) same on.given; goes_on = on.goes_on })
+
+  module _ {S X : Type 0} (view : S → X) (next : Given × Given → Course X) where
     abbrev steps : Course X
-    steps = texts_of files first second >>= next
+    steps = given_of_both files first second >>= next
 
-    pub stream_unopened : (before after : History) (refusal : Refusal) → AnswerMeets refusal (λ a. read_both files first second before after (Err a)) → AnswerMeets refusal (λ a. steps before after (Err a))
-    stream_unopened before after (Shown a) h = inl (inl h)
-    stream_unopened before after Memory h = tt
+    pub both_unopened : (before after : History) (refusal : Refusal) → AnswerMeets refusal (λ a. read_both files first second before after (Err a)) → AnswerMeets refusal (λ a. steps before after (Err a))
+    both_unopened before after (Shown a) h = inl (inl h)
+    both_unopened before after Memory h = tt
 
-    pub stream_failed : (before after : History) (given : GivenBack × GivenBack) (refusal : Refusal) → read_both files first second before after (Ok given)
-        → AnswerMeets refusal (λ a. whole_pair first second given after after (Err a)) → AnswerMeets refusal (λ a. steps before after (Err a))
-    stream_failed before after given (Shown a) read h = inl (inr (record { value = given; between = after; given = read; goes_on = inl h }))
-    stream_failed before after given Memory read h = tt
+    pub both_failed : (before between after : History) (refusal : Refusal) → between ≡ before → AnswerMeets refusal (λ a. both_given_back files first second between after (Err a))
+        → AnswerMeets refusal (λ a. steps before after (Err a))
+    both_failed before between after (Shown a) same h = inl (pair_given before between after (Err _) same h)
+    both_failed before between after Memory same h = tt
 
-    pub stream_ended : (before after : History) (end : Result (Option S) Refusal) (refusal : Refusal) → IsErrAnd end (λ e. e ≡ refusal) → AnswerMeets refusal (λ a. steps before after (Err a))
-        → Streams view steps (read_both files first second) end before after
-    stream_ended before after (Ok found) refusal is h = absurd is
-    stream_ended before after (Err e) refusal is h = subst (λ (r : Refusal). AnswerMeets r (λ a. steps before after (Err a))) (sym is) h
+    pub both_came : (before between after : History) (pair : Given × Given) (end : Result S Refusal) → between ≡ before → both_given_back files first second between after (Ok pair)
+        → Comes view end (next pair after after) → Comes view end (steps before after)
+    both_came before between after pair end same h ends =
+        went_on view end (given_of_both files first second) next pair before after after (pair_given before between after (Ok pair) same h) ends
 
-    whole_texts : (before after : History) (given : GivenBack × GivenBack) → read_both files first second before after (Ok given) → given.0.answer ≡ Ok Whole → given.1.answer ≡ Ok Whole
-        → texts_of files first second before after (Ok (given.0.bytes, given.1.bytes))
-    whole_texts before after given read whole whole_too = inr (record {
-      value = given;
-      between = after;
-      given = read;
-      goes_on = inl (inr (record {
-        value = given.1.bytes;
-        between = after;
-        given = (refl, whole_too, refl);
-        goes_on = inr (record { value = given.0.bytes; between = after; given = (refl, whole, refl); goes_on = (refl, refl) });
-      }));
-    })
+-- what holds of each two texts that begin with what was read
+pub texts_read : (P : List ℕ → List ℕ → Type 0) (g x s y : Given) → g ≡ nothing_given → s ≡ nothing_given → ReadsTexts g x s y P → OfTexts P x y
+texts_read P g x s y none none_too reads = λ geo segment sees sees_too.
+    let begun : x.bytes ≡ reads.geo = reads.geo_given ∙ ap (λ (z : Given). z.bytes ++ reads.geo) none in
+    let begun_too : y.bytes ≡ reads.segment1 = reads.segment1_given ∙ ap (λ (z : Given). z.bytes ++ reads.segment1) none_too in
+    subst₂ P (sym (sees.text ∙ ap (λ (b : List ℕ). b ++ sees.later) begun)) (sym (sees_too.text ∙ ap (λ (b : List ℕ). b ++ sees_too.later) begun_too))
+    (reads.holds sees.later sees_too.later sees.may sees_too.may)
 
-    -- what was streamed is of whole texts, or only the readers were given back
-    pub streamed : (before after : History) (given : GivenBack × GivenBack) (found : Option S) → read_both files first second before after (Ok given)
-        → IfSome found (λ value. (given.0.answer ≡ Ok Whole) × (given.1.answer ≡ Ok Whole) × next (given.0.bytes, given.1.bytes) after after (Ok (view value)))
-        → Streams view steps (read_both files first second) (Ok found) before after
-    streamed before after given (Some value) read h =
-        inr (record { value = (given.0.bytes, given.1.bytes); between = after; given = whole_texts before after given read h.0 h.1; goes_on = h.2 })
-    streamed before after given None read h = (given, read)
-
-    -- both files were loaded behind the reading
-    loaded : (before between after : History) (given : GivenBack × GivenBack) (end : Result X Answered) → read_both files first second before between (Ok given)
-        → (load_pair files first second >>= next) between after end → steps before after end
-    loaded before between after given (Ok value) read (inl stop) = absurd stop
-    loaded before between after given (Err a) read (inl stop) = inl (inr (record { value = given; between = between; given = read; goes_on = inr stop }))
-    loaded before between after given end read (inr on) = inr (record {
-      value = on.value;
-      between = on.between;
-      given = inr (record { value = given; between = between; given = read; goes_on = inr on.given });
-      goes_on = on.goes_on;
-    })
-
-    pub reloaded : (before between after : History) (given : GivenBack × GivenBack) (end : Result S Refusal) → read_both files first second before between (Ok given)
-        → Comes view end ((load_pair files first second >>= next) between after) → Comes view end (steps before after)
-    reloaded before between after given (Ok value) read h = loaded before between after given (Ok (view value)) read h
-    reloaded before between after given (Err (Shown a)) read h = loaded before between after given (Err _) read h
-    reloaded before between after given (Err Memory) read h = tt
-
-    -- two files that are loaded one after the other
-    pair_loaded : (before after : History) (end : Result X Answered) → (load_step files first >>= λ x. load_step files second >>= λ y. next (x, y)) before after end
-        → (load_pair files first second >>= next) before after end
-    pair_loaded before after (Ok value) (inl stop) = absurd stop
-    pair_loaded before after (Err a) (inl stop) = inl (inl stop)
-    pair_loaded before after end (inr on) = second_loaded end on.goes_on
-      where
-        second_loaded : (last : Result X Answered) → (load_step files second >>= λ y. next (on.value, y)) on.between after last → (load_pair files first second >>= next) before after last
-        second_loaded (Ok value) (inl stop) = absurd stop
-        second_loaded (Err a) (inl stop) = inl (inr (record { value = on.value; between = on.between; given = on.given; goes_on = inl stop }))
-        second_loaded last (inr more) = inr (record {
-          value = (on.value, more.value);
-          between = more.between;
-          given = inr (record { value = on.value; between = on.between; given = on.given; goes_on = inr (record { value = more.value; between = more.between; given = more.given; goes_on = (refl, refl) }) });
-          goes_on = more.goes_on;
-        })
-
-    pub paired : (before after : History) (end : Result S Refusal) → Comes view end ((load_step files first >>= λ x. load_step files second >>= λ y. next (x, y)) before after)
-        → Comes view end ((load_pair files first second >>= next) before after)
-    paired before after (Ok value) h = pair_loaded before after (Ok (view value)) h
-    paired before after (Err (Shown a)) h = pair_loaded before after (Err _) h
-    paired before after (Err Memory) h = tt
-
-module _ (files : Option Files) (name : List ℕ) where
-  -- the file could not be opened, or its reader was given back
-  pub one_read : (before between after : History) (given : GivenBack) → between ≡ before → read_step files name between after (Ok given) → read_one files name before after (Ok given)
-  one_read before between after given same back = inr (record { value = tt; between = between; given = same; goes_on = back })
-
-  module _ {S X : Type 0} (view : S → X) (next : List ℕ → Course X) where
-    abbrev text_steps : Course X
-    text_steps = text_course files name >>= next
-
-    pub text_unopened : (before after : History) (refusal : Refusal) → AnswerMeets refusal (λ a. open_step files name before after (Err a)) → AnswerMeets refusal (λ a. text_steps before after (Err a))
-    text_unopened before after (Shown a) h = inl (inl (inl h))
-    text_unopened before after Memory h = tt
-
-    pub text_failed : (before after : History) (given : GivenBack) (refusal : Refusal) → read_one files name before after (Ok given)
-        → AnswerMeets refusal (λ a. whole_step name given after after (Err a)) → AnswerMeets refusal (λ a. text_steps before after (Err a))
-    text_failed before after given (Shown a) read h = inl (inr (record { value = given; between = after; given = read; goes_on = inl h }))
-    text_failed before after given Memory read h = tt
-
-    pub text_ended : (before after : History) (end : Result (Option S) Refusal) (refusal : Refusal) → IsErrAnd end (λ e. e ≡ refusal) → AnswerMeets refusal (λ a. text_steps before after (Err a))
-        → Streams view text_steps (read_one files name) end before after
-    text_ended before after (Ok found) refusal is h = absurd is
-    text_ended before after (Err e) refusal is h = subst (λ (r : Refusal). AnswerMeets r (λ a. text_steps before after (Err a))) (sym is) h
-
-    -- what was streamed is of the whole text, or only the reader was given back
-    pub text_streamed : (before after : History) (given : GivenBack) (found : Option S) → read_one files name before after (Ok given)
-        → IfSome found (λ value. (given.answer ≡ Ok Whole) × next given.bytes after after (Ok (view value)))
-        → Streams view text_steps (read_one files name) (Ok found) before after
-    text_streamed before after given (Some value) read h = inr (record {
-      value = given.bytes;
-      between = after;
-      given = inr (record { value = given; between = after; given = read; goes_on = inl (refl, h.0, refl) });
-      goes_on = h.1;
-    })
-    text_streamed before after given None read h = (given, read)
-
-    -- the file was loaded behind the reading
-    text_loaded : (before between after : History) (given : GivenBack) (end : Result X Answered) → read_one files name before between (Ok given)
-        → (load_step files name >>= next) between after end → text_steps before after end
-    text_loaded before between after given (Ok value) read (inl stop) = absurd stop
-    text_loaded before between after given (Err a) read (inl stop) = inl (inr (record { value = given; between = between; given = read; goes_on = inr stop }))
-    text_loaded before between after given end read (inr on) = inr (record {
-      value = on.value;
-      between = on.between;
-      given = inr (record { value = given; between = between; given = read; goes_on = inr on.given });
-      goes_on = on.goes_on;
-    })
-
-    pub text_reloaded : (before between after : History) (given : GivenBack) (end : Result S Refusal) → read_one files name before between (Ok given)
-        → Comes view end ((load_step files name >>= next) between after) → Comes view end (text_steps before after)
-    text_reloaded before between after given (Ok value) read h = text_loaded before between after given (Ok (view value)) read h
-    text_reloaded before between after given (Err (Shown a)) read h = text_loaded before between after given (Err _) read h
-    text_reloaded before between after given (Err Memory) read h = tt
-
--- what was said of a certificate that was read to its end
-pub certificate_checked : (t : Tabled) (budget : ℕ) (name bytes : List ℕ) (given : GivenBack) (now : History) (checked : Result Checked CheckStop) (is_whole : Bool) (found : Option Checked)
-    → IfOk checked (λ c. ChecksGiven t budget [] bytes (reported_of c.reported)) → given.bytes ≡ bytes → IsWholeReader name given now (Ok is_whole)
-    → IfSome found (λ value. (checked ≡ Ok value) × (is_whole ≡ true))
-    → IfSome found (λ value. (given.answer ≡ Ok Whole) × value_step (IsChecked t budget given.bytes) now now (Ok (reported_of value.reported)))
-certificate_checked t budget name bytes given now checked is_whole None holds same whole h = tt
-certificate_checked t budget name bytes given now checked true (Some kept) holds same whole h =
-    let k = kept_holds (λ (c : Checked). ChecksGiven t budget [] bytes (reported_of c.reported)) checked true (Some kept) holds h in
-    (whole, (refl, subst (λ (text : List ℕ). IsChecked t budget text (reported_of kept.reported)) (sym (same ∙ k.is_given)) k.checked))
-certificate_checked t budget name bytes given now checked false (Some kept) holds same whole h = absurd (false_true h.1)
+-- a fault that isn't that a file could not be read
+no_read_fault : (fault : Pl94Fault) (file : File) → file ≡ fault.file → read_failed {X = Unit {0}} Geo (Err fault) ≡ false → read_failed {X = Unit {0}} Segment1 (Err fault) ≡ false → is_pl94_read_fault fault.kind ≡ true → ⊥
+no_read_fault fault Geo is one other read = false≢true (sym one ∙ both_true read (ap (same_file Geo) (sym is)))
   where
-    false_true : false ≡ true → ⊥
-    false_true e = cc
+    both_true : {b d : Bool} → b ≡ true → d ≡ true → (b && d) ≡ true
+    both_true e f = cc
+no_read_fault fault Segment1 is one other read = false≢true (sym other ∙ both_true read (ap (same_file Segment1) (sym is)))
+  where
+    both_true : {b d : Bool} → b ≡ true → d ≡ true → (b && d) ≡ true
+    both_true e f = cc
+
+pub only_memory : {X Y : Type 0} (view : X → Y) (read : Result X Pl94Fault) (list : List ℕ → List ℕ → Result Y Pl94Fault) (x y : Given) → read_failed Geo read ≡ false → read_failed Segment1 read ≡ false
+    → OfTexts (λ g s. GivesUnless IsPl94Refused view read (list g s)) x y → OfTexts (λ g s. GivesUnless IsPl94Memory view read (list g s)) x y
+only_memory view (Ok value) list x y one other of = of
+only_memory view (Err fault) list x y one other of = λ g s sees sees_too not. of g s sees sees_too (λ refused. ⊎_elim not (no_read_fault fault fault.file refl one other) refused)
+
+pub only_memory_of_names : {X Y : Type 0} (view : X → Y) (read : Result X NamedFault) (list : List ℕ → List ℕ → Result Y NamedFault) (x y : Given) → named_read_failed Geo read ≡ false → named_read_failed Segment1 read ≡ false
+    → OfTexts (λ g s. GivesUnless IsNamedRefused view read (list g s)) x y → OfTexts (λ g s. GivesUnless IsNoMemory view read (list g s)) x y
+only_memory_of_names view (Ok value) list x y one other of = of
+only_memory_of_names view (Err (names.BadName line)) list x y one other of = of
+only_memory_of_names view (Err (names.Files fault)) list x y one other of = λ g s sees sees_too not. of g s sees sees_too (λ refused. ⊎_elim not (no_read_fault fault fault.file refl one other) refused)

@@ -37,21 +37,32 @@ struct CensusTexts {
     notes: CensusNotes,
 }
 
-impl CensusTexts {
-    /// Notes the fault of one of the files, with what was kept of it.
-    fn note_fault(self, file: File, fault: FileFault, end: &mut End) {
-        end.note_states(&self.notes);
-        let CensusTexts {
-            geo,
-            segment,
-            notes,
-        } = self;
-        let (option, head, _other) = match file {
-            File::Geo => (FileOption::Geo, geo, segment),
-            File::Segment1 => (FileOption::Segment, segment, geo),
-        };
-        let line = notes.line;
-        end.note_read_refused(option, fault, FaultText::Read { head, line });
+/// Returns the option of a file, and the bytes that were kept of it.
+fn kept_of(file: File, geo: Vec<u8>, segment: Vec<u8>) -> (FileOption, Vec<u8>) {
+    match file {
+        File::Geo => (FileOption::Geo, geo),
+        File::Segment1 => (FileOption::Segment, segment),
+    }
+}
+
+/// Notes the fault of one of the files, with what was kept of it.
+fn note_fault(texts: CensusTexts, file: File, fault: FileFault, end: &mut End) {
+    let CensusTexts {
+        geo,
+        segment,
+        notes,
+    } = texts;
+    end.note_states(&notes);
+    let (option, head) = kept_of(file, geo, segment);
+    let line = notes.line;
+    end.note_read_refused(option, fault, FaultText::Read { head, line });
+}
+
+/// Notes the fault of the files, or the name that isn't UTF-8, with what was kept of the file.
+fn note_named_fault(texts: CensusTexts, fault: NamedFault, end: &mut End) {
+    match fault {
+        NamedFault::Files(fault) => note_fault(texts, fault.file, FileFault::Census(fault), end),
+        NamedFault::BadName(line) => note_fault(texts, File::Geo, FileFault::BadName(line), end),
     }
 }
 
@@ -72,7 +83,7 @@ fn counties_read(
             Ok(counties)
         }
         Err(fault) => {
-            texts.note_fault(fault.file, FileFault::Census(fault), end);
+            note_fault(texts, fault.file, FileFault::Census(fault), end);
             Err(refuse_file(alloc, fault))
         }
     }
@@ -136,14 +147,7 @@ fn named_read(
             Ok(named)
         }
         Err(fault) => {
-            match fault {
-                NamedFault::Files(fault) => {
-                    texts.note_fault(fault.file, FileFault::Census(fault), end)
-                }
-                NamedFault::BadName(line) => {
-                    texts.note_fault(File::Geo, FileFault::BadName(line), end)
-                }
-            }
+            note_named_fault(texts, fault, end);
             Err(refuse_named_counties(alloc, fault))
         }
     }
@@ -192,7 +196,7 @@ fn blocks_read(
     match read {
         Ok(blocks) => Ok(blocks),
         Err(fault) => {
-            texts.note_fault(fault.file, FileFault::Census(fault), end);
+            note_fault(texts, fault.file, FileFault::Census(fault), end);
             Err(refuse_file(alloc, fault))
         }
     }

@@ -26,6 +26,7 @@ module _ (files : Files) where
         segment = begun.1.text;
         geo_is = begun.0.is;
         segment_is = begun.1.is;
+        faultless = t.goes_on.1 begun.0.text begun.1.text begun.0.sees begun.1.sees;
         are = are_blocks begun.0.text begun.1.text words.state blocks (t.goes_on.1 begun.0.text begun.1.text begun.0.sees begun.1.sees);
       }
 

@@ -163,6 +163,7 @@ module _ (files : Files) where
       segment = h.segment;
       geo_is = h.geo_is;
       segment_is = h.segment_is;
+      faultless = h.counties_are;
       are = are_counties h.geo h.segment words.common.state h.counties h.counties_are;
     };
     pairs = h.over.pairs;
@@ -177,6 +178,7 @@ module _ (files : Files) where
     };
     withdrawn = h.over.withdrawn;
     withdrawn_are = h.over.withdrawn_are;
+    faultless = h.over.built.0;
     problem = h.over.built.1;
   }
 

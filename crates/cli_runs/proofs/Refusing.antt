@@ -38,7 +38,6 @@ use Rattle.cli_answers.specs.Refusals.{shelf_answer, file_answer, pl94_answer, c
 use Rattle.cli_words.specs.declared.words.CommonWords.{CommonWords}
 use Rattle.cli_words.specs.declared.words.ProblemWords.{ProblemWords}
 use Rattle.cli_runs.specs.Course.{Course, ◌>>=◌, load_step, call_step, value_step, optional_step}
-use Rattle.field_lines.specs.Source.{Given}
 use Rattle.cli_runs.specs.Reading.{given_of, given_of_both, OfTexts}
 use Rattle.cli_runs.specs.PlanCourse.{blocks_of, plan_assignments}
 use Rattle.cli_runs.specs.TableCourse.{untabled, tabled_by, named_counties_of, tabled_problem_in}

@@ -1,14 +1,15 @@
--- The problem that the bytes of files tell, without a word of what is refused.
+-- The problem that the bytes of files tell, none of which is at fault.
 use Rattle.std.specs.Prelude.{◌≡◌, ℕ, List, [], Option, Some, None, Result, Ok}
 use Rattle.std.specs.Borrow.{Bor}
 use Rattle.county_codes.specs.declared.county.County.{County}
 use Rattle.county_codes.specs.declared.withdrawn.Withdrawn as county
 use Rattle.grouping_laws.specs.Grouping as groups
 use Rattle.county_problem.specs.ProblemValue.{ProblemValue, codes_of}
-use Rattle.county_problem.specs.Building.{IsProblemOf}
+use Rattle.county_problem.specs.Building.{IsProblemOf, problem_fault}
 use Rattle.pl94_counties.specs.CountyNames.{CountyName, named_list}
 use Rattle.grouping_table.specs.Table.{table_text}
 use Rattle.pl94_counties.specs.declared.blocks.Block.{Block}
+use Rattle.pl94_counties.specs.Counties.{county_list, block_list}
 use Rattle.pl94_counties.specs.ListedAreas.{AreCounties, AreBlocks}
 use Rattle.adjacency_reader.specs.declared.links.Link.{Link}
 use Rattle.adjacency_reader.specs.Rows.{row_list}
@@ -33,12 +34,13 @@ abbrev pub IsReadAsIfNamed : {X F : Type 0} → (List ℕ → Result (List X) F)
 IsReadAsIfNamed read files None list = list ≡ []
 IsReadAsIfNamed read files (Some name) list = IsReadAs read files name.now list
 
--- the counties of the state by the bytes of the geographic header and of segment 1
+-- The counties of the state by the bytes of the geographic header and of segment 1, of which no line is at fault.
 pub record AreCountiesOfFiles (files : Files) (words : CommonWords) (counties : List County) : Type 0 where
   pub geo : List ℕ
   pub segment : List ℕ
   pub geo_is : files words.geo.now ≡ Some geo
   pub segment_is : files words.segment.now ≡ Some segment
+  pub faultless : county_list geo segment words.state ≡ Ok counties
   pub are : AreCounties geo segment words.state counties
 
 -- the counties of the state with their names by the bytes of the geographic header and of segment 1
@@ -49,12 +51,13 @@ pub record AreNamedByFiles (files : Files) (words : CommonWords) (named : List C
   pub segment_is : files words.segment.now ≡ Some segment
   pub are : named_list geo segment words.state ≡ Ok named
 
--- the census blocks of the state by the bytes of the geographic header and of segment 1
+-- The census blocks of the state by the bytes of the geographic header and of segment 1, of which no line is at fault.
 pub record AreBlocksOfFiles (files : Files) (words : CommonWords) (blocks : List Block) : Type 0 where
   pub geo : List ℕ
   pub segment : List ℕ
   pub geo_is : files words.geo.now ≡ Some geo
   pub segment_is : files words.segment.now ≡ Some segment
+  pub faultless : block_list geo segment words.state ≡ Ok blocks
   pub are : AreBlocks geo segment words.state blocks
 
 -- The adjacent pairs: those of the rows of the adjacency file between listed counties, and then the links over them.
@@ -69,7 +72,7 @@ pub record AreAdjacentByFiles (files : Files) (words : ProblemWords) (listed : L
   pub linked : AreLinked named links pairs
 
 -- The problem of the files: its counties, its adjacent pairs and its withdrawn sets are those of the files' bytes, and
--- its chamber and its allowance are those of the words.
+-- its chamber and its allowance are those of the words. Together they have no fault.
 pub record IsProblemOfFiles (files : Files) (words : ProblemWords) (v : ProblemValue) : Type 0 where
   pub counties : List County
   pub counties_are : AreCountiesOfFiles files words.common counties
@@ -77,6 +80,7 @@ pub record IsProblemOfFiles (files : Files) (words : ProblemWords) (v : ProblemV
   pub pairs_are : AreAdjacentByFiles files words (codes_of counties) pairs
   pub withdrawn : List county.Withdrawn
   pub withdrawn_are : IsReadAsIfNamed withdrawn_list files words.withdrawn withdrawn
+  pub faultless : problem_fault counties pairs withdrawn words.common.chamber words.common.window ≡ None
   pub problem : IsProblemOf counties pairs withdrawn words.common.chamber words.common.window v
 
 -- the grouping of a file

@@ -13,6 +13,7 @@ use Rattle.std.proofs.lemmas.List.Kept.{AllPairs-from_increasing}
 use Rattle.std.proofs.lemmas.Map.Views.{All-keys-insert_entry}
 use Rattle.field_lines.specs.Cut.{cut}
 use Rattle.field_lines.specs.declared.fault.LineFault.{LineFault}
+use Rattle.county_codes.specs.Counties.{codes_of}
 use Rattle.county_codes.specs.declared.county.County.{County}
 use Rattle.pl94_counties.specs.declared.blocks.Block.{Block}
 use Rattle.pl94_counties.specs.declared.fault.File.{File}
@@ -129,3 +130,13 @@ counties_listed geo segment1 state entries items digits rises found is =
     let joined = from_lines areas.County geo segment1 state f.records entries f.records_are f.found_are rises in
     let same : items ≡ map (λ (e : ℕ × ℕ). county_of e.0 e.1) entries = is ∙ counties_kept entries (codes_small (cut geo).lines (cut segment1).lines state entries digits joined) in
     ap (λ (r : Result (List (ℕ × ℕ)) Pl94Fault). result_map_both (λ es. map (λ e. county_of e.0 e.1) es) (λ fault. fault) r) found ∙ ap (λ (cs : List County). Ok cs) (sym same)
+
+-- the codes of counties that are listed so ascend
+pub counties_rise : (geo segment1 : List ℕ) (state : ℕ) (entries : List (ℕ × ℕ)) → state ≤ 99 → IsStrictlyIncreasing (map (λ e. e.0) entries)
+    → area_list areas.County geo segment1 state ≡ Ok entries → IsStrictlyIncreasing (codes_of (filter_map (λ (e : ℕ × ℕ). county_in e.0 e.1) entries))
+counties_rise geo segment1 state entries digits rises found =
+    let f = areas_found areas.County geo segment1 state entries found in
+    let joined = from_lines areas.County geo segment1 state f.records entries f.records_are f.found_are rises in
+    let same : filter_map (λ (e : ℕ × ℕ). county_in e.0 e.1) entries ≡ map (λ (e : ℕ × ℕ). county_of e.0 e.1) entries = counties_kept entries (codes_small (cut geo).lines (cut segment1).lines state entries digits joined) in
+    subst (λ (cs : List County). IsStrictlyIncreasing (codes_of cs)) (sym same)
+    (subst (λ (ns : List ℕ). IsStrictlyIncreasing ns) (sym (codes_made county_of (λ (c : County). c.code) (λ n p. refl) entries)) rises)

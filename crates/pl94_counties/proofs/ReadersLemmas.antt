@@ -93,7 +93,7 @@ module _ (read : List ℕ → LineEntry) (rule : Rule) (file : File) (start now 
 -- ---- both files
 
 -- a file of which no read failed
-no_failure : (k : Pl94Kind) (f : File) → false ≡ is_pl94_read_fault k && same_file Geo f → false ≡ is_pl94_read_fault k && same_file Segment1 f → is_pl94_read_fault k ≡ true → ⊥
+pub no_failure : (k : Pl94Kind) (f : File) → false ≡ is_pl94_read_fault k && same_file Geo f → false ≡ is_pl94_read_fault k && same_file Segment1 f → is_pl94_read_fault k ≡ true → ⊥
 no_failure k Geo geo segment1 is = let failed : false ≡ true && true = geo ∙ ap (λ (b : Bool). b && true) is in cc
 no_failure k Segment1 geo segment1 is = let failed : false ≡ true && true = segment1 ∙ ap (λ (b : Bool). b && true) is in cc
 

@@ -76,7 +76,7 @@ first_named_fault fault None = Files fault
 first_named_fault fault (Some number) = if is_after fault.file fault.line number then BadName number else Files fault
 
 -- what is found, unless a name is bad
-abbrev pub unless_bad : {X : Type 0} → Option ℕ → List X → Result (List X) NamedFault
+abbrev pub unless_bad : {X : Type 0} → Option ℕ → X → Result X NamedFault
 unless_bad None found = Ok found
 unless_bad (Some number) found = Err (BadName number)
 

@@ -42,3 +42,14 @@ pub record ReadsBoth {X Y : Type 0} (view : X → Y) (geo_before geo_after segme
   pub value : (geo_later segment1_later : List ℕ) → MayCome geo_after.ended geo_later
       → MayCome segment1_after.ended segment1_later
       → GivesUnless IsPl94Refused view answer (given (geo ++ geo_later) (segment1 ++ segment1_later))
+
+-- What a reading of two sources comes to: they gave bytes meanwhile, and this holds of each pair of texts which begin
+-- with these bytes.
+pub record ReadsTexts (geo_before geo_after segment1_before segment1_after : Given)
+    (Holds : List ℕ → List ℕ → Type 0) : Type 0 where
+  pub geo : List ℕ
+  pub segment1 : List ℕ
+  pub geo_given : geo_after.bytes ≡ geo_before.bytes ++ geo
+  pub segment1_given : segment1_after.bytes ≡ segment1_before.bytes ++ segment1
+  pub holds : (geo_later segment1_later : List ℕ) → MayCome geo_after.ended geo_later
+      → MayCome segment1_after.ended segment1_later → Holds (geo ++ geo_later) (segment1 ++ segment1_later)

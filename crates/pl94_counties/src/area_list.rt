@@ -40,7 +40,7 @@ fn put_area(
 }
 
 /// Adds what a line of geo gives to the areas of the lines before.
-fn add_line(
+pub(crate) fn add_line(
     found: &mut BTreeMap<u64, u32>,
     area: Area,
     state: u8,

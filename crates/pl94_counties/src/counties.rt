@@ -30,7 +30,7 @@ fn county(code: u64, people: u32) -> Option<County>
 }
 
 /// The entries as counties.
-fn list(alloc: Global, found: &BTreeMap<u64, u32>) -> Result<Vec<County>, AllocError>
+pub(crate) fn list(alloc: Global, found: &BTreeMap<u64, u32>) -> Result<Vec<County>, AllocError>
     ensures { IfOk result (λ v. v.items ≡ filter_map (λ e. county_in e.0 e.1) found.now.entries) }
 {
     found

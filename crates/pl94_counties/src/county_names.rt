@@ -1,26 +1,20 @@
-//! The counties of a state with their names.
+//! The names of counties, and counties with their names.
 
 ghost use Rattle.std.specs.Prelude.{◌≡◌, ℕ, ◌≤◌, ◌++◌, ◌∷◌, [], true, false, Some, IfOk, IfErr, OnOk, MatchOption};
 ghost use Rattle.std.specs.Prelude.{◌==◌, find, map, option_to_list};
 ghost use Rattle.std.specs.Option.{option_copied};
-ghost use Rattle.std.specs.List.Sorted.{IsStrictlyIncreasing};
 ghost use Rattle.std.specs.Str.{is_utf8};
-ghost use Rattle.county_codes.specs.Counties.{codes_of};
-ghost use Rattle.field_lines.specs.Values.{GivesUnless};
-ghost use Rattle.field_lines.specs.Cut.{cut};
-ghost use Rattle.pl94_counties.specs.Counties.{county_list};
-ghost use Rattle.pl94_counties.specs.CountyNames.{IsNoMemory, code_name, county_name, name_on as name_on_line, code_on};
-ghost use Rattle.pl94_counties.specs.CountyNames.{has_bad_name, bad_name, named_on, names_on, name_of as name_of_code};
-ghost use Rattle.pl94_counties.specs.CountyNames.{with_names as named_by, is_after, first_named_fault, unless_bad};
-ghost use Rattle.pl94_counties.specs.CountyNames.{named_list};
+ghost use Rattle.pl94_counties.specs.CountyNames.{IsNoMemory, code_name, county_name, name_on as name_on_line};
+ghost use Rattle.pl94_counties.specs.CountyNames.{has_bad_name, named_on, name_of as name_of_code};
+ghost use Rattle.pl94_counties.specs.CountyNames.{with_names as named_by};
+ghost use Rattle.pl94_counties.specs.NamedReaders.{IsNoReadFailure};
 
 use crate::area_list::no_memory;
-use crate::counties::read_counties;
-use crate::fault::{File, Pl94Fault, Pl94Kind};
+use crate::fault::Pl94Fault;
 use crate::fields::{DELIMITER, field_after};
 use crate::geo::county_on;
 use county_codes::{County, CountyCode};
-use field_lines::{Fields, Lines};
+use field_lines::Fields;
 use std::alloc::{AllocError, Global};
 use std::marker::Model;
 use thiserror::Error;
@@ -50,7 +44,7 @@ pub enum NamedFault {
 
 /// The code and the NAME of a line that is for a county.
 #[derive(Drop)]
-struct LineName {
+pub(crate) struct LineName {
     code: u64,
     name: String,
 }
@@ -121,6 +115,7 @@ fn push_name(
     ensures good { OnOk result (is_utf8 name.now ≡ true) }
     ensures bad { IfErr result (λ f. (IsNoMemory f → ⊥)
         → (f ≡ NamedFault.BadName number) × (is_utf8 name.now ≡ false)) }
+    ensures read { IfErr result IsNoReadFailure }
 {
     match text_of(name) {
         None => Err(NamedFault::BadName(number)),
@@ -132,7 +127,7 @@ fn push_name(
 }
 
 /// Adds the code and the name of a line, if the line is for a county.
-fn add_name(
+pub(crate) fn add_name(
     names: &mut Vec<LineName>,
     state: u8,
     number: u32,
@@ -143,30 +138,11 @@ fn add_name(
     ensures good { OnOk result (has_bad_name state line.now ≡ false) }
     ensures bad { IfErr result (λ f. (IsNoMemory f → ⊥)
         → (f ≡ NamedFault.BadName number) × (has_bad_name state line.now ≡ true)) }
+    ensures read { IfErr result IsNoReadFailure }
 {
     match county_on(state, line) {
         None => Ok(()),
         Some(code) => push_name(names, code, number, name_on(line)),
-    }
-}
-
-/// The codes and the names of the lines that are for counties, or the first line whose name is bad.
-fn names_in(alloc: Global, geo: &[u8], state: u8) -> Result<Vec<LineName>, NamedFault>
-    requires { state ≤ 99 }
-    ensures { GivesUnless IsNoMemory (λ v. v.items) result (unless_bad (bad_name state (cut geo.now).lines) (names_on state (cut geo.now).lines)) }
-{
-    let mut names = Vec::new(alloc);
-    let mut lines = Lines::new(geo);
-    loop {
-        match lines.next_line() {
-            Ok(Some((number, line))) => {
-                if let Err(fault) = add_name(&mut names, state, number, line) {
-                    return Err(fault);
-                }
-            }
-            Ok(None) => return Ok(names),
-            Err(_) => return Ok(names),
-        }
     }
 }
 
@@ -188,7 +164,7 @@ fn name_of(names: &[LineName], code: CountyCode) -> &str
 }
 
 /// Counties with their names.
-fn with_names(
+pub(crate) fn with_names(
     alloc: Global,
     counties: &[County],
     names: &[LineName],
@@ -205,82 +181,4 @@ fn with_names(
         })?;
     }
     Ok(named)
-}
-
-/// Whether a fault is one of geo at a line after this one.
-fn comes_after(fault: Pl94Fault, number: u32) -> bool
-    ensures { result ≡ is_after fault.file fault.line number }
-{
-    match fault.file {
-        File::Geo => number < fault.line,
-        File::Segment1 => false,
-    }
-}
-
-/// The fault of the files, unless a bad name stands on a line of geo before it. If memory is refused, that is the
-/// fault.
-fn fault_before(alloc: Global, fault: Pl94Fault, geo: &[u8], state: u8) -> NamedFault
-    requires { state ≤ 99 }
-    ensures { (IsNoMemory result → ⊥) → result ≡ first_named_fault fault (bad_name state (cut geo.now).lines) }
-{
-    match names_in(alloc, geo, state) {
-        Ok(_) => NamedFault::Files(fault),
-        Err(NamedFault::Files(memory)) => NamedFault::Files(memory),
-        Err(NamedFault::BadName(number)) => {
-            if comes_after(fault, number) {
-                NamedFault::BadName(number)
-            } else {
-                NamedFault::Files(fault)
-            }
-        }
-    }
-}
-
-/// The counties with their names by the names of geo, where the files have no fault.
-fn named(
-    alloc: Global,
-    counties: &[County],
-    geo: &[u8],
-    state: u8,
-) -> Result<Vec<NamedCounty>, NamedFault>
-    requires { state ≤ 99 }
-    ensures value { GivesUnless IsNoMemory (λ v. map county_name v.items) result (unless_bad (bad_name state (cut geo.now).lines) (named_by (names_on state (cut geo.now).lines) counties.now)) }
-    ensures same { IfOk result (λ v. map (λ k. k.county) v.items ≡ counties.now) }
-{
-    let names = match names_in(alloc, geo, state) {
-        Ok(names) => names,
-        Err(fault) => return Err(fault),
-    };
-    match with_names(alloc, counties, &names) {
-        Ok(named) => Ok(named),
-        Err(_) => Err(NamedFault::Files(no_memory())),
-    }
-}
-
-/// The counties of a state as `read_counties` gives them, each with its NAME: field 88 of its line of geo, or nothing
-/// if the line has fewer fields.
-///
-/// # Errors
-///
-/// `Files` has the fault that `read_counties` answers. If the NAME of a county isn't UTF-8, `BadName` has its line. The
-/// first line of geo at fault answers. `BadName` comes after every other fault of its line, and after each fault of
-/// segment 1.
-pub fn read_named_counties(
-    alloc: Global,
-    geo: &[u8],
-    segment1: &[u8],
-    state: u8,
-) -> Result<Vec<NamedCounty>, NamedFault>
-    requires { state ≤ 99 }
-    ensures value { GivesUnless IsNoMemory (λ v. map county_name v.items) result (named_list geo.now segment1.now state) }
-    ensures agrees { IfOk result (λ v. county_list geo.now segment1.now state ≡ Ok (map (λ k. k.county) v.items)) }
-    ensures ascending { IfOk result (λ v. IsStrictlyIncreasing (codes_of (map (λ k. k.county) v.items))) }
-{
-    match read_counties(alloc, geo, segment1, state) {
-        Ok(counties) => named(alloc, &counties, geo, state),
-        Err(fault) => match fault.kind {
-            Pl94Kind::Memory => Err(NamedFault::Files(fault)),
-            _ => Err(fault_before(alloc, fault, geo, state)),
-        },
-    }
 }

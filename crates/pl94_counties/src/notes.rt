@@ -1,5 +1,6 @@
 //! What a reading of the Census files notes beside its answer.
 
+use crate::county_names::NamedFault;
 use crate::fault::Pl94Kind;
 use crate::fields::DELIMITER;
 use field_lines::{LineFault, MAX_LINE, field_at, number_in, two_digits};
@@ -97,6 +98,14 @@ impl CensusNotes {
     pub(crate) fn note_fault(&mut self, kind: Pl94Kind, line: &[u8]) {
         if !matches!(kind, Pl94Kind::Memory) {
             self.note_bad_line(line);
+        }
+    }
+
+    /// Notes the bytes of a line that is at fault, also by its name.
+    pub(crate) fn note_named_fault(&mut self, fault: NamedFault, line: &[u8]) {
+        match fault {
+            NamedFault::Files(fault) => self.note_fault(fault.kind, line),
+            NamedFault::BadName(_) => self.note_bad_line(line),
         }
     }
 
