@@ -5,7 +5,10 @@ use std::alloc::AllocError;
 use std::fmt::Write;
 
 /// What the words that `clap` uses for a value that is no number say.
-const NO_NUMBER: [&str; 2] = ["invalid digit found in string", "cannot parse integer from empty string"];
+const NO_NUMBER: [&str; 2] = [
+    "invalid digit found in string",
+    "cannot parse integer from empty string",
+];
 
 /// Options whose numbers a person may take for words, as `clap` names them, and which numbers are meant.
 const MEANT: [(&str, &str); 2] = [
