@@ -17,9 +17,9 @@ use std::fmt::Write;
 fn show_line(
     out: &mut String,
     is_cut: bool,
-    (text, number): (&FaultText, u64),
+    (line, number): (Option<&[u8]>, u64),
 ) -> Result<(), AllocError> {
-    match (is_cut, text.line(number)) {
+    match (is_cut, line) {
         (false, Some(line)) => {
             let line = start_of(line);
             writeln!(out, "countygroups: line {number} is: {line}")
@@ -129,16 +129,17 @@ pub(crate) fn explain_certificate(
     (text, problem): (&FaultText, &Problem),
 ) -> Result<(), AllocError> {
     let file = options.file(FileOption::Certificate);
-    let is_cut = match fault {
+    let known = text.line(number);
+    let (is_cut, line) = match fault {
         CheckFault::Text(cut) => {
             writeln!(out, "countygroups: {file}, {cut}")?;
-            cut.kind == TextKind::CutShort
+            (cut.kind == TextKind::CutShort, known.or(Some(&[])))
         }
         _ => {
             writeln!(out, "countygroups: {file}, line {number}: {fault}")?;
-            false
+            (false, known)
         }
     };
-    show_line(out, is_cut, (text, number))?;
+    show_line(out, is_cut, (line, number))?;
     explain_help(out, file, fault, (text.head(), problem))
 }
