@@ -194,7 +194,7 @@ pub fn run_case_with_end<R: Source, W: Sink>(alloc: Global, input: &mut R, out: 
         × IsReadAnswer read a
         × DeliversCase out.old out.new W.is_failed W.contents a result.0 }
 {
-    let mut end = End::new();
+    let mut end = End::new(alloc);
     match read_whole(alloc, input, MAX_CASE) {
         Ok(text) => match case_answer(alloc, &text, &mut end) {
             Ok(Some(answer)) => (deliver(out, &answer.text, answer.status), end),

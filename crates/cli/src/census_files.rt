@@ -52,6 +52,7 @@ fn note_fault(texts: CensusTexts, file: File, fault: FileFault, end: &mut End) {
         segment,
         notes,
     } = texts;
+    end.note_states(&notes);
     let (option, head) = kept_of(file, geo, segment);
     let line = notes.line;
     end.note_read_refused(option, fault, FaultText::Read { head, line });

@@ -155,7 +155,7 @@ pub fn run_with_end<H: Shelf, W: Sink, V: Watcher>(
         × RunTells (texts words.now) (H.history shelf.old) (H.history shelf.new) a
         × Delivers (W.is_failed out.new) (W.contents out.old) (W.contents out.new) a result.0 }
 {
-    let mut end = End::new();
+    let mut end = End::new(alloc);
     let said = words_answer(alloc, words, shelf, &mut end, watcher);
     (deliver_said(out, said), end)
 }

@@ -2,6 +2,7 @@
 //! of it.
 
 use crate::fault_text::FaultText;
+use crate::warnings::Warning;
 use baf_auditor::{AssignmentFault, Findings};
 use certificate_lines::TextFault;
 use cli_runs::Unshown;
@@ -174,6 +175,8 @@ pub struct End {
     pub states: (Option<[u8; 2]>, Option<[u8; 2]>),
     /// Whether the adjacency file has a pair of listed counties; none where it was not read.
     pub has_pairs: Option<bool>,
+    /// What is odd about the files, at most the first of each kind. A warning is left out if memory for it was refused.
+    pub warnings: Vec<Warning>,
     /// Whether the file of `--certificate` was stored.
     pub has_stored_certificate: bool,
     /// Whether the file of `--out` was stored.
@@ -187,7 +190,7 @@ pub struct End {
 }
 
 /// The people of the counties.
-fn people_of(counties: &[County]) -> u64 {
+pub(crate) fn people_of(counties: &[County]) -> u64 {
     let mut people: u64 = 0;
     for county in counties {
         people = people.saturating_add(u64::from(county.people));
@@ -202,13 +205,14 @@ fn copied(alloc: Global, path: &str) -> Option<String> {
 
 impl End {
     /// The end of a run that has not met anything yet: where nothing more is noted, memory was refused.
-    pub(crate) fn new() -> Self {
+    pub(crate) fn new(alloc: Global) -> Self {
         End {
             ending: Ending::Memory,
             counties: None,
             state_people: None,
             states: (None, None),
             has_pairs: None,
+            warnings: Vec::new(alloc),
             has_stored_certificate: false,
             has_stored_out: false,
             has_stored_table: false,
@@ -262,10 +266,16 @@ impl End {
         self.counties = Some((counties.len(), people_of(counties)));
     }
 
+    /// Notes the states that the first lines of the census files name, so far as they were read.
+    pub(crate) fn note_states(&mut self, notes: &CensusNotes) {
+        let (geo, segment) = self.states;
+        self.states = (notes.geo_state.or(geo), notes.segment_state.or(segment));
+    }
+
     /// Notes what the census files say besides their counties.
     pub(crate) fn note_census(&mut self, notes: &CensusNotes) {
         self.state_people = notes.state_people;
-        self.states = (notes.geo_state, notes.segment_state);
+        self.note_states(notes);
     }
 
     /// Notes the counties that were read, and what the census files say besides.
@@ -277,6 +287,13 @@ impl End {
     /// Notes whether there is a pair of listed counties.
     pub(crate) fn note_pairs(&mut self, has_pairs: bool) {
         self.has_pairs = Some(has_pairs);
+    }
+
+    /// Notes a warning, if there is one. If memory for it is refused, it is left out.
+    pub(crate) fn note_warning(&mut self, warning: Option<Warning>) {
+        if let Some(warning) = warning {
+            let _ = self.warnings.push(warning);
+        }
     }
 
     /// Notes that the file of an option could not be had.

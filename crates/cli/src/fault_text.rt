@@ -16,6 +16,14 @@ pub enum FaultText {
     },
 }
 
+/// Returns the line of `text` that stands behind `before` others, if an LF ends it.
+fn ended_line(text: &[u8], before: usize) -> Option<&[u8]> {
+    let mut lines = Fields::new(text, b'\n');
+    let line = lines.nth(before)?;
+    let _next = lines.next()?;
+    Some(line)
+}
+
 impl FaultText {
     /// Returns the first bytes of the file.
     pub fn head(&self) -> &[u8] {
@@ -26,13 +34,12 @@ impl FaultText {
     }
 
     /// Returns the bytes of the line at fault without its LF, where `number` is the line, which counts from 1. `None`
-    /// where the whole file is at fault, or where the text ends before the line.
+    /// where the whole file is at fault, the text ends before the line, or the line isn't known.
     pub fn line(&self, number: u64) -> Option<&[u8]> {
-        let before = number.checked_sub(1)?;
+        let before = usize::try_from(number.checked_sub(1)?).ok()?;
         match self {
-            FaultText::Whole(text) => {
-                Fields::new(text.as_slice(), b'\n').nth(usize::try_from(before).ok()?)
-            }
+            FaultText::Whole(text) => Fields::new(text.as_slice(), b'\n').nth(before),
+            FaultText::Read { head, line } if line.is_empty() => ended_line(head, before),
             FaultText::Read { head: _, line } => Some(line.as_slice()),
         }
     }

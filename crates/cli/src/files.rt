@@ -8,6 +8,7 @@ ghost use Rattle.cli_runs.specs.Course.{load_step};
 ghost use Rattle.cli_runs.specs.ProblemCourse.{pairs_of, pairs_in, links_in, withdrawn_in};
 ghost use Rattle.cli_runs.specs.ProblemCourse.{grouping_in, links_of, withdrawn_of, adjacency_of, grouping_of};
 
+use crate::border_warnings::{note_adjacency, note_links};
 use crate::end::{End, FileFault, FileOption};
 use crate::readers::refuse_named;
 use adjacency_reader::{Link, apply_links, read_links, read_pairs, read_withdrawn};
@@ -47,7 +48,7 @@ fn pairs_from(
 {
     match read_pairs(alloc, &text, listed) {
         Ok(pairs) => {
-            end.note_pairs(!pairs.is_empty());
+            note_adjacency(alloc, listed, &text, &pairs, end);
             Ok(pairs)
         }
         Err(fault) => {
@@ -167,6 +168,7 @@ pub(crate) fn load_adjacency<H: Shelf>(
     let listed = listed_codes(alloc, counties)?;
     let pairs = load_pairs(alloc, &listed, words.adjacency, shelf, end)?;
     let links = load_links(alloc, words.links, shelf, end)?;
+    note_links(alloc, &listed, &pairs, &links, end);
     let linked = apply_links(alloc, &pairs, &links)?;
     Ok(linked)
 }

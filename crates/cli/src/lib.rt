@@ -3,6 +3,7 @@
 
 mod audit;
 mod board_files;
+mod border_warnings;
 mod case;
 mod census_files;
 mod check;
@@ -23,6 +24,8 @@ mod share;
 mod size;
 mod solve;
 mod storing;
+mod warnings;
+mod withdrawn_warnings;
 
 pub use branch_bound::{NoWatcher, Watcher};
 pub use case::{MAX_CASE, run_case, run_case_with_end};
@@ -34,3 +37,4 @@ pub use command::{run, run_with_end};
 pub use end::{End, Ending, FileFault, FileOption};
 pub use fault_text::FaultText;
 pub use program::run_program;
+pub use warnings::Warning;

@@ -10,6 +10,7 @@ ghost use Rattle.cli_runs.specs.Texts.{tabled_of};
 use crate::census_files::{load_counties, load_named_counties, without_names};
 use crate::end::End;
 use crate::files::{load_adjacency, load_withdrawn};
+use crate::withdrawn_warnings::note_withdrawn;
 use cli_answers::{Refusal, refuse_problem};
 use cli_runs::Tabled;
 use cli_shelves::Shelf;
@@ -54,6 +55,7 @@ fn load_problem_over<H: Shelf>(
 {
     let pairs = load_adjacency(alloc, counties, words, shelf, end)?;
     let withdrawn = load_withdrawn(alloc, words.withdrawn, shelf, end)?;
+    note_withdrawn(alloc, counties, &pairs, &withdrawn, words.common, end);
     build(
         alloc,
         counties,

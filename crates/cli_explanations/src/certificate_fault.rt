@@ -1,11 +1,11 @@
 //! Why a text is no certificate.
 
-use crate::file_lines::whole_line;
+use crate::file_lines::{BYTE_ORDER_MARK, UNZIP, is_zip, whole_line};
 use crate::grouping_fault::explain_chamber;
 use crate::options::{NamedFile, Options};
 use crate::shown_bytes::start_of;
 use certificate_lines::TextKind;
-use cli::FileOption;
+use cli::{FaultText, FileOption};
 use county_codes::Window;
 use county_problem::Problem;
 use field_lines::{Fields, field_at, number_in};
@@ -13,24 +13,23 @@ use state_judge::CheckFault;
 use std::alloc::AllocError;
 use std::fmt::Write;
 
-const BYTE_ORDER_MARK: &[u8] = b"\xef\xbb\xbf";
-
-/// Shows the line of the number, or says where a text that is cut short ends.
+/// Shows the line of the number if it is known, or says where a text that is cut short ends.
 fn show_line(
     out: &mut String,
     is_cut: bool,
-    (text, number): (&[u8], u64),
+    (line, number): (Option<&[u8]>, u64),
 ) -> Result<(), AllocError> {
-    match whole_line(text, number) {
-        Some(line) if !is_cut => {
+    match (is_cut, line) {
+        (false, Some(line)) => {
             let line = start_of(line);
             writeln!(out, "countygroups: line {number} is: {line}")
         }
-        Some(line) if !line.is_empty() => writeln!(
+        (false, None) => Ok(()),
+        (true, Some([_, ..])) => writeln!(
             out,
             "countygroups: the file ends inside line {number}: it is not whole"
         ),
-        _ => writeln!(
+        (true, _) => writeln!(
             out,
             "countygroups: the file ends before line {number}: it is not whole"
         ),
@@ -91,6 +90,9 @@ fn explain_help(
     (text, problem): (&[u8], &Problem),
 ) -> Result<(), AllocError> {
     let first = whole_line(text, 1).unwrap_or(&[]);
+    if is_zip(text) {
+        return out.push_str(UNZIP);
+    }
     if text.starts_with(BYTE_ORDER_MARK) {
         return writeln!(
             out,
@@ -124,19 +126,20 @@ pub(crate) fn explain_certificate(
     out: &mut String,
     options: Options<'_>,
     (fault, number): (&CheckFault, u64),
-    (text, problem): (&[u8], &Problem),
+    (text, problem): (&FaultText, &Problem),
 ) -> Result<(), AllocError> {
     let file = options.file(FileOption::Certificate);
-    let is_cut = match fault {
+    let known = text.line(number);
+    let (is_cut, line) = match fault {
         CheckFault::Text(cut) => {
             writeln!(out, "countygroups: {file}, {cut}")?;
-            cut.kind == TextKind::CutShort
+            (cut.kind == TextKind::CutShort, known.or(Some(&[])))
         }
         _ => {
             writeln!(out, "countygroups: {file}, line {number}: {fault}")?;
-            false
+            (false, known)
         }
     };
-    show_line(out, is_cut, (text, number))?;
-    explain_help(out, file, fault, (text, problem))
+    show_line(out, is_cut, (line, number))?;
+    explain_help(out, file, fault, (text.head(), problem))
 }

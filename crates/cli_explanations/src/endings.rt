@@ -8,9 +8,10 @@ use crate::grouping_fault::explain_fault;
 use crate::options::Options;
 use crate::outputs::{warn_of_older_files, warn_of_outputs};
 use crate::refusals::{explain_problem, explain_refused};
-use crate::state_line::warn_of_state;
+use crate::state_line::{warn_of_state, warn_of_two_states};
 use crate::unshown_best::explain_unshown;
 use crate::usage::explain_usage;
+use crate::warnings::push_warnings;
 use cli::{End, Ending, FileOption};
 use cli_words::{WordsEnd, parse};
 use std::alloc::{AllocError, Global};
@@ -67,6 +68,8 @@ pub struct Ended<'a> {
     pub reason: Option<ErrorKind>,
     /// Whether the answer could not be written.
     pub is_unwritten: bool,
+    /// Whether standard output is a terminal, so that the answer stands beside what a person is told.
+    pub is_at_terminal: bool,
 }
 
 /// The words as a command, if they are one.
@@ -108,27 +111,29 @@ fn explain_ending(
     ended: Ended<'_>,
 ) -> Result<(), AllocError> {
     match &ended.end.ending {
-        Ending::Words(WordsEnd::Usage(text)) => explain_usage(out, ended.words, text.as_str()),
+        Ending::Words(WordsEnd::Usage(text)) => {
+            explain_usage(out, ended.words, text.as_str(), ended.is_at_terminal)
+        }
         Ending::Words(WordsEnd::Memory) => out.push_str(NO_MEMORY),
         Ending::Words(_) => Ok(()),
         Ending::CaseTooLarge => out.push_str(CASE_TOO_LARGE),
         Ending::CaseUnread => out.push_str(CASE_UNREAD),
         Ending::CaseNotText => out.push_str(CASE_NOT_TEXT),
         Ending::Refused(option, fault, text) => {
-            explain_refused(rt, out, options, *option, (fault, text.as_slice()))
+            explain_refused(rt, out, options, *option, (fault, text))
         }
         Ending::Problem(fault) => explain_problem(out, options, fault),
         Ending::Unlawful(fault, problem, grouping) => {
             explain_fault(out, options, fault, (problem, grouping))
         }
         Ending::NotShownBest(unshown, text, problem) => {
-            explain_unshown(out, options, unshown, (text.as_slice(), problem))
+            explain_unshown(out, options, unshown, (text, problem))
         }
         Ending::Found(findings, problem, grouping) => {
             explain_findings(out, options, findings, (problem, grouping))
         }
         Ending::NoCertificate(fault, line, text, problem) => {
-            explain_certificate(out, options, (fault, *line), (text.as_slice(), problem))
+            explain_certificate(out, options, (fault, *line), (text, problem))
         }
         Ending::NotLoaded(_, _, _) | Ending::NotStored(_, _, _) => explain_device(out, ended),
         Ending::Budget => out.push_str(SMALL_BUDGET),
@@ -159,18 +164,18 @@ fn warn_of_pairs(out: &mut String, options: Options<'_>, end: &End) -> Result<()
 
 /// Warns of what the run met on its way.
 fn warn(
-    rt: &(impl Files + AllocGlobal),
+    rt: &impl Files,
     out: &mut String,
     options: Options<'_>,
     end: &End,
 ) -> Result<(), AllocError> {
+    warn_of_two_states(out, options, end)?;
     warn_of_pairs(out, options, end)?;
+    push_warnings(out, options, end)?;
     let Some(command) = options.command else {
         return Ok(());
     };
-    if let Some(counties) = end.counties {
-        warn_of_state(rt, out, command, counties)?;
-    }
+    warn_of_state(out, command, end)?;
     warn_of_older_files(rt, out, command, end)
 }
 

@@ -1,24 +1,47 @@
 //! Lines of a file at fault, and what a file looks like.
 
-use cli::FileOption;
+use cli::{FaultText, FileOption};
 use field_lines::{Fields, field_at};
 
-/// The line of a number, which counts from 1, with every byte but its LF.
+/// What helps against a file that is a zip archive.
+pub(crate) const UNZIP: &str =
+    "countygroups: the file is a zip: unpack it with `unzip -p FILE > TEXT`; if it holds several files, name the one to unpack behind FILE\n";
+
+/// The byte order mark, in UTF-8.
+pub(crate) const BYTE_ORDER_MARK: &[u8] = b"\xef\xbb\xbf";
+
+/// Returns the line of a number, which counts from 1, with every byte but its LF.
 pub(crate) fn whole_line(text: &[u8], number: u64) -> Option<&[u8]> {
     let before = usize::try_from(number.checked_sub(1)?).ok()?;
     Fields::new(text, b'\n').nth(before)
 }
 
-/// The line of a number as a cut text has it: without a byte order mark at the front of the text, and without a CR at
-/// its end.
+/// Returns the bytes without a byte order mark at their front.
+fn unmarked(bytes: &[u8]) -> &[u8] {
+    bytes.strip_prefix(BYTE_ORDER_MARK).unwrap_or(bytes)
+}
+
+/// Returns the line of a number as a cut text has it: without a byte order mark at the front of the text, and without a
+/// CR at its end.
 pub(crate) fn cut_line(text: &[u8], number: u64) -> Option<&[u8]> {
-    let text = text.strip_prefix(b"\xef\xbb\xbf").unwrap_or(text);
-    let line = whole_line(text, number)?;
+    let line = whole_line(unmarked(text), number)?;
     Some(line.strip_suffix(b"\r").unwrap_or(line))
 }
 
-/// The option of the census file that a text begins like: of the geographic header, whose GEOID has `US` behind seven
-/// characters, or of segment 1, whose CIFSN is `01` and whose LOGRECNO has seven.
+/// Returns the line at fault as a cut text has it, where `number` counts from 1. `None` where the whole file is at
+/// fault, or the line isn't known. A reader lends its lines cut, but for the mark of one that is too long.
+pub(crate) fn line_at_fault(text: &FaultText, number: u64) -> Option<&[u8]> {
+    match text {
+        FaultText::Whole(text) => cut_line(text, number),
+        FaultText::Read { .. } => match text.line(number) {
+            Some(line) if number == 1 => Some(unmarked(line)),
+            line => line,
+        },
+    }
+}
+
+/// Returns the option of the census file that a text begins like: of the geographic header, whose GEOID has `US` behind
+/// seven characters, or of segment 1, whose CIFSN is `01` and whose LOGRECNO has seven.
 pub(crate) fn looks_like(text: &[u8]) -> Option<FileOption> {
     let line = cut_line(text, 1)?;
     match (
@@ -32,7 +55,7 @@ pub(crate) fn looks_like(text: &[u8]) -> Option<FileOption> {
     }
 }
 
-/// The STATE of the first county line of a geographic header.
+/// Returns the STATE of the first county line of a geographic header.
 pub(crate) fn county_state(text: &[u8]) -> Option<&[u8]> {
     for line in Fields::new(text, b'\n') {
         if let Some(b"050") = field_at(line, b'|', 2) {
@@ -40,4 +63,14 @@ pub(crate) fn county_state(text: &[u8]) -> Option<&[u8]> {
         }
     }
     None
+}
+
+/// Returns whether a text is UTF-16, by its byte order mark.
+pub(crate) fn is_utf16(text: &[u8]) -> bool {
+    matches!(text, [0xff, 0xfe, ..] | [0xfe, 0xff, ..])
+}
+
+/// Returns whether a file is a zip archive, by its first bytes.
+pub(crate) fn is_zip(text: &[u8]) -> bool {
+    text.starts_with(b"PK")
 }

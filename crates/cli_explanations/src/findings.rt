@@ -65,6 +65,43 @@ fn explain_sets(
     Ok(())
 }
 
+/// Returns what a finding's word means.
+fn meaning(finding: &Finding) -> &'static str {
+    match finding {
+        Finding::Grouping(_) => "Grouping: the grouping isn't lawful",
+        Finding::UnknownBlock(_) => "UnknownBlock: a line names a block that --geo lacks",
+        Finding::BlockTwice(_) => "BlockTwice: two or more lines name the block",
+        Finding::Unassigned(_) => {
+            "Unassigned: the block has people, and no line gives it a district"
+        }
+        Finding::Crosses(_, _, _) => "Crosses: the district has blocks in both sets",
+        Finding::WrongNumber(_, _, _) => {
+            "WrongNumber: the set has another number of seats than districts with a block in it"
+        }
+        Finding::DistrictSize(_, _) => {
+            "DistrictSize: the people of the district don't suit one seat"
+        }
+    }
+}
+
+/// Says how many findings there are, and what the word of each kind of them means.
+fn explain_kinds(out: &mut String, findings: &Findings) -> Result<(), AllocError> {
+    let count = findings.list.len();
+    writeln!(
+        out,
+        "countygroups: findings on standard output, one a line: {count}"
+    )?;
+    let mut last = "";
+    for finding in &findings.list {
+        let words = meaning(finding);
+        if words != last {
+            writeln!(out, "countygroups: {words}")?;
+        }
+        last = words;
+    }
+    Ok(())
+}
+
 /// Explains the findings of an audit of a grouping.
 ///
 /// # Errors
@@ -79,11 +116,8 @@ pub(crate) fn explain_findings(
     if let Some(Finding::Grouping(fault)) = findings.list.first() {
         return explain_fault(out, options, fault, (problem, grouping));
     }
-    let (count, (least, most)) = (findings.list.len(), problem.district_bounds(1));
-    writeln!(
-        out,
-        "countygroups: findings on standard output: {count}; docs/formats.md tells their kinds"
-    )?;
+    let (least, most) = problem.district_bounds(1);
+    explain_kinds(out, findings)?;
     explain_sets(out, findings, (problem, grouping))?;
     writeln!(
         out,

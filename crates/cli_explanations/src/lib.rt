@@ -17,5 +17,6 @@ mod shown_bytes;
 mod state_line;
 mod unshown_best;
 mod usage;
+mod warnings;
 
 pub use endings::{Ended, explain, explain_before};

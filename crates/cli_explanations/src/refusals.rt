@@ -1,10 +1,10 @@
 //! Why an input file or the problem is refused.
 
-use crate::file_lines::{county_state, cut_line, looks_like};
+use crate::file_lines::{UNZIP, county_state, is_utf16, is_zip, line_at_fault, looks_like};
 use crate::machine_files::is_plain;
 use crate::options::{NamedFile, Options};
 use crate::shown_bytes::start_of;
-use cli::{FileFault, FileOption};
+use cli::{FaultText, FileFault, FileOption};
 use cli_words::CommandWords;
 use county_problem::ProblemFault;
 use field_lines::field_at;
@@ -12,6 +12,11 @@ use pl94_counties::Pl94Kind;
 use std::alloc::AllocError;
 use std::fmt::Write;
 use std::rt::Files;
+
+const UTF_16: &str = "countygroups: the file is UTF-16: store it as UTF-8\n";
+
+const QUOTES: &str =
+    "countygroups: the fields stand between quotes: store the file without quotes round its fields\n";
 
 /// What a file has to be.
 fn remedy(option: FileOption) -> &'static str {
@@ -40,15 +45,15 @@ fn remedy(option: FileOption) -> &'static str {
     }
 }
 
-/// Says what is wrong and where, and shows the line.
+/// Says what is wrong and where, and shows the line if it is known.
 fn explain_line(
     out: &mut String,
     file: NamedFile<'_>,
     fault: &FileFault,
-    text: &[u8],
+    line: Option<&[u8]>,
 ) -> Result<(), AllocError> {
     let number = fault.line();
-    match cut_line(text, number) {
+    match line {
         Some(line) => {
             let line = start_of(line);
             writeln!(
@@ -56,7 +61,16 @@ fn explain_line(
                 "countygroups: {file}, line {number}: {fault}\ncountygroups: line {number} is: {line}"
             )
         }
-        None => writeln!(out, "countygroups: {file}: {fault}"),
+        None if number == 0 => writeln!(out, "countygroups: {file}: {fault}"),
+        None => writeln!(out, "countygroups: {file}, line {number}: {fault}"),
+    }
+}
+
+/// Says that fields stand between quotes, where the line at fault has some.
+fn explain_quotes(out: &mut String, line: Option<&[u8]>) -> Result<(), AllocError> {
+    match line {
+        Some(line) if line.contains(&b'"') => out.push_str(QUOTES),
+        _ => Ok(()),
     }
 }
 
@@ -156,14 +170,19 @@ fn explain_help(
     out: &mut String,
     options: Options<'_>,
     option: FileOption,
-    (fault, text): (&FileFault, &[u8]),
+    fault: &FileFault,
+    (text, line): (&[u8], Option<&[u8]>),
 ) -> Result<(), AllocError> {
-    if let [0xff, 0xfe, ..] | [0xfe, 0xff, ..] = text {
-        return out.push_str("countygroups: the file is UTF-16: store it as UTF-8\n");
+    if is_zip(text) {
+        return out.push_str(UNZIP);
     }
+    if is_utf16(text) {
+        return out.push_str(UTF_16);
+    }
+    explain_quotes(out, line)?;
     match fault {
         FileFault::Census(fault) => explain_census(rt, out, options, option, (fault.kind, text)),
-        FileFault::BadName(line) => explain_name(out, cut_line(text, u64::from(*line))),
+        FileFault::BadName(_) => explain_name(out, line),
         _ => {
             let words = remedy(option);
             writeln!(out, "countygroups: {words}")
@@ -181,10 +200,11 @@ pub(crate) fn explain_refused(
     out: &mut String,
     options: Options<'_>,
     option: FileOption,
-    (fault, text): (&FileFault, &[u8]),
+    (fault, text): (&FileFault, &FaultText),
 ) -> Result<(), AllocError> {
-    explain_line(out, options.file(option), fault, text)?;
-    explain_help(rt, out, options, option, (fault, text))
+    let line = line_at_fault(text, fault.line());
+    explain_line(out, options.file(option), fault, line)?;
+    explain_help(rt, out, options, option, fault, (text.head(), line))
 }
 
 /// Explains why the problem is refused.

@@ -2,7 +2,7 @@
 
 use crate::certificate_fault::explain_certificate;
 use crate::options::Options;
-use cli::FileOption;
+use cli::{FaultText, FileOption};
 use cli_runs::Unshown;
 use county_problem::{Counts, Problem};
 use std::alloc::AllocError;
@@ -58,7 +58,7 @@ pub(crate) fn explain_unshown(
     out: &mut String,
     options: Options<'_>,
     unshown: &Unshown,
-    (text, problem): (&[u8], &Problem),
+    (text, problem): (&FaultText, &Problem),
 ) -> Result<(), AllocError> {
     match unshown {
         Unshown::NoCertificate(fault, line) => {

@@ -4,6 +4,24 @@ use crate::shown_bytes::whole;
 use std::alloc::AllocError;
 use std::fmt::Write;
 
+/// What the words that `clap` uses for a value that is no number say.
+const NO_NUMBER: [&str; 2] = [
+    "invalid digit found in string",
+    "cannot parse integer from empty string",
+];
+
+/// Options whose numbers a person may take for words, as `clap` names them, and which numbers are meant.
+const MEANT: [(&str, &str); 2] = [
+    (
+        "for '--state <CODE>'",
+        "--state takes the state's two-digit FIPS number, as 37 for North Carolina",
+    ),
+    (
+        "for '--chamber <SEATS>'",
+        "--chamber takes the number of seats, as 50 for North Carolina's Senate and 120 for its House",
+    ),
+];
+
 /// The name of the command that the text of `clap` names in its usage, or that the first word is.
 fn command_named<'a>(words: &[&'a str], text: &'a str) -> &'a str {
     let name = match text.split_once("\nUsage: countygroups ") {
@@ -33,7 +51,19 @@ fn push_error(out: &mut String, text: &str) -> Result<(), AllocError> {
     }
 }
 
-/// Explains words that are no command: what `clap` says of them, and which help tells the words.
+/// Says which numbers an option takes, where its value is none.
+fn push_meaning(out: &mut String, text: &str) -> Result<(), AllocError> {
+    let is_word = NO_NUMBER.iter().any(|words| text.contains(*words));
+    for (option, meaning) in MEANT {
+        if is_word && text.contains(option) {
+            writeln!(out, "countygroups: {meaning}")?;
+        }
+    }
+    Ok(())
+}
+
+/// Explains words that are no command: what `clap` says of them, unless it is `shown` on the same terminal already, which
+/// numbers are meant, and which help tells the words.
 ///
 /// # Errors
 ///
@@ -42,11 +72,15 @@ pub(crate) fn explain_usage(
     out: &mut String,
     words: &[&str],
     text: &str,
+    shown: bool,
 ) -> Result<(), AllocError> {
     if words.is_empty() {
         out.push_str("countygroups: line 1 of the case is no command\n")?;
     }
-    push_error(out, text)?;
+    if !shown {
+        push_error(out, text)?;
+    }
+    push_meaning(out, text)?;
     match command_named(words, text) {
         "" => out.push_str("countygroups: `countygroups --help` tells the commands\n"),
         name => writeln!(

@@ -79,6 +79,7 @@ fn run_and_tell(rt: &HostRuntime, words: &[&str]) -> u8 {
         end: &ran.end,
         reason: ran.reason,
         is_unwritten: out.failed(),
+        is_at_terminal: rt.stdout().is_terminal(),
     };
     tell(rt, explain(rt, ended));
     ran.status
