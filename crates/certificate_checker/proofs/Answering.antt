@@ -3,6 +3,7 @@ use Rattle.std.proofs.Common.{◌≡◌, ℕ, ◌+◌, ◌≤◌, List, [], ◌�
 use Rattle.std.proofs.Math.Seq.{drop-append_seam}
 use Rattle.county_codes.specs.declared.group.Grouping.{Grouping as GroupingHeld}
 use Rattle.grouping_laws.specs.Problem.{Problem}
+use Rattle.field_lines.specs.Source.{Given, nothing_comes}
 use Rattle.certificate_lines.specs.Courses.{Unread, certificate_course}
 use Rattle.certificate_lines.specs.ItemsLeft.{ItemsHeld, in_memory, left_of_reader, nothing_taken}
 use Rattle.certificate_lines.specs.Fitting.{AllFit}
@@ -85,23 +86,22 @@ shows_impossible p text budget (Ok Budget) h = tt
 shows_impossible p text budget (Err e) h = tt
 
 -- of a text in memory
-pub checked_text : (p : Problem) (course : Unread) (text : List ℕ) (budget : ℕ) (r : Result Verdict AllocError) → ChecksItems p (in_memory course) [] budget r [] → course ≡ certificate_course text → IfOk r (IsCheckAnswer p text budget)
-checked_text p course text budget r h is = (h.answers [] (record { later = []; text = refl; may = λ ended. refl })).1 text is
+pub checked_text : (p : Problem) (course : Unread) (text : List ℕ) (budget : ℕ) (r : Result Verdict AllocError) → ChecksItems p (in_memory course) nothing_comes budget r nothing_comes → course ≡ certificate_course text → IfOk r (IsCheckAnswer p text budget)
+checked_text p course text budget r h is = (h [] (record { later = []; text = refl; may = λ ended. refl })).1 text is
 
 -- of bytes that were pulled
-module _ (p : Problem) (before after : List ℕ) (budget : ℕ) where
+module _ (p : Problem) (before after : Given) (budget : ℕ) where
   pub checked_bytes : (items : ItemsHeld) → items ≡ nothing_taken → (v : Verdict) → ChecksItems p (left_of_reader items) before budget (Ok v) after → ChecksBytes p before after budget v
   checked_bytes items is v checked =
       let h = subst (λ (i : ItemsHeld). ChecksItems p (left_of_reader i) before budget (Ok v) after) is checked in
-      let now = (h.answers after (record { later = []; text = sym (append-nil after); may = λ ended. refl })).0 in
+      let now = (h after.bytes (record { later = []; text = sym (append-nil after.bytes); may = λ ended. refl })).0 in
       record {
         pulled = now.later;
-        ended = h.ended;
         given = now.text;
         answer = λ later may.
-            let split : drop (length before) (after ++ later) ≡ now.later ++ later =
-            ap (λ (t : List ℕ). drop (length before) (t ++ later)) now.text ∙ ap (drop (length before)) (append_assoc before now.later later) ∙ drop-append_seam before (now.later ++ later) in
-            (h.answers (after ++ later) (record { later = later; text = refl; may = may })).1 (now.later ++ later) (ap certificate_course split);
+            let split : drop (length before.bytes) (after.bytes ++ later) ≡ now.later ++ later =
+            ap (λ (t : List ℕ). drop (length before.bytes) (t ++ later)) now.text ∙ ap (drop (length before.bytes)) (append_assoc before.bytes now.later later) ∙ drop-append_seam before.bytes (now.later ++ later) in
+            (h (after.bytes ++ later) (record { later = later; text = refl; may = may })).1 (now.later ++ later) (ap certificate_course split);
       }
 
   pub bytes_best : {E : Type 0} (r : Result Verdict E) → IfOk r (ChecksBytes p before after budget) → IfOk r (CheckIsRight p)

@@ -2,6 +2,7 @@
 use Rattle.std.specs.Prelude.{ℕ, ◌≡◌, ◌<◌, Bool, true, false, List, ◌++◌, Some, Result, Err, IfOk, ◌⊎◌, ⊤}
 use Rattle.grouping_laws.specs.Problem.{Problem}
 use Rattle.grouping_laws.specs.Grouping.{IsBest, IsImpossible}
+use Rattle.field_lines.specs.Source.{Given}
 use Rattle.field_lines.specs.HeldBytes.{MayCome}
 use Rattle.certificate_lines.specs.Courses.{certificate_course}
 use Rattle.certificate_lines.specs.ItemsLeft.{ItemsLeft, Foresees, course_by}
@@ -44,20 +45,19 @@ IsCheckAnswer p text budget Budget = (cost : ℕ) → TextCosts p text cost → 
 
 -- What was read of items comes to an answer, or was refused: whatever text the source may give in the end, it might
 -- give it before, and where its items are those of a certificate's text the answer is the verdict on this.
-pub record ChecksItems (p : Problem) (left : ItemsLeft) (before : List ℕ) (budget : ℕ)
-    (result : Result Verdict AllocError) (after : List ℕ) : Type 0 where
-  pub ended : Bool
-  pub answers : (all : List ℕ) → Foresees ended after all
-      → Foresees left.ended before all
-      × ((text : List ℕ) → course_by left before all ≡ certificate_course text
-      → IfOk result (IsCheckAnswer p text budget))
+abbrev pub ChecksItems : Problem → ItemsLeft → Given → ℕ → Result Verdict AllocError → Given → Type 0
+ChecksItems p left before budget result after =
+    (all : List ℕ) → Foresees after all
+    → Foresees before all
+    × ((text : List ℕ) → course_by left before all ≡ certificate_course text
+    → IfOk result (IsCheckAnswer p text budget))
 
--- The source gave bytes meanwhile, and has ended or not. They have this verdict, with whatever bytes may come later.
-pub record ChecksBytes (p : Problem) (before after : List ℕ) (budget : ℕ) (verdict : Verdict) : Type 0 where
+-- The source gave bytes meanwhile. They have this verdict, with whatever bytes may come later: with none, if the source
+-- has ended.
+pub record ChecksBytes (p : Problem) (before after : Given) (budget : ℕ) (verdict : Verdict) : Type 0 where
   pub pulled : List ℕ
-  pub ended : Bool
-  pub given : after ≡ before ++ pulled
-  pub answer : (later : List ℕ) → MayCome ended later → IsCheckAnswer p (pulled ++ later) budget verdict
+  pub given : after.bytes ≡ before.bytes ++ pulled
+  pub answer : (later : List ℕ) → MayCome after.ended later → IsCheckAnswer p (pulled ++ later) budget verdict
 
 -- the source could not be read
 abbrev pub is_read_fault : Result Verdict CheckStop → Bool

@@ -2,6 +2,7 @@
 use Rattle.std.specs.Prelude.{ℕ, ◌+◌, ◌*◌, ◌≡◌, ◌≤◌, ◌<◌, Bool, true, false, List, [], ◌∷◌, ◌++◌, length, Some, None}
 use Rattle.std.specs.Prelude.{Result, Ok, Err, ⊤}
 use Rattle.grouping_laws.specs.Problem.{Problem}
+use Rattle.field_lines.specs.Source.{Given}
 use Rattle.certificate_data.specs.Round.{Round}
 use Rattle.certificate_data.specs.Tree.{Takes}
 use Rattle.certificate_lines.specs.Courses.{Unread, nothing, only_fault, first}
@@ -34,12 +35,12 @@ feed_at course feed = record { course = course; line = feed.line; limit = feed.s
 -- what is to come by the bytes that the source gives later, with the lines that were read and the steps
 pub record Stream : Type 0 where
   pub left : ItemsLeft
-  pub given : List ℕ
+  pub given : Given
   pub line : ℕ
   pub limit : ℕ
   pub used : ℕ
 
-abbrev pub stream_of : {S F : Type 0} → (S → ItemsLeft) → (F → List ℕ) → Feed S → F → Stream
+abbrev pub stream_of : {S F : Type 0} → (S → ItemsLeft) → (F → Given) → Feed S → F → Stream
 stream_of left given feed from =
     record {
       left = left feed.source;
@@ -55,13 +56,13 @@ fed_by s all = record { course = course_by s.left s.given all; line = s.line; li
 
 -- Whatever text the source may give in the end, this holds of the two feeds.
 abbrev pub ForEach : Stream → Stream → (FeedValue → FeedValue → Type 0) → Type 0
-ForEach old new Holds = (all : List ℕ) → Foresees new.left.ended new.given all → Holds (fed_by old all) (fed_by new all)
+ForEach old new Holds = (all : List ℕ) → Foresees new.given all → Holds (fed_by old all) (fed_by new all)
 
 -- Whatever text the source may give in the end: the source might give it before, and this holds of the two feeds.
 abbrev pub FeedsThrough : Stream → Stream → (FeedValue → FeedValue → Type 0) → Type 0
 FeedsThrough old new Holds =
-    (all : List ℕ) → Foresees new.left.ended new.given all
-    → Foresees old.left.ended old.given all × Holds (fed_by old all) (fed_by new all)
+    (all : List ℕ) → Foresees new.given all
+    → Foresees old.given all × Holds (fed_by old all) (fed_by new all)
 
 -- The limit stays, and each line is a step at least.
 abbrev pub CountsSteps : {S : Type 0} → Feed S → Feed S → Type 0

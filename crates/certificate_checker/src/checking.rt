@@ -19,11 +19,21 @@ use place_sets::{CountySet, MaskSet, Places, fits_mask};
 use state_judge::CheckFault;
 use std::alloc::{AllocError, Global};
 
-/// What was found, unless a fault of the text stands behind it, which comes first.
+/// Keeps a copy of `bytes` in `line`, which is empty where memory is refused.
+fn keep_line(line: &mut Vec<u8>, bytes: &[u8]) {
+    line.clear();
+    if line.extend_from_slice(bytes).is_err() {
+        line.clear();
+    }
+}
+
+/// Answers what was `found`, unless a fault of the text stands behind it, which comes first. `line` keeps the line of
+/// the fault that is answered.
 fn verdict_after<F, S: ItemSource<F>>(
     found: Verdict,
     feed: &mut Feed<S>,
     from: &mut F,
+    line: &mut Vec<u8>,
 ) -> Result<Verdict, AllocError>
     ensures { FeedsThrough (stream_of S.left S.given feed.old from.old) (stream_of S.left S.given feed.new from.new) (λ a _. (p : ProblemOf) (text : List ℕ) (start : FeedValue)
         → start.course ≡ certificate_course text
@@ -34,20 +44,27 @@ fn verdict_after<F, S: ItemSource<F>>(
 {
     match read_rest(feed, from) {
         Ok(()) => Ok(found),
-        Err(Halt::Text(fault)) => Ok(Verdict::No(CheckFault::Text(fault), fault.line)),
-        Err(Halt::Budget) => Ok(Verdict::Budget),
+        Err(Halt::Text(fault)) => {
+            keep_line(line, feed.source.line());
+            Ok(Verdict::No(CheckFault::Text(fault), fault.line))
+        }
+        Err(Halt::Budget) => {
+            line.clear();
+            Ok(Verdict::Budget)
+        }
         Err(_) => Err(AllocError),
     }
 }
 
 /// The verdict on the text whose lines are to come. Lines that fit no certificate are met only in front of a fault of
-/// the text.
+/// the text. `line` keeps the line of the fault that is answered, as `check_from_keeping` says.
 fn check_source<C: CountySet, F, S: ItemSource<F> + Drop>(
     alloc: Global,
     problem: &Problem,
     source: S,
     from: &mut F,
     budget: u64,
+    line: &mut Vec<u8>,
 ) -> Result<Verdict, AllocError>
     requires fits { length problem.now.counties ≤ C.PLACES }
     ensures { ChecksItems (problem_of problem.now) (S.left source) (S.given from.old) budget result (S.given from.new) }
@@ -57,13 +74,22 @@ fn check_source<C: CountySet, F, S: ItemSource<F> + Drop>(
         line: 0,
         steps: Steps::new(budget),
     };
+    line.clear();
     match judge_certificate::<C, F, S>(alloc, problem, &mut feed, from) {
-        Ok(Some(target)) => verdict_after(Verdict::Best(target), &mut feed, from),
-        Ok(None) => verdict_after(Verdict::Impossible, &mut feed, from),
-        Err(Halt::Fault(fault, line)) => verdict_after(Verdict::No(fault, line), &mut feed, from),
-        Err(Halt::Budget) => verdict_after(Verdict::Budget, &mut feed, from),
-        Err(Halt::Unspelled) => verdict_after(Verdict::Budget, &mut feed, from),
-        Err(Halt::Text(fault)) => Ok(Verdict::No(CheckFault::Text(fault), fault.line)),
+        Ok(Some(target)) => verdict_after(Verdict::Best(target), &mut feed, from, line),
+        Ok(None) => verdict_after(Verdict::Impossible, &mut feed, from, line),
+        Err(Halt::Fault(fault, at)) => {
+            if at == feed.line {
+                keep_line(line, feed.source.line());
+            }
+            verdict_after(Verdict::No(fault, at), &mut feed, from, line)
+        }
+        Err(Halt::Budget) => verdict_after(Verdict::Budget, &mut feed, from, line),
+        Err(Halt::Unspelled) => verdict_after(Verdict::Budget, &mut feed, from, line),
+        Err(Halt::Text(fault)) => {
+            keep_line(line, feed.source.line());
+            Ok(Verdict::No(CheckFault::Text(fault), fault.line))
+        }
         Err(Halt::Refused) => Err(AllocError),
     }
 }
@@ -85,7 +111,8 @@ pub fn check_over<C: CountySet>(
     ensures impossible { IfOk result (ShowsImpossible (problem_of problem.now)) }
 {
     let items = Items::of_certificate(alloc, text);
-    check_source::<C, (), Items>(alloc, problem, items, &mut (), budget)
+    let mut line = Vec::new(alloc);
+    check_source::<C, (), Items>(alloc, problem, items, &mut (), budget, &mut line)
 }
 
 /// The verdict on a text that should be a certificate of the problem, plain or wide.
@@ -116,7 +143,8 @@ pub fn check(
     }
 }
 
-/// What `check_from` says, by any form of sets of places that has room for the counties of the problem.
+/// Answers what `check_from_keeping` answers, by any form of sets of places that has room for the counties of the
+/// problem.
 ///
 /// # Errors
 ///
@@ -126,6 +154,7 @@ pub fn check_from_over<C: CountySet, S: Source>(
     problem: &Problem,
     source: &mut S,
     budget: u64,
+    line: &mut Vec<u8>,
 ) -> Result<Verdict, CheckStop>
     requires fits { length problem.now.counties ≤ C.PLACES }
     requires works { S.is_failed source.old ≡ false }
@@ -137,13 +166,43 @@ pub fn check_from_over<C: CountySet, S: Source>(
     let Ok(items) = ItemsFrom::of_certificate(alloc) else {
         return Err(CheckStop::Memory);
     };
-    let checked = check_source::<C, S, ItemsFrom>(alloc, problem, items, source, budget);
+    let checked = check_source::<C, S, ItemsFrom>(alloc, problem, items, source, budget, line);
     if source.failed() {
         return Err(CheckStop::ReadFault);
     }
     match checked {
         Ok(verdict) => Ok(verdict),
         Err(_) => Err(CheckStop::Memory),
+    }
+}
+
+/// Answers what `check_from` answers, and keeps a copy of the line at fault in `line`, for whoever shows it to a person.
+///
+/// If a fault is answered, `line` has the bytes of its line, without LF and 65,536 at most. `line` is empty if the fault
+/// is that the text ends too early, or if it stands above the last line that was read when it was found: allowance,
+/// order, limit and target are judged behind the last group, and the length of a bound leaf behind its lines. `line` is
+/// also empty if no fault is answered, or if memory for it is refused. No clause speaks of `line`.
+///
+/// # Errors
+///
+/// As `check_from`.
+pub fn check_from_keeping<S: Source>(
+    alloc: Global,
+    problem: &Problem,
+    source: &mut S,
+    budget: u64,
+    line: &mut Vec<u8>,
+) -> Result<Verdict, CheckStop>
+    requires { S.is_failed source.old ≡ false }
+    ensures verdict { IfOk result (ChecksBytes (problem_of problem.now) (S.given source.old) (S.given source.new) budget) }
+    ensures best { IfOk result (CheckIsRight (problem_of problem.now)) }
+    ensures impossible { IfOk result (ShowsImpossible (problem_of problem.now)) }
+    ensures failed { S.is_failed source.new ≡ is_read_fault result }
+{
+    if fits_mask(problem.counties().len()) {
+        check_from_over::<MaskSet, S>(alloc, problem, source, budget, line)
+    } else {
+        check_from_over::<Places, S>(alloc, problem, source, budget, line)
     }
 }
 
@@ -169,9 +228,6 @@ pub fn check_from<S: Source>(
     ensures impossible { IfOk result (ShowsImpossible (problem_of problem.now)) }
     ensures failed { S.is_failed source.new ≡ is_read_fault result }
 {
-    if fits_mask(problem.counties().len()) {
-        check_from_over::<MaskSet, S>(alloc, problem, source, budget)
-    } else {
-        check_from_over::<Places, S>(alloc, problem, source, budget)
-    }
+    let mut line = Vec::new(alloc);
+    check_from_keeping(alloc, problem, source, budget, &mut line)
 }

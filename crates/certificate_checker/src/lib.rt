@@ -33,7 +33,7 @@ mod tree;
 mod tree_checking;
 mod verdict;
 
-pub use checking::{check, check_from, check_from_over, check_over};
+pub use checking::{check, check_from, check_from_keeping, check_from_over, check_over};
 pub use fault::CheckStop;
 pub use laws::checker_agrees;
 pub use state_judge::CheckFault;
