@@ -133,7 +133,7 @@ pub(crate) fn explain_certificate(
     let (is_cut, line) = match fault {
         CheckFault::Text(cut) => {
             writeln!(out, "countygroups: {file}, {cut}")?;
-            (cut.kind == TextKind::CutShort, known.or(Some(&[])))
+            (cut.kind == TextKind::CutShort, Some(known.unwrap_or(&[])))
         }
         _ => {
             writeln!(out, "countygroups: {file}, line {number}: {fault}")?;
