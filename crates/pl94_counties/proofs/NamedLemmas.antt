@@ -6,6 +6,7 @@ use Rattle.std.specs.Option.{option_map, option_and_then}
 use Rattle.std.specs.Result.{result_map_both}
 use Rattle.std.proofs.lemmas.Bool.Decides.{nat_tests}
 use Rattle.std.proofs.lemmas.List.{append-nil}
+use Rattle.field_lines.specs.Chain.{◌>>=◌}
 use Rattle.field_lines.specs.Cut.{Cut, Line, cut}
 use Rattle.field_lines.specs.declared.fault.LineFault.{LineFault}
 use Rattle.pl94_counties.specs.declared.fault.Pl94Kind.{Pl94Kind}
@@ -28,7 +29,7 @@ use Rattle.pl94_counties.specs.CountyNames.{CodeName, CountyName, code_in, code_
 use Rattle.pl94_counties.specs.NamedReaders.{NamedEntries, AreInOrder, with_name, entries_unless_bad, entries_by_lines, named_entries_in, named_entries, some_named}
 use Rattle.pl94_counties.proofs.CollectLemmas.{collect_from, collected_in}
 use Rattle.pl94_counties.proofs.LawLemmas.{joined_of, with_people}
-use Rattle.pl94_counties.proofs.OfTextLemmas.{segment_stops, geo_stops, areas_after}
+use Rattle.pl94_counties.proofs.OfTextLemmas.{segment_stops, geo_stops}
 use Rattle.pl94_counties.proofs.ListedLemmas.{counties_listed, counties_rise}
 use Rattle.pl94_counties.proofs.TraceLemmas.{contains_head, contains_tail, given_by_line}
 
@@ -242,7 +243,9 @@ entries_parts None names (Ok entries) found is =
 
 module _ (geo segment1 : Cut) (state : ℕ) (records : List (ℕ × ℕ)) (are : record_list_in segment1 ≡ Ok records) where
   listed_after : (entries : List (ℕ × ℕ)) → found_list_in areas.County state records geo ≡ Ok entries → area_list_in areas.County geo segment1 state ≡ some_areas areas.County entries
-  listed_after entries is = areas_after areas.County geo segment1 state records entries are is
+  listed_after entries is =
+      ap (λ (r : Result (List (ℕ × ℕ)) Pl94Fault). r >>= (λ records. found_list_in areas.County state records geo >>= (λ found. some_areas areas.County found))) are
+      ∙ ap (λ (r : Result (List (ℕ × ℕ)) Pl94Fault). r >>= (λ found. some_areas areas.County found)) is
 
   -- counties and names that were found are answered, unless there are none
   pub found_answers : (found : NamedEntries) → entries_by_lines geo.lines state (found_list_in areas.County state records geo) ≡ Ok found → named_entries_in geo segment1 state ≡ some_named found

@@ -216,10 +216,3 @@ pub geo_stops : (area : Area) (geo segment1 : Cut) (state : ℕ) (records : List
 geo_stops area geo segment1 state records fault are is =
     ap (λ (r : Result (List (ℕ × ℕ)) Pl94Fault). r >>= (λ records. found_list_in area state records geo >>= (λ found. some_areas area found))) are
     ∙ ap (λ (r : Result (List (ℕ × ℕ)) Pl94Fault). r >>= (λ found. some_areas area found)) is
-
--- areas that were found are those of both, unless there are none
-pub areas_after : (area : Area) (geo segment1 : Cut) (state : ℕ) (records found : List (ℕ × ℕ)) → record_list_in segment1 ≡ Ok records → found_list_in area state records geo ≡ Ok found
-    → area_list_in area geo segment1 state ≡ some_areas area found
-areas_after area geo segment1 state records found are is =
-    ap (λ (r : Result (List (ℕ × ℕ)) Pl94Fault). r >>= (λ records. found_list_in area state records geo >>= (λ found. some_areas area found))) are
-    ∙ ap (λ (r : Result (List (ℕ × ℕ)) Pl94Fault). r >>= (λ found. some_areas area found)) is

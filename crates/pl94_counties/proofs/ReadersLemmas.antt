@@ -110,23 +110,6 @@ only_memory view (Err fault) given geo segment1 is = λ kept. is (λ refused. el
   | inr failed ↦ no_failure fault.kind fault.file geo segment1 failed
 ])
 
--- what is unless memory was refused is so unless there was a refusal
-pub unless_refused : {X Y : Type 0} (view : X → Y) (answer : Result X Pl94Fault) (given : Result Y Pl94Fault) → GivesUnless IsPl94Memory view answer given → GivesUnless IsPl94Refused view answer given
-unless_refused view (Ok x) given is = is
-unless_refused view (Err fault) given is = λ kept. is (λ memory. kept (inl memory))
-
--- the fault of a reading of two sources is that of what is made of it
-pub fault_kept : {X Y Z W : Type 0} (view : X → Y) (made : Z → W) (geo_before geo_after segment1_before segment1_after : Given) (fault : Pl94Fault) (given : List ℕ → List ℕ → Result Y Pl94Fault) (other : List ℕ → List ℕ → Result W Pl94Fault)
-    → ((geo segment1 : List ℕ) → given geo segment1 ≡ Err fault → other geo segment1 ≡ Err fault) → ReadsBoth view geo_before geo_after segment1_before segment1_after (Err fault) given
-    → ReadsBoth made geo_before geo_after segment1_before segment1_after (Err fault) other
-fault_kept view made geo_before geo_after segment1_before segment1_after fault given other same reads = record {
-  geo = reads.geo;
-  segment1 = reads.segment1;
-  geo_given = reads.geo_given;
-  segment1_given = reads.segment1_given;
-  value = λ geo_later segment1_later geo_may segment1_may kept. same (reads.geo ++ geo_later) (reads.segment1 ++ segment1_later) (reads.value geo_later segment1_later geo_may segment1_may kept);
-}
-
 -- a reading of two sources, said in other words
 pub reads_as : {X Y : Type 0} (view : X → Y) (geo_before geo_after segment1_before segment1_after : Given) (answer : Result X Pl94Fault) (given other : List ℕ → List ℕ → Result Y Pl94Fault)
     → ((geo segment1 : List ℕ) → given geo segment1 ≡ other geo segment1) → ReadsBoth view geo_before geo_after segment1_before segment1_after answer given

@@ -1,10 +1,6 @@
-use Rattle.std.proofs.Common.{◌≡◌, ◌++◌, [], Err, sym, subst, rules}
+use Rattle.std.proofs.Common.{◌≡◌, ◌++◌, [], Err, sym, rules}
 use Rattle.std.proofs.lemmas.List.{append-nil}
-use Rattle.field_lines.specs.Values.{GivesUnless}
-use Rattle.pl94_counties.specs.Areas.{some_areas}
-use Rattle.pl94_counties.specs.Readers.{IsPl94Refused}
-use Rattle.pl94_counties.proofs.ReadersLemmas.{unless_refused}
-use Rattle.pl94_counties.proofs.OfTextLemmas.{segment_stops, geo_stops, areas_after}
+use Rattle.pl94_counties.proofs.OfTextLemmas.{segment_stops, geo_stops}
 use Rattle.pl94_counties.proofs.area_list.read_lines.Goals as goal
 
 pub returns-in_err-records-clause-reads : goal.returns-in_err-records-clause-reads
@@ -36,20 +32,3 @@ returns-in_err-found-clause-reads g c =
           geo_stops c.args.area ((g.L.LinesFrom.left c.args.geo.now).cut (found.pulled ++ geo_later)) ((g.M.LinesFrom.left c.args.segment1.now).cut (records.pulled ++ segment1_later)) c.args.state c.in_ok-records.records.entries fault
           (records.holds segment1_later segment1_may) (found.holds geo_later geo_may kept);
     })
-
-pub returns-clause-reads : goal.returns-clause-reads
-returns-clause-reads g c =
-    let records = c.in_ok-records.ensures.reads in
-    let found = c.in_ok-found.ensures.reads in
-    let entries = c.in_ok-found.found.entries in
-    record {
-      geo = found.pulled;
-      segment1 = records.pulled;
-      geo_given = found.given;
-      segment1_given = records.given;
-      value = λ geo_later segment1_later geo_may segment1_may.
-          subst (GivesUnless IsPl94Refused (λ m. m.entries) c.some_areas.result)
-          (sym (areas_after c.args.area ((g.L.LinesFrom.left c.args.geo.now).cut (found.pulled ++ geo_later)) ((g.M.LinesFrom.left c.args.segment1.now).cut (records.pulled ++ segment1_later)) c.args.state c.in_ok-records.records.entries entries
-          (records.holds segment1_later segment1_may) (found.holds geo_later geo_may)))
-          (unless_refused (λ m. m.entries) c.some_areas.result (some_areas c.args.area entries) c.some_areas.ensures.value);
-    }

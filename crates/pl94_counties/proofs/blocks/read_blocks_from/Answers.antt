@@ -1,13 +1,10 @@
-use Rattle.std.proofs.Common.{◌≡◌, ◌<◌, ◌++◌, [], ℕ, List, map, All, Result, Ok, refl, sym, ap, subst}
+use Rattle.std.proofs.Common.{◌≡◌, ◌<◌, ◌++◌, [], ℕ, List, map, All, Ok, refl, sym, subst}
 use Rattle.std.specs.List.Sorted.{IsStrictlyIncreasing}
 use Rattle.std.proofs.lemmas.List.Elements.{All-map}
-use Rattle.std.specs.Result.{result_map_both}
 use Rattle.field_lines.specs.Cut.{cut}
-use Rattle.pl94_counties.specs.declared.fault.Pl94Fault.{Pl94Fault}
-use Rattle.pl94_counties.proofs.ReadersLemmas.{fault_kept}
 use Rattle.pl94_counties.specs.declared.blocks.Block.{Block}
 use Rattle.pl94_counties.specs.declared.geo.Area.TheVariants as areas
-use Rattle.pl94_counties.specs.Counties.{block_of, block_list}
+use Rattle.pl94_counties.specs.Counties.{block_of}
 use Rattle.pl94_counties.specs.Areas.{area_list}
 use Rattle.pl94_counties.proofs.ListLemmas.{codes_made, blocks_small}
 use Rattle.pl94_counties.proofs.LawLemmas.{from_lines}
@@ -34,8 +31,3 @@ returns-in-Ok-list-clause-small g c =
     let items : c.in-Ok-list.blocks.items ≡ map (λ e. block_of e.0 e.1) entries = c.in-Ok-list.ensures in
     subst (λ (xs : List Block). All (λ x. x.code < 1000000000000000) xs) (sym items)
     (All-map (λ (x : Block). x.code < 1000000000000000) (λ (e : ℕ × ℕ). block_of e.0 e.1) entries (blocks_small (cut geo).lines (cut segment1).lines state entries joined))
-
-pub returns-in-Err-clause-reads : goal.returns-in-Err-clause-reads
-returns-in-Err-clause-reads g c =
-    fault_kept (λ m. m.entries) (λ v. v.items) _ _ _ _ c.in-Err.fault (λ x y. area_list areas.Block x y c.args.state) (λ x y. block_list x y c.args.state)
-    (λ x y is. ap (λ (r : Result (List (ℕ × ℕ)) Pl94Fault). result_map_both (λ es. map (λ e. block_of e.0 e.1) es) (λ fault. fault) r) is) c.in-Err.ensures.reads
