@@ -1,11 +1,12 @@
 -- What was judged of the lines of a text is its verdict.
-use Rattle.std.proofs.Common.{◌≡◌, ℕ, ◌+◌, ◌≤◌, List, [], ◌∷◌, ◌++◌, length, drop, Option, Some, None, Result, Ok, Err, IfOk, inl, inr, refl, sym, ap, subst, ◌∙◌, append_assoc, append-nil, arith, ⊎_elim}
+use Rattle.std.proofs.Common.{◌≡◌, ℕ, ◌+◌, ◌≤◌, ◌<◌, List, [], ◌∷◌, ◌++◌, length, drop, Option, Some, None, Result, Ok, Err, IfOk, inl, inr, refl, sym, ap, subst, ◌∙◌, append_assoc, append-nil, arith, ⊎_elim}
 use Rattle.std.proofs.Math.Seq.{drop-append_seam}
 use Rattle.county_codes.specs.declared.group.Grouping.{Grouping as GroupingHeld}
 use Rattle.grouping_laws.specs.Problem.{Problem}
 use Rattle.field_lines.specs.Source.{Given, nothing_comes}
+use Rattle.field_lines.specs.HeldBytes.{MayCome}
 use Rattle.certificate_lines.specs.Courses.{Unread, certificate_course}
-use Rattle.certificate_lines.specs.ItemsLeft.{ItemsHeld, in_memory, left_of_reader, nothing_taken}
+use Rattle.certificate_lines.specs.ItemsLeft.{ItemsHeld, Foresees, in_memory, left_of_reader, nothing_taken}
 use Rattle.certificate_lines.specs.Fitting.{AllFit}
 use Rattle.certificate_lines.specs.declared.fault.TextFault.{TextFault}
 use Rattle.certificate_lines.specs.declared.item.Wanted.TheVariants as want
@@ -18,9 +19,9 @@ use Rattle.checker_laws.proofs.Spelling.{spelled, spelling}
 use Rattle.checker_laws.proofs.Lengths.{certificate_length}
 use Rattle.checker_laws.proofs.LineFeeds.{lines}
 use Rattle.checker_laws.proofs.TextVerdicts.{best, impossible}
-use Rattle.certificate_checker.specs.Feeding.{FeedValue, Fed}
+use Rattle.certificate_checker.specs.Feeding.{FeedValue, Fed, MetFault}
 use Rattle.certificate_checker.specs.Certificates.{IsCertificateJudged}
-use Rattle.certificate_checker.specs.Answers.{IsCheckAnswer, CheckIsRight, ShowsImpossible, ChecksItems, ChecksBytes}
+use Rattle.certificate_checker.specs.Answers.{IsCheckAnswer, CheckIsRight, ShowsImpossible, lines_in_front, IsWithinBudget, IsBudgetedAnswer, ChecksItems, ChecksBytes}
 use Rattle.state_judge.specs.declared.fault.CheckFault.{CheckFault}
 use Rattle.state_judge.specs.declared.fault.CheckFault.TheVariants.{Text}
 use Rattle.std.specs.declared.alloc.AllocError.{AllocError}
@@ -70,6 +71,31 @@ module _ (p : Problem) (text : List ℕ) (limit : ℕ) where
       (λ f. omega (arith, few, lines text, f.2))
       costs
 
+  -- so many lines are within the limit
+  within : (v : Verdict) → lines_in_front text + 1 ≤ limit → IsWithinBudget (lines_in_front text) limit v
+  within (Best target) h = h
+  within Impossible h = h
+  within (No fault line) h = h
+  within Budget h = tt
+
+  -- a step was left when all lines were read
+  pub rest_within : (start now : FeedValue) → start.course ≡ certificate_course text → start.line ≡ 0 → Fed start now → now.line + length now.course.items < now.limit → start.limit ≡ limit → (v : Verdict) → IsWithinBudget (lines_in_front text) limit v
+  rest_within start now course line fed few same v = within v (omega (arith, fed.lines, fed.limit, few, same, line, ap (λ c. length c.items) course))
+
+  -- a step was left when the fault was met
+  pub fault_within : (start : FeedValue) (fault : TextFault) → start.course ≡ certificate_course text → start.used ≡ 0 → MetFault start fault → start.limit ≡ limit → (v : Verdict) → IsWithinBudget (lines_in_front text) limit v
+  fault_within start fault course used met same v = within v (omega (arith, met.1, same, used, ap (λ c. length c.items) course))
+
+-- the two parts of an answer
+module _ {E : Type 0} (p : Problem) (text : List ℕ) (budget : ℕ) where
+  pub answered : (r : Result Verdict E) → IfOk r (IsBudgetedAnswer p text budget) → IfOk r (IsCheckAnswer p text budget)
+  answered (Ok v) h = h.0
+  answered (Err e) h = tt
+
+  pub answered_within : (r : Result Verdict E) → IfOk r (IsBudgetedAnswer p text budget) → IfOk r (IsWithinBudget (lines_in_front text) budget)
+  answered_within (Ok v) h = h.1
+  answered_within (Err e) h = tt
+
 -- what an answer shows
 pub names_best : {E : Type 0} (p : Problem) (text : List ℕ) (budget : ℕ) (r : Result Verdict E) → IfOk r (IsCheckAnswer p text budget) → IfOk r (CheckIsRight p)
 names_best p text budget (Ok (Best target)) h = (best p text target.groups.items h).0
@@ -86,22 +112,28 @@ shows_impossible p text budget (Ok Budget) h = tt
 shows_impossible p text budget (Err e) h = tt
 
 -- of a text in memory
-pub checked_text : (p : Problem) (course : Unread) (text : List ℕ) (budget : ℕ) (r : Result Verdict AllocError) → ChecksItems p (in_memory course) nothing_comes budget r nothing_comes → course ≡ certificate_course text → IfOk r (IsCheckAnswer p text budget)
+pub checked_text : (p : Problem) (course : Unread) (text : List ℕ) (budget : ℕ) (r : Result Verdict AllocError) → ChecksItems p (in_memory course) nothing_comes budget r nothing_comes → course ≡ certificate_course text → IfOk r (IsBudgetedAnswer p text budget)
 checked_text p course text budget r h is = (h [] (record { later = []; text = refl; may = λ ended. refl })).1 text is
 
 -- of bytes that were pulled
 module _ (p : Problem) (before after : Given) (budget : ℕ) where
+  -- the bytes that were pulled, with whatever may come later
+  checked_with : (v : Verdict) → ChecksItems p (left_of_reader nothing_taken) before budget (Ok v) after → (sees : Foresees before after.bytes)
+      → (later : List ℕ) → MayCome after.ended later → IsBudgetedAnswer p (sees.later ++ later) budget v
+  checked_with v h sees later may =
+      let split : drop (length before.bytes) (after.bytes ++ later) ≡ sees.later ++ later =
+      ap (λ (t : List ℕ). drop (length before.bytes) (t ++ later)) sees.text ∙ ap (drop (length before.bytes)) (append_assoc before.bytes sees.later later) ∙ drop-append_seam before.bytes (sees.later ++ later) in
+      (h (after.bytes ++ later) (record { later = later; text = refl; may = may })).1 (sees.later ++ later) (ap certificate_course split)
+
   pub checked_bytes : (items : ItemsHeld) → items ≡ nothing_taken → (v : Verdict) → ChecksItems p (left_of_reader items) before budget (Ok v) after → ChecksBytes p before after budget v
   checked_bytes items is v checked =
       let h = subst (λ (i : ItemsHeld). ChecksItems p (left_of_reader i) before budget (Ok v) after) is checked in
-      let now = (h after.bytes (record { later = []; text = sym (append-nil after.bytes); may = λ ended. refl })).0 in
+      let sees = (h after.bytes (record { later = []; text = sym (append-nil after.bytes); may = λ ended. refl })).0 in
       record {
-        pulled = now.later;
-        given = now.text;
-        answer = λ later may.
-            let split : drop (length before.bytes) (after.bytes ++ later) ≡ now.later ++ later =
-            ap (λ (t : List ℕ). drop (length before.bytes) (t ++ later)) now.text ∙ ap (drop (length before.bytes)) (append_assoc before.bytes now.later later) ∙ drop-append_seam before.bytes (now.later ++ later) in
-            (h (after.bytes ++ later) (record { later = later; text = refl; may = may })).1 (now.later ++ later) (ap certificate_course split);
+        pulled = sees.later;
+        given = sees.text;
+        answer = λ later may. (checked_with v h sees later may).0;
+        within = λ later may. (checked_with v h sees later may).1;
       }
 
   pub bytes_best : {E : Type 0} (r : Result Verdict E) → IfOk r (ChecksBytes p before after budget) → IfOk r (CheckIsRight p)

@@ -2,9 +2,10 @@
 use Rattle.std.proofs.Common.{◌≤◌, List, length, Result, Ok, Err, refl, sym, ◌∙◌, arith}
 use Rattle.grouping_laws.specs.Problem.{Problem}
 use Rattle.certificate_data.specs.Round.{Round}
+use Rattle.certificate_lines.specs.declared.fault.TextFault.{TextFault}
 use Rattle.certificate_lines.specs.declared.item.Item.{Item}
 use Rattle.checker_laws.specs.Work.{Open}
-use Rattle.certificate_checker.specs.Feeding.{FeedValue, CountsSteps, Fed, IsFed, Reaches, Halts}
+use Rattle.certificate_checker.specs.Feeding.{FeedValue, CountsSteps, Fed, MetFault, IsFed, Reaches, Halts}
 use Rattle.certificate_checker.specs.declared.feed.Feed.{Feed}
 use Rattle.certificate_checker.specs.declared.feed.Halt.{Halt}
 use Rattle.certificate_checker.specs.declared.feed.Halt.TheVariants as stop
@@ -31,13 +32,17 @@ fed_here a = record {
 pub reaches_here : (p : Problem) (round : Round) (a : FeedValue) (w : List Open) → Reaches p round a a w w
 reaches_here p round a w = record { ends = λ end e. e; looks = λ n l. (n, l, omega arith) }
 
+-- a fault that was met from a later place on was met from the first
+met_later : (a b : FeedValue) (fault : TextFault) → Fed a b → MetFault b fault → MetFault a fault
+met_later a b fault h k = (sym h.fault ∙ k.0, omega (arith, h.limit, h.lines, h.counted, k.1))
+
 -- what was read from a later place on was read from the first
 pub fed_through : {X : Type 0} (a b c : FeedValue) (r : Result X Halt) → Fed a b → IsFed b r c → IsFed a r c
 fed_through a b c (Ok x) h k = fed_twice a b c h k
 fed_through a b c (Err (stop.Fault fault line)) h k = fed_twice a b c h k
 fed_through a b c (Err stop.Unspelled) h k = fed_twice a b c h k
 fed_through a b c (Err stop.Budget) h k = fed_twice a b c h k
-fed_through a b c (Err (stop.Text fault)) h k = sym h.fault ∙ k
+fed_through a b c (Err (stop.Text fault)) h k = met_later a b fault h k
 fed_through a b c (Err stop.Refused) h k = tt
 
 -- the same where the reading stopped, whatever it should have given
@@ -45,7 +50,7 @@ pub fed_off : (X Y : Type 0) (a b c : FeedValue) (st : Halt) → Fed a b → IsF
 fed_off X Y a b c (stop.Fault fault line) h k = fed_twice a b c h k
 fed_off X Y a b c stop.Unspelled h k = fed_twice a b c h k
 fed_off X Y a b c stop.Budget h k = fed_twice a b c h k
-fed_off X Y a b c (stop.Text fault) h k = sym h.fault ∙ k
+fed_off X Y a b c (stop.Text fault) h k = met_later a b fault h k
 fed_off X Y a b c stop.Refused h k = tt
 
 -- steps are counted on

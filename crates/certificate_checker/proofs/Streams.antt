@@ -2,7 +2,7 @@
 use Rattle.std.proofs.Common.{◌≡◌, ℕ, List, [], refl, sym, subst}
 use Rattle.field_lines.specs.Source.{Given, nothing_comes}
 use Rattle.certificate_lines.specs.Courses.{Unread}
-use Rattle.certificate_lines.specs.ItemsLeft.{ItemsLeft, in_memory, Foresees, course_by, Through as ItemsThrough}
+use Rattle.certificate_lines.specs.ItemsLeft.{ItemsLeft, in_memory, course_by, Through as ItemsThrough}
 use Rattle.certificate_checker.specs.Feeding.{FeedValue, feed_at}
 use Rattle.certificate_checker.specs.declared.feed.Feed.{Feed}
 

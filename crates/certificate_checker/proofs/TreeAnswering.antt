@@ -25,9 +25,9 @@ use Rattle.checker_laws.proofs.Work.{lines_carry}
 use Rattle.checker_laws.proofs.Readable.{tree_formed}
 use Rattle.checker_laws.proofs.Lengths.{tree_length}
 use Rattle.certificate_checker.specs.ReadableTrees.{IsReadable}
-use Rattle.certificate_checker.specs.Feeding.{FeedValue}
+use Rattle.certificate_checker.specs.Feeding.{FeedValue, IsFed}
 use Rattle.certificate_checker.specs.Judging.{IsJudged}
-use Rattle.certificate_checker.specs.TreeAnswers.{IsSpelledTree, IsTreeAnswer, IsRightOfTrees, IsSaid}
+use Rattle.certificate_checker.specs.TreeAnswers.{IsSpelledTree, IsTreeAnswer, IsTreeWithinBudget, IsRightOfTrees, IsSaid}
 use Rattle.certificate_checker.specs.declared.feed.Halt.{Halt}
 use Rattle.certificate_checker.specs.declared.feed.Halt.TheVariants as stop
 use Rattle.certificate_checker.specs.declared.verdict.TreeVerdict.{TreeVerdict}
@@ -83,6 +83,21 @@ module _ (p : Problem) (round : Round) (s : State) (tree : Tree) (old new : Feed
   tree_said (Err stop.Unspelled) (Err e) h is = tt
   tree_said (Err (stop.Text fault)) (Ok said) h is = absurd is
   tree_said (Err (stop.Text fault)) (Err e) h is = tt
+
+  -- each line of a proof tree was a step at least
+  pub tree_within : (judged : Result (Unit {0}) Halt) (said : Result TreeVerdict AllocError) → Judges judged → IsFed old judged new → new.used ≤ new.limit → IsSaid judged said → IfOk said (IsTreeWithinBudget tree old.limit)
+  tree_within (Ok done) said h fed few is =
+      let j = judges (Ok done) h in
+      subst (λ r. IfOk r (IsTreeWithinBudget tree old.limit)) (sym is)
+      (omega (arith, fed.lines, fed.counted, fed.limit, few, line, used, ap length items, ap length j.0, tree_length tree))
+  tree_within (Err (stop.Fault fault at)) said h fed few is = subst (λ r. IfOk r (IsTreeWithinBudget tree old.limit)) (sym is) tt
+  tree_within (Err stop.Budget) said h fed few is = subst (λ r. IfOk r (IsTreeWithinBudget tree old.limit)) (sym is) tt
+  tree_within (Err stop.Refused) (Ok said) h fed few is = absurd is
+  tree_within (Err stop.Refused) (Err e) h fed few is = tt
+  tree_within (Err stop.Unspelled) (Ok said) h fed few is = absurd is
+  tree_within (Err stop.Unspelled) (Err e) h fed few is = tt
+  tree_within (Err (stop.Text fault)) (Ok said) h fed few is = absurd is
+  tree_within (Err (stop.Text fault)) (Err e) h fed few is = tt
 
 pub right_of_trees : {E : Type 0} (p : Problem) (round : Round) (s : State) (tree : Tree) (budget : ℕ) (r : Result TreeVerdict E) → IfOk r (IsTreeAnswer p round s tree budget) → IfOk r (IsRightOfTrees p round s tree)
 right_of_trees p round s tree budget (Ok Proof) h = h.1

@@ -1,5 +1,5 @@
 -- What a checker answers of a text.
-use Rattle.std.specs.Prelude.{ℕ, ◌≡◌, ◌<◌, Bool, true, false, List, ◌++◌, Some, Result, Err, IfOk, ◌⊎◌, ⊤}
+use Rattle.std.specs.Prelude.{ℕ, ◌+◌, ◌≡◌, ◌<◌, ◌≤◌, Bool, true, false, List, ◌++◌, length, Some, Result, Err, IfOk, ◌⊎◌, ⊤}
 use Rattle.grouping_laws.specs.Problem.{Problem}
 use Rattle.grouping_laws.specs.Grouping.{IsBest, IsImpossible}
 use Rattle.field_lines.specs.Source.{Given}
@@ -43,6 +43,23 @@ IsCheckAnswer p text budget Impossible = IsTextVerdict p text said.Impossible
 IsCheckAnswer p text budget (No fault line) = IsRefusal p text fault line
 IsCheckAnswer p text budget Budget = (cost : ℕ) → TextCosts p text cost → budget < cost
 
+-- how many lines of a text stand in front of its end, or of the first fault of its words
+abbrev pub lines_in_front : List ℕ → ℕ
+lines_in_front text = length (certificate_course text).items
+
+-- An answer other than Budget comes only where so many lines, with one more for the end or for the line at fault, are no
+-- more than the budget.
+abbrev pub IsWithinBudget : ℕ → ℕ → Verdict → Type 0
+IsWithinBudget lines budget (Best target) = lines + 1 ≤ budget
+IsWithinBudget lines budget Impossible = lines + 1 ≤ budget
+IsWithinBudget lines budget (No fault line) = lines + 1 ≤ budget
+IsWithinBudget lines budget Budget = ⊤
+
+-- the verdict of the text, where its lines are within the budget
+abbrev pub IsBudgetedAnswer : Problem → List ℕ → ℕ → Verdict → Type 0
+IsBudgetedAnswer p text budget verdict =
+    IsCheckAnswer p text budget verdict × IsWithinBudget (lines_in_front text) budget verdict
+
 -- What was read of items comes to an answer, or was refused: whatever text the source may give in the end, it might
 -- give it before, and where its items are those of a certificate's text the answer is the verdict on this.
 abbrev pub ChecksItems : Problem → ItemsLeft → Given → ℕ → Result Verdict AllocError → Given → Type 0
@@ -50,7 +67,7 @@ ChecksItems p left before budget result after =
     (all : List ℕ) → Foresees after all
     → Foresees before all
     × ((text : List ℕ) → course_by left before all ≡ certificate_course text
-    → IfOk result (IsCheckAnswer p text budget))
+    → IfOk result (IsBudgetedAnswer p text budget))
 
 -- The source gave bytes meanwhile. They have this verdict, with whatever bytes may come later: with none, if the source
 -- has ended.
@@ -58,6 +75,8 @@ pub record ChecksBytes (p : Problem) (before after : Given) (budget : ℕ) (verd
   pub pulled : List ℕ
   pub given : after.bytes ≡ before.bytes ++ pulled
   pub answer : (later : List ℕ) → MayCome after.ended later → IsCheckAnswer p (pulled ++ later) budget verdict
+  pub within : (later : List ℕ) → MayCome after.ended later
+      → IsWithinBudget (lines_in_front (pulled ++ later)) budget verdict
 
 -- the source could not be read
 abbrev pub is_read_fault : Result Verdict CheckStop → Bool

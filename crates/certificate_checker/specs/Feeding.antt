@@ -83,13 +83,17 @@ pub record Fed (old new : FeedValue) : Type 0 where
   pub later : old.line ≤ new.line
   pub counted : new.line + old.used ≤ new.used + old.line
 
+-- The first fault of the text was met. The lines in front of it were a step each at least, and one more was left.
+abbrev pub MetFault : FeedValue → TextFault → Type 0
+MetFault old fault = (old.course.fault ≡ Some fault) × (old.used + length old.course.items < old.limit)
+
 -- Lines were read from the one to the other, unless the text has a fault there or could not be read.
 abbrev pub IsFed : {X : Type 0} → FeedValue → Result X Halt → FeedValue → Type 0
 IsFed old (Ok x) new = Fed old new
 IsFed old (Err (stop.Fault fault line)) new = Fed old new
 IsFed old (Err stop.Unspelled) new = Fed old new
 IsFed old (Err stop.Budget) new = Fed old new
-IsFed old (Err (stop.Text fault)) new = old.course.fault ≡ Some fault
+IsFed old (Err (stop.Text fault)) new = MetFault old fault
 IsFed old (Err stop.Refused) new = ⊤
 
 -- As what is left ends and is looked through now, so did what was left before.
@@ -135,11 +139,12 @@ Passes old (Ok true) new = (length old.items ≡ length new.items + 1) × (new.f
 Passes old (Ok false) new = old ≡ nothing
 Passes old (Err fault) new = (IsUnread fault → ⊥) → old ≡ only_fault fault
 
--- All lines were read: the text has no fault, or this one; or there are as many lines as steps, where the end counts as
--- one more.
+-- All lines were read: the text has no fault, or this one, and a step was left for the end or for the line at fault; or
+-- there are as many lines as steps, where the end counts as one more.
 abbrev pub IsRestRead : FeedValue → Result (Unit {0}) Halt → Type 0
-IsRestRead old (Ok done) = old.course.fault ≡ None
-IsRestRead old (Err (stop.Text fault)) = old.course.fault ≡ Some fault
+IsRestRead old (Ok done) = (old.course.fault ≡ None) × (old.line + length old.course.items < old.limit)
+IsRestRead old (Err (stop.Text fault)) =
+    (old.course.fault ≡ Some fault) × (old.line + length old.course.items < old.limit)
 IsRestRead old (Err stop.Budget) = old.limit ≤ old.line + length old.course.items
 IsRestRead old (Err stop.Refused) = ⊤
 IsRestRead old (Err _) = ⊥

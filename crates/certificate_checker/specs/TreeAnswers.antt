@@ -1,5 +1,5 @@
 -- What a checker answers of a tree.
-use Rattle.std.specs.Prelude.{ℕ, ◌≡◌, ◌<◌, List, length, Some, Result, Ok, Err, ◌⊎◌, ⊤}
+use Rattle.std.specs.Prelude.{ℕ, ◌≡◌, ◌<◌, ◌≤◌, List, length, Some, Result, Ok, Err, ◌⊎◌, ⊤}
 use Rattle.grouping_laws.specs.Problem.{Problem}
 use Rattle.certificate_data.specs.Round.{Round}
 use Rattle.certificate_laws.specs.State.{State}
@@ -10,6 +10,7 @@ use Rattle.certificate_text.specs.Spelling.{IsTreeSpelling}
 use Rattle.certificate_text.specs.TreeFault.{lines_of_tree, HasTreeFault}
 use Rattle.checker_laws.specs.Fault.{Fault}
 use Rattle.checker_laws.specs.End.{faulty}
+use Rattle.checker_laws.specs.Lines.{tree_lines}
 use Rattle.checker_laws.specs.Trees.{TreeEnds}
 use Rattle.checker_laws.specs.Cost.{TreeCosts}
 use Rattle.state_judge.specs.CheckFaults.{fault_of}
@@ -38,6 +39,12 @@ abbrev pub IsTreeAnswer : Problem → Round → State → Tree → ℕ → TreeV
 IsTreeAnswer p round s tree budget Proof = IsSpelledTree round tree × Proves tree p round s
 IsTreeAnswer p round s tree budget (Refused fault) = IsTreeFault p round s tree fault
 IsTreeAnswer p round s tree budget Budget = (cost : ℕ) → TreeCosts tree p round s cost → budget < cost
+
+-- A tree is answered with Proof only where its lines are no more than the budget.
+abbrev pub IsTreeWithinBudget : Tree → ℕ → TreeVerdict → Type 0
+IsTreeWithinBudget tree budget Proof = tree_lines tree ≤ budget
+IsTreeWithinBudget tree budget (Refused fault) = ⊤
+IsTreeWithinBudget tree budget Budget = ⊤
 
 -- Only a proof tree is answered with Proof, and only what is none, or has no text, with a fault.
 abbrev pub IsRightOfTrees : Problem → Round → State → Tree → TreeVerdict → Type 0

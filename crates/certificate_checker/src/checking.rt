@@ -6,6 +6,7 @@ ghost use Rattle.county_problem.specs.ProblemValue.{problem_of};
 ghost use Rattle.certificate_lines.specs.Courses.{certificate_course};
 ghost use Rattle.certificate_checker.specs.Feeding.{FeedValue, Fed, stream_of, FeedsThrough};
 ghost use Rattle.certificate_checker.specs.Answers.{IsCheckAnswer, CheckIsRight, ShowsImpossible, ChecksItems};
+ghost use Rattle.certificate_checker.specs.Answers.{IsBudgetedAnswer, lines_in_front, IsWithinBudget};
 ghost use Rattle.certificate_checker.specs.Answers.{ChecksBytes, is_read_fault};
 
 use crate::certificate::judge_certificate;
@@ -40,7 +41,7 @@ fn verdict_after<F, S: ItemSource<F>>(
         → start.line ≡ 0
         → Fed start a
         → ((certificate_course text).fault ≡ None → IsCheckAnswer p text start.limit found)
-        → IfOk result (IsCheckAnswer p text start.limit)) }
+        → IfOk result (IsBudgetedAnswer p text start.limit)) }
 {
     match read_rest(feed, from) {
         Ok(()) => Ok(found),
@@ -52,7 +53,10 @@ fn verdict_after<F, S: ItemSource<F>>(
             line.clear();
             Ok(Verdict::Budget)
         }
-        Err(_) => Err(AllocError),
+        Err(_) => {
+            line.clear();
+            Err(AllocError)
+        }
     }
 }
 
@@ -107,6 +111,7 @@ pub fn check_over<C: CountySet>(
 ) -> Result<Verdict, AllocError>
     requires fits { length problem.now.counties ≤ C.PLACES }
     ensures verdict { IfOk result (IsCheckAnswer (problem_of problem.now) text.now budget) }
+    ensures within { IfOk result (IsWithinBudget (lines_in_front text.now) budget) }
     ensures best { IfOk result (CheckIsRight (problem_of problem.now)) }
     ensures impossible { IfOk result (ShowsImpossible (problem_of problem.now)) }
 {
@@ -133,6 +138,7 @@ pub fn check(
     budget: u64,
 ) -> Result<Verdict, AllocError>
     ensures verdict { IfOk result (IsCheckAnswer (problem_of problem.now) text.now budget) }
+    ensures within { IfOk result (IsWithinBudget (lines_in_front text.now) budget) }
     ensures best { IfOk result (CheckIsRight (problem_of problem.now)) }
     ensures impossible { IfOk result (ShowsImpossible (problem_of problem.now)) }
 {

@@ -14,7 +14,7 @@ ghost use Rattle.certificate_text.specs.TreeFault.{lines_of_tree};
 ghost use Rattle.checker_laws.specs.Verdict.{IsLawfulTarget};
 ghost use Rattle.state_groups.specs.PlacedValues.{state_at, IsPlaced};
 ghost use Rattle.certificate_checker.specs.Judging.{AreWanted};
-ghost use Rattle.certificate_checker.specs.TreeAnswers.{IsTreeAnswer, IsRightOfTrees, IsSaid};
+ghost use Rattle.certificate_checker.specs.TreeAnswers.{IsTreeAnswer, IsTreeWithinBudget, IsRightOfTrees, IsSaid};
 
 use crate::certificate::{judge_order, judge_placed, judge_target};
 use crate::feed::{Feed, Halt, first_fault};
@@ -69,10 +69,14 @@ fn check_lines<C: CountySet>(
     requires small { round.now.limit ≤ most_counties }
     requires wanted { AreWanted (target_of round.now.target) wanted }
     requires placed { IsPlaced (length ordered.now.order) C.test state.old }
-    ensures { (tree : TreeValue)
+    ensures verdict { (tree : TreeValue)
         → lines.now ≡ lines_of_tree tree
         → AreTreeNumbers tree
         → IfOk result (IsTreeAnswer (problem_of ordered.now.problem) (round_of round.now) (state_at ordered.now.order C.test state.old) tree budget) }
+    ensures within { (tree : TreeValue)
+        → lines.now ≡ lines_of_tree tree
+        → AreTreeNumbers tree
+        → IfOk result (IsTreeWithinBudget tree budget) }
 {
     let places = ordered.places();
     if let Some(fault) = fault_in(alloc, lines, round.language, places)? {
@@ -92,6 +96,7 @@ fn check_lines<C: CountySet>(
         &mut feed,
         &mut (),
     );
+    let _used = feed.steps.used();
     said_of(judged)
 }
 
@@ -101,7 +106,7 @@ fn check_lines<C: CountySet>(
 /// the first line that may not stand where it stands, so it comes only of trees that are no proof or have no spelling.
 /// Each line that is judged and each set of counties that is met counts one, and `Budget` comes only where the budget
 /// is below the cost of the tree, three for each of its lines and for each set of counties that they ask to look
-/// through.
+/// through. A proof tree with more lines than the budget is never answered with `Proof`.
 ///
 /// The order has each county of the problem once, the target, if there is one, is lawful, and the limit is at most 256
 /// counties. The state is by places of the order.
@@ -123,6 +128,7 @@ pub fn check_tree<C: CountySet>(
     requires target { IsLawfulTarget (problem_of problem.now) (target_of round.now.target) }
     requires placed { IsPlaced (length round.now.order) C.test state.now }
     ensures verdict { IfOk result (IsTreeAnswer (problem_of problem.now) (round_of round.now) (state_at round.now.order C.test state.now) (tree_of tree.now) budget) }
+    ensures within { IfOk result (IsTreeWithinBudget (tree_of tree.now) budget) }
     ensures right { IfOk result (IsRightOfTrees (problem_of problem.now) (round_of round.now) (state_at round.now.order C.test state.now) (tree_of tree.now)) }
 {
     let lines = tree_lines(alloc, tree)?;

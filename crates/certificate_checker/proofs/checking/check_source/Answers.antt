@@ -2,8 +2,10 @@ use Rattle.std.proofs.Common.{Ok, Err, IfOk, refl, sym, ◌∙◌, ap, subst}
 use Rattle.county_problem.specs.ProblemValue.{problem_of}
 use Rattle.certificate_lines.specs.ItemsLeft.{course_by}
 use Rattle.certificate_checker.specs.Feeding.{FeedValue, stream_of, fed_by, IsFed}
-use Rattle.certificate_checker.specs.Answers.{IsCheckAnswer}
-use Rattle.certificate_checker.proofs.Answering.{AreJudged, best_found, impossible_found, fault_found, budget_found, unspelled_found, text_found}
+use Rattle.certificate_checker.specs.Answers.{IsBudgetedAnswer}
+use Rattle.state_judge.specs.declared.fault.CheckFault.TheVariants.{Text}
+use Rattle.certificate_checker.specs.declared.verdict.Verdict.TheVariants.{No}
+use Rattle.certificate_checker.proofs.Answering.{AreJudged, best_found, impossible_found, fault_found, budget_found, unspelled_found, text_found, fault_within}
 use Rattle.certificate_checker.proofs.checking.check_source.Goals as goal
 
 pub returns-in-Ok-Some : goal.returns-in-Ok-Some
@@ -14,7 +16,7 @@ returns-in-Ok-Some g c all sees =
       λ text course.
           let p = problem_of c.args.problem.now in
           let start : FeedValue = record { course = course_by (g.S.ItemSource.left c.args.source) (g.S.ItemSource.given c.args.from.now) all; line = 0; limit = c.new.result.limit; used = c.new.result.used } in
-          subst (λ n. IfOk c.verdict_after.result (IsCheckAnswer p text n)) c.new.ensures.limit
+          subst (λ n. IfOk c.verdict_after.result (IsBudgetedAnswer p text n)) c.new.ensures.limit
           (v.1 p text start course refl
           (subst (λ r. IsFed start (Ok r) (fed_by (stream_of g.S.ItemSource.left g.S.ItemSource.given c.judge_certificate.new.feed c.judge_certificate.new.from) all)) c.in-Ok-Some.field-0-is j.1)
           (best_found p text start.limit c.in-Ok-Some.target
@@ -29,7 +31,7 @@ returns-in-Ok-None g c all sees =
       λ text course.
           let p = problem_of c.args.problem.now in
           let start : FeedValue = record { course = course_by (g.S.ItemSource.left c.args.source) (g.S.ItemSource.given c.args.from.now) all; line = 0; limit = c.new.result.limit; used = c.new.result.used } in
-          subst (λ n. IfOk c.verdict_after-in-Ok-None.result (IsCheckAnswer p text n)) c.new.ensures.limit
+          subst (λ n. IfOk c.verdict_after-in-Ok-None.result (IsBudgetedAnswer p text n)) c.new.ensures.limit
           (v.1 p text start course refl
           (subst (λ r. IsFed start (Ok r) (fed_by (stream_of g.S.ItemSource.left g.S.ItemSource.given c.judge_certificate.new.feed c.judge_certificate.new.from) all)) c.in-Ok-None.field-0-is j.1)
           (impossible_found p text start.limit
@@ -44,7 +46,7 @@ returns-in-Err-Fault g c all sees =
       λ text course.
           let p = problem_of c.args.problem.now in
           let start : FeedValue = record { course = course_by (g.S.ItemSource.left c.args.source) (g.S.ItemSource.given c.args.from.now) all; line = 0; limit = c.new.result.limit; used = c.new.result.used } in
-          subst (λ n. IfOk c.verdict_after-in-Err-Fault.result (IsCheckAnswer p text n)) c.new.ensures.limit
+          subst (λ n. IfOk c.verdict_after-in-Err-Fault.result (IsBudgetedAnswer p text n)) c.new.ensures.limit
           (v.1 p text start course refl
           (subst (λ r. IsFed {X = Unit {0}} start (Err r) (fed_by (stream_of g.S.ItemSource.left g.S.ItemSource.given c.judge_certificate.new.feed c.judge_certificate.new.from) all)) c.in-Err-Fault.field-0-is j.1)
           (fault_found p text start.limit c.in-Err-Fault.fault c.in-Err-Fault.at
@@ -59,7 +61,7 @@ returns-in-Err-Budget g c all sees =
       λ text course.
           let p = problem_of c.args.problem.now in
           let start : FeedValue = record { course = course_by (g.S.ItemSource.left c.args.source) (g.S.ItemSource.given c.args.from.now) all; line = 0; limit = c.new.result.limit; used = c.new.result.used } in
-          subst (λ n. IfOk c.verdict_after-in-Err-Budget.result (IsCheckAnswer p text n)) c.new.ensures.limit
+          subst (λ n. IfOk c.verdict_after-in-Err-Budget.result (IsBudgetedAnswer p text n)) c.new.ensures.limit
           (v.1 p text start course refl
           (subst (λ r. IsFed {X = Unit {0}} start (Err r) (fed_by (stream_of g.S.ItemSource.left g.S.ItemSource.given c.judge_certificate.new.feed c.judge_certificate.new.from) all)) c.in-Err-Budget.field-0-is j.1)
           (budget_found p text start.limit
@@ -74,7 +76,7 @@ returns-in-Err-Unspelled g c all sees =
       λ text course.
           let p = problem_of c.args.problem.now in
           let start : FeedValue = record { course = course_by (g.S.ItemSource.left c.args.source) (g.S.ItemSource.given c.args.from.now) all; line = 0; limit = c.new.result.limit; used = c.new.result.used } in
-          subst (λ n. IfOk c.verdict_after-in-Err-Unspelled.result (IsCheckAnswer p text n)) c.new.ensures.limit
+          subst (λ n. IfOk c.verdict_after-in-Err-Unspelled.result (IsBudgetedAnswer p text n)) c.new.ensures.limit
           (v.1 p text start course refl
           (subst (λ r. IsFed {X = Unit {0}} start (Err r) (fed_by (stream_of g.S.ItemSource.left g.S.ItemSource.given c.judge_certificate.new.feed c.judge_certificate.new.from) all)) c.in-Err-Unspelled.field-0-is j.1)
           (unspelled_found p text start.limit
@@ -87,8 +89,10 @@ returns-in-Err-Text g c all sees =
       j.0,
       λ text course.
           let start : FeedValue = record { course = course_by (g.S.ItemSource.left c.args.source) (g.S.ItemSource.given c.args.from.now) all; line = 0; limit = c.new.result.limit; used = c.new.result.used } in
-          let fault = subst (λ r. IsFed {X = Unit {0}} start (Err r) (fed_by (stream_of g.S.ItemSource.left g.S.ItemSource.given c.judge_certificate.new.feed c.judge_certificate.new.from) all)) c.in-Err-Text.field-0-is j.1 in
-          text_found (problem_of c.args.problem.now) text c.args.budget c.in-Err-Text.fault (sym (ap (λ z. z.fault) course) ∙ fault),
+          let met = subst (λ r. IsFed {X = Unit {0}} start (Err r) (fed_by (stream_of g.S.ItemSource.left g.S.ItemSource.given c.judge_certificate.new.feed c.judge_certificate.new.from) all)) c.in-Err-Text.field-0-is j.1 in (
+            text_found (problem_of c.args.problem.now) text c.args.budget c.in-Err-Text.fault (sym (ap (λ z. z.fault) course) ∙ met.0),
+            fault_within (problem_of c.args.problem.now) text c.args.budget start c.in-Err-Text.fault course c.new.ensures.used met c.new.ensures.limit (No (Text c.in-Err-Text.fault) c.in-Err-Text.fault.line),
+          ),
     )
 
 pub returns : goal.returns
