@@ -126,7 +126,8 @@ pub fn check_over<C: CountySet>(
 /// counts by size, as *Stephenson v. Bartlett* asks. `Impossible` says that no grouping is lawful. `No` gives the first
 /// fault with its line, from 1; a fault of the text's words comes before any other. Each line that is read and each set
 /// of counties that is met counts one: `Budget` comes only where the budget is below the cost of the text, three for
-/// each of its lines and for each set of counties that its lines ask to look through.
+/// each of its lines and for each set of counties that its lines ask to look through. Any other answer comes only where
+/// the lines in front of the text's end, or of the first fault of its words, and one more are no more than `budget`.
 ///
 /// # Errors
 ///
