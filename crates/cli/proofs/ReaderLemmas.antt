@@ -1,6 +1,6 @@
 -- What the readers of files come to.
 use Rattle.std.proofs.Common.{◌≡◌, ◌&&◌, ℕ, Bool, true, false, List, [], ◌++◌, Option, Some, None, inl, inr, refl, sym, ap, ◌∙◌, subst, subst₂, ⊎_elim}
-use Rattle.std.specs.Prelude.{Result, Ok, Err, IfOk}
+use Rattle.std.specs.Prelude.{Result, Ok, Err, IfOk, IsOkAnd, MatchResult}
 use Rattle.std.specs.Result.{IsErrAnd}
 use Rattle.std.proofs.lemmas.Bool.{false≢true}
 use Rattle.field_lines.specs.Source.{Given, nothing_given}
@@ -28,7 +28,14 @@ use Rattle.cli_answers.specs.Refusals.{shelf_answer}
 use Rattle.cli_runs.specs.Course.{Course, ◌>>=◌}
 use Rattle.cli_runs.specs.Reading.{GivenBack, open_step, read_step, given_step, given_of, back_step, read_both, given_pair, given_of_both, OfTexts}
 use Rattle.cli_runs.proofs.RunLemmas.{came, went_on}
-use Rattle.cli.specs.Streams.{given_back, both_given_back, AreBack}
+use Rattle.certificate_checker.specs.declared.fault.CheckStop.{CheckStop}
+use Rattle.cli_words.specs.declared.words.CertificateWords.{CertificateWords}
+use Rattle.cli_runs.specs.declared.checker_report.Checked.{Checked}
+use Rattle.cli_runs.specs.declared.table_runs.Reported as held
+use Rattle.cli_runs.specs.CheckCourse.{IsChecked, ChecksGiven}
+use Rattle.cli_runs.specs.TableCourse.{Tabled}
+use Rattle.cli_runs.specs.Texts.{reported_of}
+use Rattle.cli.specs.Streams.{given_back, both_given_back, AreBack, checked_file}
 
 -- an answer that is shown
 pub shown : (refusal : Refusal) (want : Answered) (P : Answered → Type 0) → RefusalShows want refusal → P want → AnswerMeets refusal P
@@ -195,3 +202,29 @@ pub only_memory_of_names : {X Y : Type 0} (view : X → Y) (read : Result X Name
 only_memory_of_names view (Ok value) list x y one other of = of
 only_memory_of_names view (Err (names.BadName line)) list x y one other of = of
 only_memory_of_names view (Err (names.Files fault)) list x y one other of = λ g s sees sees_too not. of g s sees sees_too (λ refused. ⊎_elim not (no_read_fault fault fault.file refl one other) refused)
+
+-- what was said of a certificate whose reader was given back
+pub said_checked : (t : Tabled) (budget : ℕ) (g x given : Given) (checked : Result Checked CheckStop) (end : Result held.Reported Refusal) → g ≡ nothing_given → given ≡ x
+    → IfOk checked (λ k. ChecksGiven t budget g x (reported_of k.reported)) → MatchResult end (λ r. IsOkAnd checked (λ k. k.reported ≡ r)) (λ refusal. refusal ≡ Memory)
+    → MatchResult end (λ r. IsChecked t budget given (reported_of r)) (λ refusal. refusal ≡ Memory)
+said_checked t budget g x given (Ok k) (Ok r) none same holds is =
+    let begun : x.bytes ≡ holds.bytes = holds.are_given ∙ ap (λ (z : Given). z.bytes ++ holds.bytes) none in
+    let of_source : IsChecked t budget x (reported_of k.reported) = subst (λ (b : List ℕ). IsChecked t budget (record { bytes = b; ended = x.ended }) (reported_of k.reported)) (sym begun) holds.checked in
+    subst (λ (q : held.Reported). IsChecked t budget given (reported_of q)) is (subst (λ (z : Given). IsChecked t budget z (reported_of k.reported)) (sym same) of_source)
+said_checked t budget g x given (Err stop) (Ok r) none same holds is = absurd is
+said_checked t budget g x given checked (Err refusal) none same holds is = is
+
+-- a certificate was read once, and this was said of it
+pub file_checked : (files : Option Files) (words : CertificateWords) (t : Tabled) (before between after : History) (given : Given) (end : Result held.Reported Refusal) → between ≡ before
+    → given_back files words.certificate.now between after (Ok given) → MatchResult end (λ r. IsChecked t words.budget given (reported_of r)) (λ refusal. refusal ≡ Memory)
+    → Comes reported_of end (checked_file files words t before after)
+file_checked files words t before between after given end same (inl stop) said = absurd stop
+file_checked files words t before between after given (Ok r) same (inr on) said =
+    inr (record {
+      value = given;
+      between = after;
+      given = inr (record { value = on.value; between = on.between; given = inr (record { value = tt; between = between; given = same; goes_on = on.given }); goes_on = on.goes_on });
+      goes_on = (refl, said);
+    })
+file_checked files words t before between after given (Err refusal) same (inr on) said =
+    subst (λ (r : Refusal). AnswerMeets r (λ a. checked_file files words t before after (Err a))) (sym said) tt

@@ -46,7 +46,11 @@ fn load_certificate<H: Shelf>(
 /// The end of a run whose grouping is lawful.
 fn lawful_end(unshown: Option<Unshown>, certificate: Option<Vec<u8>>, problem: Problem) -> Ending {
     match (unshown, certificate) {
-        (Some(unshown), Some(text)) => Ending::NotShownBest(unshown, FaultText::Whole(text), problem),
+        (Some(unshown), Some(text)) => Ending::NotShownBest(
+            unshown,
+            FaultText::Whole(text),
+            problem,
+        ),
         _ => Ending::Done,
     }
 }

@@ -8,8 +8,8 @@ ghost use Rattle.cli_runs.specs.ListCourse.{list_course};
 ghost use Rattle.cli_runs.specs.Run.{CommandRun};
 ghost use Rattle.cli_runs.specs.Texts.{listed_of};
 
-use crate::fault_text::FaultText;
 use crate::end::{End, Ending, FileOption};
+use crate::fault_text::FaultText;
 use crate::files::load;
 use crate::problem::load_problem;
 use crate::storing::store_named;
@@ -47,7 +47,12 @@ fn listed_end(end: ListEnd, text: Vec<u8>, problem: Problem) -> Ending {
         ListEnd::NoSuchGrouping(count) => Ending::NoSuchGrouping(count),
         ListEnd::Open(_, line) => Ending::ListOpen(line),
         ListEnd::Impossible => Ending::Impossible,
-        ListEnd::NoCertificate(fault, line) => Ending::NoCertificate(fault, line, FaultText::Whole(text), problem),
+        ListEnd::NoCertificate(fault, line) => Ending::NoCertificate(
+            fault,
+            line,
+            FaultText::Whole(text),
+            problem,
+        ),
         ListEnd::Budget => Ending::Budget,
     }
 }
