@@ -1,10 +1,9 @@
 -- What the readers of files come to.
-use Rattle.std.proofs.Common.{◌≡◌, ◌&&◌, ℕ, Bool, true, false, List, [], ◌++◌, Option, Some, None, inl, inr, refl, sym, ap, ◌∙◌, subst, subst₂, ⊎_elim}
+use Rattle.std.proofs.Common.{◌≡◌, ◌&&◌, ℕ, Bool, true, false, List, ◌++◌, Option, Some, None, inl, inr, refl, sym, ap, ◌∙◌, subst, subst₂, ⊎_elim}
 use Rattle.std.specs.Prelude.{Result, Ok, Err, IfOk, IsOkAnd, MatchResult}
 use Rattle.std.specs.Result.{IsErrAnd}
 use Rattle.std.proofs.lemmas.Bool.{false≢true}
 use Rattle.field_lines.specs.Source.{Given, nothing_given}
-use Rattle.field_lines.specs.HeldBytes.{Foresees}
 use Rattle.field_lines.specs.Values.{GivesUnless}
 use Rattle.pl94_counties.specs.declared.fault.File.{File}
 use Rattle.pl94_counties.specs.declared.fault.File.TheVariants.{Geo, Segment1}
@@ -26,7 +25,7 @@ use Rattle.cli_answers.specs.Answer.{Answered}
 use Rattle.cli_answers.specs.Answers.{Comes, AnswerMeets, RefusalShows}
 use Rattle.cli_answers.specs.Refusals.{shelf_answer}
 use Rattle.cli_runs.specs.Course.{Course, ◌>>=◌}
-use Rattle.cli_runs.specs.Reading.{GivenBack, open_step, read_step, given_step, given_of, back_step, read_both, given_pair, given_of_both, OfTexts}
+use Rattle.cli_runs.specs.Reading.{GivenBack, open_step, read_step, given_step, back_step, read_both, given_pair, given_of_both, OfTexts}
 use Rattle.cli_runs.proofs.RunLemmas.{came, went_on}
 use Rattle.certificate_checker.specs.declared.fault.CheckStop.{CheckStop}
 use Rattle.cli_words.specs.declared.words.CertificateWords.{CertificateWords}

@@ -1,4 +1,4 @@
-use Rattle.std.proofs.Common.{Option, subst, sym, ◌∙◌}
+use Rattle.std.proofs.Common.{Option, subst, ◌∙◌}
 use Rattle.std.specs.Prelude.{Ok}
 use Rattle.cli_shelves.specs.Files.{Files}
 use Rattle.cli_runs.specs.Texts.{tabled_of}
