@@ -103,7 +103,7 @@ class Sources:
     def __init__(self):
         self.runs, self.by_option = [], collections.defaultdict(list)
         for stem in cases.stems([]):
-            if os.path.isfile(f"{stem}.times"):
+            if any(os.path.isfile(f"{stem}.{ending}") for ending in ("times", "sizes")):
                 continue
             case = cases.Case(stem)
             if case.program or sum(map(len, case.files.values())) + len(case.given) > MOST_BYTES:

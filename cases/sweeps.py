@@ -6,6 +6,7 @@ import random
 import re
 import types
 
+from given_files import Forms, as_given
 from program_runs import EIO, EINTR, Followed, files_below, fresh_folder, run
 
 # ---- events that `share` was refused memory for ----
@@ -103,7 +104,8 @@ class Sweep:
 
     def run_once(self, words, folder, given, follow="", refuse=None):
         """One run of the program: the one place that says how it is run and how something is refused."""
-        return run(self.program, words, folder, given, follow=follow, refuse=refuse)
+        with as_given(folder, self.case.files, self.case.forms):
+            return run(self.program, words, folder, given, follow=follow, refuse=refuse)
 
     def left_behind(self, found, before, after, plain, calls=0, allocations=0):
         """What is wrong with the files that were found: each is as before or as after, or as the ordinary run stored it first; each that was
@@ -246,7 +248,7 @@ class ToyShare(Sweep):
 
     def __init__(self, events):
         given = b"share --events e\nfile e\n" + events
-        super().__init__(types.SimpleNamespace(stem="cases/toy", runs=[[]], given=given, files={}, most=0), "", "", 0)
+        super().__init__(types.SimpleNamespace(stem="cases/toy", runs=[[]], given=given, files={}, forms=Forms(), most=0), "", "", 0)
 
     def run_with_events(self, upto, name, text):
         made, total = Followed(), 0
@@ -300,14 +302,3 @@ def tests():
     yield "a seed picks the same again", sampled([*range(1000)], "1"), sample
     yield "another seed picks others", sampled([*range(1000)], "2") != sample, True
     yield "an events file without events", ToyShare(b"").events_of(0), ("e", [])
-
-
-def test():
-    """Tries the rule for refused events, and samples."""
-    passed = failed = 0
-    for name, found, wanted in tests():
-        passed, failed = passed + (found == wanted), failed + (found != wanted)
-        if found != wanted:
-            print(f"FAILED {name}: wanted {wanted}, found {found}")
-    print(f"{passed} passed, {failed} failed")
-    return 1 if failed else 0
