@@ -79,12 +79,11 @@ class Given:
     whole: bytes = None
 
     def text(self):
-        """The case text. A file that doesn't end with LF can only stand last, so that the others get one."""
+        """The case text."""
         if self.whole is not None:
             return self.whole
         text = " ".join(self.words).encode("utf-8", "surrogateescape") + b"\n"
-        for name, held in sorted(self.files.items(), key=lambda it: it[1] != b"" and not it[1].endswith(b"\n")):
-            text += b"" if text.endswith(b"\n") else b"\n"
+        for name, held in as_told(self.files).items():
             text += b"file " + name.encode() + b"\n" + held
         return text
 
@@ -95,6 +94,18 @@ class Given:
     def named(self):
         """The options that name a file which is there, each with its place among the words."""
         return [(place, option) for place, option in enumerate(self.words[:-1]) if option.startswith("--") and self.words[place + 1] in self.files]
+
+
+def is_ended(held):
+    """Whether a file can stand before another one in a case text."""
+    return held == b"" or held.endswith(b"\n")
+
+
+def as_told(files):
+    """The files as a case text has them, in their order there. Only the last one can lack its LF."""
+    names = sorted(files, key=lambda name: not is_ended(files[name]))
+    needing = {name for name in names[:-1] if not is_ended(files[name])}
+    return {name: files[name] + (b"\n" if name in needing else b"") for name in names}
 
 
 class Sources:
@@ -137,6 +148,8 @@ class Sources:
         run.words = [*words_without(run.words, limit[0]), *limit] if limit else run.words
         if run.is_told and chance.random() < 0.1:
             change_whole(run, limit, chance)
+        if run.is_told and run.whole is None:
+            run.files = as_told(run.files)
         return run
 
     def change(self, run, chance):
@@ -575,6 +588,10 @@ def tests():
     run = Given(["solve", "--geo", "g", "--certificate", "c", "--out", "o"], {"g": b"x", "h": b"y\n"})
     yield "a case text", run.text(), b"solve --geo g --certificate c --out o\nfile h\ny\nfile g\nx"
     yield "options that name a file", run.named(), [(1, "--geo")]
+    torn = {"g": b"x", "h": b"y", "i": b"", "j": b"z\n"}
+    told = Given(["size"], as_told(torn)).text()
+    yield "files of a case text", as_told(torn), {"i": b"", "j": b"z\n", "g": b"x\n", "h": b"y"}
+    yield "they are those of the text", compare_checkers.case_parts(told)[1], as_told(torn)
     certificate = b"county-groups certificate 1\norder\nlimit 0\ntarget none\nseats\nend\n"
     wrote = b"answer best\nfile c\n" + certificate + b"file o\n1|37001\n"
     yield "stored files", parted(wrote, outputs_of(run.words).values()), (b"answer best\n", {"c": certificate, "o": b"1|37001\n"})
@@ -653,6 +670,8 @@ def tests_of_changes():
     yield "each command has runs", {it.words[0] for it in sources.runs}, {*TEXTS}
     turns = [sources.changed(random.Random(f"1 {turn}")) for turn in range(300)]
     yield "the same seed and turn", turns[7], sources.changed(random.Random("1 7"))
+    told = [it for it in turns if it.is_told and it.whole is None]
+    yield "a told run has the files of its text", [it for it in told if it.files != as_told(it.files)], []
     yield "few runs are as they were", sum(it in sources.runs for it in turns) < 30, True
     nameless = Given(["size", "--geo", ""], {"": b"x"}, b"", True)
     yield "a file without a name is in no folder", fits_folder(nameless), False
