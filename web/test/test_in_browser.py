@@ -75,7 +75,7 @@ class InPage(unittest.TestCase):
 
     def failure(self, name: str) -> "str | None":
         """Returns what is wrong with a case, or None."""
-        case = Case(name.rsplit(".", 1)[0])  # type: ignore[no-untyped-call]
+        case = Case(name.rsplit(".", 1)[0])
         files: dict[str, bytes] = dict(case.files)
         stored: dict[str, bytes] = {}
         said, told = b"", b""
