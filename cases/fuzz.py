@@ -17,6 +17,8 @@ folder. A find is
     checker     tools/check.py contradicts `check`, `list`, `judge` where it says best, or a certificate that `solve` or `share` stored (if it answers
                 within seconds)
     programs    two programs answer otherwise
+    pipes       the program answers otherwise, or stores other files, where the files that it reads are pipes, which it can read once. Some runs that are
+                given as files are asked so; none of `audit`, which reads two files twice
 
 If each program stores tables and records (`--table`, `--record`), some runs are asked for them. Each table is made anew from the files and the report.
 
@@ -50,6 +52,7 @@ sys.path[:0] = [HERE, f"{HERE}/../tools"]
 import cases  # noqa: E402
 import check  # noqa: E402
 import compare_checkers  # noqa: E402
+import given_files  # noqa: E402
 import program_runs  # noqa: E402
 from formats import TEXTS, is_certificate, is_grouping, is_of_format, is_record, is_told, table_of, wrong_record  # noqa: E402
 from sweeps import named_by  # noqa: E402
@@ -363,13 +366,34 @@ class Made:
     files: dict
 
 
-def made_by(program, run, room, asked):
-    folder, text = program_runs.fresh_folder(room, {} if run.is_told else run.files), run.text() if run.is_told else run.stdin
-    made = program_runs.run(program, [] if run.is_told else run.words, folder, text, most=asked.memory, seconds=asked.limit)
+def made_by(program, run, room, asked, pipes=()):
+    """What the program makes of a run. The files of these names are pipes, which it can read once."""
+    files, forms = {} if run.is_told else run.files, given_files.Forms(pipes={it: b"" for it in pipes})
+    words, text = ([], run.text()) if run.is_told else (run.words, run.stdin)
+    folder = program_runs.fresh_folder(room, files)
+    with given_files.as_given(folder, files, forms):
+        made = program_runs.run(program, words, folder, text, most=asked.memory, seconds=asked.limit)
     wrote, files = made.wrote, program_runs.files_below(folder)
     if run.is_told and not files:
         wrote, files = parted(wrote, outputs_of(run.words).values())
     return Made(wrote, made.status, made.told, files)
+
+
+def pipes_of(run):
+    """The files of a run that may be pipes: those that it reads once, if it is given as files."""
+    if run.is_told or run.words[0] == "audit":
+        return []
+    named = [os.path.normpath(word.split("=", 1)[-1]) for word in run.words if word]
+    names = {run.words[place + 1] for place, _ in run.named()} - {*outputs_of(run.words).values()}
+    return sorted(it for it in names if named.count(os.path.normpath(it)) == 1)
+
+
+def wrong_pipes(plain, piped):
+    """What is wrong with a run whose files are pipes, if something is."""
+    if (plain.text, plain.status, plain.files) == (piped.text, piped.status, piped.files):
+        return None
+    one, other = (f"status {it.status}, `{shown(it.text)}`" for it in (piped, plain))
+    return f"pipes: {one}; of plain files {other}"
 
 
 def outputs_of(words):
@@ -542,7 +566,7 @@ def faults_of(run, runs, asked):
     return faults, wanted
 
 
-def keep(folder, run, faults, wanted, how):
+def keep(folder, run, faults, wanted, how, pipes=()):
     """Keeps a run as a case that repeats it."""
     os.makedirs(folder, exist_ok=True)
     files = {"found.txt": "".join(f"{it}\n" for it in [how, *faults]).encode()}
@@ -554,6 +578,8 @@ def keep(folder, run, faults, wanted, how):
         files["found.words"] = "".join(f"{it}\n" for it in run.words).encode("utf-8", "surrogateescape")
         files["found.case"] = run.stdin
         files.update({f"found.files/{name}": held for name, held in run.files.items()})
+        if pipes:
+            files["found.pipes"] = "".join(f"{it}\n" for it in pipes).encode("utf-8", "surrogateescape")
     for name, held in files.items():
         os.makedirs(os.path.dirname(f"{folder}/{name}"), exist_ok=True)
         with open(f"{folder}/{name}", "wb") as file:
@@ -624,10 +650,25 @@ def tests():
     yield "a lesser grouping called best", agrees("judge", lesser, 0, (best, 0)), False
     yield "a list behind a best one", agrees("list", b"people 1\nanswer all\n", 0, (b"people 1\nanswer best\n", 0)), True
     yield "an open list of no certificate", agrees("list", b"open SeatsOff line 6\n", 3, (b"no NotStuck line 6\n", 1)), False
+    yield from tests_of_pipes()
     yield "words without an option", words_without(run.words, "--geo"), ["solve", "--certificate", "c", "--out", "o"]
     yield from tests_of_outputs()
     yield from tests_of_changes()
     yield from tests_of_errors()
+
+
+def tests_of_pipes():
+    """Which files may be pipes, and what is wrong with a run of them."""
+    files = {"g": b"x", "h": b"y", "o": b"z", "w": b""}
+    words = "solve --geo g --segment=g --adjacency h --out o --links ./w --withdrawn w".split()
+    yield "files that are read once", pipes_of(Given(words, files, b"", False)), ["h"]
+    yield "none of a case text", pipes_of(Given(words, files)), []
+    yield "none of an audit", pipes_of(Given(["audit", *words[1:]], files, b"", False)), []
+    plain, other = Made(b"a\n", 0, b"", {"t": b""}), Made(b"b\n", 1, b"", {"t": b""})
+    yield "the same of pipes", wrong_pipes(plain, Made(b"a\n", 0, b"x", {"t": b""})), None
+    wanted = "pipes: status 1, `b\\n`; of plain files status 0, `a\\n`"
+    yield "another answer of pipes", wrong_pipes(plain, other), wanted
+    yield "other files of pipes", wrong_pipes(plain, Made(b"a\n", 0, b"", {})) is not None, True
 
 
 def tests_of_outputs():
@@ -772,12 +813,18 @@ class Tally:
         add_outputs(run, options, random.Random(f"{asked.seed} {turn} outputs"))
         runs = [made_by(program, run, room, asked) for program in programs]
         faults, wanted = faults_of(run, runs, asked)
+        may_be_pipes = random.Random(f"{asked.seed} {turn} pipes").random() < 0.3 and not faults
+        pipes = pipes_of(run) if may_be_pipes else []
+        if pipes:
+            why = wrong_pipes(runs[0], made_by(programs[0], run, room, asked, pipes))
+            faults, wanted = ([why], (runs[0].text, runs[0].status)) if why else ([], None)
         self.statuses.update(it.status for it in runs)
         self.finds += bool(faults)
         for why in faults:
             print(f"FOUND seed {asked.seed} turn {turn}: {why}", flush=True)
         if faults:
-            keep(f"{asked.keep}/{asked.seed}-{turn}", run, faults, wanted, f"seed {asked.seed} turn {turn}")
+            how = f"seed {asked.seed} turn {turn}"
+            keep(f"{asked.keep}/{asked.seed}-{turn}", run, faults, wanted, how, pipes)
 
     def told(self):
         """Prints how many runs ended with each status, and how many finds and errors there were."""
