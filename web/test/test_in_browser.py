@@ -76,7 +76,7 @@ class InPage(unittest.TestCase):
     def failure(self, name: str) -> "str | None":
         """Returns what is wrong with a case, or None."""
         case = Case(name.rsplit(".", 1)[0])
-        files: dict[str, bytes] = dict(case.files)
+        files = case.whole_files()
         stored: dict[str, bytes] = {}
         said, told = b"", b""
         for words in case.runs:
