@@ -211,6 +211,13 @@ def fits_folder(run):
     return can_stand and not names & above and is_plain([*run.words, *names])
 
 
+def stores_outside(run):
+    """Whether a run that is given as files might store one outside of its folder."""
+    outputs = {f"--{option}" for option, commands in STORING.items() if run.words[0] in commands}
+    named = [word for option, word in named_words(run.words) if option in outputs]
+    return not run.is_told and any(word.startswith("/") or ".." in word for word in named)
+
+
 def words_without(words, option):
     if option not in words:
         return words
@@ -651,6 +658,7 @@ def tests():
     yield "a list behind a best one", agrees("list", b"people 1\nanswer all\n", 0, (b"people 1\nanswer best\n", 0)), True
     yield "an open list of no certificate", agrees("list", b"open SeatsOff line 6\n", 3, (b"no NotStuck line 6\n", 1)), False
     yield from tests_of_pipes()
+    yield from tests_of_places()
     yield "words without an option", words_without(run.words, "--geo"), ["solve", "--certificate", "c", "--out", "o"]
     yield from tests_of_outputs()
     yield from tests_of_changes()
@@ -669,6 +677,17 @@ def tests_of_pipes():
     wanted = "pipes: status 1, `b\\n`; of plain files status 0, `a\\n`"
     yield "another answer of pipes", wrong_pipes(plain, other), wanted
     yield "other files of pipes", wrong_pipes(plain, Made(b"a\n", 0, b"", {})) is not None, True
+
+
+def tests_of_places():
+    """Which runs might store a file outside of their folder."""
+    of = lambda words, is_told=False: stores_outside(Given(words.split(), {"g": b"x"}, b"", is_told))
+    yield "a table outside of the folder", of("judge --geo g --table /dev/stdin"), True
+    yield "a name in one word with its option", of("solve --geo g --out=/dev/stdin"), True
+    yield "the second of two names", of("solve --out o --out /dev/stdin"), True
+    yield "a name that leads out of the folder", of("size --geo g --record ../r"), True
+    yield "nothing outside of a told run", of("judge --geo g --table /dev/stdin", True), False
+    yield "an input outside of the folder", of("check --certificate /dev/stdin --table t"), False
 
 
 def tests_of_outputs():
@@ -811,6 +830,9 @@ class Tally:
         """Runs one turn. What was found is told before it is kept."""
         run = sources.changed(random.Random(f"{asked.seed} {turn}"))
         add_outputs(run, options, random.Random(f"{asked.seed} {turn} outputs"))
+        if stores_outside(run):
+            # (a told run stores nothing on the machine)
+            run.is_told, run.files = True, as_told(run.files)
         runs = [made_by(program, run, room, asked) for program in programs]
         faults, wanted = faults_of(run, runs, asked)
         may_be_pipes = random.Random(f"{asked.seed} {turn} pipes").random() < 0.3 and not faults
