@@ -136,6 +136,8 @@ test_programs() { # FUZZER_SECONDS SEED PROGRAM ..
     python3 tools/test_guides.py --program "$1"
     python3 tools/test_manual_page.py --program "$1"
     python3 tools/test_completions.py --program "$1"
+    heading "the program at a terminal"
+    python3 tools/test_terminal.py --program "$1"
     heading "the packages for Python and R"
     COUNTYGROUPS=$(realpath "$1") python/test.sh
     COUNTYGROUPS=$(realpath "$1") r/test.sh

@@ -17,6 +17,8 @@ folder. A find is
     checker     tools/check.py contradicts `check`, `list`, `judge` where it says best, or a certificate that `solve` or `share` stored (if it answers
                 within seconds)
     programs    two programs answer otherwise
+    pipes       the program answers otherwise, or stores other files, where the files that it reads are pipes, which it can read once. Some runs that are
+                given as files are asked so; none of `audit`, which reads two files twice
 
 If each program stores tables and records (`--table`, `--record`), some runs are asked for them. Each table is made anew from the files and the report.
 
@@ -50,6 +52,7 @@ sys.path[:0] = [HERE, f"{HERE}/../tools"]
 import cases  # noqa: E402
 import check  # noqa: E402
 import compare_checkers  # noqa: E402
+import given_files  # noqa: E402
 import program_runs  # noqa: E402
 from formats import TEXTS, is_certificate, is_grouping, is_of_format, is_record, is_told, table_of, wrong_record  # noqa: E402
 from sweeps import named_by  # noqa: E402
@@ -79,12 +82,11 @@ class Given:
     whole: bytes = None
 
     def text(self):
-        """The case text. A file that doesn't end with LF can only stand last, so that the others get one."""
+        """The case text."""
         if self.whole is not None:
             return self.whole
         text = " ".join(self.words).encode("utf-8", "surrogateescape") + b"\n"
-        for name, held in sorted(self.files.items(), key=lambda it: it[1] != b"" and not it[1].endswith(b"\n")):
-            text += b"" if text.endswith(b"\n") else b"\n"
+        for name, held in as_told(self.files).items():
             text += b"file " + name.encode() + b"\n" + held
         return text
 
@@ -97,13 +99,25 @@ class Given:
         return [(place, option) for place, option in enumerate(self.words[:-1]) if option.startswith("--") and self.words[place + 1] in self.files]
 
 
+def is_ended(held):
+    """Whether a file can stand before another one in a case text."""
+    return held == b"" or held.endswith(b"\n")
+
+
+def as_told(files):
+    """The files as a case text has them, in their order there. Only the last one can lack its LF."""
+    names = sorted(files, key=lambda name: not is_ended(files[name]))
+    needing = {name for name in names[:-1] if not is_ended(files[name])}
+    return {name: files[name] + (b"\n" if name in needing else b"") for name in names}
+
+
 class Sources:
     """The runs of the cases, the checks among them whose text is a certificate, and the files by the option that names them."""
 
     def __init__(self):
         self.runs, self.by_option = [], collections.defaultdict(list)
         for stem in cases.stems([]):
-            if os.path.isfile(f"{stem}.times"):
+            if any(os.path.isfile(f"{stem}.{ending}") for ending in ("times", "sizes")):
                 continue
             case = cases.Case(stem)
             if case.program or sum(map(len, case.files.values())) + len(case.given) > MOST_BYTES:
@@ -137,6 +151,8 @@ class Sources:
         run.words = [*words_without(run.words, limit[0]), *limit] if limit else run.words
         if run.is_told and chance.random() < 0.1:
             change_whole(run, limit, chance)
+        if run.is_told and run.whole is None:
+            run.files = as_told(run.files)
         return run
 
     def change(self, run, chance):
@@ -193,6 +209,13 @@ def fits_folder(run):
     above = {name[:place] for name in names for place, letter in enumerate(name) if letter == "/"}
     can_stand = all(name and "\0" not in name and not name.endswith("/") and len(name) <= 200 for name in names)
     return can_stand and not names & above and is_plain([*run.words, *names])
+
+
+def stores_outside(run):
+    """Whether a run that is given as files might store one outside of its folder."""
+    outputs = {f"--{option}" for option, commands in STORING.items() if run.words[0] in commands}
+    named = [word for option, word in named_words(run.words) if option in outputs]
+    return not run.is_told and any(word.startswith("/") or ".." in word for word in named)
 
 
 def words_without(words, option):
@@ -350,13 +373,34 @@ class Made:
     files: dict
 
 
-def made_by(program, run, room, asked):
-    folder, text = program_runs.fresh_folder(room, {} if run.is_told else run.files), run.text() if run.is_told else run.stdin
-    made = program_runs.run(program, [] if run.is_told else run.words, folder, text, most=asked.memory, seconds=asked.limit)
+def made_by(program, run, room, asked, pipes=()):
+    """What the program makes of a run. The files of these names are pipes, which it can read once."""
+    files, forms = {} if run.is_told else run.files, given_files.Forms(pipes={it: b"" for it in pipes})
+    words, text = ([], run.text()) if run.is_told else (run.words, run.stdin)
+    folder = program_runs.fresh_folder(room, files)
+    with given_files.as_given(folder, files, forms):
+        made = program_runs.run(program, words, folder, text, most=asked.memory, seconds=asked.limit)
     wrote, files = made.wrote, program_runs.files_below(folder)
     if run.is_told and not files:
         wrote, files = parted(wrote, outputs_of(run.words).values())
     return Made(wrote, made.status, made.told, files)
+
+
+def pipes_of(run):
+    """The files of a run that may be pipes: those that it reads once, if it is given as files."""
+    if run.is_told or run.words[0] == "audit":
+        return []
+    named = [os.path.normpath(word.split("=", 1)[-1]) for word in run.words if word]
+    names = {run.words[place + 1] for place, _ in run.named()} - {*outputs_of(run.words).values()}
+    return sorted(it for it in names if named.count(os.path.normpath(it)) == 1)
+
+
+def wrong_pipes(plain, piped):
+    """What is wrong with a run whose files are pipes, if something is."""
+    if (plain.text, plain.status, plain.files) == (piped.text, piped.status, piped.files):
+        return None
+    one, other = (f"status {it.status}, `{shown(it.text)}`" for it in (piped, plain))
+    return f"pipes: {one}; of plain files {other}"
 
 
 def outputs_of(words):
@@ -529,7 +573,7 @@ def faults_of(run, runs, asked):
     return faults, wanted
 
 
-def keep(folder, run, faults, wanted, how):
+def keep(folder, run, faults, wanted, how, pipes=()):
     """Keeps a run as a case that repeats it."""
     os.makedirs(folder, exist_ok=True)
     files = {"found.txt": "".join(f"{it}\n" for it in [how, *faults]).encode()}
@@ -541,6 +585,8 @@ def keep(folder, run, faults, wanted, how):
         files["found.words"] = "".join(f"{it}\n" for it in run.words).encode("utf-8", "surrogateescape")
         files["found.case"] = run.stdin
         files.update({f"found.files/{name}": held for name, held in run.files.items()})
+        if pipes:
+            files["found.pipes"] = "".join(f"{it}\n" for it in pipes).encode("utf-8", "surrogateescape")
     for name, held in files.items():
         os.makedirs(os.path.dirname(f"{folder}/{name}"), exist_ok=True)
         with open(f"{folder}/{name}", "wb") as file:
@@ -575,6 +621,10 @@ def tests():
     run = Given(["solve", "--geo", "g", "--certificate", "c", "--out", "o"], {"g": b"x", "h": b"y\n"})
     yield "a case text", run.text(), b"solve --geo g --certificate c --out o\nfile h\ny\nfile g\nx"
     yield "options that name a file", run.named(), [(1, "--geo")]
+    torn = {"g": b"x", "h": b"y", "i": b"", "j": b"z\n"}
+    told = Given(["size"], as_told(torn)).text()
+    yield "files of a case text", as_told(torn), {"i": b"", "j": b"z\n", "g": b"x\n", "h": b"y"}
+    yield "they are those of the text", compare_checkers.case_parts(told)[1], as_told(torn)
     certificate = b"county-groups certificate 1\norder\nlimit 0\ntarget none\nseats\nend\n"
     wrote = b"answer best\nfile c\n" + certificate + b"file o\n1|37001\n"
     yield "stored files", parted(wrote, outputs_of(run.words).values()), (b"answer best\n", {"c": certificate, "o": b"1|37001\n"})
@@ -607,10 +657,37 @@ def tests():
     yield "a lesser grouping called best", agrees("judge", lesser, 0, (best, 0)), False
     yield "a list behind a best one", agrees("list", b"people 1\nanswer all\n", 0, (b"people 1\nanswer best\n", 0)), True
     yield "an open list of no certificate", agrees("list", b"open SeatsOff line 6\n", 3, (b"no NotStuck line 6\n", 1)), False
+    yield from tests_of_pipes()
+    yield from tests_of_places()
     yield "words without an option", words_without(run.words, "--geo"), ["solve", "--certificate", "c", "--out", "o"]
     yield from tests_of_outputs()
     yield from tests_of_changes()
     yield from tests_of_errors()
+
+
+def tests_of_pipes():
+    """Which files may be pipes, and what is wrong with a run of them."""
+    files = {"g": b"x", "h": b"y", "o": b"z", "w": b""}
+    words = "solve --geo g --segment=g --adjacency h --out o --links ./w --withdrawn w".split()
+    yield "files that are read once", pipes_of(Given(words, files, b"", False)), ["h"]
+    yield "none of a case text", pipes_of(Given(words, files)), []
+    yield "none of an audit", pipes_of(Given(["audit", *words[1:]], files, b"", False)), []
+    plain, other = Made(b"a\n", 0, b"", {"t": b""}), Made(b"b\n", 1, b"", {"t": b""})
+    yield "the same of pipes", wrong_pipes(plain, Made(b"a\n", 0, b"x", {"t": b""})), None
+    wanted = "pipes: status 1, `b\\n`; of plain files status 0, `a\\n`"
+    yield "another answer of pipes", wrong_pipes(plain, other), wanted
+    yield "other files of pipes", wrong_pipes(plain, Made(b"a\n", 0, b"", {})) is not None, True
+
+
+def tests_of_places():
+    """Which runs might store a file outside of their folder."""
+    of = lambda words, is_told=False: stores_outside(Given(words.split(), {"g": b"x"}, b"", is_told))
+    yield "a table outside of the folder", of("judge --geo g --table /dev/stdin"), True
+    yield "a name in one word with its option", of("solve --geo g --out=/dev/stdin"), True
+    yield "the second of two names", of("solve --out o --out /dev/stdin"), True
+    yield "a name that leads out of the folder", of("size --geo g --record ../r"), True
+    yield "nothing outside of a told run", of("judge --geo g --table /dev/stdin", True), False
+    yield "an input outside of the folder", of("check --certificate /dev/stdin --table t"), False
 
 
 def tests_of_outputs():
@@ -653,6 +730,8 @@ def tests_of_changes():
     yield "each command has runs", {it.words[0] for it in sources.runs}, {*TEXTS}
     turns = [sources.changed(random.Random(f"1 {turn}")) for turn in range(300)]
     yield "the same seed and turn", turns[7], sources.changed(random.Random("1 7"))
+    told = [it for it in turns if it.is_told and it.whole is None]
+    yield "a told run has the files of its text", [it for it in told if it.files != as_told(it.files)], []
     yield "few runs are as they were", sum(it in sources.runs for it in turns) < 30, True
     nameless = Given(["size", "--geo", ""], {"": b"x"}, b"", True)
     yield "a file without a name is in no folder", fits_folder(nameless), False
@@ -751,14 +830,23 @@ class Tally:
         """Runs one turn. What was found is told before it is kept."""
         run = sources.changed(random.Random(f"{asked.seed} {turn}"))
         add_outputs(run, options, random.Random(f"{asked.seed} {turn} outputs"))
+        if stores_outside(run):
+            # (a told run stores nothing on the machine)
+            run.is_told, run.files = True, as_told(run.files)
         runs = [made_by(program, run, room, asked) for program in programs]
         faults, wanted = faults_of(run, runs, asked)
+        may_be_pipes = random.Random(f"{asked.seed} {turn} pipes").random() < 0.3 and not faults
+        pipes = pipes_of(run) if may_be_pipes else []
+        if pipes:
+            why = wrong_pipes(runs[0], made_by(programs[0], run, room, asked, pipes))
+            faults, wanted = ([why], (runs[0].text, runs[0].status)) if why else ([], None)
         self.statuses.update(it.status for it in runs)
         self.finds += bool(faults)
         for why in faults:
             print(f"FOUND seed {asked.seed} turn {turn}: {why}", flush=True)
         if faults:
-            keep(f"{asked.keep}/{asked.seed}-{turn}", run, faults, wanted, f"seed {asked.seed} turn {turn}")
+            how = f"seed {asked.seed} turn {turn}"
+            keep(f"{asked.keep}/{asked.seed}-{turn}", run, faults, wanted, how, pipes)
 
     def told(self):
         """Prints how many runs ended with each status, and how many finds and errors there were."""

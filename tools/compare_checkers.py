@@ -95,7 +95,7 @@ def checks_of(case: cases.Case) -> Iterator[Tuple[Words, Files, bytes]]:
     """
     for given, wanted in case.cut():
         wanted_lines = wanted.splitlines(keepends=True)
-        runs, files = case.runs, case.files
+        runs, files = case.runs, case.whole_files()
         if runs == [[]]:
             words, files = case_parts(given)
             runs = [words]
@@ -139,7 +139,7 @@ def compare_cases(stems: Iterable[str], tally: Tally) -> None:
     """Compares the second checker with what the cases want."""
     for stem in stems:
         case = cases.Case(stem)
-        if case.program or case.memory:
+        if case.program or case.memory or case.forms.sizes:
             continue
         began = time.time()
         for words, files, wanted in checks_of(case):

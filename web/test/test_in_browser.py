@@ -75,8 +75,8 @@ class InPage(unittest.TestCase):
 
     def failure(self, name: str) -> "str | None":
         """Returns what is wrong with a case, or None."""
-        case = Case(name.rsplit(".", 1)[0])  # type: ignore[no-untyped-call]
-        files: dict[str, bytes] = dict(case.files)
+        case = Case(name.rsplit(".", 1)[0])
+        files = case.whole_files()
         stored: dict[str, bytes] = {}
         said, told = b"", b""
         for words in case.runs:

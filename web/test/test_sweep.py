@@ -15,7 +15,7 @@ from web_setting import NotThere, chosen, make_launcher, program_there
 from test_cases import all_cases
 
 from cases import Case
-from program_runs import Followed
+from program_runs import Followed, Refusal
 from sweeps import Sweep
 
 FOLDERS = ("size", "judge", "audit", "solve", "check", "list", "share", "piece", "table", "record")
@@ -56,7 +56,7 @@ class HostSweep(Sweep):
     """A sweep whose runs are those of a server."""
 
     def __init__(self, case: Case, room: str, server: Server) -> None:
-        super().__init__(case, "", room, MOST)  # type: ignore[no-untyped-call]
+        super().__init__(case, "", room, MOST)
         self.server = server
 
     def run_once(
@@ -65,7 +65,7 @@ class HostSweep(Sweep):
         folder: str,
         given: bytes,
         follow: str = "",
-        refuse: "tuple[int, str] | None" = None,
+        refuse: "Refusal | None" = None,
     ) -> Followed:
         """Returns one run, in which the request of this number is refused."""
         answer = self.server.ask(
@@ -76,7 +76,7 @@ class HostSweep(Sweep):
                 "refuse": refuse[0] if refuse else 0,
             }
         )
-        made = Followed()  # type: ignore[no-untyped-call]
+        made = Followed()
         made.status, made.allocations = answer["status"], answer["requests"]
         made.wrote, made.told = (base64.b64decode(answer[it]) for it in ("output", "errors"))
         for name, held, requests in answer["renamed"]:
@@ -148,9 +148,9 @@ class MemorySweep(unittest.TestCase):
         fit = [one for one in all_cases() if Path(one).parent.name in FOLDERS]
         for name in chosen(fit, SAMPLE, "sweep"):
             with self.subTest(Path(name).relative_to(TOP)), tempfile.TemporaryDirectory() as room:
-                case = Case(name.rsplit(".", 1)[0])  # type: ignore[no-untyped-call]
+                case = Case(name.rsplit(".", 1)[0])
                 sweep = HostSweep(case, str(Path(room).resolve()), server)
-                sweep.memory()  # type: ignore[no-untyped-call]
+                sweep.memory()
                 self.assertEqual(sweep.faults, [])
                 tried, met = tried + sweep.tried, met + sweep.met
         print(f"{tried} runs with a refusal, of which {met} answered otherwise", flush=True)

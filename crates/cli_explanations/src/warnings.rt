@@ -61,7 +61,7 @@ fn warn_of_parts(
     let (file, seats) = (options.file(FileOption::Withdrawn), Seats(seats));
     writeln!(
         out,
-        "countygroups: warning: {file}: the set of {seats} with county {county} isn't connected by the border list"
+        "countygroups: warning: {file}: the set of {seats} with county {county} isn't connected by the border list: it stays withdrawn"
     )
 }
 
