@@ -140,9 +140,7 @@ class Streams(Launched):
             words = ["size", "--geo", name, *PROBLEM[2:], "--chamber", "50"]
             called = [str(self.program), *words]
             null = subprocess.DEVNULL
-            process = subprocess.Popen(
-                called, cwd=self.folder, stdin=null, stdout=to, stderr=null
-            )
+            process = subprocess.Popen(called, cwd=self.folder, stdin=null, stdout=to, stderr=null)
             os.close(to)
             time.sleep(0.7)
             with open(back, "rb") as pipe:
@@ -248,5 +246,3 @@ class Memory(Launched):
         megabytes = (used - alone) >> 20
         print(f"full state of {held} bytes: {megabytes} MB beside Node's own", flush=True)
         self.assertLess(used - alone, MOST_BESIDE_NODE)
-
-

@@ -12,8 +12,7 @@ from web_setting import HOST, TOP, WEB, program_there, run_node, wasm
 MOST_LINES = 40
 MOST_COLUMNS = 100
 OPENS = re.compile(
-    r"^(?P<indent> *)"
-    r"(?:(?:export )?(?:async )?function |(?:async )?\w+\(.*\) \{$|.*=> \{$)"
+    r"^(?P<indent> *)" r"(?:(?:export )?(?:async )?function |(?:async )?\w+\(.*\) \{$|.*=> \{$)"
 )
 NO_FUNCTION = re.compile(r"^ *(?:if|for|while|switch|else|try|catch|return)\b")
 

@@ -112,8 +112,10 @@ class InDesk(unittest.TestCase):
     def click(self, selector: str) -> None:
         """Clicks an element."""
         element = f"document.querySelector({json.dumps(selector)})"
-        self.value(f"{element}.dispatchEvent(new MouseEvent('click', {{ bubbles: true, "
-                   "cancelable: true })); null")
+        self.value(
+            f"{element}.dispatchEvent(new MouseEvent('click', {{ bubbles: true, "
+            "cancelable: true })); null"
+        )
 
     def press_button(self, selector: str) -> None:
         """Presses a button or another control."""

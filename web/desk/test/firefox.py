@@ -36,8 +36,10 @@ class Firefox:
             raise RuntimeError("no Firefox is installed")
         self.room = tempfile.mkdtemp(prefix="firefox-")
         port = free_port()
-        lines = [f'user_pref("{PREFERENCES[0]}", {port});',
-                 f'user_pref("{PREFERENCES[1]}", false);']
+        lines = [
+            f'user_pref("{PREFERENCES[0]}", {port});',
+            f'user_pref("{PREFERENCES[1]}", false);',
+        ]
         (Path(self.room) / "user.js").write_text("\n".join(lines), encoding="ascii")
         words = [program, "--headless", "--marionette", "--no-remote", "--profile", self.room]
         none = subprocess.DEVNULL
@@ -65,7 +67,7 @@ class Firefox:
         length, self.buffer = self.buffer.split(b":", 1)
         while len(self.buffer) < int(length):
             self.buffer += self.more()
-        text, self.buffer = self.buffer[:int(length)], self.buffer[int(length):]
+        text, self.buffer = self.buffer[: int(length)], self.buffer[int(length) :]
         return json.loads(text)
 
     def more(self) -> bytes:

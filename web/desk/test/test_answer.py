@@ -7,10 +7,14 @@ import xml.etree.ElementTree
 
 from desk_setting import CHAMBERS, DATA, PROBLEM, InDesk, run
 
-AREAS = ("[...document.querySelectorAll('#cards fieldset')]"
-         ".map((one) => one.querySelectorAll('input').length)")
-GROUP_OF = ("Object.fromEntries([...document.querySelectorAll('#map [data-county]')].map((one) => "
-            "[one.dataset.county, [one.dataset.group, one.getAttribute('class')]]))")
+AREAS = (
+    "[...document.querySelectorAll('#cards fieldset')]"
+    ".map((one) => one.querySelectorAll('input').length)"
+)
+GROUP_OF = (
+    "Object.fromEntries([...document.querySelectorAll('#map [data-county]')].map((one) => "
+    "[one.dataset.county, [one.dataset.group, one.getAttribute('class')]]))"
+)
 
 
 class Options(InDesk):
@@ -157,8 +161,10 @@ class Pointing(InDesk):
     def pill(self, name: str) -> list[float]:
         """Returns the middle of the pill of a group in the window."""
         pill = f"document.querySelector('#map .badge[aria-label^=\"{name}\"]')"
-        script = (f"(() => {{ const one = {pill}.getBoundingClientRect(); "
-                  "return [one.x + one.width / 2, one.y + one.height / 2]; })()")
+        script = (
+            f"(() => {{ const one = {pill}.getBoundingClientRect(); "
+            "return [one.x + one.width / 2, one.y + one.height / 2]; })()"
+        )
         return list(self.value(script))
 
     def test_pointer(self) -> None:
@@ -173,9 +179,11 @@ class Pointing(InDesk):
 
     def test_table_and_finder(self) -> None:
         self.open("#senate/6")
-        self.value("document.querySelector('#finder').value = '91'; "
-                   "document.querySelector('#finder')"
-                   ".dispatchEvent(new Event('change')); null")
+        self.value(
+            "document.querySelector('#finder').value = '91'; "
+            "document.querySelector('#finder')"
+            ".dispatchEvent(new Event('change')); null"
+        )
         self.assertIn("Wake and Granville", self.text("#told"))
         self.press_button("[data-sort=people]")
         self.assertEqual(self.text("#table tbody tr td:nth-child(2)"), "Mecklenburg, Iredell")

@@ -46,8 +46,10 @@ class InFirefox(unittest.TestCase):
 
     def test_the_check(self) -> None:
         self.open("#proof/senate")
-        can_run = self.firefox.value("return WebAssembly.validate(new Uint8Array("
-                                     "[0, 97, 115, 109, 1, 0, 0, 0, 5, 3, 1, 4, 0]))")
+        can_run = self.firefox.value(
+            "return WebAssembly.validate(new Uint8Array("
+            "[0, 97, 115, 109, 1, 0, 0, 0, 5, 3, 1, 4, 0]))"
+        )
         if can_run:
             self.firefox.value("document.querySelector('#check').click()")
         told = self.wait("#check-verdict")

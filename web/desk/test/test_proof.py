@@ -19,8 +19,8 @@ DATA = re.compile(r'(<script type="application/json" id="data">)(.*?)(</script>)
 
 def other_digit(content: bytes, place: int) -> bytes:
     """Returns bytes with another digit at a place."""
-    digit = content[place:place + 1]
-    return content[:place] + (b"1" if digit != b"1" else b"2") + content[place + 1:]
+    digit = content[place : place + 1]
+    return content[:place] + (b"1" if digit != b"1" else b"2") + content[place + 1 :]
 
 
 def people_changed(content: bytes) -> bytes:
@@ -51,7 +51,9 @@ def target_changed(content: bytes) -> bytes:
 
 
 CHANGES: dict[str, Callable[[bytes], bytes]] = {
-    "geo": code_changed, "segment": people_changed, "adjacency": border_changed,
+    "geo": code_changed,
+    "segment": people_changed,
+    "adjacency": border_changed,
     "senate.certificate": target_changed,
 }
 
@@ -94,10 +96,12 @@ class Proof(InDesk):
         for _ in range(3):
             self.open("#proof/senate")
             self.value("new Promise((done) => setTimeout(done, 1000))")
-            self.value("globalThis.clicked = performance.now(); "
-                       "const noted = () => { globalThis.took ??= performance.now() - clicked; }; "
-                       "new MutationObserver(noted).observe("
-                       "document.querySelector('#check-verdict'), { childList: true }); null")
+            self.value(
+                "globalThis.clicked = performance.now(); "
+                "const noted = () => { globalThis.took ??= performance.now() - clicked; }; "
+                "new MutationObserver(noted).observe("
+                "document.querySelector('#check-verdict'), { childList: true }); null"
+            )
             self.verdict("senate")
             times.append(self.value("took"))
         print(f"the Senate's check: {min(times) / 1000:.2f} s", flush=True)

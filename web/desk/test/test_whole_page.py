@@ -37,9 +37,16 @@ CONTRAST = """
 PAIRS = [
     *[["--label", f"--t{tint}"] for tint in range(5)],
     *[["--ink", f"--s{tint}"] for tint in range(5)],
-    ["--ink", "--paper"], ["--soft", "--paper"], ["--soft", "--panel"], ["--ink", "--panel"],
-    ["--accent", "--paper"], ["--accent", "--accent-soft"], ["--link", "--paper"],
-    ["--good", "--paper"], ["--badge-ink", "--badge"], ["--soft", "--land"],
+    ["--ink", "--paper"],
+    ["--soft", "--paper"],
+    ["--soft", "--panel"],
+    ["--ink", "--panel"],
+    ["--accent", "--paper"],
+    ["--accent", "--accent-soft"],
+    ["--link", "--paper"],
+    ["--good", "--paper"],
+    ["--badge-ink", "--badge"],
+    ["--soft", "--land"],
 ]
 
 
@@ -85,6 +92,7 @@ class Page(InDesk):
     def test_it_is_made_of_these_sources(self) -> None:
         sys.path.insert(0, str(TOP / "tools"))
         import desk_page
+
         text = page().read_text(encoding="utf-8")
         wanted = f"<script>{desk_page.script_text()}</script>"
         self.assertTrue(wanted in text, "the script is another: tools/make_desk.py makes the page")
@@ -148,9 +156,11 @@ class Page(InDesk):
     def test_all_names_at_full_width(self) -> None:
         for mark in ("#senate/6", "#house/7"):
             self.open(mark)
-            script = ("[...document.querySelectorAll('#map text.name')].map((one) => "
-                      "[one.textContent, "
-                      "parseFloat(one.style.fontSize) * Number(one.closest('svg').dataset.scale)])")
+            script = (
+                "[...document.querySelectorAll('#map text.name')].map((one) => "
+                "[one.textContent, "
+                "parseFloat(one.style.fontSize) * Number(one.closest('svg').dataset.scale)])"
+            )
             names = self.value(script)
             self.assertEqual(len({name for name, _ in names}), 100)
             self.assertGreaterEqual(min(size for _, size in names), 10.7)
@@ -160,9 +170,11 @@ class Page(InDesk):
         self.assertEqual(self.value("document.querySelectorAll('#map > svg').length"), 2)
         self.press_button("#switches [data-area='1'][data-choice='1']")
         self.assertNotEqual(self.text("#option"), "Option 6 of 16")
-        script = ("(() => "
-                  "{ const one = document.querySelector('#map .badge').getBoundingClientRect(); "
-                  "return [one.x + one.width / 2, one.y + one.height / 2]; })()")
+        script = (
+            "(() => "
+            "{ const one = document.querySelector('#map .badge').getBoundingClientRect(); "
+            "return [one.x + one.width / 2, one.y + one.height / 2]; })()"
+        )
         self.browser.tap(*self.value(script))
         self.wait("document.querySelector('#told').classList.contains('has-group')")
         self.browser.ask("Emulation.setTouchEmulationEnabled", enabled=False)
@@ -178,8 +190,12 @@ class Page(InDesk):
             self.assertEqual(shown, count)
         self.assertEqual(self.value("document.querySelectorAll('#table tbody tr').length"), 26)
         self.assertEqual(self.value("document.querySelectorAll('#cards .choice').length"), 8)
-        self.assertFalse(self.value("[...document.querySelectorAll('.needs')].some((one) => "
-                                    "one.getClientRects().length)"))
+        self.assertFalse(
+            self.value(
+                "[...document.querySelectorAll('.needs')].some((one) => "
+                "one.getClientRects().length)"
+            )
+        )
 
     def test_print(self) -> None:
         self.open("#senate/6")
@@ -205,9 +221,14 @@ class Page(InDesk):
     def test_what_only_the_page_tells(self) -> None:
         self.open("#senate/6")
         told = self.text("#answer")
-        for words in ("Stephenson v. Bartlett", "16 groupings do this equally well",
-                      "in four areas", "Used for the plan enacted in 2023", "Not proved:",
-                      "No lawful grouping"):
+        for words in (
+            "Stephenson v. Bartlett",
+            "16 groupings do this equally well",
+            "in four areas",
+            "Used for the plan enacted in 2023",
+            "Not proved:",
+            "No lawful grouping",
+        ):
             self.assertIn(words, told)
         self.assertIn("it isn’t the Census Bureau’s adjacency file", self.text(".foot"))
 
@@ -217,9 +238,12 @@ class Page(InDesk):
             self.skipTest("no folder was named (--pictures)")
         folder.mkdir(parents=True, exist_ok=True)
         for name, mark, width, dark in (
-            ("wide", "#senate/6", 1400, False), ("dark", "#house/3", 1400, True),
-            ("tablet", "#senate/1", 768, False), ("phone", "#senate/6", 390, False),
-            ("proof", "#proof/senate", 1400, False), ("whatif", "#whatif/house", 1400, False),
+            ("wide", "#senate/6", 1400, False),
+            ("dark", "#house/3", 1400, True),
+            ("tablet", "#senate/1", 768, False),
+            ("phone", "#senate/6", 390, False),
+            ("proof", "#proof/senate", 1400, False),
+            ("whatif", "#whatif/house", 1400, False),
             ("files", "#files", 1400, False),
         ):
             self.open(mark, width=width, dark=dark)
@@ -233,13 +257,22 @@ class Sources(InDesk):
 
     def test_types_of_the_tests(self) -> None:
         words = ["mypy", "--strict", "--cache-dir=/dev/null", "--follow-imports=silent"]
-        files = [*map(str, (TOP / "web" / "desk" / "test").glob("*.py")),
-                 *(str(TOP / "tools" / f"{name}.py") for name in
-                   ("browser", "desk_page", "make_desk", "what_if", "test_desk"))]
+        files = [
+            *map(str, (TOP / "web" / "desk" / "test").glob("*.py")),
+            *(
+                str(TOP / "tools" / f"{name}.py")
+                for name in ("browser", "desk_page", "make_desk", "what_if", "test_desk")
+            ),
+        ]
         try:
-            done = subprocess.run([*words, *files], capture_output=True, text=True, check=False,
-                                  cwd=TOP, env={"MYPYPATH": f"{TOP}/tools:{TOP}/web/desk/test",
-                                                "PATH": "/usr/bin:/bin"})
+            done = subprocess.run(
+                [*words, *files],
+                capture_output=True,
+                text=True,
+                check=False,
+                cwd=TOP,
+                env={"MYPYPATH": f"{TOP}/tools:{TOP}/web/desk/test", "PATH": "/usr/bin:/bin"},
+            )
         except FileNotFoundError:
             self.skipTest("there is no `mypy`: Debian has it as the package mypy")
         self.assertEqual(done.returncode, 0, done.stdout)
