@@ -27,6 +27,7 @@ KEYS = {
     "ArrowDown": 40,
 }
 NO_WORDS = {" ": "Space"}
+SHIFT = 8
 
 
 class Browser:
@@ -177,8 +178,8 @@ class Browser:
             raise RuntimeError(str(answer["exceptionDetails"]))
         return answer["result"].get("value")
 
-    def press(self, key: str) -> None:
-        """Presses a key once."""
+    def press(self, key: str, is_shifted: bool = False) -> None:
+        """Presses a key once, with the shift key or without it."""
         code = KEYS[key]
         more = {"text": "\r" if key == "Enter" else key} if key in ("Enter", " ") else {}
         for kind in ("keyDown", "keyUp"):
@@ -188,12 +189,9 @@ class Browser:
                 key=key,
                 code=NO_WORDS.get(key, key),
                 windowsVirtualKeyCode=code,
+                modifiers=SHIFT if is_shifted else 0,
                 **(more if kind == "keyDown" else {}),
             )
-
-    def press_tab(self) -> None:
-        """Presses the Tab key once."""
-        self.press("Tab")
 
     def point(self, x: float, y: float) -> None:
         """Moves the pointer to a place of the window."""
@@ -201,6 +199,7 @@ class Browser:
 
     def click(self, x: float, y: float) -> None:
         """Clicks at a place of the window."""
+        self.point(x, y)
         for kind in ("mousePressed", "mouseReleased"):
             self.ask("Input.dispatchMouseEvent", type=kind, x=x, y=y, button="left", clickCount=1)
 
@@ -209,6 +208,12 @@ class Browser:
         self.ask("Emulation.setTouchEmulationEnabled", enabled=True)
         self.ask("Input.dispatchTouchEvent", type="touchStart", touchPoints=[{"x": x, "y": y}])
         self.ask("Input.dispatchTouchEvent", type="touchEnd", touchPoints=[])
+
+    def drop_files(self, x: float, y: float, paths: list[str]) -> None:
+        """Drags files of the disk to a place of the window, and drops them there."""
+        carried = {"items": [], "files": paths, "dragOperationsMask": 1}
+        for kind in ("dragEnter", "dragOver", "drop"):
+            self.ask("Input.dispatchDragEvent", type=kind, x=x, y=y, data=carried)
 
     def give_files(self, selector: str, paths: list[str]) -> None:
         """Has a reader choose files of the disk in the input of a selector."""

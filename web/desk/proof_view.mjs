@@ -10,7 +10,7 @@ import {
 } from "./program.mjs";
 import { readList } from "./program_texts.mjs";
 import { shownOption } from "./view_state.mjs";
-import { escapeHtml, numberText } from "./words.mjs";
+import { capital, escapeHtml, numberText } from "./words.mjs";
 
 /** @typedef {import("./desk.mjs").Desk} Desk */
 /** @typedef {import("./answers.mjs").Answer} Answer */
@@ -165,7 +165,7 @@ async function runChecks(desk, answer, steps, files, certificate, isSpoiled) {
     const intact = isSpoiled
       ? " So it does read the lines. The certificate that the page carries is untouched." : "";
     const answered = `Its answer was <code>${told}</code>.${intact}`;
-    return verdictHtml(false, "The checker says no.", answered);
+    return verdictHtml(false, "The checker says no.", `${faultWords(run.errors)}${answered}`);
   }
   step.end(true, `Checked ${numberText(lines)} lines, one by one`);
   step = steps.begin("Listing every best grouping, and comparing with the map");
@@ -182,6 +182,15 @@ async function runChecks(desk, answer, steps, files, certificate, isSpoiled) {
   return verdictHtml(true, "The certificate proves it.", `By these files, no lawful grouping of `
     + `${chamberWords(answer)} is better than ${best} on this page, and no other is as good. `
     + `Checked in this browser in ${seconds} seconds.`);
+}
+
+/**
+ * Returns in a sentence which line of the certificate is wrong, and why, or nothing.
+ * @param {string} errors  what the program wrote for a person
+ */
+function faultWords(errors) {
+  const found = errors.match(/^countygroups: --certificate \S+, (line \d+: .+)$/m);
+  return found ? `${escapeHtml(capital(found[1]))}. ` : "";
 }
 
 /**

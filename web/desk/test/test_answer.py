@@ -69,11 +69,8 @@ class Options(InDesk):
                 left = number
                 for area, size in enumerate(sizes):
                     switch = f"#map [data-area='{area}'][data-choice='{left % size}']"
-                    radio = f"#cards input[name='area{area}'][value='{left % size}']"
-                    if area % 2:
-                        self.press_button(radio)
-                    else:
-                        self.click(switch)
+                    card = f"#cards label:has([name='area{area}'][value='{left % size}'])"
+                    self.click(card if area % 2 else switch)
                     left //= size
                 shown = self.text("#option")
                 self.assertEqual(self.value("location.hash"), f"#{key}/{shown.split()[1]}")
