@@ -223,9 +223,17 @@ class Browser:
 
     def download(self, script: str, folder: str) -> str:
         """Returns the path of the one file that a script downloads to a folder."""
+        self.allow_downloads(folder)
+        self.value(script)
+        return self.downloaded(folder)
+
+    def allow_downloads(self, folder: str) -> None:
+        """Has what is downloaded from now on stored in a folder."""
         os.makedirs(folder, exist_ok=True)
         self.ask("Browser.setDownloadBehavior", behavior="allow", downloadPath=folder)
-        self.value(script)
+
+    def downloaded(self, folder: str) -> str:
+        """Waits for the one file that is downloaded to a folder, and returns its path."""
         end = time.monotonic() + SECONDS
         while time.monotonic() < end:
             names = [

@@ -48,9 +48,9 @@ IS_SEEN = """
   const { x, y, width, height } = shown.getBoundingClientRect();
   const isInWindow = width > 4 && height > 4 && y >= 0 && y < innerHeight && x >= 0
     && x < innerWidth;
-  const { outlineStyle, outlineWidth } = getComputedStyle(one);
-  const isMarked = outlineStyle !== "none" && parseFloat(outlineWidth) > 0;
-  return isInWindow && (isMarked || one.closest("svg, label") !== null);
+  const isMarked = [one, shown].map((it) => getComputedStyle(it)).some((style) => (
+    style.outlineStyle !== "none" && parseFloat(style.outlineWidth) > 0));
+  return isInWindow && (isMarked || one.closest("svg") !== null);
 })()
 """
 

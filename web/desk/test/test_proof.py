@@ -11,16 +11,23 @@ from collections.abc import Callable
 from pathlib import Path
 from typing import Any
 
-from desk_setting import PROBLEM, InDesk, page, run
+from desk_setting import CENSUS, DATA, PROBLEM, SETTING, TOP, InDesk, page, run
 
+OWN_PAGE = TOP / "docs" / "desk.html"
+DIST = TOP / "dist"
 CARRIED = re.compile(r'(<script type="application/json" id="carried">)(.*?)(</script>)', re.S)
-DATA = re.compile(r'(<script type="application/json" id="data">)(.*?)(</script>)', re.S)
+SHOWN = re.compile(r'(<script type="application/json" id="data">)(.*?)(</script>)', re.S)
 
 
 def other_digit(content: bytes, place: int) -> bytes:
     """Returns bytes with another digit at a place."""
     digit = content[place : place + 1]
     return content[:place] + (b"1" if digit != b"1" else b"2") + content[place + 1 :]
+
+
+def sum_of(path: Path) -> str:
+    """Returns the SHA-256 of a file."""
+    return hashlib.sha256(path.read_bytes()).hexdigest()
 
 
 def people_changed(content: bytes) -> bytes:
@@ -124,6 +131,7 @@ class Proof(InDesk):
         self.press_button("#spoil")
         told = self.wait_words("#check-verdict", "The checker says no.")
         self.assertIn("it does read the lines", told)
+        self.assertRegex(told, r"Line \d+: the target is not lawful: the people of group \d+ ")
         self.assertRegex(self.text("#check-steps"), r"Spoiled line \d+")
         self.check_quiet()
 
@@ -170,7 +178,7 @@ class Proof(InDesk):
 
     def test_a_changed_map(self) -> None:
         text = page().read_text(encoding="utf-8")
-        found = DATA.search(text)
+        found = SHOWN.search(text)
         assert found
         data = json.loads(found[2])
         lines = data["chambers"][0]["list"].split("\n")
@@ -179,10 +187,27 @@ class Proof(InDesk):
         data["chambers"][0]["list"] = "\n".join(kept)
         path = self.room / "changed.html"
         held = json.dumps(data).replace("<", "\\u003c")
-        path.write_text(DATA.sub(lambda one: one[1] + held + one[3], text), encoding="utf-8")
+        path.write_text(SHOWN.sub(lambda one: one[1] + held + one[3], text), encoding="utf-8")
         self.open("#proof/senate", path)
         told = self.verdict("senate")
         self.assertIn("the page’s map shows other groupings", told)
+
+    def test_what_the_page_carries(self) -> None:
+        _, carried = self.carried()
+        sums = {key: file["sum"] for key, file in carried.items()}
+        self.assertEqual(sums["program"], sum_of(SETTING.wasm))
+        for kind, name in CENSUS.items():
+            self.assertEqual(sums[kind], sum_of(DATA / name))
+        if page() == OWN_PAGE:
+            listed = (DIST / "SHA256SUMS").read_text(encoding="ascii")
+            self.assertIn(f"{sums['program']}  countygroups.wasm\n", listed)
+            build = (DIST / "BUILD").read_text(encoding="ascii")
+            self.assertIn(build.strip(), self.told_build())
+
+    def told_build(self) -> str:
+        """Returns what the page says of the build of its program."""
+        self.open("#proof/senate")
+        return str(self.value("document.querySelector('#run pre').textContent"))
 
     def test_what_the_view_says(self) -> None:
         self.open("#proof/senate")
