@@ -86,6 +86,8 @@ async function takeFiles(desk, state, files, slot) {
       told.push(`${file.name}: ${fault instanceof Error ? fault.message : fault}`);
     }
   }
+  const reason = whyNoProgram();
+  if (reason) told.push(reason);
   const isPlanShown = slot === "plan" && given.has("plan");
   if (!isPlanShown || told.length) line.textContent = told.join(" ");
 }
@@ -140,7 +142,7 @@ async function useOwnFiles(desk, state) {
     await takeFile(desk, state, kind, file);
   }
   given.delete("outlines");
-  find("#dropped").textContent = "";
+  find("#dropped").textContent = whyNoProgram() ?? "";
 }
 
 /**

@@ -25,6 +25,7 @@ sys.path.insert(0, str(TOP / "tools"))
 from browser import Browser  # noqa: E402
 
 
+SIDEWAYS = "document.documentElement.scrollWidth - document.documentElement.clientWidth"
 MOST_TABS = 150
 # (the middle first, then further places: a county needn't be where the middle of its box is)
 PLACE_OF = """

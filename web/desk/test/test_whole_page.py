@@ -9,12 +9,17 @@ import sys
 import threading
 import urllib.request
 
-from desk_setting import SETTING, TOP, InDesk, page
+from desk_setting import SETTING, SIDEWAYS, TOP, InDesk, page
 
-WIDTHS = (360, 390, 768, 1024, 1400)
+WIDTHS = (320, 360, 390, 768, 1024, 1400)
 MARKS = ("#senate/6", "#house/1", "#proof/senate", "#whatif/house", "#files")
 MOST_BYTES = 1_600_000
-SIDEWAYS = "document.documentElement.scrollWidth - document.documentElement.clientWidth"
+# Where a browser that can't run the program is told so, and what it can't press.
+UNABLE = (
+    ("#proof/senate", "#check-verdict", ("#check", "#spoil")),
+    ("#whatif/house/add=37087-37089", "#whatif-progress", ("#solve-again", "#try-borders")),
+    ("#files", "#dropped", ("#solve-files", "#judge", "#audit")),
+)
 CONTRAST = """
 (() => {
   const styles = getComputedStyle(document.documentElement);
@@ -209,9 +214,14 @@ class Page(InDesk):
         self.browser.ask("Page.enable")
         script = "WebAssembly.validate = () => false;"
         known = self.browser.ask("Page.addScriptToEvaluateOnNewDocument", source=script)
-        self.open("#proof/senate")
-        self.assertIn("This browser can't run the program", self.text("#check-verdict"))
-        self.assertTrue(self.value("document.querySelector('#check').disabled"))
+        for mark, told, buttons in UNABLE:
+            self.open(mark)
+            self.assertRegex(self.text(told), r"\AThis browser can't run the program: [^.]*\.")
+            for button in buttons:
+                self.assertTrue(self.value(f"document.querySelector('{button}').disabled"), button)
+        self.press_button("#use-own")
+        self.wait("document.querySelectorAll('.drop-zone.has-file').length === 3")
+        self.assertTrue(self.value("document.querySelector('#solve-files').disabled"))
         self.go("#senate/3")
         self.assertEqual(self.text("#option"), "Option 3 of 16")
         self.assertIn(b"|37101\n", self.stored("grouping"))
@@ -225,6 +235,7 @@ class Page(InDesk):
             "Stephenson v. Bartlett",
             "16 groupings do this equally well",
             "in four areas",
+            "The plan that was enacted into law in 2023 uses option 6.",
             "Used for the plan enacted in 2023",
             "Not proved:",
             "No lawful grouping",
