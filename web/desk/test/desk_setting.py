@@ -27,6 +27,43 @@ from browser import Browser  # noqa: E402
 
 SIDEWAYS = "document.documentElement.scrollWidth - document.documentElement.clientWidth"
 MOST_TABS = 150
+# The contrast of pairs of the page's colors, and the pairs of which each has to be legible.
+CONTRAST = """
+(() => {
+  const styles = getComputedStyle(document.documentElement);
+  const canvas = document.createElement("canvas").getContext("2d");
+  const light = (name) => {
+    canvas.fillStyle = styles.getPropertyValue(name);
+    const parts = canvas.fillStyle.match(/[0-9a-f]{2}/g).map((part) => {
+      const share = parseInt(part, 16) / 255;
+      return share <= 0.03928 ? share / 12.92 : ((share + 0.055) / 1.055) ** 2.4;
+    });
+    return 0.2126 * parts[0] + 0.7152 * parts[1] + 0.0722 * parts[2];
+  };
+  const ratio = ([one, other]) => {
+    const [low, high] = [light(one), light(other)].sort((a, b) => a - b);
+    return (high + 0.05) / (low + 0.05);
+  };
+  return PAIRS.map(ratio);
+})()
+"""
+TINTED = [
+    *[["--label", f"--t{tint}"] for tint in range(5)],
+    *[["--ink", f"--s{tint}"] for tint in range(5)],
+    *[["--soft", f"--t{tint}"] for tint in range(5)],
+    ["--soft", "--accent-soft"],
+    ["--accent", "--badge"],
+    ["--ink", "--paper"],
+    ["--soft", "--paper"],
+    ["--soft", "--panel"],
+    ["--ink", "--panel"],
+    ["--accent", "--paper"],
+    ["--accent", "--accent-soft"],
+    ["--link", "--paper"],
+    ["--good", "--paper"],
+    ["--badge-ink", "--badge"],
+    ["--soft", "--land"],
+]
 # (the middle first, then further places: a county needn't be where the middle of its box is)
 PLACE_OF = """
 (() => {

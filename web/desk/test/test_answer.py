@@ -6,63 +6,40 @@ import re
 import subprocess
 import xml.etree.ElementTree
 
-from desk_setting import CENSUS, CHAMBERS, DATA, PROBLEM, InDesk, native, page, run
+from desk_setting import CENSUS, DATA, PROBLEM, InDesk, native, page, run
+from native_texts import COUNTS, GROUP_OF, OPTIONS, option_texts, pairs_of_one_tint
 
 AREAS = (
     "[...document.querySelectorAll('#cards fieldset')]"
     ".map((one) => one.querySelectorAll('input').length)"
-)
-GROUP_OF = (
-    "Object.fromEntries([...document.querySelectorAll('#map [data-county]')].map((one) => "
-    "[one.dataset.county, [one.dataset.group, one.getAttribute('class')]]))"
 )
 
 
 class Options(InDesk):
     """Each option of both chambers."""
 
-    counts = {"senate": 16, "house": 8}
-    enacted = {"senate": 6, "house": 7}
-
-    def certificate(self, key: str) -> list[str]:
-        """Returns the words of a chamber's problem with its certificate, made by this machine."""
-        path = self.room / f"{key}.certificate"
-        words = [*PROBLEM, "--chamber", str(CHAMBERS[key]), "--certificate", str(path)]
-        if not path.exists():
-            run("solve", *words)
-        return words
-
-    def wanted(self, key: str, option: int) -> tuple[bytes, bytes]:
-        """Returns grouping and table of an option as this machine's program stores them."""
-        out, table = self.room / "grouping", self.room / "table"
-        words = self.certificate(key)
-        run("list", *words, "--number", str(option), "--out", str(out))
-        run("judge", *words[:-2], "--grouping", str(out), "--table", str(table))
-        return out.read_bytes(), table.read_bytes()
-
     def test_each_option_by_link(self) -> None:
         self.open()
-        for key, count in self.counts.items():
-            for option in range(1, count + 1):
-                with self.subTest(f"{key} {option}"):
-                    self.go(f"#{key}/{option}")
-                    self.assertEqual(self.text("#option"), f"Option {option} of {count}")
-                    grouping, table = self.wanted(key, option)
-                    self.assertEqual(self.stored("grouping"), grouping)
-                    self.assertEqual(self.stored("csv"), table)
+        for key, option in OPTIONS:
+            with self.subTest(f"{key} {option}"):
+                self.go(f"#{key}/{option}")
+                self.assertEqual(self.text("#option"), f"Option {option} of {COUNTS[key]}")
+                grouping, table = option_texts(self.room, key, option)
+                self.assertEqual(self.stored("grouping"), grouping)
+                self.assertEqual(self.stored("csv"), table)
         self.check_quiet()
 
     def test_each_option_opened(self) -> None:
         for key, option in (("senate", 1), ("senate", 16), ("house", 3)):
             self.open(f"#{key}/{option}")
-            self.assertEqual(self.text("#option"), f"Option {option} of {self.counts[key]}")
+            self.assertEqual(self.text("#option"), f"Option {option} of {COUNTS[key]}")
         self.open()
         self.assertEqual(self.text("#option"), "Option 6 of 16")
         self.assertIn("Used for the plan enacted in 2023", self.text("#option-note"))
         self.check_quiet()
 
     def test_each_option_by_click(self) -> None:
-        for key, count in self.counts.items():
+        for key, count in COUNTS.items():
             self.open(f"#{key}")
             sizes = self.value(AREAS)
             seen = set()
@@ -76,21 +53,9 @@ class Options(InDesk):
                 shown = self.text("#option")
                 self.assertEqual(self.value("location.hash"), f"#{key}/{shown.split()[1]}")
                 seen.add(shown)
-                self.check_tints()
+                self.assertEqual(pairs_of_one_tint(self.value(GROUP_OF)), [])
             self.assertEqual(len(seen), count)
             self.check_quiet()
-
-    def check_tints(self) -> None:
-        """Two groups with a border in common never share a tint."""
-        shown = self.value(GROUP_OF)
-        lines = (DATA / "county_borders.txt").read_text(encoding="utf-8").split("\n")[1:]
-        codes = sorted({line.split("|")[1] for line in lines if line})
-        place = {code: str(at) for at, code in enumerate(codes)}
-        for line in filter(None, lines):
-            _, one, _, other, _ = line.split("|")
-            first, second = shown[place[one]], shown[place[other]]
-            if first[0] != second[0]:
-                self.assertNotEqual(first[1].split()[1], second[1].split()[1], line)
 
     def test_stepping_and_going_back(self) -> None:
         self.open("#senate/16")

@@ -9,7 +9,7 @@ import sys
 import threading
 import urllib.request
 
-from desk_setting import SETTING, SIDEWAYS, TOP, InDesk, page
+from desk_setting import CONTRAST, SETTING, SIDEWAYS, TINTED, TOP, InDesk, page
 
 WIDTHS = (320, 360, 390, 768, 1024, 1400)
 MARKS = ("#senate/6", "#house/1", "#proof/senate", "#whatif/house", "#files")
@@ -20,41 +20,6 @@ UNABLE = (
     ("#whatif/house/add=37087-37089", "#whatif-progress", ("#solve-again", "#try-borders")),
     ("#files", "#dropped", ("#solve-files", "#judge", "#audit")),
 )
-CONTRAST = """
-(() => {
-  const styles = getComputedStyle(document.documentElement);
-  const canvas = document.createElement("canvas").getContext("2d");
-  const light = (name) => {
-    canvas.fillStyle = styles.getPropertyValue(name);
-    const parts = canvas.fillStyle.match(/[0-9a-f]{2}/g).map((part) => {
-      const share = parseInt(part, 16) / 255;
-      return share <= 0.03928 ? share / 12.92 : ((share + 0.055) / 1.055) ** 2.4;
-    });
-    return 0.2126 * parts[0] + 0.7152 * parts[1] + 0.0722 * parts[2];
-  };
-  const ratio = ([one, other]) => {
-    const [low, high] = [light(one), light(other)].sort((a, b) => a - b);
-    return (high + 0.05) / (low + 0.05);
-  };
-  return PAIRS.map(ratio);
-})()
-"""
-PAIRS = [
-    *[["--label", f"--t{tint}"] for tint in range(5)],
-    *[["--ink", f"--s{tint}"] for tint in range(5)],
-    ["--ink", "--paper"],
-    ["--soft", "--paper"],
-    ["--soft", "--panel"],
-    ["--ink", "--panel"],
-    ["--accent", "--paper"],
-    ["--accent", "--accent-soft"],
-    ["--link", "--paper"],
-    ["--good", "--paper"],
-    ["--badge-ink", "--badge"],
-    ["--soft", "--land"],
-]
-
-
 ASKING = """
 Promise.all([
   fetch("ADDRESS").then(() => "answered", () => "refused"),
@@ -154,8 +119,8 @@ class Page(InDesk):
     def test_contrast(self) -> None:
         for dark in (False, True):
             self.open(dark=dark)
-            ratios = self.value(CONTRAST.replace("PAIRS", str(PAIRS)))
-            for pair, ratio in zip(PAIRS, ratios):
+            ratios = self.value(CONTRAST.replace("PAIRS", str(TINTED)))
+            for pair, ratio in zip(TINTED, ratios):
                 self.assertGreaterEqual(ratio, 4.5, f"{pair} dark={dark}")
 
     def test_all_names_at_full_width(self) -> None:
