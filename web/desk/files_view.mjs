@@ -146,7 +146,7 @@ async function useOwnFiles(desk, state) {
 }
 
 /**
- * Has an element take dropped files.
+ * Has an element take dropped files that no element in it has taken.
  * @param {HTMLElement} zone
  * @param {(files: File[]) => void} take
  */
@@ -157,6 +157,7 @@ function followDrops(zone, take) {
   });
   zone.addEventListener("dragleave", () => zone.classList.remove("over"));
   zone.addEventListener("drop", (event) => {
+    if (event.defaultPrevented) return;
     event.preventDefault();
     zone.classList.remove("over");
     take([...(event.dataTransfer?.files ?? [])]);
@@ -185,6 +186,8 @@ export function followFiles(desk, state) {
   followDrops(find("#grouping-text"), async (files) => {
     await takeFiles(desk, state, files, "grouping");
   });
+  // (files that miss every zone would be opened in the place of the page)
+  followDrops(find("#files"), (files) => takeFiles(desk, state, files, "any"));
   find("#state").addEventListener("change", paintChambers);
   find("#chamber-kind").addEventListener("change", () => {
     const { value } = findInput("#chamber-kind");

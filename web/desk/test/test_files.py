@@ -53,7 +53,7 @@ class State(Files):
             with self.subTest(name):
                 self.open("#files")
                 kinds = ("segment", "adjacency", "geo")
-                self.give(ANY, *(STATES / f"{name}.{kind}" for kind in kinds))
+                self.drop("#drop-zones", *(STATES / f"{name}.{kind}" for kind in kinds))
                 self.wait_words("#dropped", "is the file of borders")
                 self.assertEqual(self.value("document.querySelector('#state').value"), code)
                 told = self.solved(seats)
@@ -71,6 +71,16 @@ class State(Files):
         told = self.solved(120)
         self.assertIn("8 best groupings", told)
         self.assertEqual(self.value("document.querySelectorAll('#solved-map .badge').length"), 40)
+
+    def test_files_that_miss_the_zones(self) -> None:
+        self.open("#files")
+        self.drop("#files-head", DATA / CENSUS["geo"], DATA / CENSUS["segment"])
+        self.wait_words("#dropped", "nc000012020.pl is the counts.")
+        self.drop(".drop-zone[data-kind=adjacency]", DATA / CENSUS["adjacency"])
+        self.wait("!document.querySelector('#solve-files').disabled")
+        taken = "document.querySelectorAll('.drop-zone.has-file').length"
+        self.assertEqual(self.value(taken), 3)
+        self.check_quiet()
 
     def test_an_archive(self) -> None:
         path = self.room / "nc2020.pl.zip"
@@ -192,7 +202,7 @@ class Grouping(Files):
         subprocess.run([native(), "judge", *words], capture_output=True, check=True)
         self.open("#files")
         self.press_button("#judge-chambers [data-chamber=house]")
-        self.give(ANY, table)
+        self.drop("#grouping-text", table)
         self.wait("document.querySelector('#grouping-text').value.startsWith('GEOID')")
         self.press_button("#judge")
         self.wait_words("#judge-result", "option 7 of 8")
@@ -244,7 +254,7 @@ class Plan(Files):
         self.open("#files")
         self.give(ANY, geo, segment, DATA / CENSUS["adjacency"])
         self.wait_words("#dropped", "file of borders")
-        self.give(PLAN, plan)
+        self.drop("#plan-zone", plan)
 
     def audited(self, plan: Path) -> str:
         """Returns what the page finds against the Senate's groups of 2023."""
