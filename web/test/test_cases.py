@@ -53,7 +53,10 @@ def all_cases() -> list[str]:
 
 
 def some_cases(count: int, what: str) -> list[str]:
-    """Returns `count` of the cases that aren't large, by the seed and by `what`; with `--all` all."""
+    """Returns `count` of the cases that aren't large, by the seed and by `what`.
+
+    With `--all` it returns all cases.
+    """
     found = all_cases()
     assert len(found) > 900
     small = [one for one in found if Path(one).parent.name not in LARGE]

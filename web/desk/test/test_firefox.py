@@ -1,15 +1,14 @@
 """The desk in Firefox: what is tested in Chromium, as far as it depends on the browser."""
 
-import re
 import tempfile
 import time
 import unittest
-import zlib
 from pathlib import Path
 from typing import Any
 
 from desk_setting import CONTRAST, SIDEWAYS, TINTED, NotThere, page
 from firefox import Firefox
+from printed_page import LEAST_LINES, lines_drawn
 from native_texts import COUNTS, GROUP_OF, OPTIONS, option_texts, pairs_of_one_tint
 
 WIDTHS = (360, 390, 768, 1024, 1400)
@@ -20,20 +19,6 @@ WASM64 = "return WebAssembly.validate(new Uint8Array([0, 97, 115, 109, 1, 0, 0, 
 PILL = """const { x, y, width, height } = document.querySelector(
   '#map .badge[aria-label^="Wake and Granville"]').getBoundingClientRect();
 return [x + width / 2, y + height / 2];"""
-# A printed map has some 40,000 lines; a page without its shapes has a fifth of them.
-LEAST_LINES = 25_000
-
-
-def lines_drawn(pdf: bytes) -> int:
-    """Returns how many straight lines the pages of a PDF draw."""
-    found = 0
-    for start in re.finditer(rb"stream\r?\n", pdf):
-        try:
-            content = zlib.decompressobj().decompress(pdf[start.end() :])
-        except zlib.error:
-            continue
-        found += len(re.findall(rb"\sl\s", content))
-    return found
 
 
 class InFirefox(unittest.TestCase):

@@ -10,6 +10,7 @@ import threading
 import urllib.request
 
 from desk_setting import CONTRAST, SETTING, SIDEWAYS, TINTED, TOP, InDesk, page
+from printed_page import LEAST_LINES, lines_drawn
 
 WIDTHS = (320, 360, 390, 768, 1024, 1400)
 MARKS = ("#senate/6", "#house/1", "#proof/senate", "#whatif/house", "#files")
@@ -173,6 +174,7 @@ class Page(InDesk):
         self.browser.save_print(str(path), 8.5, 11)
         pages = re.findall(rb"/Type\s*/Page\b", path.read_bytes())
         self.assertIn(len(pages), (3, 4, 5))
+        self.assertGreater(lines_drawn(path.read_bytes()), LEAST_LINES)
         self.check_quiet()
 
     def test_a_browser_without_wasm64(self) -> None:
