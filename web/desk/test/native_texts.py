@@ -32,15 +32,25 @@ def option_texts(room: Path, key: str, option: int) -> tuple[bytes, bytes]:
     return out.read_bytes(), table.read_bytes()
 
 
-def pairs_of_one_tint(shown: dict[str, Any]) -> list[str]:
-    """Returns the borders between two groups that have one tint. `shown` is what GROUP_OF gives."""
-    lines = (DATA / "county_borders.txt").read_text(encoding="utf-8").split("\n")[1:]
-    codes = sorted({line.split("|")[1] for line in lines if line})
-    place = {code: str(at) for at, code in enumerate(codes)}
+def touching_pairs() -> set[tuple[str, str]]:
+    """Returns the pairs of counties that touch, over a border or at a point."""
+    borders = (DATA / "county_borders.txt").read_text(encoding="utf-8").split("\n")[1:]
+    points = (DATA / "point_contacts.links").read_text(encoding="ascii").split()
+    rows = [line.split("|") for line in borders if line]
+    pairs = {(row[1], row[3]) for row in rows}
+    for line in points:
+        _, one, other = line.split("|")
+        pairs.add((one, other))
+    return {pair for pair in pairs if pair[0] != pair[1]}
+
+
+def pairs_of_one_tint(shown: dict[str, Any]) -> list[tuple[str, str]]:
+    """Returns the touching counties of two groups that have one tint. GROUP_OF gives `shown`."""
+    pairs = touching_pairs()
+    codes = sorted({code for pair in pairs for code in pair})
     found = []
-    for line in filter(None, lines):
-        _, one, _, other, _ = line.split("|")
-        first, second = shown[place[one]], shown[place[other]]
-        if first[0] != second[0] and first[1].split()[1] == second[1].split()[1]:
-            found.append(line)
+    for pair in pairs:
+        (one, tint), (other, other_tint) = (shown[str(codes.index(code))] for code in pair)
+        if one != other and tint.split()[1] == other_tint.split()[1]:
+            found.append(pair)
     return found

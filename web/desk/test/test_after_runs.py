@@ -10,7 +10,7 @@ from desk_setting import CENSUS, DATA, SETTING, SIDEWAYS, InDesk
 from plan_sample import make_sample, write_census, write_plan
 
 SOME_FILE = ".drop-zone[data-kind=geo] input"
-WIDTHS = (320, 360, 768, 1400)
+WIDTHS = (320, 360, 768)
 # Letters as wide as those of a reader whose browser has none of the page's typefaces.
 WIDE_LETTERS = "document.body.style.letterSpacing = '0.08em'; null"
 OPEN_ALL = "document.querySelectorAll('details').forEach((one) => { one.open = true; }); null"
