@@ -1,8 +1,9 @@
 // The second view: checks the certificate that the page carries, in front of the reader.
 
-import { peopleOf, placesOf, setKey } from "./geography.mjs";
+import { Refusal, comparedFiles } from "./compared_files.mjs";
 import { answerFor, chamberWords } from "./desk.mjs";
 import { chamberButtons, find, findInput, stepList, verdictHtml } from "./dom.mjs";
+import { peopleOf, placesOf, setKey } from "./geography.mjs";
 import { problemWords } from "./problem.mjs";
 import {
   carriedFiles, compiledProgram, hasProgram, runProgram, storedFile, sumOf,
@@ -21,40 +22,9 @@ const PAUSE = 60;
 const SHOWN_LINES = 400;
 const LONGEST_LINE = 150;
 
-/** A reason to end the check, in words for the reader. */
-class Refusal extends Error {}
-
 /** Lets the page draw a step before the next one begins. */
 function pause() {
   return new Promise((resolve) => setTimeout(resolve, PAUSE));
-}
-
-/**
- * Returns the carried files of a chamber's problem, each with its sum compared: with the page's own
- * list, and with the record of the run that the page was made of.
- * @param {Desk} desk
- * @param {string} key  that of the chamber
- */
-async function comparedFiles(desk, key) {
-  const names = ["geo", "segment", "adjacency", "links", "withdrawn", `${key}.certificate`];
-  const record = desk.records.get(key);
-  const recorded = new Map([...(record?.read ?? []), ...(record?.stored ?? [])].map((file) => (
-    [file.option, file.sum])));
-  /** @type {Map<string, Uint8Array>} */
-  const files = new Map();
-  for (const name of names.filter((one) => one in carriedFiles())) {
-    const { name: told, sum } = carriedFiles()[name];
-    const bytes = await storedFile(name).catch(() => null);
-    if (!bytes) throw new Refusal(`${told} can’t be unpacked: its bytes were changed.`);
-    const option = name === "segment" ? "segment1" : name.replace(/^.*\./, "");
-    const known = [sum, recorded.get(option) ?? sum];
-    const own = await sumOf(bytes);
-    if (known.some((one) => one !== own)) {
-      throw new Refusal(`${told} isn’t the file that the page was made with: its sum is another.`);
-    }
-    files.set(name, bytes);
-  }
-  return files;
 }
 
 /**

@@ -176,21 +176,43 @@ class Proof(InDesk):
                 self.assertRegex(self.verdict("senate"), r"\A(The checker says no|No)\.\s")
         self.check_quiet()
 
-    def test_a_changed_map(self) -> None:
+    def shown_otherwise(self, change: Callable[[Any], None]) -> str:
+        """Returns what the check says on a page whose data were changed."""
         text = page().read_text(encoding="utf-8")
         found = SHOWN.search(text)
         assert found
         data = json.loads(found[2])
-        lines = data["chambers"][0]["list"].split("\n")
-        kept = [line for line in lines if not line.startswith("group seats 1 people 215999")]
-        self.assertEqual(len(kept), len(lines) - 1)
-        data["chambers"][0]["list"] = "\n".join(kept)
+        before = json.dumps(data)
+        change(data)
+        self.assertNotEqual(json.dumps(data), before)
         path = self.room / "changed.html"
         held = json.dumps(data).replace("<", "\\u003c")
         path.write_text(SHOWN.sub(lambda one: one[1] + held + one[3], text), encoding="utf-8")
         self.open("#proof/senate", path)
-        told = self.verdict("senate")
+        return self.verdict("senate")
+
+    def test_a_changed_map(self) -> None:
+        def without_a_group(data: Any) -> None:
+            chamber = data["chambers"][0]
+            lines = chamber["list"].split("\n")
+            kept = [it for it in lines if not it.startswith("group seats 1 people 215999")]
+            chamber["list"] = "\n".join(kept)
+
+        told = self.shown_otherwise(without_a_group)
         self.assertIn("the page’s map shows other groupings", told)
+
+    def test_a_changed_name(self) -> None:
+        def renamed(data: Any) -> None:
+            chamber = data["chambers"][0]
+            chamber["table"] = chamber["table"].replace("Wake County", "Wade County")
+
+        self.assertIn("The page’s table of counties isn’t", self.shown_otherwise(renamed))
+
+    def test_a_changed_border(self) -> None:
+        def without_a_border(data: Any) -> None:
+            data["borders"] = data["borders"].replace("37023 37109\n", "")
+
+        self.assertIn("The page shows other borders", self.shown_otherwise(without_a_border))
 
     def test_what_the_page_carries(self) -> None:
         _, carried = self.carried()
