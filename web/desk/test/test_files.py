@@ -6,6 +6,7 @@ import zipfile
 from pathlib import Path
 
 from desk_setting import CENSUS, DATA, PROBLEM, STATES, InDesk, native
+from page_samples import squares
 from plan_sample import Sample, make_sample, write_census, write_plan
 
 ANY = ".drop-zone[data-kind=geo] input"
@@ -71,6 +72,24 @@ class State(Files):
         told = self.solved(120)
         self.assertIn("8 best groupings", told)
         self.assertEqual(self.value("document.querySelectorAll('#solved-map .badge').length"), 40)
+
+    def test_a_state_with_outlines(self) -> None:
+        geo = (STATES / "alabama.geo").read_text(encoding="utf-8").split("\n")
+        rows = [line.split("|") for line in geo if "|050|" in line]
+        codes = sorted(row[12] + row[14] for row in rows)
+        board = squares(*((code, at % 10, 30 + at // 10) for at, code in enumerate(codes)))
+        self.open("#files")
+        kinds = ("segment", "adjacency", "geo")
+        files = [STATES / f"alabama.{kind}" for kind in kinds]
+        self.drop("#drop-zones", *files, self.write("board.geojson", board))
+        self.wait_words("#dropped", "board.geojson is outlines")
+        self.solved(35)
+        groups = self.value("document.querySelectorAll('#files-table tbody tr').length")
+        shown = self.value("document.querySelectorAll('#solved-map .badge').length")
+        self.assertEqual((shown, groups > 10), (groups, True))
+        # (areas of other states have no names of their own, nor these counties, but codes)
+        self.assertIn("Around 01117 A", self.text("#files-table"))
+        self.check_quiet()
 
     def test_files_that_miss_the_zones(self) -> None:
         self.open("#files")
