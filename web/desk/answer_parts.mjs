@@ -372,8 +372,8 @@ export function groupTableHtml(geography, answer, groups, sortKey, isUp) {
     + `${key === sortKey ? ` aria-sort="${isUp ? "ascending" : "descending"}"` : ""}>`
     + `<button type="button" data-sort="${key}">${words}</button></th>`);
   const scale = `<th scope="col" class="strip-cell"><span class="unseen">From −${percent} to `
-    + `+${percent} percent</span><span aria-hidden="true">−${percent}<i></i>0<i></i>+${percent}`
-    + "</span></th>";
+    + `+${percent} percent</span><span aria-hidden="true"><i>−${percent}</i><i>0</i>`
+    + `<i>+${percent}</i></span></th>`;
   const rows = order.map((at) => groupRow(geography, answer, groups[at], at, share));
   return `<table class="groups"><thead><tr>${COLUMNS.map((one) => head(...one)).join("")}${scale}`
     + `${head("options", "In options", "")}</tr></thead><tbody>${rows.join("")}</tbody></table>`;
