@@ -16,9 +16,18 @@ from typing import Any
 
 SECONDS = 180
 NAMES = ("chromium", "chromium-browser", "google-chrome")
-KEYS = {"Tab": 9, "Enter": 13, "Escape": 27, " ": 32, "ArrowLeft": 37, "ArrowUp": 38,
-        "ArrowRight": 39, "ArrowDown": 40}
+KEYS = {
+    "Tab": 9,
+    "Enter": 13,
+    "Escape": 27,
+    " ": 32,
+    "ArrowLeft": 37,
+    "ArrowUp": 38,
+    "ArrowRight": 39,
+    "ArrowDown": 40,
+}
 NO_WORDS = {" ": "Space"}
+SHIFT = 8
 
 
 class Browser:
@@ -46,8 +55,9 @@ class Browser:
             os.dup2(spare[1], 4)
 
         none = subprocess.DEVNULL
-        self.process = subprocess.Popen(words, preexec_fn=join_pipes, close_fds=False,
-                                        stdin=none, stdout=none, stderr=none)
+        self.process = subprocess.Popen(
+            words, preexec_fn=join_pipes, close_fds=False, stdin=none, stdout=none, stderr=none
+        )
         os.close(to_browser)
         os.close(from_browser)
         self.number, self.buffer = 0, b""
@@ -91,7 +101,7 @@ class Browser:
     def send(self, message: bytes) -> None:
         """Writes a whole message."""
         while message:
-            message = message[os.write(self.to, message):]
+            message = message[os.write(self.to, message) :]
 
     def next_message(self) -> Any:
         """Returns the next message that the browser sends."""
@@ -121,11 +131,23 @@ class Browser:
         elif method == "Page.loadEventFired":
             self.events.append("loaded")
 
-    def open(self, path: str, width: int = 1200, height: int = 900, has_scripts: bool = True,
-             dark: bool = False, mark: str = "") -> None:
+    def open(
+        self,
+        path: str,
+        width: int = 1200,
+        height: int = 900,
+        has_scripts: bool = True,
+        dark: bool = False,
+        mark: str = "",
+    ) -> None:
         """Opens a file in a window of this size, at a mark of its address such as `#proof`."""
-        self.ask("Emulation.setDeviceMetricsOverride", width=width, height=height,
-                 deviceScaleFactor=1, mobile=width < 600)
+        self.ask(
+            "Emulation.setDeviceMetricsOverride",
+            width=width,
+            height=height,
+            deviceScaleFactor=1,
+            mobile=width < 600,
+        )
         self.ask("Emulation.setScriptExecutionDisabled", value=not has_scripts)
         scheme = {"name": "prefers-color-scheme", "value": "dark" if dark else "light"}
         self.ask("Emulation.setEmulatedMedia", features=[scheme])
@@ -145,23 +167,31 @@ class Browser:
 
     def value(self, script: str) -> Any:
         """Returns what a script gives in the page."""
-        answer = self.ask("Runtime.evaluate", expression=script, returnByValue=True,
-                          awaitPromise=True, userGesture=True)
+        answer = self.ask(
+            "Runtime.evaluate",
+            expression=script,
+            returnByValue=True,
+            awaitPromise=True,
+            userGesture=True,
+        )
         if "exceptionDetails" in answer:
             raise RuntimeError(str(answer["exceptionDetails"]))
         return answer["result"].get("value")
 
-    def press(self, key: str) -> None:
-        """Presses a key once."""
+    def press(self, key: str, is_shifted: bool = False) -> None:
+        """Presses a key once, with the shift key or without it."""
         code = KEYS[key]
         more = {"text": "\r" if key == "Enter" else key} if key in ("Enter", " ") else {}
         for kind in ("keyDown", "keyUp"):
-            self.ask("Input.dispatchKeyEvent", type=kind, key=key, code=NO_WORDS.get(key, key),
-                     windowsVirtualKeyCode=code, **(more if kind == "keyDown" else {}))
-
-    def press_tab(self) -> None:
-        """Presses the Tab key once."""
-        self.press("Tab")
+            self.ask(
+                "Input.dispatchKeyEvent",
+                type=kind,
+                key=key,
+                code=NO_WORDS.get(key, key),
+                windowsVirtualKeyCode=code,
+                modifiers=SHIFT if is_shifted else 0,
+                **(more if kind == "keyDown" else {}),
+            )
 
     def point(self, x: float, y: float) -> None:
         """Moves the pointer to a place of the window."""
@@ -169,6 +199,7 @@ class Browser:
 
     def click(self, x: float, y: float) -> None:
         """Clicks at a place of the window."""
+        self.point(x, y)
         for kind in ("mousePressed", "mouseReleased"):
             self.ask("Input.dispatchMouseEvent", type=kind, x=x, y=y, button="left", clickCount=1)
 
@@ -178,6 +209,12 @@ class Browser:
         self.ask("Input.dispatchTouchEvent", type="touchStart", touchPoints=[{"x": x, "y": y}])
         self.ask("Input.dispatchTouchEvent", type="touchEnd", touchPoints=[])
 
+    def drop_files(self, x: float, y: float, paths: list[str]) -> None:
+        """Drags files of the disk to a place of the window, and drops them there."""
+        carried = {"items": [], "files": paths, "dragOperationsMask": 1}
+        for kind in ("dragEnter", "dragOver", "drop"):
+            self.ask("Input.dispatchDragEvent", type=kind, x=x, y=y, data=carried)
+
     def give_files(self, selector: str, paths: list[str]) -> None:
         """Has a reader choose files of the disk in the input of a selector."""
         root = self.ask("DOM.getDocument")["root"]["nodeId"]
@@ -186,13 +223,24 @@ class Browser:
 
     def download(self, script: str, folder: str) -> str:
         """Returns the path of the one file that a script downloads to a folder."""
+        self.allow_downloads(folder)
+        self.value(script)
+        return self.downloaded(folder)
+
+    def allow_downloads(self, folder: str) -> None:
+        """Has what is downloaded from now on stored in a folder."""
         os.makedirs(folder, exist_ok=True)
         self.ask("Browser.setDownloadBehavior", behavior="allow", downloadPath=folder)
-        self.value(script)
+
+    def downloaded(self, folder: str) -> str:
+        """Waits for the one file that is downloaded to a folder, and returns its path."""
         end = time.monotonic() + SECONDS
         while time.monotonic() < end:
-            names = [name for name in os.listdir(folder)
-                     if not name.endswith(".crdownload") and not name.startswith(".")]
+            names = [
+                name
+                for name in os.listdir(folder)
+                if not name.endswith(".crdownload") and not name.startswith(".")
+            ]
             if names and os.path.getsize(path := os.path.join(folder, names[0])):
                 return path
             time.sleep(0.02)
@@ -206,7 +254,12 @@ class Browser:
 
     def save_print(self, path: str, width: float, height: float) -> None:
         """Stores the page as it is printed on paper of this size in inches."""
-        answer = self.ask("Page.printToPDF", paperWidth=width, paperHeight=height,
-                          printBackground=True, preferCSSPageSize=True)
+        answer = self.ask(
+            "Page.printToPDF",
+            paperWidth=width,
+            paperHeight=height,
+            printBackground=True,
+            preferCSSPageSize=True,
+        )
         with open(path, "wb") as file:
             file.write(base64.b64decode(answer["data"]))

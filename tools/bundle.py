@@ -91,9 +91,7 @@ def script(entry: Path, texts: dict[Path, str] | None = None) -> str:
     return f'"use strict";\n(() => {{\n{"".join(bundle.parts)}}})();\n'
 
 
-def page_script(
-    entry: Path, host: Path = HOST, shortened: Callable[[str], str] = str
-) -> str:
+def page_script(entry: Path, host: Path = HOST, shortened: Callable[[str], str] = str) -> str:
     """Returns the same, with the text of the worker's script in it, which `host` has.
 
     Both scripts are as `shortened` gives them. No text of them ends a script of HTML.

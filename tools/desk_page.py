@@ -14,23 +14,33 @@ from typing import Any
 import bundle
 
 DESK = Path(__file__).resolve().parent.parent / "web" / "desk"
-POLICY = ("default-src 'none'; script-src 'sha256-{sum}' 'wasm-unsafe-eval'; "
-          "style-src 'unsafe-inline'; img-src data:; worker-src blob:; base-uri 'none'; "
-          "form-action 'none'")
-WITHOUT_SCRIPTS = (".needs, .bar .right, .step, .seg, .noprint, .choice input, .switches "
-                   "{ display: none !important } [hidden] { display: none }")
+POLICY = (
+    "default-src 'none'; script-src 'sha256-{sum}' 'wasm-unsafe-eval'; "
+    "style-src 'unsafe-inline'; img-src data:; worker-src blob:; base-uri 'none'; "
+    "form-action 'none'"
+)
+WITHOUT_SCRIPTS = (
+    ".needs, .bar .right, .step, .seg, .noprint, .choice input, .switches "
+    "{ display: none !important } [hidden] { display: none }"
+)
 PART = re.compile(r"\{([a-z-]+)\}")
 DOC_COMMENT = re.compile(r"^[ \t]*/\*\*(?:(?!\*/).)*\*/[ \t]*\n", re.M | re.S)
 LINE_COMMENT = re.compile(r"^[ \t]*//.*\n", re.M)
 INDENT = re.compile(r"^[ ]+", re.M)
 TYPE_COMMENT = re.compile(r"/\*\* @(?:type|param) [^*]*\*/ ?")
-PROVED = ("<li><b>Proved:</b> for exactly the files that the program read, these groupings are "
-          "lawful, none is better, and there are no others as good.</li>")
-UNKNOWN = ("<li><b>If the program’s build was proved:</b> for exactly the files that it read, "
-           "these groupings are lawful, none is better, and there are no others as good.</li>")
-UNPROVED = ("<li><b>This copy was built without proof.</b> A proved build proves, for exactly the "
-            "files that it reads, that its groupings are lawful, that none is better, and that "
-            "there are no others as good.</li>")
+PROVED = (
+    "<li><b>Proved:</b> for exactly the files that the program read, these groupings are "
+    "lawful, none is better, and there are no others as good.</li>"
+)
+UNKNOWN = (
+    "<li><b>If the program’s build was proved:</b> for exactly the files that it read, "
+    "these groupings are lawful, none is better, and there are no others as good.</li>"
+)
+UNPROVED = (
+    "<li><b>This copy was built without proof.</b> A proved build proves, for exactly the "
+    "files that it reads, that its groupings are lawful, that none is better, and that "
+    "there are no others as good.</li>"
+)
 
 
 def carried_file(name: str, content: bytes) -> dict[str, Any]:
@@ -77,8 +87,11 @@ def border_lines(adjacency: str, geoids: set[str]) -> str:
     """Returns each pair of listed neighbors of an adjacency file once, a line of two codes each."""
     rows = [line.split("|") for line in adjacency.split("\n")]
     pairs = {tuple(sorted((row[1], row[3]))) for row in rows if len(row) >= 4}
-    lines = [f"{one} {other}" for one, other in sorted(pairs)
-             if one != other and one in geoids and other in geoids]
+    lines = [
+        f"{one} {other}"
+        for one, other in sorted(pairs)
+        if one != other and one in geoids and other in geoids
+    ]
     return "\n".join(lines)
 
 

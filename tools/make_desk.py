@@ -26,19 +26,29 @@ import desk_page
 
 TOP = Path(__file__).resolve().parent.parent
 DATA = "data/nc2020"
-PROBLEM = ["--geo", f"{DATA}/nc2020geo.pl", "--segment", f"{DATA}/nc000012020.pl",
-           "--adjacency", f"{DATA}/county_borders.txt"]
+PROBLEM = [
+    "--geo",
+    f"{DATA}/nc2020geo.pl",
+    "--segment",
+    f"{DATA}/nc000012020.pl",
+    "--adjacency",
+    f"{DATA}/county_borders.txt",
+]
 CHAMBERS = [("senate", "Senate", 50), ("house", "House", 120)]
 ENACTED_YEAR = 2023
-SOURCES = ("Counts: 2020 census, P.L. 94-171, table P1. Borders: <code>county_borders.txt</code> "
-           "of this project, the counties that share a line in the outlines, with the pairs over "
-           "the sounds and rivers of the coast added; it isn’t the Census Bureau’s adjacency file. "
-           "Outlines: Census Bureau, generalized, for pictures only. The rule: <i>Stephenson v. "
-           "Bartlett</i>, 355 N.C. 354 (2002) and 357 N.C. 301 (2003). What the program says is "
-           "proved, by a proved build, for exactly the files it read; the counts, the borders and "
-           "a court’s reading are not.")
-DESCRIPTION = ("Every best way to group North Carolina’s counties for the Senate and the House, "
-               "with a proof that the page itself can check.")
+SOURCES = (
+    "Counts: 2020 census, P.L. 94-171, table P1. Borders: <code>county_borders.txt</code> "
+    "of this project, the counties that share a line in the outlines, with the pairs over "
+    "the sounds and rivers of the coast added; it isn’t the Census Bureau’s adjacency file. "
+    "Outlines: Census Bureau, generalized, for pictures only. The rule: <i>Stephenson v. "
+    "Bartlett</i>, 355 N.C. 354 (2002) and 357 N.C. 301 (2003). What the program says is "
+    "proved, by a proved build, for exactly the files it read; the counts, the borders and "
+    "a court’s reading are not."
+)
+DESCRIPTION = (
+    "Every best way to group North Carolina’s counties for the Senate and the House, "
+    "with a proof that the page itself can check."
+)
 
 
 class Refused(Exception):
@@ -63,7 +73,11 @@ def chamber_texts(program: str, room: Path, key: str, name: str, seats: int) -> 
     listed = run([program, "list", *problem, *certificate], room)
     enacted = (TOP / DATA / f"{key}{ENACTED_YEAR}.grouping").read_text(encoding="utf-8")
     return {
-        "key": key, "name": name, "list": listed, "enacted": enacted, "tried": "",
+        "key": key,
+        "name": name,
+        "list": listed,
+        "enacted": enacted,
+        "tried": "",
         "table": (room / f"{key}.csv").read_text(encoding="utf-8"),
         "record": (room / f"{key}.record").read_text(encoding="utf-8"),
     }
@@ -93,12 +107,15 @@ def carried_files(room: Path, wasm: Path) -> dict[str, Any]:
         "geo": ("nc2020geo.pl", folder / "nc2020geo.pl"),
         "segment": ("nc000012020.pl", folder / "nc000012020.pl"),
         "adjacency": ("county_borders.txt", folder / "county_borders.txt"),
-        **{f"{key}.certificate": (f"{key}.certificate", room / f"{key}.certificate")
-           for key, _, _ in CHAMBERS},
+        **{
+            f"{key}.certificate": (f"{key}.certificate", room / f"{key}.certificate")
+            for key, _, _ in CHAMBERS
+        },
         "program": ("countygroups.wasm", wasm),
     }
-    return {key: desk_page.carried_file(name, path.read_bytes())
-            for key, (name, path) in files.items()}
+    return {
+        key: desk_page.carried_file(name, path.read_bytes()) for key, (name, path) in files.items()
+    }
 
 
 def tried_borders(program: str, room: Path, seats: int, jobs: int) -> str:
@@ -126,15 +143,22 @@ def made_page(given: argparse.Namespace, room: Path) -> str:
         (Path(given.maps) / f"{key}_map.svg").write_text(drawn, encoding="utf-8")
     parts = json.loads(run(drawing, room))
     borders_note = (TOP / DATA / "borders_source.txt").read_text(encoding="utf-8")
-    parts |= {"state-name": "North Carolina", "sources": SOURCES, "description": DESCRIPTION,
-              "borders-note": desk_page.as_paragraph(borders_note)}
+    parts |= {
+        "state-name": "North Carolina",
+        "sources": SOURCES,
+        "description": DESCRIPTION,
+        "borders-note": desk_page.as_paragraph(borders_note),
+    }
     return desk_page.page_html(data, carried_files(room, Path(given.wasm)), parts)
 
 
 def main(words: list[str]) -> int:
     """Makes the page. 1 if something is missing, 2 if the words are others."""
-    parser = argparse.ArgumentParser(usage=argparse.SUPPRESS, description=__doc__,
-                                     formatter_class=argparse.RawDescriptionHelpFormatter)
+    parser = argparse.ArgumentParser(
+        usage=argparse.SUPPRESS,
+        description=__doc__,
+        formatter_class=argparse.RawDescriptionHelpFormatter,
+    )
     parser.add_argument("--program", required=True)
     parser.add_argument("--wasm", default=str(TOP / "dist" / "countygroups.wasm"))
     parser.add_argument("--build-file")

@@ -8,11 +8,11 @@ usage: python3 tools/test_desk.py [--page FILE] [--program FILE] [--wasm FILE] [
                    make one
 --program FILE     the program that is built for this machine, whose bytes are compared
 --wasm FILE        the same for browsers; without it dist/countygroups.wasm
---pictures FOLDER  leaves pictures of the page there: wide, narrow, dark and printed
+--pictures FOLDER  leaves pictures of the page there: wide, narrow, dark and printed, and after runs
 --only WORD        the tests whose names have the word
 
-Where no Chromium is installed, no test runs, and a line says so. Statuses: 0 all is as wanted, 1
-something isn't, 2 these words can't be run.
+If a Chromium or a Firefox isn't installed, its tests don't run, and a line says so. Statuses: 0 all
+is as wanted, 1 something isn't, 2 these words can't be run.
 """
 import argparse
 import sys

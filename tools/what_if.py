@@ -82,8 +82,12 @@ class Runs:
     def __init__(self, words: argparse.Namespace) -> None:
         given = vars(words)
         self.program = str(Path(words.program).resolve())
-        self.problem = [part for name in OPTIONS if given[name] is not None
-                        for part in (f"--{name}", str(given[name]))]
+        self.problem = [
+            part
+            for name in OPTIONS
+            if given[name] is not None
+            for part in (f"--{name}", str(given[name]))
+        ]
         self.links = Path(words.links).read_text(encoding="utf-8") if words.links else ""
 
     def run(self, command: str, words: list[str]) -> tuple[int, str]:
@@ -111,8 +115,11 @@ class Runs:
 
 def arguments(words: list[str]) -> argparse.Namespace:
     """Returns the words of the command."""
-    parser = argparse.ArgumentParser(usage=argparse.SUPPRESS, description=__doc__,
-                                     formatter_class=argparse.RawDescriptionHelpFormatter)
+    parser = argparse.ArgumentParser(
+        usage=argparse.SUPPRESS,
+        description=__doc__,
+        formatter_class=argparse.RawDescriptionHelpFormatter,
+    )
     for name in ["program", "geo", "segment", "adjacency", "chamber", "borders"]:
         parser.add_argument(f"--{name}", required=True)
     for name in ["links", "withdrawn", "state", "part", "of"]:

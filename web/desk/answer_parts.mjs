@@ -53,7 +53,10 @@ export function deckHtml(desk, answer) {
   const taken = answer.taken.length
     ? ` ${capital(countedInWords(answer.taken.length, "set"))} of counties `
       + `${answer.taken.length === 1 ? "was" : "were"} taken out beforehand.` : "";
-  if (answer.number === 1) return `${why}${rule}${source}, one grouping does this best.${taken}`;
+  const enacted = enactedWords(desk, answer);
+  if (answer.number === 1) {
+    return `${why}${rule}${source}, one grouping does this best.${enacted}${taken}`;
+  }
   const shared = answer.shared.map((id) => answer.groups[id]);
   const seats = shared.reduce((sum, group) => sum + group.least, 0);
   const groups = groupsOf(answer, answer.first).length;
@@ -61,7 +64,18 @@ export function deckHtml(desk, answer) {
   return `${why}${rule}${source}, ${numberText(answer.number)} groupings do this equally well. `
     + `They share ${shared.length} of their ${groups} groups, with ${seats} of the `
     + `${answer.seatsLeft} seats; in ${numberWord(areas)} ${nounFor(areas, "area")} there is a `
-    + `choice.${taken}`;
+    + `choice.${enacted}${taken}`;
+}
+
+/**
+ * Returns which option was enacted, as a further sentence, or nothing.
+ * @param {Desk} desk
+ * @param {Answer} answer
+ */
+function enactedWords(desk, answer) {
+  if (!answer.enacted) return "";
+  const option = answer.number === 1 ? "it" : `option ${answer.enacted}`;
+  return ` The plan that was enacted into law in ${desk.data.enactedYear} uses ${option}.`;
 }
 
 /**
@@ -358,8 +372,8 @@ export function groupTableHtml(geography, answer, groups, sortKey, isUp) {
     + `${key === sortKey ? ` aria-sort="${isUp ? "ascending" : "descending"}"` : ""}>`
     + `<button type="button" data-sort="${key}">${words}</button></th>`);
   const scale = `<th scope="col" class="strip-cell"><span class="unseen">From −${percent} to `
-    + `+${percent} percent</span><span aria-hidden="true">−${percent}<i></i>0<i></i>+${percent}`
-    + "</span></th>";
+    + `+${percent} percent</span><span aria-hidden="true"><i>−${percent}</i><i>0</i>`
+    + `<i>+${percent}</i></span></th>`;
   const rows = order.map((at) => groupRow(geography, answer, groups[at], at, share));
   return `<table class="groups"><thead><tr>${COLUMNS.map((one) => head(...one)).join("")}${scale}`
     + `${head("options", "In options", "")}</tr></thead><tbody>${rows.join("")}</tbody></table>`;

@@ -86,6 +86,8 @@ async function takeFiles(desk, state, files, slot) {
       told.push(`${file.name}: ${fault instanceof Error ? fault.message : fault}`);
     }
   }
+  const reason = whyNoProgram();
+  if (reason) told.push(reason);
   const isPlanShown = slot === "plan" && given.has("plan");
   if (!isPlanShown || told.length) line.textContent = told.join(" ");
 }
@@ -140,11 +142,11 @@ async function useOwnFiles(desk, state) {
     await takeFile(desk, state, kind, file);
   }
   given.delete("outlines");
-  find("#dropped").textContent = "";
+  find("#dropped").textContent = whyNoProgram() ?? "";
 }
 
 /**
- * Has an element take dropped files.
+ * Has an element take dropped files that no element in it has taken.
  * @param {HTMLElement} zone
  * @param {(files: File[]) => void} take
  */
@@ -155,6 +157,7 @@ function followDrops(zone, take) {
   });
   zone.addEventListener("dragleave", () => zone.classList.remove("over"));
   zone.addEventListener("drop", (event) => {
+    if (event.defaultPrevented) return;
     event.preventDefault();
     zone.classList.remove("over");
     take([...(event.dataTransfer?.files ?? [])]);
@@ -183,6 +186,8 @@ export function followFiles(desk, state) {
   followDrops(find("#grouping-text"), async (files) => {
     await takeFiles(desk, state, files, "grouping");
   });
+  // (files that miss every zone would be opened in the place of the page)
+  followDrops(find("#files"), (files) => takeFiles(desk, state, files, "any"));
   find("#state").addEventListener("change", paintChambers);
   find("#chamber-kind").addEventListener("change", () => {
     const { value } = findInput("#chamber-kind");

@@ -93,6 +93,8 @@ function followWindow(desk, state) {
     state.isPrinted = true;
     fold.open = true;
     paintAnswer(desk, state);
+    // (Firefox prints shapes only if they were laid out after they were drawn)
+    find("#map").getBoundingClientRect();
   });
   addEventListener("afterprint", () => {
     state.isPrinted = false;

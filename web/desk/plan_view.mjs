@@ -14,7 +14,7 @@ import { readFindings, readGrouping } from "./program_texts.mjs";
 import { lastSolved } from "./solve_files.mjs";
 import { shownOption } from "./view_state.mjs";
 import {
-  andList, capital, counted, countedInWords, escapeHtml, numberText, signedPercent,
+  capital, counted, countedInWords, escapeHtml, numberText, signedPercent,
 } from "./words.mjs";
 
 /** @typedef {import("./desk.mjs").Desk} Desk */
@@ -265,7 +265,7 @@ function districtTable(choice, findings, districts, groups) {
   const rows = ordered.map(({ label, people, counties }) => {
     const off = (people * seats) / geography.total - 1;
     const fault = faults.get(label) ?? [];
-    const names = andList(groupsWith(counties).map((group) => groupName(geography, group)));
+    const names = groupsWith(counties).map((group) => groupName(geography, group)).join("; ");
     return `<tr><td class="number"><b>${escapeHtml(label)}</b></td><td>${escapeHtml(names)}</td>`
       + `<td class="number people">${numberText(people)}</td>`
       + `<td class="number deviation">${signedPercent(off)}</td>`

@@ -1,8 +1,9 @@
 // The second view: checks the certificate that the page carries, in front of the reader.
 
-import { peopleOf, placesOf, setKey } from "./geography.mjs";
+import { Refusal, comparedFiles } from "./compared_files.mjs";
 import { answerFor, chamberWords } from "./desk.mjs";
 import { chamberButtons, find, findInput, stepList, verdictHtml } from "./dom.mjs";
+import { peopleOf, placesOf, setKey } from "./geography.mjs";
 import { problemWords } from "./problem.mjs";
 import {
   carriedFiles, compiledProgram, hasProgram, runProgram, storedFile, sumOf,
@@ -10,7 +11,7 @@ import {
 } from "./program.mjs";
 import { readList } from "./program_texts.mjs";
 import { shownOption } from "./view_state.mjs";
-import { escapeHtml, numberText } from "./words.mjs";
+import { capital, escapeHtml, numberText } from "./words.mjs";
 
 /** @typedef {import("./desk.mjs").Desk} Desk */
 /** @typedef {import("./answers.mjs").Answer} Answer */
@@ -21,40 +22,9 @@ const PAUSE = 60;
 const SHOWN_LINES = 400;
 const LONGEST_LINE = 150;
 
-/** A reason to end the check, in words for the reader. */
-class Refusal extends Error {}
-
 /** Lets the page draw a step before the next one begins. */
 function pause() {
   return new Promise((resolve) => setTimeout(resolve, PAUSE));
-}
-
-/**
- * Returns the carried files of a chamber's problem, each with its sum compared: with the page's own
- * list, and with the record of the run that the page was made of.
- * @param {Desk} desk
- * @param {string} key  that of the chamber
- */
-async function comparedFiles(desk, key) {
-  const names = ["geo", "segment", "adjacency", "links", "withdrawn", `${key}.certificate`];
-  const record = desk.records.get(key);
-  const recorded = new Map([...(record?.read ?? []), ...(record?.stored ?? [])].map((file) => (
-    [file.option, file.sum])));
-  /** @type {Map<string, Uint8Array>} */
-  const files = new Map();
-  for (const name of names.filter((one) => one in carriedFiles())) {
-    const { name: told, sum } = carriedFiles()[name];
-    const bytes = await storedFile(name).catch(() => null);
-    if (!bytes) throw new Refusal(`${told} can’t be unpacked: its bytes were changed.`);
-    const option = name === "segment" ? "segment1" : name.replace(/^.*\./, "");
-    const known = [sum, recorded.get(option) ?? sum];
-    const own = await sumOf(bytes);
-    if (known.some((one) => one !== own)) {
-      throw new Refusal(`${told} isn’t the file that the page was made with: its sum is another.`);
-    }
-    files.set(name, bytes);
-  }
-  return files;
 }
 
 /**
@@ -165,7 +135,7 @@ async function runChecks(desk, answer, steps, files, certificate, isSpoiled) {
     const intact = isSpoiled
       ? " So it does read the lines. The certificate that the page carries is untouched." : "";
     const answered = `Its answer was <code>${told}</code>.${intact}`;
-    return verdictHtml(false, "The checker says no.", answered);
+    return verdictHtml(false, "The checker says no.", `${faultWords(run.errors)}${answered}`);
   }
   step.end(true, `Checked ${numberText(lines)} lines, one by one`);
   step = steps.begin("Listing every best grouping, and comparing with the map");
@@ -182,6 +152,15 @@ async function runChecks(desk, answer, steps, files, certificate, isSpoiled) {
   return verdictHtml(true, "The certificate proves it.", `By these files, no lawful grouping of `
     + `${chamberWords(answer)} is better than ${best} on this page, and no other is as good. `
     + `Checked in this browser in ${seconds} seconds.`);
+}
+
+/**
+ * Returns in a sentence which line of the certificate is wrong, and why, or nothing.
+ * @param {string} errors  what the program wrote for a person
+ */
+function faultWords(errors) {
+  const found = errors.match(/^countygroups: --certificate \S+, (line \d+: .+)$/m);
+  return found ? `${escapeHtml(capital(found[1]))}. ` : "";
 }
 
 /**

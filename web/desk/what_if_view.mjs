@@ -282,6 +282,8 @@ async function solveAgain(desk, state) {
   const start = performance.now();
   const seconds = () => ((performance.now() - start) / 1000).toFixed(1);
   let last = "";
+  // (until the program has started, there is nothing to stop)
+  work.stop = () => {};
   setBusy(true);
   const timer = window.setInterval(() => {
     progress.textContent = `Solving: ${seconds()} s. ${last}`;
@@ -292,6 +294,7 @@ async function solveAgain(desk, state) {
       last = line.replace(/^.*?countygroups: /, "").slice(0, 120);
     });
     work.stop = started.stop;
+    find("#stop-solving").hidden = false;
     work.outcome = await started.outcome;
     clearInterval(timer);
     const query = addressOf(desk.geography, base, work.whatIf);
@@ -314,7 +317,7 @@ async function solveAgain(desk, state) {
  */
 function setBusy(isBusy) {
   findInput("#solve-again").disabled = isBusy;
-  find("#stop-solving").hidden = !isBusy;
+  if (!isBusy) find("#stop-solving").hidden = true;
 }
 
 /**
@@ -351,16 +354,18 @@ async function tryBorders(desk, state) {
   const disputed = tieKinds(desk.geography);
   const progress = find("#borders-progress");
   findInput("#try-borders").disabled = true;
-  find("#stop-borders").hidden = false;
+  work.stopTrials = () => {};
   progress.textContent = `Trying ${disputed.length} borders, each alone.`;
-  const files = await carriedProblem();
-  const { finished, stop } = startTrials(desk, base, work.whatIf, disputed, files, (done, some) => {
+  const tell = (/** @type {number} */ done, /** @type {Trials} */ some) => {
     work.trials.set(base.key, new Map(some));
     progress.textContent = `Tried ${done} of ${disputed.length} borders.`;
     if (state.chamber === base.key) paintBorders(desk, state);
-  });
-  work.stopTrials = stop;
+  };
   try {
+    const files = await carriedProblem();
+    const { finished, stop } = startTrials(desk, base, work.whatIf, disputed, files, tell);
+    work.stopTrials = stop;
+    find("#stop-borders").hidden = false;
     progress.textContent = trialsWords(await finished);
   } catch (fault) {
     progress.textContent = wasStopped(fault) ? "Stopped." : `It could not run. ${fault}`;

@@ -8,9 +8,13 @@ import tempfile
 import unittest
 from pathlib import Path
 
-from web_setting import CASES, HOST, SETTING, chosen, make_launcher
+from web_setting import CASES, HOST, SETTING, chosen, make_launcher, native
+
+from cases import Case
+from program_runs import files_below, fresh_folder, run
 
 SAMPLE = 120
+BESIDE_SAMPLE = 60
 LARGE = ("huge", "carolina")
 # What is planted in the host's calls, and the folder whose cases find it.
 FAULTS = {
@@ -37,14 +41,26 @@ FAULTS = {
 
 
 def all_cases() -> list[str]:
-    """Returns the files of all cases that the program itself runs."""
+    """Returns a file of each case that the program itself runs: NAME.words, else NAME.case."""
     files = [path for path in CASES.glob("*/**/*") if path.suffix in (".case", ".words")]
     return sorted(
         str(path)
         for path in files
         if not path.with_suffix(".program").exists()
+        and (path.suffix == ".words" or not path.with_suffix(".words").exists())
         and not any(part.endswith((".files", ".stored")) for part in path.parts)
     )
+
+
+def some_cases(count: int, what: str) -> list[str]:
+    """Returns `count` of the cases that aren't large, by the seed and by `what`.
+
+    With `--all` it returns all cases.
+    """
+    found = all_cases()
+    assert len(found) > 900
+    small = [one for one in found if Path(one).parent.name not in LARGE]
+    return found if SETTING.is_all else chosen(small, count, what)
 
 
 def run_cases(program: Path, cases: list[str]) -> "subprocess.CompletedProcess[str]":
@@ -63,13 +79,26 @@ class Cases(unittest.TestCase):
         self.room = Path(room.name)
 
     def test_cases(self) -> None:
-        found = all_cases()
-        self.assertGreater(len(found), 900)
-        small = [one for one in found if Path(one).parent.name not in LARGE]
-        cases = found if SETTING.is_all else chosen(small, SAMPLE, "cases")
-        done = run_cases(make_launcher(self.room), cases)
+        done = run_cases(make_launcher(self.room), some_cases(SAMPLE, "cases"))
         print(done.stdout[-2_000:], flush=True)
         self.assertEqual(done.returncode, 0, done.stderr)
+
+    def test_all_that_is_written_is_that_of_the_machine(self) -> None:
+        program = make_launcher(self.room)
+        for name in some_cases(BESIDE_SAMPLE, "beside"):
+            with self.subTest(name):
+                case = Case(name.rsplit(".", 1)[0])  # type: ignore[no-untyped-call]
+                self.assertEqual(self.left_by(program, case), self.left_by(native(), case))
+
+    def left_by(self, program: Path, case: Case) -> list[object]:
+        """Returns what the runs of a case write, their statuses, and the files that they leave."""
+        left: list[object] = []
+        for given, _ in case.cut():  # type: ignore[no-untyped-call]
+            folder = fresh_folder(str(self.room), case.files)  # type: ignore[no-untyped-call]
+            for words in case.runs:
+                made = run(str(program), words, folder, given)  # type: ignore[no-untyped-call]
+                left.append((made.status, made.wrote, made.told))
+        return [*left, files_below(folder)]  # type: ignore[no-untyped-call]
 
     def planted(self, name: str, old: str, new: str) -> Path:
         """Returns a launcher over a copy of the host's calls in which a text is replaced."""

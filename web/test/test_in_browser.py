@@ -165,8 +165,9 @@ class PageCases(InPage):
 
     def needs_a_machine(self, path: Path) -> bool:
         """Returns whether a case needs what a page hasn't: cuts, and paths of a machine."""
-        words = path.read_bytes() if path.suffix == ".words" else b""
-        return path.with_suffix(".cuts").exists() or b"/" in words
+        words = path.with_suffix(".words")
+        named = words.read_bytes() if words.exists() else b""
+        return path.with_suffix(".cuts").exists() or b"/" in named
 
 
 class Selected(InPage):

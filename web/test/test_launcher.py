@@ -11,7 +11,7 @@ import time
 import unittest
 from pathlib import Path
 
-from web_setting import CASES, DATA, SETTING, TOP, NotThere, make_launcher, native
+from web_setting import CASES, DATA, SETTING, TOP, NotThere, make_launcher, native, run_node
 
 PROBLEM = ["--geo", "nc2020geo.pl", "--segment", "nc000012020.pl"]
 BORDERS = ["--adjacency", "county_borders.txt"]
@@ -140,9 +140,7 @@ class Streams(Launched):
             words = ["size", "--geo", name, *PROBLEM[2:], "--chamber", "50"]
             called = [str(self.program), *words]
             null = subprocess.DEVNULL
-            process = subprocess.Popen(
-                called, cwd=self.folder, stdin=null, stdout=to, stderr=null
-            )
+            process = subprocess.Popen(called, cwd=self.folder, stdin=null, stdout=to, stderr=null)
             os.close(to)
             time.sleep(0.7)
             with open(back, "rb") as pipe:
@@ -213,6 +211,24 @@ class Alone(Launched):
         self.assertEqual((done.returncode, done.stdout), (126, b""))
         self.assertRegex(done.stderr, b"\\Acountygroups: countygroups.wasm beside .*\n\\Z")
 
+    def version_by(self, *options: str) -> "subprocess.CompletedProcess[str]":
+        """Returns what the launcher says of its version, by a Node with these options."""
+        return run_node(*options, self.room / "dist" / "countygroups.mjs", "--version")
+
+    def test_a_node_that_has_wasm64_from_the_start(self) -> None:
+        flag = "--experimental-wasm-memory64"
+        if run_node(flag, "--version").returncode:
+            raise NotThere("this Node has no flag for 64-bit WebAssembly, since it always has it")
+        done = self.version_by(flag)
+        self.assertEqual((done.returncode, done.stdout[:13]), (0, "countygroups "))
+
+    def test_a_node_without_wasm64(self) -> None:
+        without = "data:text/javascript,WebAssembly.validate=()=>false"
+        done = self.version_by("--import", without)
+        self.assertEqual((done.returncode, done.stdout), (126, ""))
+        told = r"\Acountygroups: Node [\d.]+ has no 64-bit WebAssembly: use Node 24\n\Z"
+        self.assertRegex(done.stderr, told)
+
     def test_the_launcher_for_windows(self) -> None:
         text = (self.room / "dist" / "countygroups.cmd").read_bytes()
         self.assertIn(b'node "%~dp0countygroups.mjs" %*\r\n', text)
@@ -248,5 +264,3 @@ class Memory(Launched):
         megabytes = (used - alone) >> 20
         print(f"full state of {held} bytes: {megabytes} MB beside Node's own", flush=True)
         self.assertLess(used - alone, MOST_BESIDE_NODE)
-
-

@@ -1,6 +1,7 @@
 """What the sources of web/ are held to: types, lengths, and one list of the host calls."""
 from __future__ import annotations
 
+import ast
 import os
 import re
 import subprocess
@@ -12,8 +13,7 @@ from web_setting import HOST, TOP, WEB, program_there, run_node, wasm
 MOST_LINES = 40
 MOST_COLUMNS = 100
 OPENS = re.compile(
-    r"^(?P<indent> *)"
-    r"(?:(?:export )?(?:async )?function |(?:async )?\w+\(.*\) \{$|.*=> \{$)"
+    r"^(?P<indent> *)" r"(?:(?:export )?(?:async )?function |(?:async )?\w+\(.*\) \{$|.*=> \{$)"
 )
 NO_FUNCTION = re.compile(r"^ *(?:if|for|while|switch|else|try|catch|return)\b")
 
@@ -39,9 +39,16 @@ def sources(*patterns: str) -> list[Path]:
 
 
 def python_files() -> list[Path]:
-    """Returns the Python files that serve web/."""
+    """Returns the Python files that serve web/, whose types are checked together."""
     others = ("tools/bundle.py", "tools/launcher.py", "tools/test_web.py", "bench/web_speed.py")
     return sources("web/test/*.py", *others)
+
+
+def all_python_files() -> list[Path]:
+    """Returns the Python files that serve web/ and the desk."""
+    names = ("browser", "desk_page", "make_desk", "what_if", "test_desk")
+    desk = sources("web/desk/test/*.py", *(f"tools/{name}.py" for name in names))
+    return [*python_files(), *desk]
 
 
 class Sources(unittest.TestCase):
@@ -74,9 +81,16 @@ class Sources(unittest.TestCase):
                 self.assertLessEqual(length, MOST_LINES, f"{path.name}: {name}")
         self.assertGreater(seen, 100)
 
+    def test_python_functions_are_short(self) -> None:
+        for path in all_python_files():
+            for node in ast.walk(ast.parse(path.read_text(encoding="utf-8"))):
+                if isinstance(node, ast.FunctionDef) and node.end_lineno:
+                    length = node.end_lineno - node.lineno + 1
+                    self.assertLessEqual(length, MOST_LINES, f"{path.name}: {node.name}")
+
     def test_lines_are_short(self) -> None:
         own = sources("web/**/*.mjs", "web/**/*.c", "web/types/*.ts")
-        for path in [*own, *python_files()]:
+        for path in [*own, *all_python_files()]:
             for number, line in enumerate(path.read_text(encoding="utf-8").split("\n"), 1):
                 self.assertLessEqual(len(line), MOST_COLUMNS, f"{path.name}, line {number}")
 

@@ -25,6 +25,74 @@ sys.path.insert(0, str(TOP / "tools"))
 from browser import Browser  # noqa: E402
 
 
+SIDEWAYS = "document.documentElement.scrollWidth - document.documentElement.clientWidth"
+MOST_TABS = 150
+# The contrast of pairs of the page's colors, and the pairs of which each has to be legible.
+CONTRAST = """
+(() => {
+  const styles = getComputedStyle(document.documentElement);
+  const canvas = document.createElement("canvas").getContext("2d");
+  const light = (name) => {
+    canvas.fillStyle = styles.getPropertyValue(name);
+    const parts = canvas.fillStyle.match(/[0-9a-f]{2}/g).map((part) => {
+      const share = parseInt(part, 16) / 255;
+      return share <= 0.03928 ? share / 12.92 : ((share + 0.055) / 1.055) ** 2.4;
+    });
+    return 0.2126 * parts[0] + 0.7152 * parts[1] + 0.0722 * parts[2];
+  };
+  const ratio = ([one, other]) => {
+    const [low, high] = [light(one), light(other)].sort((a, b) => a - b);
+    return (high + 0.05) / (low + 0.05);
+  };
+  return PAIRS.map(ratio);
+})()
+"""
+TINTED = [
+    *[["--label", f"--t{tint}"] for tint in range(5)],
+    *[["--ink", f"--s{tint}"] for tint in range(5)],
+    *[["--soft", f"--t{tint}"] for tint in range(5)],
+    ["--soft", "--accent-soft"],
+    ["--accent", "--badge"],
+    ["--ink", "--paper"],
+    ["--soft", "--paper"],
+    ["--soft", "--panel"],
+    ["--ink", "--panel"],
+    ["--accent", "--paper"],
+    ["--accent", "--accent-soft"],
+    ["--link", "--paper"],
+    ["--good", "--paper"],
+    ["--badge-ink", "--badge"],
+    ["--soft", "--land"],
+]
+# (the middle first, then further places: a county needn't be where the middle of its box is)
+PLACE_OF = """
+(() => {
+  const one = document.querySelector(SELECTOR);
+  one.scrollIntoView({ block: "center" });
+  const { x, y, width, height } = one.getBoundingClientRect();
+  for (const part of [0.5, 0.4, 0.6, 0.3, 0.7, 0.2, 0.8]) {
+    for (const other of [0.5, 0.4, 0.6, 0.3, 0.7, 0.2, 0.8]) {
+      const at = [x + width * part, y + height * other];
+      if (one.contains(document.elementFromPoint(...at))) return at;
+    }
+  }
+  throw new Error(`${SELECTOR} is covered everywhere`);
+})()
+"""
+IS_SEEN = """
+(() => {
+  const one = document.activeElement;
+  const shown = one.matches("label input") ? one.closest("label") : one;
+  const { x, y, width, height } = shown.getBoundingClientRect();
+  const isInWindow = width > 4 && height > 4 && y >= 0 && y < innerHeight && x >= 0
+    && x < innerWidth;
+  const isMarked = [one, shown].map((it) => getComputedStyle(it)).some((style) => (
+    style.outlineStyle !== "none" && parseFloat(style.outlineWidth) > 0));
+  return isInWindow && (isMarked || one.closest("svg") !== null);
+})()
+"""
+
+
 @dataclass
 class Setting:
     """What a run of the tests was asked for."""
@@ -109,11 +177,29 @@ class InDesk(unittest.TestCase):
         """Returns the words of an element as they are shown."""
         return str(self.value(f"document.querySelector({json.dumps(selector)}).innerText"))
 
+    def place(self, selector: str) -> tuple[float, float]:
+        """Returns a place of the window where an element lies, and nothing covers it."""
+        x, y = self.value(PLACE_OF.replace("SELECTOR", json.dumps(selector)))
+        return float(x), float(y)
+
     def click(self, selector: str) -> None:
-        """Clicks an element."""
-        element = f"document.querySelector({json.dumps(selector)})"
-        self.value(f"{element}.dispatchEvent(new MouseEvent('click', {{ bubbles: true, "
-                   "cancelable: true })); null")
+        """Clicks an element by the pointer."""
+        self.browser.click(*self.place(selector))
+
+    def drop(self, selector: str, *paths: Path) -> None:
+        """Has a reader drop files on an element."""
+        self.browser.drop_files(*self.place(selector), [str(path) for path in paths])
+
+    def tab_to(self, selector: str) -> None:
+        """Presses the Tab key until an element of the selector has the focus, and is seen."""
+        focused = f"document.activeElement.matches({json.dumps(selector)})"
+        for _ in range(MOST_TABS):
+            if self.value(focused):
+                break
+            self.browser.press("Tab")
+        else:
+            raise AssertionError(f"the Tab key never comes to {selector}")
+        self.assertTrue(self.value(IS_SEEN), f"{selector} has the focus, and isn't seen")
 
     def press_button(self, selector: str) -> None:
         """Presses a button or another control."""

@@ -1,7 +1,9 @@
 """Drives a headless Firefox by Marionette, the protocol that Firefox itself has for tests."""
 from __future__ import annotations
 
+import base64
 import json
+import re
 import shutil
 import socket
 import subprocess
@@ -11,7 +13,15 @@ from pathlib import Path
 from typing import Any
 
 SECONDS = 120.0
-PREFERENCES = ("marionette.port", "datareporting.policy.dataSubmissionEnabled")
+KEYS = {"Tab": "\ue004", "Enter": "\ue007", "ArrowRight": "\ue014", "Escape": "\ue00c"}
+# Firefox stores what it downloads in one folder, and asks nobody.
+PREFERENCES = {
+    "datareporting.policy.dataSubmissionEnabled": "false",
+    "browser.download.folderList": "2",
+    "browser.download.alwaysOpenPanel": "false",
+}
+OWN_FAULT = re.compile(r'\{file: "(resource|chrome):')
+DARK = "layout.css.prefers-color-scheme.content-override"
 
 
 def free_port() -> int:
@@ -36,10 +46,14 @@ class Firefox:
             raise RuntimeError("no Firefox is installed")
         self.room = tempfile.mkdtemp(prefix="firefox-")
         port = free_port()
-        lines = [f'user_pref("{PREFERENCES[0]}", {port});',
-                 f'user_pref("{PREFERENCES[1]}", false);']
+        self.downloads = Path(self.room) / "downloads"
+        self.downloads.mkdir()
+        preferences = {**PREFERENCES, "marionette.port": str(port)}
+        preferences["browser.download.dir"] = json.dumps(str(self.downloads))
+        lines = [f'user_pref("{name}", {value});' for name, value in preferences.items()]
         (Path(self.room) / "user.js").write_text("\n".join(lines), encoding="ascii")
-        words = [program, "--headless", "--marionette", "--no-remote", "--profile", self.room]
+        words = [program, "--headless", "--marionette", "--remote-allow-system-access"]
+        words += ["--no-remote", "--profile", self.room]
         none = subprocess.DEVNULL
         self.process = subprocess.Popen(words, stdin=none, stdout=none, stderr=none)
         self.socket = self.connected(port)
@@ -65,7 +79,7 @@ class Firefox:
         length, self.buffer = self.buffer.split(b":", 1)
         while len(self.buffer) < int(length):
             self.buffer += self.more()
-        text, self.buffer = self.buffer[:int(length)], self.buffer[int(length):]
+        text, self.buffer = self.buffer[: int(length)], self.buffer[int(length) :]
         return json.loads(text)
 
     def more(self) -> bytes:
@@ -92,6 +106,67 @@ class Firefox:
     def value(self, script: str) -> Any:
         """Returns what a script gives in the page, by its `return`."""
         return self.ask("WebDriver:ExecuteScript", script=script, args=[])["value"]
+
+    def of_browser(self, script: str) -> Any:
+        """Returns what a script gives in Firefox itself, by its `return`."""
+        self.ask("Marionette:SetContext", value="chrome")
+        try:
+            return self.value(script)
+        finally:
+            self.ask("Marionette:SetContext", value="content")
+
+    def resize(self, width: int) -> None:
+        """Makes the page as wide as this. A window of Firefox has at least 500 pixels."""
+        self.ask("WebDriver:SetWindowRect", width=1400, height=900)
+        self.of_browser(f"window.gBrowser.selectedBrowser.style.maxWidth = '{width}px'")
+        end = time.monotonic() + SECONDS
+        while self.value("return innerWidth") != width and time.monotonic() < end:
+            time.sleep(0.05)
+        # (the page draws its maps again a little after the window has its width)
+        time.sleep(0.4)
+
+    def act(self, kind: str, *actions: dict[str, Any]) -> None:
+        """Does what a reader does with the pointer or with the keys."""
+        source = {"type": kind, "id": kind, "actions": list(actions)}
+        self.ask("WebDriver:PerformActions", actions=[source])
+
+    def press(self, key: str) -> None:
+        """Presses a key once."""
+        self.act("key", *({"type": kind, "value": KEYS[key]} for kind in ("keyDown", "keyUp")))
+
+    def point(self, x: float, y: float) -> None:
+        """Moves the pointer to a place of the window."""
+        self.act("pointer", {"type": "pointerMove", "x": round(x), "y": round(y), "duration": 0})
+
+    def told(self, path: str) -> list[str]:
+        """Returns the lines of Firefox's console that name a file of the disk.
+
+        Errors in files of Firefox itself are left out.
+        """
+        script = "return Services.console.getMessageArray().map((one) => one.message)"
+        lines = [line for line in self.of_browser(script) if path in line]
+        return [line for line in lines if not OWN_FAULT.search(line)]
+
+    def set_dark(self, is_dark: bool) -> None:
+        """Has pages be dark or light."""
+        self.of_browser(f"Services.prefs.setIntPref('{DARK}', {0 if is_dark else 1})")
+
+    def downloaded(self) -> bytes:
+        """Waits for the one file that is downloaded, takes it away, and returns its bytes."""
+        end = time.monotonic() + SECONDS
+        while time.monotonic() < end:
+            for path in self.downloads.iterdir():
+                if path.suffix != ".part" and not list(self.downloads.glob("*.part")):
+                    content = path.read_bytes()
+                    if content:
+                        path.unlink()
+                        return content
+            time.sleep(0.02)
+        raise RuntimeError("nothing was downloaded")
+
+    def printed(self) -> bytes:
+        """Returns the page as it is printed, as PDF."""
+        return base64.b64decode(self.ask("WebDriver:Print", background=True)["value"])
 
     def close(self) -> None:
         """Ends Firefox."""

@@ -3,61 +3,43 @@ from __future__ import annotations
 
 import json
 import re
+import subprocess
 import xml.etree.ElementTree
 
-from desk_setting import CHAMBERS, DATA, PROBLEM, InDesk, run
+from desk_setting import CENSUS, DATA, PROBLEM, InDesk, native, page, run
+from native_texts import COUNTS, GROUP_OF, OPTIONS, option_texts, pairs_of_one_tint
 
-AREAS = ("[...document.querySelectorAll('#cards fieldset')]"
-         ".map((one) => one.querySelectorAll('input').length)")
-GROUP_OF = ("Object.fromEntries([...document.querySelectorAll('#map [data-county]')].map((one) => "
-            "[one.dataset.county, [one.dataset.group, one.getAttribute('class')]]))")
+AREAS = (
+    "[...document.querySelectorAll('#cards fieldset')]"
+    ".map((one) => one.querySelectorAll('input').length)"
+)
 
 
 class Options(InDesk):
     """Each option of both chambers."""
 
-    counts = {"senate": 16, "house": 8}
-    enacted = {"senate": 6, "house": 7}
-
-    def certificate(self, key: str) -> list[str]:
-        """Returns the words of a chamber's problem with its certificate, made by this machine."""
-        path = self.room / f"{key}.certificate"
-        words = [*PROBLEM, "--chamber", str(CHAMBERS[key]), "--certificate", str(path)]
-        if not path.exists():
-            run("solve", *words)
-        return words
-
-    def wanted(self, key: str, option: int) -> tuple[bytes, bytes]:
-        """Returns grouping and table of an option as this machine's program stores them."""
-        out, table = self.room / "grouping", self.room / "table"
-        words = self.certificate(key)
-        run("list", *words, "--number", str(option), "--out", str(out))
-        run("judge", *words[:-2], "--grouping", str(out), "--table", str(table))
-        return out.read_bytes(), table.read_bytes()
-
     def test_each_option_by_link(self) -> None:
         self.open()
-        for key, count in self.counts.items():
-            for option in range(1, count + 1):
-                with self.subTest(f"{key} {option}"):
-                    self.go(f"#{key}/{option}")
-                    self.assertEqual(self.text("#option"), f"Option {option} of {count}")
-                    grouping, table = self.wanted(key, option)
-                    self.assertEqual(self.stored("grouping"), grouping)
-                    self.assertEqual(self.stored("csv"), table)
+        for key, option in OPTIONS:
+            with self.subTest(f"{key} {option}"):
+                self.go(f"#{key}/{option}")
+                self.assertEqual(self.text("#option"), f"Option {option} of {COUNTS[key]}")
+                grouping, table = option_texts(self.room, key, option)
+                self.assertEqual(self.stored("grouping"), grouping)
+                self.assertEqual(self.stored("csv"), table)
         self.check_quiet()
 
     def test_each_option_opened(self) -> None:
         for key, option in (("senate", 1), ("senate", 16), ("house", 3)):
             self.open(f"#{key}/{option}")
-            self.assertEqual(self.text("#option"), f"Option {option} of {self.counts[key]}")
+            self.assertEqual(self.text("#option"), f"Option {option} of {COUNTS[key]}")
         self.open()
         self.assertEqual(self.text("#option"), "Option 6 of 16")
         self.assertIn("Used for the plan enacted in 2023", self.text("#option-note"))
         self.check_quiet()
 
     def test_each_option_by_click(self) -> None:
-        for key, count in self.counts.items():
+        for key, count in COUNTS.items():
             self.open(f"#{key}")
             sizes = self.value(AREAS)
             seen = set()
@@ -65,30 +47,15 @@ class Options(InDesk):
                 left = number
                 for area, size in enumerate(sizes):
                     switch = f"#map [data-area='{area}'][data-choice='{left % size}']"
-                    radio = f"#cards input[name='area{area}'][value='{left % size}']"
-                    if area % 2:
-                        self.press_button(radio)
-                    else:
-                        self.click(switch)
+                    card = f"#cards label:has([name='area{area}'][value='{left % size}'])"
+                    self.click(card if area % 2 else switch)
                     left //= size
                 shown = self.text("#option")
                 self.assertEqual(self.value("location.hash"), f"#{key}/{shown.split()[1]}")
                 seen.add(shown)
-                self.check_tints()
+                self.assertEqual(pairs_of_one_tint(self.value(GROUP_OF)), [])
             self.assertEqual(len(seen), count)
             self.check_quiet()
-
-    def check_tints(self) -> None:
-        """Two groups with a border in common never share a tint."""
-        shown = self.value(GROUP_OF)
-        lines = (DATA / "county_borders.txt").read_text(encoding="utf-8").split("\n")[1:]
-        codes = sorted({line.split("|")[1] for line in lines if line})
-        place = {code: str(at) for at, code in enumerate(codes)}
-        for line in filter(None, lines):
-            _, one, _, other, _ = line.split("|")
-            first, second = shown[place[one]], shown[place[other]]
-            if first[0] != second[0]:
-                self.assertNotEqual(first[1].split()[1], second[1].split()[1], line)
 
     def test_stepping_and_going_back(self) -> None:
         self.open("#senate/16")
@@ -103,6 +70,16 @@ class Options(InDesk):
         self.wait_words("#option", "Option 7 of 8")
         self.check_quiet()
 
+    def test_the_link_is_copied(self) -> None:
+        self.open("#house/3")
+        permissions = ["clipboardReadWrite", "clipboardSanitizedWrite"]
+        self.browser.ask("Browser.grantPermissions", permissions=permissions)
+        self.click("#copy")
+        self.wait_words("#toast", "The link to this option is copied.")
+        copied = self.value("navigator.clipboard.readText()")
+        self.assertEqual(copied, f"{page().as_uri()}#house/3")
+        self.check_quiet()
+
 
 class Stored(InDesk):
     """What else the menu stores."""
@@ -113,10 +90,18 @@ class Stored(InDesk):
         words = [*PROBLEM, "--chamber", "120", "--certificate", str(path)]
         run("solve", *words)
         self.assertEqual(self.stored("certificate"), path.read_bytes())
-        record = self.stored("record").decode()
-        self.assertTrue(record.startswith("countygroups record 1\n"))
-        self.assertIn("\nword --chamber\nword 120\n", record)
-        self.assertNotRegex(record, r"(?m)^word /")
+        self.assertEqual(self.stored("record"), self.own_record("house", 120))
+
+    def own_record(self, key: str, seats: int) -> bytes:
+        """Returns the record that this machine's program stores for the words of the page's run."""
+        folder = self.room / "recorded"
+        folder.mkdir()
+        (folder / "data").symlink_to(DATA.parent)
+        words = [part for it, name in CENSUS.items() for part in (f"--{it}", f"data/nc2020/{name}")]
+        words += ["--chamber", str(seats), "--certificate", f"{key}.certificate"]
+        words += ["--out", f"{key}.grouping", "--table", f"{key}.csv", "--record", f"{key}.record"]
+        subprocess.run([native(), "solve", *words], cwd=folder, capture_output=True, check=True)
+        return (folder / f"{key}.record").read_bytes()
 
     def test_geojson(self) -> None:
         self.open("#senate/6")
@@ -157,8 +142,10 @@ class Pointing(InDesk):
     def pill(self, name: str) -> list[float]:
         """Returns the middle of the pill of a group in the window."""
         pill = f"document.querySelector('#map .badge[aria-label^=\"{name}\"]')"
-        script = (f"(() => {{ const one = {pill}.getBoundingClientRect(); "
-                  "return [one.x + one.width / 2, one.y + one.height / 2]; })()")
+        script = (
+            f"(() => {{ const one = {pill}.getBoundingClientRect(); "
+            "return [one.x + one.width / 2, one.y + one.height / 2]; })()"
+        )
         return list(self.value(script))
 
     def test_pointer(self) -> None:
@@ -173,35 +160,16 @@ class Pointing(InDesk):
 
     def test_table_and_finder(self) -> None:
         self.open("#senate/6")
-        self.value("document.querySelector('#finder').value = '91'; "
-                   "document.querySelector('#finder')"
-                   ".dispatchEvent(new Event('change')); null")
+        self.value(
+            "document.querySelector('#finder').value = '91'; "
+            "document.querySelector('#finder')"
+            ".dispatchEvent(new Event('change')); null"
+        )
         self.assertIn("Wake and Granville", self.text("#told"))
         self.press_button("[data-sort=people]")
         self.assertEqual(self.text("#table tbody tr td:nth-child(2)"), "Mecklenburg, Iredell")
         self.press_button("#table tbody tr:nth-child(2)")
         self.assertIn("people per seat", self.text("#told"))
-        self.check_quiet()
-
-    def test_keyboard_alone(self) -> None:
-        self.open("#senate/6", height=1000)
-        for _ in range(30):
-            self.browser.press("Tab")
-            if self.value("document.activeElement.closest('#map') !== null"):
-                break
-        self.assertTrue(self.value("document.activeElement.classList.contains('badge')"))
-        seen = set()
-        for key in ["ArrowRight"] * 12 + ["ArrowUp"] * 6 + ["ArrowRight"] * 4:
-            self.browser.press(key)
-            seen.add(self.value("document.activeElement.getAttribute('aria-label')"))
-        self.assertGreater(len(seen), 8)
-        letter = "#map .letter[data-area='1'][data-choice='1']"
-        self.value(f'document.querySelector("{letter}").focus()')
-        self.browser.press("Enter")
-        self.assertNotEqual(self.text("#option"), "Option 6 of 16")
-        label = self.value("document.activeElement.getAttribute('aria-label')")
-        self.assertEqual(label, "Northwest B")
-        self.assertIn("Northwest: B", self.value("document.querySelector('#live').textContent"))
         self.check_quiet()
 
     def test_keyboard_on_the_cards(self) -> None:

@@ -6,6 +6,7 @@ import zipfile
 from pathlib import Path
 
 from desk_setting import CENSUS, DATA, PROBLEM, STATES, InDesk, native
+from page_samples import squares
 from plan_sample import Sample, make_sample, write_census, write_plan
 
 ANY = ".drop-zone[data-kind=geo] input"
@@ -45,12 +46,15 @@ class State(Files):
         return listed, int(listed.split("best groupings ")[1].split("\n")[0])
 
     def test_states_by_dropping_their_files(self) -> None:
-        for name, code, seats, counties in (("alabama", "01", 35, 67), ("florida", "12", 40, 67),
-                                            ("wisconsin", "55", 33, 72)):
+        for name, code, seats, counties in (
+            ("alabama", "01", 35, 67),
+            ("florida", "12", 40, 67),
+            ("wisconsin", "55", 33, 72),
+        ):
             with self.subTest(name):
                 self.open("#files")
                 kinds = ("segment", "adjacency", "geo")
-                self.give(ANY, *(STATES / f"{name}.{kind}" for kind in kinds))
+                self.drop("#drop-zones", *(STATES / f"{name}.{kind}" for kind in kinds))
                 self.wait_words("#dropped", "is the file of borders")
                 self.assertEqual(self.value("document.querySelector('#state').value"), code)
                 told = self.solved(seats)
@@ -68,6 +72,34 @@ class State(Files):
         told = self.solved(120)
         self.assertIn("8 best groupings", told)
         self.assertEqual(self.value("document.querySelectorAll('#solved-map .badge').length"), 40)
+
+    def test_a_state_with_outlines(self) -> None:
+        geo = (STATES / "alabama.geo").read_text(encoding="utf-8").split("\n")
+        rows = [line.split("|") for line in geo if "|050|" in line]
+        codes = sorted(row[12] + row[14] for row in rows)
+        board = squares(*((code, at % 10, 30 + at // 10) for at, code in enumerate(codes)))
+        self.open("#files")
+        kinds = ("segment", "adjacency", "geo")
+        files = [STATES / f"alabama.{kind}" for kind in kinds]
+        self.drop("#drop-zones", *files, self.write("board.geojson", board))
+        self.wait_words("#dropped", "board.geojson is outlines")
+        self.solved(35)
+        groups = self.value("document.querySelectorAll('#files-table tbody tr').length")
+        shown = self.value("document.querySelectorAll('#solved-map .badge').length")
+        self.assertEqual((shown, groups > 10), (groups, True))
+        # (areas of other states have no names of their own, nor these counties, but codes)
+        self.assertIn("Around 01117 A", self.text("#files-table"))
+        self.check_quiet()
+
+    def test_files_that_miss_the_zones(self) -> None:
+        self.open("#files")
+        self.drop("#files-head", DATA / CENSUS["geo"], DATA / CENSUS["segment"])
+        self.wait_words("#dropped", "nc000012020.pl is the counts.")
+        self.drop(".drop-zone[data-kind=adjacency]", DATA / CENSUS["adjacency"])
+        self.wait("!document.querySelector('#solve-files').disabled")
+        taken = "document.querySelectorAll('.drop-zone.has-file').length"
+        self.assertEqual(self.value(taken), 3)
+        self.check_quiet()
 
     def test_an_archive(self) -> None:
         path = self.room / "nc2020.pl.zip"
@@ -96,8 +128,12 @@ class State(Files):
         lines = (DATA / CENSUS["segment"]).read_text(encoding="utf-8").split("\n")
         lines[3] = lines[3].replace("|000", "|", 1).replace(lines[3].split("|")[5], "many")
         self.open("#files")
-        self.give(ANY, DATA / CENSUS["geo"], self.write("counts.pl", "\n".join(lines)),
-                  DATA / CENSUS["adjacency"])
+        self.give(
+            ANY,
+            DATA / CENSUS["geo"],
+            self.write("counts.pl", "\n".join(lines)),
+            DATA / CENSUS["adjacency"],
+        )
         self.wait_words("#dropped", "file of borders")
         told = self.solved(50)
         self.assertIn("A file was refused.", told)
@@ -115,7 +151,9 @@ WRONG = {
     "plain.geojson": (b'{"type": "FeatureCollection", "features": []}', "no GEOID"),
     "nc000022020.pl": (b"PLST|NC|000|02|0000001|10439388|5\n", "This is segment 2"),
     "county_adjacency.txt": (
-        b'"Autauga County, AL"\t01001\t"Autauga County, AL"\t01001\n', "until 2022, with tabs"),
+        b'"Autauga County, AL"\t01001\t"Autauga County, AL"\t01001\n',
+        "until 2022, with tabs",
+    ),
     "words.txt": (b"some words\nand more\n", "whose layout isn’t known"),
 }
 
@@ -165,8 +203,11 @@ class Grouping(Files):
 
     def test_a_table_with_names(self) -> None:
         rows = ["County;Cluster"]
-        names = {line.split("|")[1]: line.split("|")[0] for line in
-                 (DATA / CENSUS["adjacency"]).read_text(encoding="utf-8").split("\n")[1:] if line}
+        names = {
+            line.split("|")[1]: line.split("|")[0]
+            for line in (DATA / CENSUS["adjacency"]).read_text(encoding="utf-8").split("\n")[1:]
+            if line
+        }
         for at, line in enumerate(self.enacted("senate").split()):
             rows += [f"{names[code][:-4]};{at}" for code in line.split("|")[1:]]
         told = self.judged("\n".join(rows))
@@ -180,7 +221,7 @@ class Grouping(Files):
         subprocess.run([native(), "judge", *words], capture_output=True, check=True)
         self.open("#files")
         self.press_button("#judge-chambers [data-chamber=house]")
-        self.give(ANY, table)
+        self.drop("#grouping-text", table)
         self.wait("document.querySelector('#grouping-text').value.startsWith('GEOID')")
         self.press_button("#judge")
         self.wait_words("#judge-result", "option 7 of 8")
@@ -206,8 +247,11 @@ class Grouping(Files):
     def test_one_that_is_not_best(self) -> None:
         # Two groups of the enacted Senate joined: Wake and Granville with Franklin, Nash and Vance
         # have 1,396,523 people, and 7 seats ask for 1,388,439 to 1,534,590.
-        lines = [line for line in self.enacted("senate").split()
-                 if line not in ("6|37077|37183", "1|37069|37127|37181")]
+        lines = [
+            line
+            for line in self.enacted("senate").split()
+            if line not in ("6|37077|37183", "1|37069|37127|37181")
+        ]
         told = self.judged("\n".join([*lines, "7|37077|37183|37069|37127|37181"]))
         self.assertIn("Lawful, but not best.", told)
         self.assertIn("It has eight groups of two counties; a best grouping has nine.", told)
@@ -229,7 +273,7 @@ class Plan(Files):
         self.open("#files")
         self.give(ANY, geo, segment, DATA / CENSUS["adjacency"])
         self.wait_words("#dropped", "file of borders")
-        self.give(PLAN, plan)
+        self.drop("#plan-zone", plan)
 
     def audited(self, plan: Path) -> str:
         """Returns what the page finds against the Senate's groups of 2023."""
@@ -247,9 +291,11 @@ class Plan(Files):
 
     def districts(self) -> dict[str, int]:
         """Returns the people of each district as the page has them."""
-        script = ("Object.fromEntries([...document.querySelectorAll('#audit-result tbody tr')].map("
-                  "(one) => [one.children[0].innerText, Number(one.children[2].innerText"
-                  ".replaceAll(',', ''))]))")
+        script = (
+            "Object.fromEntries([...document.querySelectorAll('#audit-result tbody tr')].map("
+            "(one) => [one.children[0].innerText, Number(one.children[2].innerText"
+            ".replaceAll(',', ''))]))"
+        )
         return dict(self.value(script))
 
     def test_a_plan_without_a_finding(self) -> None:
@@ -294,8 +340,11 @@ class Plan(Files):
 
     def test_plans_that_cant_be_read(self) -> None:
         cases = {
-            "Excel wrote the codes as numbers":
-                ["GEOID20,District", "3.71010E+14,1", "3.71011E+14,2"],
+            "Excel wrote the codes as numbers": [
+                "GEOID20,District",
+                "3.71010E+14,1",
+                "3.71011E+14,2",
+            ],
             "precincts, not blocks": ["Precinct,District", "01-A East,1", "01-B West,2"],
             "tracts or precincts, not blocks": ["GEOID,District", "37001020100,1", "37001020200,2"],
             "block groups, not blocks": ["GEOID,District", "370010201001,1", "370010201002,2"],
@@ -319,10 +368,13 @@ class Plan(Files):
 
     def test_a_lost_zero_is_mended(self) -> None:
         script = (DATA.parent.parent / "web" / "desk" / "block_plan.mjs").as_uri()
-        words = (f'import {{ planOf }} from "{script}"; '
-                 'const rows = [["10010201001000", "1"]]; '
-                 'const table = { header: ["a", "b"], block: 0, district: 1, rows }; '
-                 'console.log(planOf(table, "01").lines)')
-        done = subprocess.run(["node", "--input-type=module", "-e", words], capture_output=True,
-                              check=True)
+        words = (
+            f'import {{ planOf }} from "{script}"; '
+            'const rows = [["10010201001000", "1"]]; '
+            'const table = { header: ["a", "b"], block: 0, district: 1, rows }; '
+            'console.log(planOf(table, "01").lines)'
+        )
+        done = subprocess.run(
+            ["node", "--input-type=module", "-e", words], capture_output=True, check=True
+        )
         self.assertEqual(done.stdout.decode().strip(), "010010201001000|1")

@@ -11,16 +11,23 @@ from collections.abc import Callable
 from pathlib import Path
 from typing import Any
 
-from desk_setting import PROBLEM, InDesk, page, run
+from desk_setting import CENSUS, DATA, PROBLEM, SETTING, TOP, InDesk, page, run
 
+OWN_PAGE = TOP / "docs" / "desk.html"
+DIST = TOP / "dist"
 CARRIED = re.compile(r'(<script type="application/json" id="carried">)(.*?)(</script>)', re.S)
-DATA = re.compile(r'(<script type="application/json" id="data">)(.*?)(</script>)', re.S)
+SHOWN = re.compile(r'(<script type="application/json" id="data">)(.*?)(</script>)', re.S)
 
 
 def other_digit(content: bytes, place: int) -> bytes:
     """Returns bytes with another digit at a place."""
-    digit = content[place:place + 1]
-    return content[:place] + (b"1" if digit != b"1" else b"2") + content[place + 1:]
+    digit = content[place : place + 1]
+    return content[:place] + (b"1" if digit != b"1" else b"2") + content[place + 1 :]
+
+
+def sum_of(path: Path) -> str:
+    """Returns the SHA-256 of a file."""
+    return hashlib.sha256(path.read_bytes()).hexdigest()
 
 
 def people_changed(content: bytes) -> bytes:
@@ -51,7 +58,9 @@ def target_changed(content: bytes) -> bytes:
 
 
 CHANGES: dict[str, Callable[[bytes], bytes]] = {
-    "geo": code_changed, "segment": people_changed, "adjacency": border_changed,
+    "geo": code_changed,
+    "segment": people_changed,
+    "adjacency": border_changed,
     "senate.certificate": target_changed,
 }
 
@@ -94,10 +103,12 @@ class Proof(InDesk):
         for _ in range(3):
             self.open("#proof/senate")
             self.value("new Promise((done) => setTimeout(done, 1000))")
-            self.value("globalThis.clicked = performance.now(); "
-                       "const noted = () => { globalThis.took ??= performance.now() - clicked; }; "
-                       "new MutationObserver(noted).observe("
-                       "document.querySelector('#check-verdict'), { childList: true }); null")
+            self.value(
+                "globalThis.clicked = performance.now(); "
+                "const noted = () => { globalThis.took ??= performance.now() - clicked; }; "
+                "new MutationObserver(noted).observe("
+                "document.querySelector('#check-verdict'), { childList: true }); null"
+            )
             self.verdict("senate")
             times.append(self.value("took"))
         print(f"the Senate's check: {min(times) / 1000:.2f} s", flush=True)
@@ -120,6 +131,7 @@ class Proof(InDesk):
         self.press_button("#spoil")
         told = self.wait_words("#check-verdict", "The checker says no.")
         self.assertIn("it does read the lines", told)
+        self.assertRegex(told, r"Line \d+: the target is not lawful: the people of group \d+ ")
         self.assertRegex(self.text("#check-steps"), r"Spoiled line \d+")
         self.check_quiet()
 
@@ -164,21 +176,60 @@ class Proof(InDesk):
                 self.assertRegex(self.verdict("senate"), r"\A(The checker says no|No)\.\s")
         self.check_quiet()
 
-    def test_a_changed_map(self) -> None:
+    def shown_otherwise(self, change: Callable[[Any], None]) -> str:
+        """Returns what the check says on a page whose data were changed."""
         text = page().read_text(encoding="utf-8")
-        found = DATA.search(text)
+        found = SHOWN.search(text)
         assert found
         data = json.loads(found[2])
-        lines = data["chambers"][0]["list"].split("\n")
-        kept = [line for line in lines if not line.startswith("group seats 1 people 215999")]
-        self.assertEqual(len(kept), len(lines) - 1)
-        data["chambers"][0]["list"] = "\n".join(kept)
+        before = json.dumps(data)
+        change(data)
+        self.assertNotEqual(json.dumps(data), before)
         path = self.room / "changed.html"
         held = json.dumps(data).replace("<", "\\u003c")
-        path.write_text(DATA.sub(lambda one: one[1] + held + one[3], text), encoding="utf-8")
+        path.write_text(SHOWN.sub(lambda one: one[1] + held + one[3], text), encoding="utf-8")
         self.open("#proof/senate", path)
-        told = self.verdict("senate")
+        return self.verdict("senate")
+
+    def test_a_changed_map(self) -> None:
+        def without_a_group(data: Any) -> None:
+            chamber = data["chambers"][0]
+            lines = chamber["list"].split("\n")
+            kept = [it for it in lines if not it.startswith("group seats 1 people 215999")]
+            chamber["list"] = "\n".join(kept)
+
+        told = self.shown_otherwise(without_a_group)
         self.assertIn("the page’s map shows other groupings", told)
+
+    def test_a_changed_name(self) -> None:
+        def renamed(data: Any) -> None:
+            chamber = data["chambers"][0]
+            chamber["table"] = chamber["table"].replace("Wake County", "Wade County")
+
+        self.assertIn("The page’s table of counties isn’t", self.shown_otherwise(renamed))
+
+    def test_a_changed_border(self) -> None:
+        def without_a_border(data: Any) -> None:
+            data["borders"] = data["borders"].replace("37023 37109\n", "")
+
+        self.assertIn("The page shows other borders", self.shown_otherwise(without_a_border))
+
+    def test_what_the_page_carries(self) -> None:
+        _, carried = self.carried()
+        sums = {key: file["sum"] for key, file in carried.items()}
+        self.assertEqual(sums["program"], sum_of(SETTING.wasm))
+        for kind, name in CENSUS.items():
+            self.assertEqual(sums[kind], sum_of(DATA / name))
+        if page() == OWN_PAGE:
+            listed = (DIST / "SHA256SUMS").read_text(encoding="ascii")
+            self.assertIn(f"{sums['program']}  countygroups.wasm\n", listed)
+            build = (DIST / "BUILD").read_text(encoding="ascii")
+            self.assertIn(build.strip(), self.told_build())
+
+    def told_build(self) -> str:
+        """Returns what the page says of the build of its program."""
+        self.open("#proof/senate")
+        return str(self.value("document.querySelector('#run pre').textContent"))
 
     def test_what_the_view_says(self) -> None:
         self.open("#proof/senate")

@@ -25,19 +25,26 @@ class Small(InDesk, PageRoom):
         self.show(small_table(GROUPS), SIX, record_of(6))
         self.assertIn("North Carolina’s chamber of 6: 2\u00a0best ways", self.text("#title"))
         self.assertEqual(self.text("#option"), "Option 1 of 2")
-        self.assertEqual(self.stored("grouping"),
-                         b"1|37001\n1|37011\n2|37003|37005\n2|37007|37009\n")
+        self.assertEqual(
+            self.stored("grouping"), b"1|37001\n1|37011\n2|37003|37005\n2|37007|37009\n"
+        )
         self.press_button("#next")
-        self.assertEqual(self.stored("grouping"),
-                         b"1|37005\n1|37011\n2|37001|37003\n2|37007|37009\n")
+        self.assertEqual(
+            self.stored("grouping"), b"1|37005\n1|37011\n2|37001|37003\n2|37007|37009\n"
+        )
         self.assertEqual(self.text("nav").split("\n")[:2], ["The answer", "The proof"])
-        self.assertFalse(self.value("document.querySelector('[data-view=whatif]')"
-                                    ".getClientRects().length"))
+        self.assertFalse(
+            self.value("document.querySelector('[data-view=whatif]')" ".getClientRects().length")
+        )
         self.check_quiet()
 
     def test_names_with_signs(self) -> None:
-        names = {"37001": "A <b>\"x\"</b> & 'y'", "37003": "</script><script>alert(1)</script>",
-                 "37005": "<!--", "37007": "x\" onload=\"y"}
+        names = {
+            "37001": "A <b>\"x\"</b> & 'y'",
+            "37003": "</script><script>alert(1)</script>",
+            "37005": "<!--",
+            "37007": 'x" onload="y',
+        }
         self.show(small_table(GROUPS, names), SIX, record_of(6))
         shown = self.text("#table")
         for name in names.values():
@@ -66,16 +73,19 @@ class Small(InDesk, PageRoom):
     def test_no_choice(self) -> None:
         listed = SIX.split("region 1")[0].replace("best groupings 2", "best groupings 1")
         listed = listed.replace("shared groups 2", "shared groups 4")
-        listed += ("group seats 1 people 100 counties 37001\n"
-                   "group seats 2 people 190 counties 37003 37005\nevery choice\n")
+        listed += (
+            "group seats 1 people 100 counties 37001\n"
+            "group seats 2 people 190 counties 37003 37005\nevery choice\n"
+        )
         self.show(small_table(GROUPS), listed, record_of(6))
         self.assertIn("the one best way", self.text("#title"))
         self.assertTrue(self.value("document.querySelector('#choices').hidden"))
         self.check_quiet()
 
     def test_not_every_choice(self) -> None:
-        listed = SIX.replace("every choice\n",
-                             "grouping 1 alternatives 2\ngrouping 2 alternatives 1\n")
+        listed = SIX.replace(
+            "every choice\n", "grouping 1 alternatives 2\ngrouping 2 alternatives 1\n"
+        )
         self.show(small_table(GROUPS), listed, record_of(6))
         self.assertIn("Not every combination", self.text("#choices-intro"))
         self.assertEqual(self.text("#option"), "Option 2 of 2")
@@ -95,17 +105,21 @@ class Small(InDesk, PageRoom):
 
     def test_several_numbers_of_seats(self) -> None:
         rows = [["37001", "", 300, 1, 20, 300], ["37003", "", 300, 2, 19, 300]]
-        listed = ("people 600\nchamber 39\nseats left 39\ncounties 2\nanswer all\ncounts 2\n"
-                  "best groupings 1\nshared groups 2\n"
-                  "group seats 19 to 20 people 300 counties 37001\n"
-                  "group seats 19 to 20 people 300 counties 37003\nevery choice\n")
+        listed = (
+            "people 600\nchamber 39\nseats left 39\ncounties 2\nanswer all\ncounts 2\n"
+            "best groupings 1\nshared groups 2\n"
+            "group seats 19 to 20 people 300 counties 37001\n"
+            "group seats 19 to 20 people 300 counties 37003\nevery choice\n"
+        )
         self.show(written(rows), listed, record_of(39))
         self.assertEqual(self.stored("grouping"), b"20|37001\n19|37003\n")
 
     def test_all_counties_are_withdrawn(self) -> None:
         people = sum(PEOPLE.values())
-        listed = (f"people {people}\nchamber 6\nseats left 0\ncounties 0\nanswer all\ncounts none\n"
-                  "best groupings 1\nshared groups 0\nevery choice\n")
+        listed = (
+            f"people {people}\nchamber 6\nseats left 0\ncounties 0\nanswer all\ncounts none\n"
+            "best groupings 1\nshared groups 0\nevery choice\n"
+        )
         table = small_table({"W1": (6, list(PEOPLE))})
         self.show(table, listed, record_of(6, "--withdrawn=sets", withdrawn=b"6|..\n"))
         self.assertEqual(self.text("#table-head"), "All 0 groups")
@@ -124,8 +138,11 @@ class Carried(InDesk, PageRoom):
         native()
         if not SETTING.wasm.is_file():
             raise NotThere("there is no program for browsers (--wasm)")
-        words = [part for kind in ("geo", "segment", "adjacency")
-                 for part in (f"--{kind}", str(STATES / f"alabama.{kind}"))]
+        words = [
+            part
+            for kind in ("geo", "segment", "adjacency")
+            for part in (f"--{kind}", str(STATES / f"alabama.{kind}"))
+        ]
         kinds = ("certificate", "table", "record")
         stored = {kind: str(Path(self.folder) / kind) for kind in kinds}
         words += ["--chamber", "35", "--state", "1", "--certificate", stored["certificate"]]
@@ -135,8 +152,9 @@ class Carried(InDesk, PageRoom):
         board = squares(*((code, at % 10, 30 + at // 10) for at, code in enumerate(codes)))
         record = Path(stored["record"]).read_text(encoding="utf-8")
         with mock.patch.object(county_page, "WASM", SETTING.wasm):
-            status, said, out = self.made(table, run("list", *words), record,
-                                          self.file("board", board))
+            status, said, out = self.made(
+                table, run("list", *words), record, self.file("board", board)
+            )
         self.assertEqual((status, said), (0, ""))
         return Path(out)
 

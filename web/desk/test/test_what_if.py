@@ -6,6 +6,17 @@ from desk_setting import CHAMBERS, DATA, PROBLEM, InDesk, run
 RESULT = "#whatif-result"
 
 
+# Presses Stop as soon as there is such a button, and keeps what the page tells meanwhile.
+STOPPED_AT_ONCE = """
+  const stop = document.querySelector("#stop-solving");
+  globalThis.stopping = new MutationObserver(() => { if (!stop.hidden) stop.click(); });
+  stopping.observe(stop, { attributes: true });
+  globalThis.told = [];
+  const line = document.querySelector("#whatif-progress");
+  new MutationObserver(() => told.push(line.innerText)).observe(line, { childList: true });
+"""
+
+
 class WhatIf(InDesk):
     """The third view."""
 
@@ -26,9 +37,12 @@ class WhatIf(InDesk):
     def test_published_changes(self) -> None:
         # (data/nc2020/README.md has which single pairs change the list)
         for mark, best, shared in (
-            ("house/add=37087-37089", 16, 31), ("house/add=37153-37167", 16, 31),
-            ("senate/cut=37041-37187", 8, 19), ("house/cut=37041-37187", 4, 35),
-            ("house/cut=37053-37177", 4, 35), ("house/add=37021-37175", 8, 33),
+            ("house/add=37087-37089", 16, 31),
+            ("house/add=37153-37167", 16, 31),
+            ("senate/cut=37041-37187", 8, 19),
+            ("house/cut=37041-37187", 4, 35),
+            ("house/cut=37053-37177", 4, 35),
+            ("house/add=37021-37175", 8, 33),
         ):
             with self.subTest(mark):
                 self.solved(f"#whatif/{mark}")
@@ -38,19 +52,14 @@ class WhatIf(InDesk):
         self.check_quiet()
 
     def test_a_set_taken_out(self) -> None:
-        links, sets = self.room / "links", self.room / "withdrawn"
+        sets = self.room / "withdrawn"
         sets.write_text("1|37083|37091|37131|37185\n1|37047|37155\n", encoding="ascii")
-        links.write_text("", encoding="ascii")
         certificate = self.room / "certificate"
-        words = [*PROBLEM, "--chamber", "120", "--withdrawn", str(sets),
-                 "--certificate", str(certificate)]
+        words = [*PROBLEM, "--chamber", "120", "--withdrawn", str(sets)]
+        words += ["--certificate", str(certificate)]
         solved = run("solve", *words)
         listed = run("list", *words)
-        told = self.solved(
-            "#whatif/house/out=37083-37091-37131-37185:1,37047-37155:1")
-        if not listed:
-            self.assertIn("No grouping is lawful", told)
-            return
+        self.solved("#whatif/house/out=37083-37091-37131-37185:1,37047-37155:1")
         number = listed.split("best groupings ")[1].split("\n")[0]
         self.assertEqual(self.text("#whatif-table tbody tr td:nth-child(3)"), number)
         left = solved.split("seats left ")[1].split("\n")[0]
@@ -99,9 +108,11 @@ class WhatIf(InDesk):
 
     def test_another_pair(self) -> None:
         self.open("#whatif/senate")
-        self.value("document.querySelector('#other-pair').open = true; "
-                   "[...document.querySelectorAll('#other-pair select')].forEach((one, at) => "
-                   "{ one.value = ['11', '54'][at]; }); null")
+        self.value(
+            "document.querySelector('#other-pair').open = true; "
+            "[...document.querySelectorAll('#other-pair select')].forEach((one, at) => "
+            "{ one.value = ['11', '54'][at]; }); null"
+        )
         self.press_button("#change-pair")
         self.assertIn("Burke–Lincoln left out", self.text("#changed-pairs"))
         self.press_button("#solve-again")
@@ -112,15 +123,15 @@ class WhatIf(InDesk):
 
     def test_stopping(self) -> None:
         self.open("#whatif/senate")
-        self.value("document.querySelector('#solve-again').click(); null")
-        self.wait("!document.querySelector('#stop-solving').hidden")
-        self.wait("globalThis.tried = (globalThis.tried ?? 0) + 1, tried > 3 && "
-                  "document.querySelector('#whatif-progress').innerText.startsWith('Solving')")
-        self.press_button("#stop-solving")
+        self.value(STOPPED_AT_ONCE)
+        self.press_button("#solve-again")
         told = self.wait_words("#whatif-progress", "Stopped")
         self.assertRegex(told, r"Stopped after \d")
+        self.assertTrue(self.value("document.querySelector('#stop-solving').hidden"))
+        self.value("stopping.disconnect()")
         self.press_button("#solve-again")
         self.wait_words(RESULT, "Nothing changes.")
+        self.assertTrue(self.value("told.some((one) => /^Solving: \\d/.test(one))"))
         self.check_quiet()
 
 
@@ -129,17 +140,21 @@ class Borders(InDesk):
 
     wanted = {
         "senate": {"Chowan–Washington": "8 best instead of 16"},
-        "house": {"Chowan–Washington": "4 best instead of 8",
-                  "Currituck–Tyrrell": "4 best instead of 8",
-                  "Haywood–Henderson": "16 best instead of 8",
-                  "Richmond–Stanly": "16 best instead of 8"},
+        "house": {
+            "Chowan–Washington": "4 best instead of 8",
+            "Currituck–Tyrrell": "4 best instead of 8",
+            "Haywood–Henderson": "16 best instead of 8",
+            "Richmond–Stanly": "16 best instead of 8",
+        },
     }
 
     def marks(self) -> dict[str, str]:
         """Returns the pairs with a mark."""
-        script = ("Object.fromEntries([...document.querySelectorAll('#disputed .tag')].map("
-                  "(one) => [one.closest('label').innerText.replace(one.innerText, '').trim(), "
-                  "one.innerText]))")
+        script = (
+            "Object.fromEntries([...document.querySelectorAll('#disputed .tag')].map("
+            "(one) => [one.closest('label').innerText.replace(one.innerText, '').trim(), "
+            "one.innerText]))"
+        )
         return dict(self.value(script))
 
     def test_stored_marks(self) -> None:
@@ -168,9 +183,11 @@ class Borders(InDesk):
 
     def test_the_pairs_are_those_of_the_data(self) -> None:
         self.open("#whatif/senate")
-        points = self.value("[...document.querySelectorAll('#disputed "
-                            "[data-kind=point][data-pair]')]"
-                            ".map((one) => one.dataset.pair)")
+        points = self.value(
+            "[...document.querySelectorAll('#disputed "
+            "[data-kind=point][data-pair]')]"
+            ".map((one) => one.dataset.pair)"
+        )
         lines = (DATA / "point_contacts.links").read_text(encoding="ascii").split()
         listed = {" ".join(sorted(line.split("|")[1:])) for line in lines}
         self.assertLessEqual(listed, set(points))

@@ -9,40 +9,18 @@ import sys
 import threading
 import urllib.request
 
-from desk_setting import SETTING, TOP, InDesk, page
+from desk_setting import CONTRAST, SETTING, SIDEWAYS, TINTED, TOP, InDesk, page
+from printed_page import LEAST_LINES, lines_drawn
 
-WIDTHS = (360, 390, 768, 1024, 1400)
+WIDTHS = (320, 360, 390, 768, 1024, 1400)
 MARKS = ("#senate/6", "#house/1", "#proof/senate", "#whatif/house", "#files")
 MOST_BYTES = 1_600_000
-SIDEWAYS = "document.documentElement.scrollWidth - document.documentElement.clientWidth"
-CONTRAST = """
-(() => {
-  const styles = getComputedStyle(document.documentElement);
-  const canvas = document.createElement("canvas").getContext("2d");
-  const light = (name) => {
-    canvas.fillStyle = styles.getPropertyValue(name);
-    const parts = canvas.fillStyle.match(/[0-9a-f]{2}/g).map((part) => {
-      const share = parseInt(part, 16) / 255;
-      return share <= 0.03928 ? share / 12.92 : ((share + 0.055) / 1.055) ** 2.4;
-    });
-    return 0.2126 * parts[0] + 0.7152 * parts[1] + 0.0722 * parts[2];
-  };
-  const ratio = ([one, other]) => {
-    const [low, high] = [light(one), light(other)].sort((a, b) => a - b);
-    return (high + 0.05) / (low + 0.05);
-  };
-  return PAIRS.map(ratio);
-})()
-"""
-PAIRS = [
-    *[["--label", f"--t{tint}"] for tint in range(5)],
-    *[["--ink", f"--s{tint}"] for tint in range(5)],
-    ["--ink", "--paper"], ["--soft", "--paper"], ["--soft", "--panel"], ["--ink", "--panel"],
-    ["--accent", "--paper"], ["--accent", "--accent-soft"], ["--link", "--paper"],
-    ["--good", "--paper"], ["--badge-ink", "--badge"], ["--soft", "--land"],
-]
-
-
+# Where a browser that can't run the program is told so, and what it can't press.
+UNABLE = (
+    ("#proof/senate", "#check-verdict", ("#check", "#spoil")),
+    ("#whatif/house/add=37087-37089", "#whatif-progress", ("#solve-again", "#try-borders")),
+    ("#files", "#dropped", ("#solve-files", "#judge", "#audit")),
+)
 ASKING = """
 Promise.all([
   fetch("ADDRESS").then(() => "answered", () => "refused"),
@@ -85,6 +63,7 @@ class Page(InDesk):
     def test_it_is_made_of_these_sources(self) -> None:
         sys.path.insert(0, str(TOP / "tools"))
         import desk_page
+
         text = page().read_text(encoding="utf-8")
         wanted = f"<script>{desk_page.script_text()}</script>"
         self.assertTrue(wanted in text, "the script is another: tools/make_desk.py makes the page")
@@ -141,16 +120,18 @@ class Page(InDesk):
     def test_contrast(self) -> None:
         for dark in (False, True):
             self.open(dark=dark)
-            ratios = self.value(CONTRAST.replace("PAIRS", str(PAIRS)))
-            for pair, ratio in zip(PAIRS, ratios):
+            ratios = self.value(CONTRAST.replace("PAIRS", str(TINTED)))
+            for pair, ratio in zip(TINTED, ratios):
                 self.assertGreaterEqual(ratio, 4.5, f"{pair} dark={dark}")
 
     def test_all_names_at_full_width(self) -> None:
         for mark in ("#senate/6", "#house/7"):
             self.open(mark)
-            script = ("[...document.querySelectorAll('#map text.name')].map((one) => "
-                      "[one.textContent, "
-                      "parseFloat(one.style.fontSize) * Number(one.closest('svg').dataset.scale)])")
+            script = (
+                "[...document.querySelectorAll('#map text.name')].map((one) => "
+                "[one.textContent, "
+                "parseFloat(one.style.fontSize) * Number(one.closest('svg').dataset.scale)])"
+            )
             names = self.value(script)
             self.assertEqual(len({name for name, _ in names}), 100)
             self.assertGreaterEqual(min(size for _, size in names), 10.7)
@@ -160,9 +141,11 @@ class Page(InDesk):
         self.assertEqual(self.value("document.querySelectorAll('#map > svg').length"), 2)
         self.press_button("#switches [data-area='1'][data-choice='1']")
         self.assertNotEqual(self.text("#option"), "Option 6 of 16")
-        script = ("(() => "
-                  "{ const one = document.querySelector('#map .badge').getBoundingClientRect(); "
-                  "return [one.x + one.width / 2, one.y + one.height / 2]; })()")
+        script = (
+            "(() => "
+            "{ const one = document.querySelector('#map .badge').getBoundingClientRect(); "
+            "return [one.x + one.width / 2, one.y + one.height / 2]; })()"
+        )
         self.browser.tap(*self.value(script))
         self.wait("document.querySelector('#told').classList.contains('has-group')")
         self.browser.ask("Emulation.setTouchEmulationEnabled", enabled=False)
@@ -178,8 +161,12 @@ class Page(InDesk):
             self.assertEqual(shown, count)
         self.assertEqual(self.value("document.querySelectorAll('#table tbody tr').length"), 26)
         self.assertEqual(self.value("document.querySelectorAll('#cards .choice').length"), 8)
-        self.assertFalse(self.value("[...document.querySelectorAll('.needs')].some((one) => "
-                                    "one.getClientRects().length)"))
+        self.assertFalse(
+            self.value(
+                "[...document.querySelectorAll('.needs')].some((one) => "
+                "one.getClientRects().length)"
+            )
+        )
 
     def test_print(self) -> None:
         self.open("#senate/6")
@@ -187,15 +174,21 @@ class Page(InDesk):
         self.browser.save_print(str(path), 8.5, 11)
         pages = re.findall(rb"/Type\s*/Page\b", path.read_bytes())
         self.assertIn(len(pages), (3, 4, 5))
+        self.assertGreater(lines_drawn(path.read_bytes()), LEAST_LINES)
         self.check_quiet()
 
     def test_a_browser_without_wasm64(self) -> None:
         self.browser.ask("Page.enable")
         script = "WebAssembly.validate = () => false;"
         known = self.browser.ask("Page.addScriptToEvaluateOnNewDocument", source=script)
-        self.open("#proof/senate")
-        self.assertIn("This browser can't run the program", self.text("#check-verdict"))
-        self.assertTrue(self.value("document.querySelector('#check').disabled"))
+        for mark, told, buttons in UNABLE:
+            self.open(mark)
+            self.assertRegex(self.text(told), r"\AThis browser can't run the program: [^.]*\.")
+            for button in buttons:
+                self.assertTrue(self.value(f"document.querySelector('{button}').disabled"), button)
+        self.press_button("#use-own")
+        self.wait("document.querySelectorAll('.drop-zone.has-file').length === 3")
+        self.assertTrue(self.value("document.querySelector('#solve-files').disabled"))
         self.go("#senate/3")
         self.assertEqual(self.text("#option"), "Option 3 of 16")
         self.assertIn(b"|37101\n", self.stored("grouping"))
@@ -205,9 +198,15 @@ class Page(InDesk):
     def test_what_only_the_page_tells(self) -> None:
         self.open("#senate/6")
         told = self.text("#answer")
-        for words in ("Stephenson v. Bartlett", "16 groupings do this equally well",
-                      "in four areas", "Used for the plan enacted in 2023", "Not proved:",
-                      "No lawful grouping"):
+        for words in (
+            "Stephenson v. Bartlett",
+            "16 groupings do this equally well",
+            "in four areas",
+            "The plan that was enacted into law in 2023 uses option 6.",
+            "Used for the plan enacted in 2023",
+            "Not proved:",
+            "No lawful grouping",
+        ):
             self.assertIn(words, told)
         self.assertIn("it isn’t the Census Bureau’s adjacency file", self.text(".foot"))
 
@@ -217,9 +216,12 @@ class Page(InDesk):
             self.skipTest("no folder was named (--pictures)")
         folder.mkdir(parents=True, exist_ok=True)
         for name, mark, width, dark in (
-            ("wide", "#senate/6", 1400, False), ("dark", "#house/3", 1400, True),
-            ("tablet", "#senate/1", 768, False), ("phone", "#senate/6", 390, False),
-            ("proof", "#proof/senate", 1400, False), ("whatif", "#whatif/house", 1400, False),
+            ("wide", "#senate/6", 1400, False),
+            ("dark", "#house/3", 1400, True),
+            ("tablet", "#senate/1", 768, False),
+            ("phone", "#senate/6", 390, False),
+            ("proof", "#proof/senate", 1400, False),
+            ("whatif", "#whatif/house", 1400, False),
             ("files", "#files", 1400, False),
         ):
             self.open(mark, width=width, dark=dark)
@@ -233,13 +235,22 @@ class Sources(InDesk):
 
     def test_types_of_the_tests(self) -> None:
         words = ["mypy", "--strict", "--cache-dir=/dev/null", "--follow-imports=silent"]
-        files = [*map(str, (TOP / "web" / "desk" / "test").glob("*.py")),
-                 *(str(TOP / "tools" / f"{name}.py") for name in
-                   ("browser", "desk_page", "make_desk", "what_if", "test_desk"))]
+        files = [
+            *map(str, (TOP / "web" / "desk" / "test").glob("*.py")),
+            *(
+                str(TOP / "tools" / f"{name}.py")
+                for name in ("browser", "desk_page", "make_desk", "what_if", "test_desk")
+            ),
+        ]
         try:
-            done = subprocess.run([*words, *files], capture_output=True, text=True, check=False,
-                                  cwd=TOP, env={"MYPYPATH": f"{TOP}/tools:{TOP}/web/desk/test",
-                                                "PATH": "/usr/bin:/bin"})
+            done = subprocess.run(
+                [*words, *files],
+                capture_output=True,
+                text=True,
+                check=False,
+                cwd=TOP,
+                env={"MYPYPATH": f"{TOP}/tools:{TOP}/web/desk/test", "PATH": "/usr/bin:/bin"},
+            )
         except FileNotFoundError:
             self.skipTest("there is no `mypy`: Debian has it as the package mypy")
         self.assertEqual(done.returncode, 0, done.stdout)
