@@ -10,6 +10,7 @@ import { PROBLEM_FILES, runProgram, startProgram, wasStopped, withFile } from ".
 import { readSizes } from "./program_texts.mjs";
 import { sheetOf } from "./sheet.mjs";
 import { chamberName, chambersOf, stateName } from "./state_names.mjs";
+import { warningsHtml } from "./warnings.mjs";
 import { bytesText, counted, escapeHtml, numberText } from "./words.mjs";
 
 /** @typedef {import("./desk.mjs").Desk} Desk */
@@ -20,7 +21,7 @@ import { bytesText, counted, escapeHtml, numberText } from "./words.mjs";
 /**
  * What was solved, for downloads and for the audit.
  * @typedef {{geography: Geography, answer: Answer, certificate: Uint8Array, list: string,
- *   words: string[]}} Solved
+ *   words: string[], errors: string}} Solved
  */
 
 // County names stand near the beginning of a geographic header, before tracts and blocks.
@@ -180,7 +181,8 @@ async function solvedFiles(desk, given, steps) {
   const key = `${state}-${seats}`;
   const name = chamberName(state, Number(seats));
   const answer = answerOf(geography, { key, name, list: listed.output });
-  return { geography, answer, certificate, list: listed.output, words };
+  const { errors } = run;
+  return { geography, answer, certificate, list: listed.output, words, errors };
 }
 
 /**
@@ -189,7 +191,7 @@ async function solvedFiles(desk, given, steps) {
  * @param {Solved} found
  * @param {Given} given
  */
-function showSolved(desk, { geography, answer }, given) {
+function showSolved(desk, { geography, answer, errors }, given) {
   const groups = groupsOf(answer, answer.first);
   const own = geography.code === desk.data.state.code
     ? desk.answers.find((one) => one.seats === answer.seats) : undefined;
@@ -199,7 +201,7 @@ function showSolved(desk, { geography, answer }, given) {
     `<button type="button" class="btn quiet" data-store="${kind}">Store the ${kind}</button>`));
   find("#files-result").innerHTML = verdictHtml(true, head, `${groups.length} groups; `
     + `${answer.shared.length} of them are in every best grouping.${link}`)
-    + `<div class="row">${store.join("")}</div>`;
+    + warningsHtml(errors) + `<div class="row">${store.join("")}</div>`;
   if (geography.sheet) {
     document.querySelector("#given-shapes")?.remove();
     document.body.insertAdjacentHTML("beforeend", `<div id="given-shapes">${

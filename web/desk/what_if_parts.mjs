@@ -4,6 +4,7 @@ import { deviationOf, setKey } from "./geography.mjs";
 import { namesOf } from "./group_words.mjs";
 import { verdictHtml } from "./dom.mjs";
 import { tintLike } from "./tints.mjs";
+import { warningsHtml } from "./warnings.mjs";
 import { differingSize, groupsOfOutcome } from "./what_if.mjs";
 import {
   capital, escapeHtml, nounFor, numberText, numberWord, signedPercent,
@@ -81,7 +82,7 @@ function refusalHtml({ status, said }) {
  * @param {Group[]} groups
  * @param {Group[]} fresh
  */
-function answerVerdict(base, { answer, report }, groups, fresh) {
+function answerVerdict(base, { answer, report, said }, groups, fresh) {
   const mine = new Set((answer?.groups ?? []).map((group) => setKey(group.counties)));
   const isGone = base.groups.some((group) => !mine.has(setKey(group.counties)));
   const isMore = (answer?.groups.length ?? 0) > base.groups.length;
@@ -102,7 +103,8 @@ function answerVerdict(base, { answer, report }, groups, fresh) {
   const why = size ? ` Groups of ${numberWord(size)} ${nounFor(size, "county", "counties")}: `
     + `${report.counts[size - 1] ?? 0} instead of ${base.counts[size - 1] ?? 0}.` : "";
   const outlined = fresh.length ? " New groups are outlined on the map." : "";
-  return verdictHtml(isSame || !fresh.length, head, `${listed}${why}${outlined}`);
+  const verdict = verdictHtml(isSame || !fresh.length, head, `${listed}${why}${outlined}`);
+  return verdict + warningsHtml(said);
 }
 
 /**

@@ -67,6 +67,13 @@ class WhatIf(InDesk):
         self.assertRegex(table, rf"Seats left to group\s+120\s+{left}\b")
         self.check_quiet()
 
+    def test_a_set_that_does_not_suit_its_seats(self) -> None:
+        # 10,439,388 people and 120 seats: 5 ideal districts are 434,974.5 people.
+        self.solved("#whatif/house/out=37119:5")
+        warned = self.text("#whatif-result .warned")
+        self.assertIn("county 37119 has 1115482 people, and 5 seats suit 413226 to 456723", warned)
+        self.check_quiet()
+
     def test_counties_are_clicked(self) -> None:
         self.open("#whatif/senate")
         self.click("#whatif-map [data-county='59']")
