@@ -77,10 +77,11 @@ fn in_order(a: CountyCode, b: CountyCode) -> (CountyCode, CountyCode) {
     if a < b { (a, b) } else { (b, a) }
 }
 
-/// Returns a warning of the first of `links` that cuts a pair which isn't there, after the links before it. `pairs` are
-/// there before them, the lesser code first.
+/// Returns a warning of the first of `links` between listed counties that cuts a pair which isn't there, after the links
+/// before it. `pairs` are there before them, the lesser code first.
 fn missing_border(
     alloc: Global,
+    listed: &[CountyCode],
     pairs: &[(CountyCode, CountyCode)],
     links: &[Link],
 ) -> Result<Option<Warning>, AllocError> {
@@ -95,7 +96,7 @@ fn missing_border(
                 joined.insert(pair)?;
             }
             Sign::Cut => {
-                if !joined.remove(&pair) {
+                if unlisted_code(listed, &[link.a, link.b]).is_none() && !joined.remove(&pair) {
                     return Ok(Some(Warning::NoBorder(link.a, link.b)));
                 }
             }
@@ -125,7 +126,7 @@ pub(crate) fn note_links(
     if links.is_empty() {
         return;
     }
-    if let Ok(missing) = missing_border(alloc, pairs, links) {
+    if let Ok(missing) = missing_border(alloc, listed, pairs, links) {
         end.note_warning(missing);
     }
     end.note_warning(unknown_county(listed, links));

@@ -66,10 +66,10 @@ fn explain_line(
     }
 }
 
-/// Says that fields stand between quotes, where the line at fault has some.
+/// Says that fields stand between quotes, where the line at fault begins with one.
 fn explain_quotes(out: &mut String, line: Option<&[u8]>) -> Result<(), AllocError> {
     match line {
-        Some(line) if line.contains(&b'"') => out.push_str(QUOTES),
+        Some(line) if line.starts_with(b"\"") => out.push_str(QUOTES),
         _ => Ok(()),
     }
 }
