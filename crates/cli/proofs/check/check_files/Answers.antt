@@ -4,7 +4,7 @@ use Rattle.cli_answers.specs.Answers.{Comes}
 use Rattle.cli_runs.specs.TableCourse.{tabled_problem_in}
 use Rattle.cli_runs.specs.Texts.{tabled_of, reported_of}
 use Rattle.cli_runs.proofs.RunLemmas.{went_on}
-use Rattle.cli.specs.Streams.{checked_text}
+use Rattle.cli.specs.Streams.{checked_file}
 use Rattle.cli.proofs.check.check_files.Goals as goal
 
 pub returns-clause-course : goal.returns-clause-course
@@ -15,5 +15,5 @@ returns-clause-course g c =
     let before = g.H.Shelf.history c.args.shelf.now in
     let between = g.H.Shelf.history c.load_tabled_problem.new.shelf in
     let after = g.H.Shelf.history c.check_file.new.shelf in
-    let checked = subst (λ (known : Option Files). Comes reported_of c.check_file.result (checked_text known words.check t between after)) c.load_tabled_problem.ensures.same c.check_file.ensures.course in
-    went_on reported_of c.check_file.result (tabled_problem_in files words.check.problem words.table) (checked_text files words.check) t before between after c.in_ok-tabled.ensures.course checked
+    let checked = subst (λ (known : Option Files). Comes reported_of c.check_file.result (checked_file known words.check t between after)) c.load_tabled_problem.ensures.same c.check_file.ensures.course in
+    went_on reported_of c.check_file.result (tabled_problem_in files words.check.problem words.table) (checked_file files words.check) t before between after c.in_ok-tabled.ensures.course checked

@@ -41,7 +41,7 @@ returns-clause-course g c =
     let pairs = c.in_ok-pairs.pairs.items in
     let sets = c.in_ok-withdrawn.withdrawn.items in
     let withdrawn = subst (λ (f : Option Files). withdrawn_of f c.args.words.withdrawn then after (Ok sets)) c.load_adjacency.ensures.same c.in_ok-withdrawn.ensures.course in
-    let by_pairs = subst (λ (joining : List (ℕ × ℕ)). Comes (λ p. p) c.build.result (build_step chamber window counties joining c.deref-2.result.now after after)) c.deref.ensures.value (c.build.ensures after) in
-    let by_sets = subst (λ (taken : List Withdrawn). Comes (λ p. p) c.build.result (build_step chamber window counties pairs taken after after)) c.deref-2.ensures.value by_pairs in
+    let by_pairs = subst (λ (joining : List (ℕ × ℕ)). Comes (λ p. p) c.build.result (build_step chamber window counties joining c.deref-4.result.now after after)) c.deref-3.ensures.value (c.build.ensures after) in
+    let by_sets = subst (λ (taken : List Withdrawn). Comes (λ p. p) c.build.result (build_step chamber window counties pairs taken after after)) c.deref-4.ensures.value by_pairs in
     went_on (λ p. p) c.build.result (adjacency_of files (codes_of counties) c.args.words) (with_pairs files c.args.words counties) pairs before then after c.in_ok-pairs.ensures.course
     (went_on (λ p. p) c.build.result (withdrawn_of files c.args.words.withdrawn) (build_step chamber window counties pairs) sets then after after withdrawn by_sets)
