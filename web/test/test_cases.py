@@ -87,18 +87,18 @@ class Cases(unittest.TestCase):
         program = make_launcher(self.room)
         for name in some_cases(BESIDE_SAMPLE, "beside"):
             with self.subTest(name):
-                case = Case(name.rsplit(".", 1)[0])  # type: ignore[no-untyped-call]
+                case = Case(name.rsplit(".", 1)[0])
                 self.assertEqual(self.left_by(program, case), self.left_by(native(), case))
 
     def left_by(self, program: Path, case: Case) -> list[object]:
         """Returns what the runs of a case write, their statuses, and the files that they leave."""
         left: list[object] = []
-        for given, _ in case.cut():  # type: ignore[no-untyped-call]
-            folder = fresh_folder(str(self.room), case.files)  # type: ignore[no-untyped-call]
+        for given, _ in case.cut():
+            folder = fresh_folder(str(self.room), case.files)
             for words in case.runs:
-                made = run(str(program), words, folder, given)  # type: ignore[no-untyped-call]
+                made = run(str(program), words, folder, given)
                 left.append((made.status, made.wrote, made.told))
-        return [*left, files_below(folder)]  # type: ignore[no-untyped-call]
+        return [*left, files_below(folder)]
 
     def planted(self, name: str, old: str, new: str) -> Path:
         """Returns a launcher over a copy of the host's calls in which a text is replaced."""
