@@ -1,7 +1,7 @@
 //! Whether the counties that were read are all of the state's, and whether both census files are of one state.
 
 use crate::options::{Options, common_of};
-use crate::shown_bytes::{name_of, start_of};
+use crate::shown_bytes::name_of;
 use cli::{End, FileOption};
 use cli_words::CommandWords;
 use std::alloc::AllocError;
@@ -36,6 +36,13 @@ fn are_letters(letters: [u8; 2]) -> bool {
     first.is_ascii_alphabetic() && second.is_ascii_alphabetic()
 }
 
+/// Appends two ASCII letters.
+fn push_letters(out: &mut String, letters: [u8; 2]) -> Result<(), AllocError> {
+    let [first, second] = letters;
+    let (first, second) = (char::from(first), char::from(second));
+    write!(out, "{first}{second}")
+}
+
 /// Warns where geographic header and segment 1 name two states.
 ///
 /// # Errors
@@ -54,9 +61,9 @@ pub(crate) fn warn_of_two_states(
     }
     let segment_file = options.file(FileOption::Segment);
     let geo_file = options.file(FileOption::Geo);
-    let (segment, geo) = (start_of(&segment), start_of(&geo));
-    writeln!(
-        out,
-        "countygroups: warning: {segment_file} is of {segment}, and {geo_file} is of {geo}: they are files of two states"
-    )
+    write!(out, "countygroups: warning: {segment_file} is of ")?;
+    push_letters(out, segment)?;
+    write!(out, ", and {geo_file} is of ")?;
+    push_letters(out, geo)?;
+    out.push_str(": they are files of two states\n")
 }
