@@ -68,10 +68,11 @@ class WhatIf(InDesk):
         self.check_quiet()
 
     def test_a_set_that_does_not_suit_its_seats(self) -> None:
-        # 10,439,388 people and 120 seats: 5 ideal districts are 434,974.5 people.
-        self.solved("#whatif/house/out=37119:5")
+        # 10,439,388 people and 120 seats: 12 ideal districts are 1,043,938.8 people.
+        self.solved("#whatif/house/out=37119:12")
         warned = self.text("#whatif-result .warned")
-        self.assertIn("county 37119 has 1115482 people, and 5 seats suit 413226 to 456723", warned)
+        self.assertIn("county 37119 has 1115482 people", warned)
+        self.assertIn("12 seats suit 991742 to 1096135", warned)
         self.check_quiet()
 
     def test_counties_are_clicked(self) -> None:
