@@ -12,8 +12,8 @@ python3. The tests are those of the scripts and pages, all cases, the second che
 changed at random for a minute, and those of the WebAssembly build, which need Node.
 --program FILE: the same with another build of the program. The WebAssembly build is tested if it
 is named too (--wasm; --refusing: the one over a heap that refuses, which tools/wasm.sh makes).
---proved: the gate. It proves every crate from nothing, tries the must-fail edits that are due, and
-runs these tests with the programs that were proved and built. Then it refuses allocations and calls
+--proved: the gate. It proves every crate, tries the must-fail edits that are due, and runs these
+tests with the programs that were proved and built. Then it refuses allocations and calls
 of each case: of each run the first 20, the last 20 and 60 between them. It needs the Rattle kit,
 and takes hours on two processors.
 --all: with --proved, tries all edits, those of `tried/` too, changes cases for ten minutes, and
@@ -179,7 +179,7 @@ prove_and_test() {
         seconds=600
         seed=$(date +%-j)
     fi
-    heading "every crate is proved from nothing"
+    heading "every crate is proved"
     tools/prove.sh "$room/proved" "$room/log" "${edits[@]}" --module "$room/module.bc"
     take_programs "$room/proved"
     wasm=$room/countygroups.wasm

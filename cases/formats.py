@@ -1,11 +1,16 @@
-"""What the command writes, by docs/formats.md: whole texts with their status, and the files that it stores.
+"""What the command writes, by docs/formats.md: whole texts with their status, and stored files.
 
-A table is made anew here from the files and the report of a run. Of a record everything is compared but the version.
+Each table is made anew here from the files of a run, and from its report where it has one. The
+number behind a listing is found anew too. Of a record everything is compared but the version.
 """
+from __future__ import annotations
+
 import hashlib
+import itertools
 import os
 import re
 import sys
+from typing import Dict, Iterable, List, Mapping, NamedTuple, Optional, Sequence, Set, Tuple
 
 sys.path.append(f"{os.path.dirname(os.path.realpath(__file__))}/../tools")
 import check  # noqa: E402
@@ -16,37 +21,48 @@ CODES = rf"{CODE}(?: {CODE})*"
 FIRST = rf"people {NUMBER}\nchamber {NUMBER}\n(?:window {NUMBER} {NUMBER}\n)?"
 HEAD = rf"{FIRST}seats left {NUMBER}\ncounties {NUMBER}\n"
 COUNTS = rf"counts (?:none|{NUMBER}(?: {NUMBER})*)\n"
-GROUPS = rf"{COUNTS}(?:group {NUMBER} seats {NUMBER} people {NUMBER} counties {CODES}\n)*"
+GROUP = rf"group {NUMBER} seats {NUMBER} people {NUMBER} counties {CODES}\n"
+GROUPS = rf"{COUNTS}(?:{GROUP})*"
 LIST_GROUP = rf"group seats {NUMBER}(?: to {NUMBER})? people {NUMBER} counties {CODES}\n"
-REGION = rf"region {NUMBER} counties {NUMBER} alternatives {NUMBER}\n(?:alternative {NUMBER}\n(?:{LIST_GROUP})+)+"
-LISTED = rf"answer all\n{COUNTS}best groupings {NUMBER}\nshared groups {NUMBER}\n(?:{LIST_GROUP})*(?:{REGION})*"
-CHOICES = rf"(?:every choice\n|(?:grouping {NUMBER} alternatives {NUMBER}(?: {NUMBER})*\n)+)"
+REGION = (
+    rf"region {NUMBER} counties {NUMBER} alternatives {NUMBER}\n"
+    rf"(?:alternative {NUMBER}\n(?:{LIST_GROUP})+)+"
+)
+LISTED = (
+    rf"answer all\n{COUNTS}best groupings {NUMBER}\nshared groups {NUMBER}\n"
+    rf"(?:{LIST_GROUP})*(?:{REGION})*"
+)
+CHOICE = rf"grouping {NUMBER} alternatives {NUMBER}(?: {NUMBER})*\n"
+LISTING = rf"{HEAD}{LISTED}(?:every choice\n|(?:{CHOICE})+)"
 FAULT = (
-    rf"(?:EmptyGroup group {NUMBER}|UnknownCounty group {NUMBER} county {CODE}|Twice county {CODE}|Missing county {CODE}"
-    rf"|NotConnected group {NUMBER}|OutOfWindow group {NUMBER}|SeatsTotal seats {NUMBER} left {NUMBER})"
+    rf"(?:EmptyGroup group {NUMBER}|UnknownCounty group {NUMBER} county {CODE}"
+    rf"|Twice county {CODE}|Missing county {CODE}|NotConnected group {NUMBER}"
+    rf"|OutOfWindow group {NUMBER}|SeatsTotal seats {NUMBER} left {NUMBER})"
 )
 LABEL = r"[ -~]{1,32}"
 FINDING = (
-    rf"(?:Grouping {FAULT}|(?:UnknownBlock|BlockTwice|Unassigned) [0-9]{{15}}|Crosses {LABEL} {SET} {SET}"
-    rf"|WrongNumber {SET} seats {NUMBER} districts {NUMBER}|DistrictSize {LABEL} people {NUMBER})\n"
+    rf"(?:Grouping {FAULT}|(?:UnknownBlock|BlockTwice|Unassigned) [0-9]{{15}}"
+    rf"|Crosses {LABEL} {SET} {SET}|WrongNumber {SET} seats {NUMBER} districts {NUMBER}"
+    rf"|DistrictSize {LABEL} people {NUMBER})\n"
 )
 WORD_KIND = r"(?:BadHead|BadWord|BadNumber|NotCanonical|CutShort|AfterEnd|TooDeep)"
 TREE_KIND = (
-    r"(?:WrongWindow|WrongOrder|LimitTooSmall|WrongCounty|MissingGroup|StrayGroup|LightGroup|BoundOver|BoundLength|NotStuck|SeatsOpen"
-    r"|BoundWithoutTarget|NoLeaf)"
+    r"(?:WrongWindow|WrongOrder|LimitTooSmall|WrongCounty|MissingGroup|StrayGroup|LightGroup"
+    r"|BoundOver|BoundLength|NotStuck|SeatsOpen|BoundWithoutTarget|NoLeaf)"
 )
 TARGET_KIND = r"TargetFault (?:UnknownCounty|Twice|Missing|NotConnected|OutOfWindow|SeatsTotal)"
 FILE_KIND = (
-    r"(?:TooFewFields|BadCode|BadNumber|DoubleRecord|NoRecord|DoubleCounty|DoubleBlock|NoCounties|NoBlocks|TooMany|BadSign|BadSeats|BadLabel"
-    r"|LineTooLong|TooManyLines)"
+    r"(?:TooFewFields|BadCode|BadNumber|DoubleRecord|NoRecord|DoubleCounty|DoubleBlock"
+    r"|NoCounties|NoBlocks|TooMany|BadSign|BadSeats|BadLabel|LineTooLong|TooManyLines)"
 )
 PROBLEM_KIND = (
-    rf"(?:BadWindow|TooManyCounties|NoPeople|UnknownWithdrawn {CODE}|WithdrawnTwice {CODE}|WithdrawnSeats|EmptyWithdrawn {NUMBER}"
-    rf"|UnknownPair {CODE} {CODE})"
+    rf"(?:BadWindow|TooManyCounties|NoPeople|UnknownWithdrawn {CODE}|WithdrawnTwice {CODE}"
+    rf"|WithdrawnSeats|EmptyWithdrawn {NUMBER}|UnknownPair {CODE} {CODE})"
 )
 BOARD_KIND = r"(?:DepthOutOfRange|Target|LimitTooSmall|LimitTooLarge|TooManyPieces)"
+REFUSED_FILE = r"(?:geo|segment1|adjacency|links|withdrawn|grouping|assignments)"
 REFUSED = [
-    (4, rf"refused (?:geo|segment1|adjacency|links|withdrawn|grouping|assignments) {FILE_KIND} line {NUMBER}\n"),
+    (4, rf"refused {REFUSED_FILE} {FILE_KIND} line {NUMBER}\n"),
     (4, rf"refused events {WORD_KIND} line {NUMBER}\n"),
     (4, rf"refused geo BadName line {NUMBER}\n"),
     (4, rf"refused problem {PROBLEM_KIND}\n"),
@@ -60,36 +76,59 @@ REFUSED = [
 NO = (1, rf"no (?:Text {WORD_KIND}|{TREE_KIND}|{TARGET_KIND}) line {NUMBER}\n")
 BUDGET, BOARD = (3, r"budget\n"), (4, rf"refused board {BOARD_KIND}\n")
 REPLY = (
-    rf"(?:piece {NUMBER} {NUMBER}|nothing left|accepted|split into {NUMBER} to {NUMBER}|new round {NUMBER}|old round|no such piece|already done"
-    r"|already split|cant split|not a proof|not better|cant widen|too many pieces|budget|memory)\n"
+    rf"(?:piece {NUMBER} {NUMBER}|nothing left|accepted|split into {NUMBER} to {NUMBER}"
+    rf"|new round {NUMBER}|old round|no such piece|already done|already split|cant split"
+    r"|not a proof|not better|cant widen|too many pieces|budget|memory)\n"
 )
 WEIGHED = rf"weigh {NUMBER}(?: {CODE}:{NUMBER})*"
-TREE = rf"(?:(?:branch {CODE}(?: {NUMBER})?|take {CODES}|mark|stuck {CODE}|seats|bound {NUMBER}|room|{WEIGHED})\n)+"
+BRANCH = rf"branch {CODE}(?: {NUMBER})?|take {CODES}|mark"
+TREE = rf"(?:(?:{BRANCH}|stuck {CODE}|seats|bound {NUMBER}|room|{WEIGHED})\n)+"
 CERTIFICATE = (
-    rf"county-groups (?:wide )?certificate (?:1\n|2\nwindow {NUMBER} {NUMBER}\n)order(?: {CODE})*\nlimit {NUMBER}\ntarget (?:none|{NUMBER})\n"
+    rf"county-groups (?:wide )?certificate (?:1\n|2\nwindow {NUMBER} {NUMBER}\n)"
+    rf"order(?: {CODE})*\nlimit {NUMBER}\ntarget (?:none|{NUMBER})\n"
     rf"(?:group {NUMBER} {CODES}\n)*{TREE}end\n"
 )
 GROUPING = rf"(?:{NUMBER}\|{CODE}(?:\|{CODE})*\n)*"
+SEAT_RANGE = rf"(?:none|{NUMBER}\|{NUMBER})"
+BEST = rf"{HEAD}answer best\n{GROUPS}"
+IMPOSSIBLE = rf"{HEAD}answer impossible\n"
+# The texts of each command, each with the status that it ends with.
 TEXTS = {
-    "size": [(0, rf"{FIRST}district (?:none|{NUMBER} to {NUMBER})\n(?:{CODE}\|{NUMBER}\|(?:none|{NUMBER}\|{NUMBER})\n)+")],
+    "size": [
+        (
+            0,
+            rf"{FIRST}district (?:none|{NUMBER} to {NUMBER})\n"
+            rf"(?:{CODE}\|{NUMBER}\|{SEAT_RANGE}\n)+",
+        )
+    ],
     "judge": [(0, rf"{HEAD}answer (?:lawful|best)\n{GROUPS}"), (1, rf"fault {FAULT}\n")],
     "solve": [
-        (0, rf"{HEAD}answer best\n{GROUPS}"),
-        (1, rf"{HEAD}answer impossible\n"),
+        (0, BEST),
+        (1, IMPOSSIBLE),
         (3, rf"{HEAD}answer open after {NUMBER} steps\n(?:grouping none\n|{GROUPS})"),
     ],
-    "check": [(0, rf"{HEAD}answer best\n{GROUPS}"), (1, rf"{HEAD}answer impossible\n"), NO, BUDGET],
+    "check": [(0, BEST), (1, IMPOSSIBLE), NO, BUDGET],
     "list": [
-        (0, rf"{HEAD}{LISTED}{CHOICES}"),
-        (1, rf"{HEAD}answer impossible\n"),
+        (0, rf"{LISTING}(?:number [1-9][0-9]*\n)?"),
+        (1, rf"{LISTING}number none\n"),
+        (1, IMPOSSIBLE),
         NO,
         BUDGET,
         (3, rf"open (?:CountiesLeft|SeatsOff) line {NUMBER}\n"),
         (4, r"no such grouping\n"),
     ],
-    "share": [(0, rf"(?:{REPLY})*joined\n"), (3, rf"(?:{REPLY})*left {NUMBER}\n(?:open {NUMBER} {NUMBER}\n)*"), BUDGET, BOARD],
+    "share": [
+        (0, rf"(?:{REPLY})*joined\n"),
+        (3, rf"(?:{REPLY})*left {NUMBER}\n(?:open {NUMBER} {NUMBER}\n)*"),
+        BUDGET,
+        BOARD,
+    ],
     "piece": [
-        (0, rf"result {NUMBER} {NUMBER}\n{TREE}|better {NUMBER} {NUMBER}\n(?:group {NUMBER} {CODES}\n)*|wider {NUMBER}\n"),
+        (
+            0,
+            rf"result {NUMBER} {NUMBER}\n{TREE}"
+            rf"|better {NUMBER} {NUMBER}\n(?:group {NUMBER} {CODES}\n)*|wider {NUMBER}\n",
+        ),
         (3, rf"split {NUMBER} {NUMBER} {CODE} {NUMBER}\n|open\n"),
         (4, r"no such piece\n"),
         BUDGET,
@@ -98,22 +137,31 @@ TEXTS = {
     "audit": [(0, r"findings 0\n"), (1, rf"findings [1-9][0-9]*\n(?:{FINDING})+")],
 }
 LINES = r"(?:countygroups: [^\n]*\n)*"
+UNESCAPED = r"[\0-\x09\x0b-\x1f\x7f\ufffd]"
 
 
-def is_of_format(command, text, status):
+def is_of_format(command: str, text: str, status: int) -> bool:
+    """Returns whether a command writes the text with this status."""
     ways = REFUSED + TEXTS.get(command, [])
-    return any(status == with_status and re.fullmatch(way, text, re.DOTALL) for with_status, way in ways)
+    return any(
+        status == with_status and re.fullmatch(way, text, re.DOTALL) is not None
+        for with_status, way in ways
+    )
 
 
-def is_told(command, told):
-    """Whether standard error has lines for a person alone, and behind a failed store the answer of the command."""
+def is_told(command: str, told: str) -> bool:
+    """Returns whether standard error has lines for a person alone.
+
+    Behind a failed store it may have the answer of the command.
+    """
     answers = "|".join(way for status, way in TEXTS.get(command, []) if status in (0, 1, 3))
     shape = rf"{LINES}(?:countygroups: the answer is:\n(?:{answers}){LINES})?"
-    return re.fullmatch(shape, told, re.DOTALL) is not None and not re.search(r"[\0-\x09\x0b-\x1f\x7f\ufffd]", told)
+    is_shaped = re.fullmatch(shape, told, re.DOTALL) is not None
+    return is_shaped and re.search(UNESCAPED, told) is None
 
 
-def is_certificate(text):
-    """Whether a text spells a certificate."""
+def is_certificate(text: bytes) -> bool:
+    """Returns whether a text spells a certificate."""
     try:
         check.read_certificate(text)
     except check.Fault:
@@ -121,9 +169,147 @@ def is_certificate(text):
     return re.fullmatch(CERTIFICATE, text.decode("latin-1")) is not None
 
 
-def is_grouping(text):
-    """Whether a text spells a grouping."""
+def is_grouping(text: bytes) -> bool:
+    """Returns whether a text spells a grouping."""
     return re.fullmatch(GROUPING, text.decode("latin-1")) is not None
+
+
+# ---- the files that the words name ----
+
+Words, Files = Sequence[str], Mapping[str, bytes]
+SetOfCounties = Tuple[int, List[str]]  # its seats and its codes
+
+
+def held_by(words: Words, files: Files, option: str) -> bytes:
+    """Returns the bytes of the file that an option names, or none if the words lack the option."""
+    name = named_by(words, option)
+    return b"" if name is None else files.get(name, files.get(os.path.normpath(name), b""))
+
+
+def number_by(words: Words, option: str, otherwise: int) -> int:
+    """Returns the number that an option is given, or the other one if the words lack the option."""
+    word = named_by(words, option)
+    return otherwise if word is None else int(word)
+
+
+def read_group(fields: List[bytes]) -> SetOfCounties:
+    """Reads the seats and the codes of a group."""
+    return check.number(fields[0], 0, 65535, "BadSeats"), [check.code(it) for it in fields[1:]]
+
+
+def grouping_by(words: Words, files: Files, option: str) -> List[SetOfCounties]:
+    """Returns the groups of the file that an option names."""
+    return check.read_file("grouping", held_by(words, files, option), 2, read_group)
+
+
+def withdrawn_by(words: Words, files: Files) -> List[SetOfCounties]:
+    """Returns the withdrawn sets of a run."""
+    text = held_by(words, files, "--withdrawn")
+    return check.read_file("withdrawn", text, 2, check.read_withdrawn)
+
+
+def people_by(words: Words, files: Files) -> Dict[str, int]:
+    """Returns the people of each listed county of a run, by its code."""
+    geo, segment = (held_by(words, files, it) for it in ("--geo", "--segment"))
+    return check.read_counties(geo, segment, number_by(words, "--state", 37))
+
+
+def names_by(words: Words, files: Files) -> Dict[str, bytes]:
+    """Returns the NAME of each listed county of a run, by its code.
+
+    It is field 88 of the county's line, or nothing if the line has fewer fields.
+    """
+    state = b"%02d" % number_by(words, "--state", 37)
+    names: Dict[str, bytes] = {}
+
+    def read_name(fields: List[bytes]) -> None:
+        """Notes the NAME of a line, if it is that of a county."""
+        if (fields[2], fields[4], fields[12]) == (b"050", b"00", state):
+            names[(fields[12] + fields[14]).decode()] = b"".join(fields[87:88])
+
+    check.read_file("geo", held_by(words, files, "--geo"), 15, read_name)
+    return names
+
+
+# ---- the listing ----
+
+
+class ListedGroup(NamedTuple):
+    """A group of a listing."""
+
+    least: int  # the least number of seats that its people suit
+    greatest: int  # the greatest one
+    codes: List[str]  # its counties
+
+
+def groups_in(text: str) -> List[ListedGroup]:
+    """Returns the groups that lines of a listing tell."""
+    line = r"^group seats ([0-9]+)(?: to ([0-9]+))? people [0-9]+ counties (.*)$"
+    found = re.findall(line, text, re.MULTILINE)
+    return [ListedGroup(int(k), int(m or k), codes.split(" ")) for k, m, codes in found]
+
+
+def order_of_group(group: ListedGroup) -> Tuple[int, List[str]]:
+    """Returns what groups are ordered by: how many counties they have, and then their codes."""
+    return len(group.codes), group.codes
+
+
+def order_of_grouping(groups: Sequence[ListedGroup]) -> List[Tuple[int, List[str]]]:
+    """Returns what groupings are ordered by: their groups, one after the other."""
+    return [order_of_group(it) for it in groups]
+
+
+def groupings_in(listing: bytes) -> List[List[ListedGroup]]:
+    """Returns the groupings of a listing by their numbers, each with its groups in order.
+
+    A grouping has the shared groups, and those of one alternative of each region. If each
+    combination is listed, the numbers are those of the ascending groupings.
+    """
+    head, *regions = re.split(r"^region .*\n", listing.decode(), flags=re.MULTILINE)
+    parts = [re.split(r"^alternative .*\n", it, flags=re.MULTILINE)[1:] for it in regions]
+    alternatives = [[groups_in(it) for it in of_region] for of_region in parts]
+    told = re.findall(rb"^grouping [0-9]+ alternatives (.*)$", listing, re.MULTILINE)
+    if told:
+        chosen = [[int(it) - 1 for it in line.split(b" ")] for line in told]
+        choices = [[a[i] for a, i in zip(alternatives, it)] for it in chosen]
+    else:
+        choices = [[*it] for it in itertools.product(*alternatives)]
+    groupings = []
+    for choice in choices:
+        groups = groups_in(head) + [group for alternative in choice for group in alternative]
+        groupings.append(sorted(groups, key=order_of_group))
+    return groupings if told else sorted(groupings, key=order_of_grouping)
+
+
+def number_line(words: Words, files: Files, listing: bytes) -> bytes:
+    """Returns the line that is to stand behind a listing, which `--which` asks for, or nothing."""
+    if named_by(words, "--which") is None:
+        return b""
+    wanted = {frozenset(codes) for _, codes in grouping_by(words, files, "--which")}
+    for number, groups in enumerate(groupings_in(listing), 1):
+        if {frozenset(it.codes) for it in groups} == wanted:
+            return b"number %d\n" % number
+    return b"number none\n"
+
+
+def wrong_listing(words: Words, files: Files, text: bytes) -> Optional[str]:
+    """Returns what is wrong with a listing, or None.
+
+    As many groupings are to be listed as it says, ascending. Behind it stands the number line.
+    """
+    counted = re.search(rb"^best groupings ([0-9]+)$", text, re.MULTILINE)
+    if counted is None:
+        return None
+    groupings = [order_of_grouping(it) for it in groupings_in(text)]
+    if len(groupings) != int(counted[1]):
+        return f"listing: it tells {len(groupings)} groupings, and counts {int(counted[1])}"
+    if any(one >= other for one, other in zip(groupings, groupings[1:])):
+        return "listing: its groupings don't ascend"
+    wanted = number_line(words, files, text)
+    found = b"".join(re.findall(rb"^number .*\n", text, re.MULTILINE))
+    if found != wanted:
+        return f"listing: behind it stands {found!r}, wanted {wanted!r}"
+    return None
 
 
 # ---- the table of the counties ----
@@ -131,99 +317,261 @@ def is_grouping(text):
 HEADER = b"GEOID,NAME,POPULATION,GROUP,SEATS,GROUP_POPULATION\n"
 
 
-def names_of(geo, state):
-    """The NAME of each county of a state, by its code: field 88 of its line, or nothing if the line has fewer fields."""
-    names = {}
+class LabelledSet(NamedTuple):
+    """A set of counties, as a table tells it."""
 
-    def read_name(fields):
-        if (fields[2], fields[4], fields[12]) == (b"050", b"00", b"%02d" % state):
-            names[(fields[12] + fields[14]).decode()] = b"".join(fields[87:88])
-
-    check.read_file("geo", geo, 15, read_name)
-    return names
+    label: bytes
+    seats: int
+    codes: List[str]
 
 
-def labelled_sets(words, files, report):
-    """The label, the seats and the codes of each withdrawn set of the words, and then of each group of a report."""
-    withdrawn = files[named_by(words, "--withdrawn")] if named_by(words, "--withdrawn") is not None else b""
-    sets = [(b"W%d" % at, *it) for at, it in enumerate(check.read_file("withdrawn", withdrawn, 2, check.read_withdrawn), 1)]
-    groups = re.findall(rb"^group ([0-9]+) seats ([0-9]+) people [0-9]+ counties (.*)$", report, re.MULTILINE)
-    return sets + [(label, int(seats), codes.decode().split(" ")) for label, seats, codes in groups]
+def labelled_withdrawn(words: Words, files: Files) -> List[LabelledSet]:
+    """Returns the withdrawn sets of a run with their labels."""
+    sets = enumerate(withdrawn_by(words, files), 1)
+    return [LabelledSet(b"W%d" % place, seats, codes) for place, (seats, codes) in sets]
 
 
-def quoted(field):
-    """A field as a line of the table has it."""
-    return b'"' + field.replace(b'"', b'""') + b'"' if re.search(rb'[,"\r\n]', field) else field
+def labelled_groups(report: bytes) -> List[LabelledSet]:
+    """Returns the groups of a report with their labels."""
+    line = rb"^group ([0-9]+) seats ([0-9]+) people [0-9]+ counties (.*)$"
+    found = re.findall(line, report, re.MULTILINE)
+    return [LabelledSet(label, int(k), codes.decode().split(" ")) for label, k, codes in found]
 
 
-def table_of(words, files, report):
-    """The table that a run of these words over these files stores beside its report."""
-    geo, segment, state = files[named_by(words, "--geo")], files[named_by(words, "--segment")], int(named_by(words, "--state") or 37)
-    people, names, sets = check.read_counties(geo, segment, state), names_of(geo, state), labelled_sets(words, files, report)
-    lines = [HEADER]
+def quoted(field: bytes) -> bytes:
+    """Returns a field as a line of a table has it."""
+    if re.search(rb'[,"\r\n]', field) is None:
+        return field
+    return b'"' + field.replace(b'"', b'""') + b'"'
+
+
+def table_line(fields: Sequence[bytes]) -> bytes:
+    """Returns the line of a table with these fields."""
+    return b",".join(map(quoted, fields)) + b"\n"
+
+
+def table_of(words: Words, files: Files, report: bytes) -> bytes:
+    """Returns the table that a run of these words over these files stores beside its report."""
+    people, names = people_by(words, files), names_by(words, files)
+    sets, lines = labelled_withdrawn(words, files) + labelled_groups(report), [HEADER]
     for county in sorted(people):
         fields = [county.encode(), names[county], b"%d" % people[county], b"", b"", b""]
-        for label, seats, codes in [it for it in sets if county in it[2]][:1]:
-            fields[3:] = label, b"%d" % seats, b"%d" % sum(people.get(code, 0) for code in {*codes})
-        lines.append(b",".join(map(quoted, fields)) + b"\n")
+        for its_set in [it for it in sets if county in it.codes][:1]:
+            inside = sum(people.get(code, 0) for code in {*its_set.codes})
+            fields[3:] = its_set.label, b"%d" % its_set.seats, b"%d" % inside
+        lines.append(table_line(fields))
+    return b"".join(lines)
+
+
+# ---- the table of all groupings ----
+
+GROUPINGS_HEADER = b"GROUPING,GEOID,NAME,GROUP,SEATS\n"
+
+
+def labelled_listed(groups: Sequence[ListedGroup], seats: Mapping[int, int]) -> List[LabelledSet]:
+    """Returns the groups of a listed grouping with their labels.
+
+    A group has the seats that are told of its number, as far as they suit.
+    """
+    sets = []
+    for number, group in enumerate(groups, 1):
+        its_seats = min(max(seats.get(number, 0), group.least), group.greatest)
+        sets.append(LabelledSet(b"%d" % number, its_seats, group.codes))
+    return sets
+
+
+def groupings_table_of(words: Words, files: Files, listing: bytes, held: bytes) -> bytes:
+    """Returns the table of all groupings that a run stores beside its listing.
+
+    If several numbers of seats suit a group, it has the one that the stored table `held` tells of
+    it. A number that doesn't suit becomes one that does, and so the tables differ.
+    """
+    told: Dict[int, Dict[int, int]] = {}
+    for grouping, label, seats in re.findall(rb"(?m)^([0-9]+),.*,([0-9]+),([0-9]+)$", held):
+        told.setdefault(int(grouping), {})[int(label)] = int(seats)
+    names, withdrawn = names_by(words, files), labelled_withdrawn(words, files)
+    lines = [GROUPINGS_HEADER]
+    for number, groups in enumerate(groupings_in(listing), 1):
+        sets = withdrawn + labelled_listed(groups, told.get(number, {}))
+        for county in sorted(names):
+            fields = [b"%d" % number, county.encode(), names[county], b"", b""]
+            for its_set in [it for it in sets if county in it.codes][:1]:
+                fields[3:] = its_set.label, b"%d" % its_set.seats
+            lines.append(table_line(fields))
+    return b"".join(lines)
+
+
+# ---- the table of the districts ----
+
+DISTRICTS_HEADER = b"DISTRICT,POPULATION,LEAST,GREATEST,SETS,COUNTIES\n"
+
+
+def blocks_by(words: Words, files: Files) -> Dict[str, int]:
+    """Returns the people of each block of a run's census files, by its code."""
+    state = b"%02d" % number_by(words, "--state", 37)
+    people_of: Dict[int, int] = {}
+    blocks: Dict[str, int] = {}
+
+    def read_record(fields: List[bytes]) -> None:
+        """Notes the people of a record of segment 1."""
+        people_of[check.number(fields[4])] = check.number(fields[5])
+
+    def read_block(fields: List[bytes]) -> None:
+        """Notes the people of a line, if it is that of a block."""
+        if (fields[2], fields[4], fields[12]) == (b"750", b"00", state):
+            blocks[fields[9].decode()] = people_of[check.number(fields[7])]
+
+    check.read_file("segment1", held_by(words, files, "--segment"), 6, read_record)
+    check.read_file("geo", held_by(words, files, "--geo"), 15, read_block)
+    return blocks
+
+
+def assignments_in(text: bytes) -> List[Tuple[str, bytes]]:
+    """Returns the block and the label of each line of assignments, but for a header."""
+    text = text[3:] if text.startswith(b"\xef\xbb\xbf") else text
+    lines = [it[:-1] if it.endswith(b"\r") else it for it in text.split(b"\n")]
+    lines = [it for it in lines if it]
+    delimiter = b"|" if lines and b"|" in lines[0] else b","
+    rows = [it.split(delimiter) for it in lines]
+    if rows and re.fullmatch(rb"[0-9]{15}", rows[0][0]) is None:
+        rows = rows[1:]
+    return [(row[0].decode(), row[1]) for row in rows]
+
+
+def district_bounds(words: Words, files: Files) -> Tuple[int, int]:
+    """Returns the least and the greatest people of one seat."""
+    total, chamber = sum(people_by(words, files).values()), number_by(words, "--chamber", 0)
+    part, whole = number_by(words, "--part", 1), number_by(words, "--of", 20)
+    least = -(-(whole - part) * total // (whole * chamber))
+    return least, (whole + part) * total // (whole * chamber)
+
+
+def districts_by(words: Words, files: Files, counties: Set[str]) -> Dict[bytes, List[str]]:
+    """Returns the listed blocks of each district, by its label.
+
+    Each block stands once. Only those in these counties, which have a set, are listed.
+    """
+    districts: Dict[bytes, List[str]] = {}
+    blocks = {it for it in blocks_by(words, files) if it[:5] in counties}
+    for block, label in {*assignments_in(held_by(words, files, "--assignments"))}:
+        if block in blocks and label not in (b"", b"ZZZ"):
+            districts.setdefault(label, []).append(block)
+    return districts
+
+
+def districts_table_of(words: Words, files: Files) -> bytes:
+    """Returns the table of the districts that an audit stores beside its findings."""
+    groups = enumerate(grouping_by(words, files, "--grouping"), 1)
+    sets = [LabelledSet(b"%d" % place, seats, codes) for place, (seats, codes) in groups]
+    sets += labelled_withdrawn(words, files)
+    label_of = {code: its.label for its in reversed(sets) for code in its.codes}
+    districts, people = districts_by(words, files, {*label_of}), blocks_by(words, files)
+    least, greatest = district_bounds(words, files)
+    lines = [DISTRICTS_HEADER]
+    for label in sorted(districts):
+        counties = sorted({it[:5] for it in districts[label]})
+        its_sets = {label_of[it] for it in counties}
+        numbers = (sum(people[it] for it in districts[label]), least, greatest)
+        fields = [label, *(b"%d" % it for it in numbers)]
+        fields.append(b" ".join(it.label for it in sets if it.label in its_sets))
+        fields.append(" ".join(counties).encode())
+        lines.append(table_line(fields))
     return b"".join(lines)
 
 
 # ---- the record of a run ----
 
-# The options that name files which are read, by the words of a record, in the order in which the files are read.
-INPUTS = {"geo": "--geo", "segment1": "--segment"}
-INPUTS.update({it: f"--{it}" for it in ("adjacency", "links", "withdrawn", "grouping", "certificate", "events", "assignments")})
+# The words of a record for files which are read, each with the option that names the file, in the
+# order in which the files are read.
+INPUTS = [
+    ("geo", "--geo"),
+    ("segment1", "--segment"),
+    ("adjacency", "--adjacency"),
+    ("links", "--links"),
+    ("withdrawn", "--withdrawn"),
+    ("grouping", "--grouping"),
+    ("grouping", "--which"),
+    ("certificate", "--certificate"),
+    ("events", "--events"),
+    ("assignments", "--assignments"),
+]
+INPUT = "|".join(dict.fromkeys(file for file, _ in INPUTS))
 ESCAPED, SUM = r"(?:[ -\[\]-~]|\\x[0-9A-F]{2})*", rf"{NUMBER} [0-9a-f]{{64}}"
 RECORD = (
     rf"countygroups record 1\nversion {ESCAPED}\n(?:word {ESCAPED}\n)*"
-    rf"(?:read (?:{'|'.join(INPUTS)}) {SUM} {ESCAPED}\n)*"
-    rf"(?:stored (?:certificate|out|table) {SUM} {ESCAPED}\n)*status {NUMBER}\nanswer {ESCAPED}\n"
+    rf"(?:read (?:{INPUT}) {SUM} {ESCAPED}\n)*"
+    rf"(?:stored (?:certificate|out|table|groupings|districts) {SUM} {ESCAPED}\n)*"
+    rf"status {NUMBER}\nanswer {ESCAPED}\n"
 )
 
 
-def is_record(text):
-    """Whether a text is one of a record's form."""
+def is_record(text: bytes) -> bool:
+    """Returns whether a text is one of a record's form."""
     return re.fullmatch(RECORD, text.decode("latin-1")) is not None
 
 
-def escaped(text):
-    """The bytes of a text as a record has them."""
+def escaped(text: bytes) -> bytes:
+    """Returns the bytes of a text as a record has them."""
     return re.sub(rb"[^ -\[\]-~]", lambda it: b"\\x%02X" % ord(it[0]), text)
 
 
-def answer_of(text):
-    """The answer that a text gives: its first line that begins with `answer `, without this word, and else its first line."""
+def answer_of(text: bytes) -> bytes:
+    """Returns the answer that a text gives.
+
+    It is the first line that begins with `answer `, without this word, and else the first line.
+    """
     lines = text.split(b"\n")
-    return next((line[len(b"answer ") :] for line in lines if line.startswith(b"answer ")), lines[0])
+    answers = [it[len(b"answer ") :] for it in lines if it.startswith(b"answer ")]
+    return (answers or lines)[0]
 
 
-def sum_of(held):
+def sum_of(held: bytes) -> bytes:
+    """Returns how many bytes these are, and their sum."""
     return b"%d %s" % (len(held), hashlib.sha256(held).hexdigest().encode())
 
 
-def read_lines(words, files, record):
-    """The lines that a record has for the files that the words name, in the order in which they are read. A file that was left is taken as far as the
-    record says."""
+def read_lines(words: Words, files: Files, record: bytes) -> List[bytes]:
+    """Returns the lines that a record has for the files that the words name, in order of reading.
+
+    A file that was left is taken as far as the record says.
+    """
     lines = []
-    for file, option in INPUTS.items():
+    for file, option in INPUTS:
         name = named_by(words, option)
-        if name is not None and (file != "certificate" or words[0] not in ("solve", "share")):
-            head, shown, held = f"read {file} ".encode(), escaped(os.fsencode(name)), files.get(name, files.get(os.path.normpath(name), b""))
-            left = re.search(rb"^%s([0-9]+) [0-9a-f]{64} %s left$" % (head, re.escape(shown)), record, re.MULTILINE)
-            lines.append(head + sum_of(held[: int(left[1])] if left else held) + b" " + shown + (b" left" if left else b""))
+        if name is None or file == "certificate" and words[0] in ("solve", "share"):
+            continue
+        held, is_left = held_by(words, files, option), False
+        head, shown = f"read {file} ".encode(), escaped(os.fsencode(name))
+        left_line = rb"^%s([0-9]+) [0-9a-f]{64} %s left$" % (head, re.escape(shown))
+        left = re.search(left_line, record, re.MULTILINE)
+        if left is not None:
+            held, is_left = held[: int(left[1])], True
+        lines.append(head + sum_of(held) + b" " + shown + b" left" * is_left)
     return lines
 
 
-def wrong_record(words, files, stored, text, status, record):
-    """What is wrong with the record of a run of these words over these files, if something is. `stored` has the option, the name and the bytes of each
-    file that the run stored besides."""
+def wrong_record(
+    words: Words,
+    files: Files,
+    stored: Iterable[Tuple[str, str, bytes]],
+    text: bytes,
+    status: int,
+    record: bytes,
+) -> Optional[str]:
+    """Returns what is wrong with the record of a run of these words over these files, or None.
+
+    `stored` has the option, the name and the bytes of each file that the run stored besides.
+    """
     lines = record.split(b"\n")
-    wanted = [lines[0], lines[1], *(b"word " + escaped(os.fsencode(word)) for word in words), *read_lines(words, files, record)]
-    wanted += [b"stored %s %s %s" % (option.encode(), sum_of(held), escaped(os.fsencode(name))) for option, name, held in stored]
+    wanted = [*lines[:2], *(b"word " + escaped(os.fsencode(word)) for word in words)]
+    wanted += read_lines(words, files, record)
+    for option, name, held in stored:
+        shown = escaped(os.fsencode(name))
+        wanted.append(b"stored %s %s %s" % (option.encode(), sum_of(held), shown))
     wanted += [b"status %d" % status, b"answer " + escaped(answer_of(text)), b""]
-    differing = [(one, other) for one, other in zip(wanted, lines) if one != other]
-    if differing or len(wanted) != len(lines):
-        one, other = differing[0] if differing else (b"%d lines" % len(wanted), b"%d lines" % len(lines))
-        return f"record: it has {other[:160]!r}, wanted {one[:160]!r}"
+    for one, other in zip(wanted, lines):
+        if one != other:
+            return f"record: it has {other[:160]!r}, wanted {one[:160]!r}"
+    if len(wanted) != len(lines):
+        return f"record: it has {len(lines)} lines, wanted {len(wanted)}"
     return None

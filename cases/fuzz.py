@@ -1,37 +1,51 @@
 #!/usr/bin/env python3
-"""Changes the worked cases at random, runs the program over them, and looks for what `docs/formats.md` doesn't have.
+"""Changes the worked cases at random, runs the program over them, and looks for what is wrong.
 
-usage: fuzz.py [--program FILE ..] [--seconds N | --runs N] [--seed N] [--turn N] [--limit SECONDS] [--memory MEGABYTES] [--keep FOLDER]
+usage: fuzz.py [--program FILE ..] [--seconds N | --runs N] [--seed N] [--turn N]
+               [--limit SECONDS] [--memory MEGABYTES] [--keep FOLDER]
        fuzz.py --test
 
-Each turn takes a run of a case, changes some of its files and words, and gives it to each program: as a case on standard input, or as files in a
-folder. A find is
+Each turn takes a run of a case, changes some of its files and words, and gives it to each program:
+as a case on standard input, or as files in a folder. A find is
 
     signal      the program was ended by a signal, as it is where a `prove!` fails
     hang        it took more than --limit seconds of processor time (20)
     memory      it used more than --memory megabytes (1024)
-    report      standard error has a line that doesn't begin with `countygroups: `, as a report of a bad access
-    format      the text isn't one that the command writes with this status (TEXTS of formats.py), or the status is none that docs/formats.md names
-    stored      a file afterwards is neither as it was nor whole in its format, another file lies there, or one that was to be stored doesn't
+    report      standard error has a line that doesn't begin with `countygroups: `, as a report of a
+                bad access
+    format      the text isn't one that the command writes with this status (TEXTS of formats.py),
+                or the status is none that docs/formats.md names
+    listing     a listing doesn't tell as many groupings as it says, or they don't ascend, or the
+                number behind it isn't that of the grouping of `--which`
+    stored      a file afterwards is neither as it was nor whole in its format, another file lies
+                there, or one that was to be stored doesn't
     record      a record isn't that of the words, the files, the text and the status of its run
-    checker     tools/check.py contradicts `check`, `list`, `judge` where it says best, or a certificate that `solve` or `share` stored (if it answers
-                within seconds)
+    checker     tools/check.py contradicts `check`, `list`, `judge` where it says best, or a
+                certificate that `solve` or `share` stored (if it answers within seconds)
     programs    two programs answer otherwise
-    pipes       the program answers otherwise, or stores other files, where the files that it reads are pipes, which it can read once. Some runs that are
-                given as files are asked so; none of `audit`, which reads two files twice
+    pipes       the program answers otherwise, or stores other files, where the files that it reads
+                are pipes, which it can read once. Some runs that are given as files are asked so;
+                none of `audit`, which reads two files twice
 
-If each program stores tables and records (`--table`, `--record`), some runs are asked for them. Each table is made anew from the files and the report.
+If each program stores tables and records (`--table`, `--groupings`, `--districts`, `--record`),
+some runs are asked for them. Each table is made anew from the files and the report. If each has
+`--which`, some lists are asked for the number of a grouping.
 
-A program that `rt try` built tells bad accesses, sums that wrap and a false `prove!`. A search gets few steps and a check a small budget, so that a
-turn is short. The same seed and turn make the same case: --turn N runs one turn. Without --program it runs the proved one.
-Without --runs it goes on for --seconds (60). Each find is printed, and kept as the case FOLDER/SEED-TURN/found (--keep, ./fuzz-finds): its `found.txt` says
-what was found, and its `found.out` what the second checker wants, where it wants something. --test tries the parts of this script, and runs no program.
+A program that `rt try` built tells bad accesses, sums that wrap and a false `prove!`. A search gets
+few steps and a check a small budget, so that a turn is short. The same seed and turn make the same
+case: --turn N runs one turn. Without --program it runs the proved one. Without --runs it goes on
+for --seconds (60). Each find is printed, and kept as the case FOLDER/SEED-TURN/found (--keep,
+./fuzz-finds): its `found.txt` says what was found, and its `found.out` what the second checker
+wants, where it wants something. --test tries the parts of this script, and runs no program.
 
-An error of this script itself is no find: the line `ERROR seed S turn T` names it, standard error has where it was, and the next turn goes on.
+An error of this script itself is no find: the line `ERROR seed S turn T` names it, standard error
+has where it was, and the next turn goes on.
 
-Statuses: 0 no find, 1 finds, 2 these words can't be run, 3 errors of this script and no find, 4 both. The last line is
-`N runs, M finds, K errors of this script`.
+Statuses: 0 no find, 1 finds, 2 these words can't be run, 3 errors of this script and no find, 4
+both. The last line is `N runs, M finds, K errors of this script`.
 """
+from __future__ import annotations
+
 import argparse
 import collections
 import contextlib
@@ -46,43 +60,88 @@ import sys
 import tempfile
 import time
 import traceback
+from typing import Any, Callable, DefaultDict, Dict, Iterable, Iterator, List, NoReturn, Optional
+from typing import Sequence, Tuple, Union
 
 HERE = os.path.dirname(os.path.realpath(__file__))
 sys.path[:0] = [HERE, f"{HERE}/../tools"]
 import cases  # noqa: E402
-import check  # noqa: E402
 import compare_checkers  # noqa: E402
 import given_files  # noqa: E402
 import program_runs  # noqa: E402
-from formats import TEXTS, is_certificate, is_grouping, is_of_format, is_record, is_told, table_of, wrong_record  # noqa: E402
+from formats import TEXTS, assignments_in, districts_table_of, groupings_in  # noqa: E402
+from formats import groupings_table_of, is_certificate, is_grouping, is_of_format  # noqa: E402
+from formats import is_record, is_told, read_lines, table_of  # noqa: E402
+from formats import wrong_listing, wrong_record  # noqa: E402
 from sweeps import named_by  # noqa: E402
 
+Words, Files = List[str], Dict[str, bytes]
+# A text of a check, and its status, which is None if the second checker ended by an error.
+Answer = Tuple[bytes, Optional[int]]
 MOST_BYTES, QUICK_SECONDS = 40_000, 3
-# What the options --certificate, --out, --table and --record have which commands store, in order of storing.
-STORING = {"certificate": ("solve", "share"), "out": ("solve", "list"), "table": ("judge", "solve", "check"), "record": tuple(TEXTS)}
-LIMITS = {name: ("--steps", "300") for name in ("solve", "piece")} | {name: ("--budget", "3000") for name in ("check", "judge", "list", "share")}
+# What these options have which commands store, in order of storing.
+STORING = {
+    "certificate": ("solve", "share"),
+    "out": ("solve", "list"),
+    "table": ("judge", "solve", "check"),
+    "groupings": ("list",),
+    "districts": ("audit",),
+    "record": tuple(TEXTS),
+}
+# The options that some runs get besides, if each program has them: each with a command of it.
+MORE = {
+    "table": "solve",
+    "groupings": "list",
+    "districts": "audit",
+    "record": "solve",
+    "which": "list",
+}
+# The options that keep a turn short, by the command.
+LIMITS: Dict[str, Tuple[str, ...]] = {
+    "solve": ("--steps", "300"),
+    "piece": ("--steps", "300"),
+    "check": ("--budget", "3000"),
+    "judge": ("--budget", "3000"),
+    "list": ("--budget", "3000"),
+    "share": ("--budget", "3000"),
+}
 NUMBERS = (
-    "0 1 2 3 127 128 129 255 256 257 999 1000 1001 65535 65536 65537 1000000 1000001 16777216 256000000 256000001 4294967295 4294967296"
-    " 18446744073709551615 18446744073709551616 4294967296000000000000 007 -1 +1 1.0 1e3"
+    "0 1 2 3 127 128 129 255 256 257 999 1000 1001 65535 65536 65537 1000000 1000001 16777216"
+    " 256000000 256000001 4294967295 4294967296 18446744073709551615 18446744073709551616"
+    " 4294967296000000000000 007 -1 +1 1.0 1e3"
 ).split()
-BYTES = [b"\n", b"\r", b"\r\n", b" ", b"  ", b"|", b":", b",", b"-", b"+", b"\0", b"\t", b"\x7f", b"\xff", b"\xc3", b"\xe2\x80\x8b", b"\xef\xbb\xbf", b"0", b"9", b"x"]
+BYTES = [b"\n", b"\r", b"\r\n", b" ", b"  ", b"|", b":", b",", b"-", b"+", b"\0", b"\t", b"\x7f"]
+BYTES += [b"\xff", b"\xc3", b"\xe2\x80\x8b", b"\xef\xbb\xbf", b"0", b"9", b"x"]
+# The options of files that are changed most often.
+INNER = ("--certificate", "--events", "--grouping", "--which", "--assignments")
+# The options that a run gets at random: those of a number, and those of a file.
+NUMBER_OPTIONS = ("--state", "--part", "--of", "--limit", "--depth", "--budget", "--number")
+NUMBER_OPTIONS += ("--round", "--steps")
+FILE_OPTIONS = ("--links", "--withdrawn", "--certificate", "--out", "--events", "--which")
+FILE_OPTIONS += ("--groupings", "--districts")
+# The options of a check that the second checker is given.
+CHECK_OPTIONS = ("--geo", "--segment", "--chamber", "--state", "--part", "--of", "--adjacency")
+CHECK_OPTIONS += ("--links", "--withdrawn", "--certificate", "--table")
 
 # ---- what is changed ----
 
 
 @dataclasses.dataclass
 class Given:
-    """What one run is given: its words, the files, and standard input. If it is `told`, words and files are one text on standard input: `whole`, if the
-    text itself was changed."""
+    """What one run is given: its words, the files, and standard input.
 
-    words: list
-    files: dict
+    If it is `told`, words and files are one text on standard input: `whole`, if the text itself was
+    changed.
+    """
+
+    words: Words
+    files: Files
     stdin: bytes = b""
     is_told: bool = True
-    whole: bytes = None
+    whole: Optional[bytes] = None
 
-    def text(self):
-        """The case text."""
+    def text(self) -> bytes:
+        """Returns the case text."""
         if self.whole is not None:
             return self.whole
         text = " ".join(self.words).encode("utf-8", "surrogateescape") + b"\n"
@@ -90,64 +149,92 @@ class Given:
             text += b"file " + name.encode() + b"\n" + held
         return text
 
-    def all_files(self):
-        """The files by their names, and standard input by the system's name for it."""
+    def all_files(self) -> Files:
+        """Returns the files by their names, and standard input by the system's name for it."""
         return {**self.files, "/dev/stdin": self.text() if self.is_told else self.stdin}
 
-    def named(self):
-        """The options that name a file which is there, each with its place among the words."""
-        return [(place, option) for place, option in enumerate(self.words[:-1]) if option.startswith("--") and self.words[place + 1] in self.files]
+    def named(self) -> List[Tuple[int, str]]:
+        """Returns the options that name a file which is there, each behind its place."""
+        return [
+            (place, option)
+            for place, option in enumerate(self.words[:-1])
+            if option.startswith("--") and self.words[place + 1] in self.files
+        ]
 
 
-def is_ended(held):
-    """Whether a file can stand before another one in a case text."""
+def is_ended(held: bytes) -> bool:
+    """Returns whether a file can stand before another one in a case text."""
     return held == b"" or held.endswith(b"\n")
 
 
-def as_told(files):
-    """The files as a case text has them, in their order there. Only the last one can lack its LF."""
+def as_told(files: Files) -> Files:
+    """Returns the files as a case text has them, in their order there.
+
+    Only the last one can lack its LF.
+    """
     names = sorted(files, key=lambda name: not is_ended(files[name]))
     needing = {name for name in names[:-1] if not is_ended(files[name])}
     return {name: files[name] + (b"\n" if name in needing else b"") for name in names}
 
 
+def is_sized(stem: str) -> bool:
+    """Returns whether a case has repeated lines or sparse files."""
+    return any(os.path.isfile(f"{stem}.{ending}") for ending in ("times", "sizes"))
+
+
 class Sources:
-    """The runs of the cases, the checks among them whose text is a certificate, and the files by the option that names them."""
+    """The runs of the cases, and the files by the option that names them.
 
-    def __init__(self):
-        self.runs, self.by_option = [], collections.defaultdict(list)
+    `certified` has the runs of `check` whose text is a certificate.
+    """
+
+    def __init__(self) -> None:
+        self.runs: List[Given] = []
+        self.by_option: DefaultDict[str, List[bytes]] = collections.defaultdict(list)
         for stem in cases.stems([]):
-            if any(os.path.isfile(f"{stem}.{ending}") for ending in ("times", "sizes")):
-                continue
-            case = cases.Case(stem)
-            if case.program or sum(map(len, case.files.values())) + len(case.given) > MOST_BYTES:
-                continue
-            try:
-                told = [compare_checkers.case_parts(case.given)] if case.runs == [[]] else []
-            except UnicodeDecodeError:
-                continue
-            for words, files in told or [(it, {**case.files, **case.stored}) for it in case.runs]:
-                self.add(Given(words, files, b"" if told else case.given, bool(told)))
-        self.certified = [it for it in self.runs if it.words[0] == "check" and is_certificate(it.files.get(compare_checkers.certificate_of(it.words), b""))]
+            if not is_sized(stem):
+                self.add_case(cases.Case(stem))
+        checks = [it for it in self.runs if it.words[0] == "check"]
+        self.certified = [
+            it
+            for it in checks
+            if is_certificate(it.files.get(compare_checkers.certificate_of(it.words) or "", b""))
+        ]
 
-    def add(self, run):
+    def add_case(self, case: cases.Case) -> None:
+        """Adds the runs of a case, unless it is large or of another program."""
+        if case.program or sum(map(len, case.files.values())) + len(case.given) > MOST_BYTES:
+            return
+        if case.runs != [[]]:
+            for words in case.runs:
+                self.add(Given(words, {**case.files, **case.stored}, case.given, False))
+            return
+        try:
+            words, files = compare_checkers.case_parts(case.given)
+        except UnicodeDecodeError:
+            return
+        self.add(Given(words, files))
+
+    def add(self, run: Given) -> None:
+        """Adds a run of a command over files."""
         if run.words[0] in TEXTS and run.files:
             self.runs.append(run)
             for place, option in run.named():
                 self.by_option[option].append(run.files[run.words[place + 1]])
 
-    def changed(self, chance):
-        """A run of a case in which one to four things are changed."""
+    def changed(self, chance: random.Random) -> Given:
+        """Returns a run of a case in which one to four things are changed."""
         command = chance.choice(sorted(TEXTS)) if chance.random() < 0.7 else "check"
         runs = [it for it in self.runs if it.words[0] == command]
         if command == "check" and chance.random() < 0.75:
             runs = self.certified
         run = chance.choice(runs)
         run = dataclasses.replace(run, words=list(run.words), files=dict(run.files))
-        run.is_told = run.stdin == b"" and chance.random() < 0.6 or run.is_told and not fits_folder(run)
+        is_chosen = run.stdin == b"" and chance.random() < 0.6
+        run.is_told = is_chosen or run.is_told and not fits_folder(run)
         for _ in range(chance.choice((1, 1, 1, 2, 2, 4))):
             self.change(run, chance)
-        limit = LIMITS.get(run.words[0], [])
+        limit = LIMITS.get(run.words[0], ())
         run.words = [*words_without(run.words, limit[0]), *limit] if limit else run.words
         if run.is_told and chance.random() < 0.1:
             change_whole(run, limit, chance)
@@ -155,40 +242,74 @@ class Sources:
             run.files = as_told(run.files)
         return run
 
-    def change(self, run, chance):
+    def change(self, run: Given, chance: random.Random) -> None:
         """Changes one thing of a run: most often a file that is no Census file."""
         named, way = run.named(), chance.random()
         if way < 0.07:
             run.words = changed_words(run.words, chance)
         elif way < 0.15 and named:
             place, option = chance.choice(named)
-            run.files[run.words[place + 1]] = chance.choice(self.by_option[option])
+            # (no case has a file that is there for an option such as `--districts`)
+            run.files[run.words[place + 1]] = chance.choice(self.by_option[option] or [b""])
         elif way < 0.18 and len(named) > 1:
             (one, _), (other, _) = chance.sample(named, 2)
-            run.words[one + 1], run.words[other + 1] = run.words[other + 1], run.words[one + 1]
+            words = run.words
+            words[one + 1], words[other + 1] = words[other + 1], words[one + 1]
         elif run.files:
-            inner = [run.words[place + 1] for place, option in named if option in ("--certificate", "--events", "--grouping", "--assignments")]
-            name = chance.choice(inner if inner and chance.random() < 0.75 else sorted(run.files))
-            if is_certificate(run.files[name]) and chance.random() < 0.6:
-                run.files[name], _ = compare_checkers.mutated(run.files[name], chance)
-            else:
-                changes = CHANGES if name in inner or chance.random() < 0.4 else MILD_CHANGES
-                run.files[name] = chance.choice(changes)(run.files[name], chance)
+            inner = [run.words[place + 1] for place, option in named if option in INNER]
+            change_file(run, inner, chance)
 
 
-def add_outputs(run, options, chance):
+def change_file(run: Given, inner: List[str], chance: random.Random) -> None:
+    """Changes a file of a run: most often one of these, if there is one."""
+    is_inner = bool(inner) and chance.random() < 0.75
+    name = chance.choice(inner if is_inner else sorted(run.files))
+    if is_certificate(run.files[name]) and chance.random() < 0.6:
+        run.files[name], _ = compare_checkers.mutated(run.files[name], chance)
+        return
+    changes = CHANGES if name in inner or chance.random() < 0.4 else MILD_CHANGES
+    run.files[name] = chance.choice(changes)(run.files[name], chance)
+
+
+def add_outputs(run: Given, options: Iterable[str], chance: random.Random) -> None:
     """Has a run store what these options name, most often under a name of its own."""
     for option in options:
         is_free = run.whole is None and named_by(run.words, f"--{option}") is None
-        if is_free and run.words[0] in STORING[option] and chance.random() < 0.3:
-            run.words = [*run.words, f"--{option}", chance.choice((option, option, f"\\\u00e9{option}", chance.choice(run.words[1:] or [option])))]
+        if option == "which":
+            add_which(run, is_free, chance)
+        elif is_free and run.words[0] in STORING[option] and chance.random() < 0.3:
+            other = chance.choice(run.words[1:] or [option])
+            name = chance.choice((option, option, f"\\\u00e9{option}", other))
+            run.words = [*run.words, f"--{option}", name]
 
 
-def change_whole(run, limit, chance):
-    """Changes the text of a case, or the order of its files. A text that loses the limit of its command stays as it was."""
-    files = list(run.files.items())
-    chance.shuffle(files)
-    run.files = dict(files)
+def add_which(run: Given, is_free: bool, chance: random.Random) -> None:
+    """Has a list tell the number of a grouping.
+
+    Most often the grouping has the groups of the list's certificate, in some order.
+    """
+    held = run.files.get(named_by(run.words, "--certificate") or "", b"")
+    groups = re.findall(rb"^group ([0-9]+(?: [0-9]{5})+)$", held, re.MULTILINE)
+    is_list = run.words[0] == "list" and "--number" not in run.words
+    if not is_free or not is_list or chance.random() < 0.6:
+        return
+    chance.shuffle(groups)
+    grouping = b"".join(it.replace(b" ", b"|") + b"\n" for it in groups)
+    if chance.random() < 0.4:
+        changes = CHANGES if chance.random() < 0.3 else MILD_CHANGES
+        grouping = chance.choice(changes)(grouping, chance)
+    run.words, run.files["which"] = [*run.words, "--which", "which"], grouping
+    run.files = as_told(run.files) if run.is_told else run.files
+
+
+def change_whole(run: Given, limit: Sequence[str], chance: random.Random) -> None:
+    """Changes the text of a case, or the order of its files.
+
+    A text that loses the limit of its command stays as it was.
+    """
+    listed = list(run.files.items())
+    chance.shuffle(listed)
+    run.files = dict(listed)
     text = chance.choice(CHANGES)(run.text(), chance)
     try:
         words, files = compare_checkers.case_parts(text)
@@ -198,35 +319,44 @@ def change_whole(run, limit, chance):
         run.words, run.files, run.whole = words, files, text
 
 
-def is_plain(words):
-    """Whether no word leads out of the folder of a run."""
+def is_plain(words: Iterable[str]) -> bool:
+    """Returns whether no word leads out of the folder of a run."""
     return not any(".." in word or word.startswith("/") and word != "/dev/stdin" for word in words)
 
 
-def fits_folder(run):
-    """Whether a folder can have the files of a run under their names, and its words stay in the folder."""
+def can_stand(name: str) -> bool:
+    """Returns whether a file can stand in a folder under this name."""
+    return bool(name) and "\0" not in name and not name.endswith("/") and len(name) <= 200
+
+
+def fits_folder(run: Given) -> bool:
+    """Returns whether a folder can have the files of a run, and its words stay in the folder."""
     names = set(run.files)
-    above = {name[:place] for name in names for place, letter in enumerate(name) if letter == "/"}
-    can_stand = all(name and "\0" not in name and not name.endswith("/") and len(name) <= 200 for name in names)
-    return can_stand and not names & above and is_plain([*run.words, *names])
+    above = {name[:at] for name in names for at, letter in enumerate(name) if letter == "/"}
+    return all(map(can_stand, names)) and not names & above and is_plain([*run.words, *names])
 
 
-def stores_outside(run):
-    """Whether a run that is given as files might store one outside of its folder."""
-    outputs = {f"--{option}" for option, commands in STORING.items() if run.words[0] in commands}
+def stores_outside(run: Given) -> bool:
+    """Returns whether a run that is given as files might store one outside of its folder."""
+    outputs = {f"--{it}" for it, commands in STORING.items() if run.words[0] in commands}
     named = [word for option, word in named_words(run.words) if option in outputs]
     return not run.is_told and any(word.startswith("/") or ".." in word for word in named)
 
 
-def words_without(words, option):
+def words_without(words: Words, option: str) -> Words:
+    """Returns the words without an option and the word behind it."""
     if option not in words:
         return words
     place = words.index(option)
     return words[:place] + words[place + 2 :]
 
 
-def changed_words(words, chance):
-    """The words with a number changed, an option left out or said twice, one that stands in front, or one that the case hasn't."""
+def changed_words(words: Words, chance: random.Random) -> Words:
+    """Returns the words with one change.
+
+    A number is changed, an option is left out or said twice, or there is one that stands in front
+    or that the case hasn't.
+    """
     way = chance.randrange(8)
     options = [place for place, word in enumerate(words) if word.startswith("--")]
     numbers = [place for place, word in enumerate(words) if word.isdigit()]
@@ -240,18 +370,20 @@ def changed_words(words, chance):
         place = chance.choice(options)
         words += words[place : place + 2]
     elif way == 6:
-        words += [chance.choice(("--state", "--part", "--of", "--limit", "--depth", "--budget", "--number", "--round", "--steps")), chance.choice(NUMBERS)]
+        words += [chance.choice(NUMBER_OPTIONS), chance.choice(NUMBERS)]
     elif options:
-        words += [chance.choice(("--links", "--withdrawn", "--certificate", "--out", "--events")), word_behind(words, chance.choice(options)) if words[-1] else ""]
+        option = chance.choice(FILE_OPTIONS)
+        words += [option, word_behind(words, chance.choice(options)) if words[-1] else ""]
     return words
 
 
-def word_behind(words, place):
-    """The word behind an option, or an empty one if the option is the last word."""
+def word_behind(words: Words, place: int) -> str:
+    """Returns the word behind an option, or an empty one if the option is the last word."""
     return words[place + 1] if place + 1 < len(words) else ""
 
 
-def changed_word(word, chance):
+def changed_word(word: bytes, chance: random.Random) -> bytes:
+    """Returns a number in the place of a word: near it, if the word is one, or another."""
     if not word.isdigit() or chance.random() < 0.4:
         return chance.choice(NUMBERS).encode()
     if chance.random() < 0.3:
@@ -259,34 +391,48 @@ def changed_word(word, chance):
     return b"%0*d" % (len(word), max(0, int(word[:18]) + chance.choice((-2, -1, 1, 2))))
 
 
-def with_changed_bytes(text, chance):
-    """Some bytes put in, in the place of others or between them."""
+def with_changed_bytes(text: bytes, chance: random.Random) -> bytes:
+    """Returns the text with some bytes put in, in the place of others or between them."""
     at, length = chance.randrange(len(text) + 1), chance.choice((0, 0, 1, 1, 2, 5))
-    new = chance.choice((b"", chance.choice(BYTES), chance.choice(BYTES), bytes([chance.randrange(256)])))
+    one, other, any_byte = chance.choice(BYTES), chance.choice(BYTES), chance.randrange(256)
+    new = chance.choice((b"", one, other, bytes([any_byte])))
     return text[:at] + new + text[at + length :]
 
 
-def with_other_ends(text, chance):
-    """Other ends of lines, a byte order mark, a text that is cut, one without its last LF or one of other bytes."""
+def with_other_ends(text: bytes, chance: random.Random) -> bytes:
+    """Returns the text with other ends of lines, or with another beginning or end.
+
+    It may get a byte order mark, be cut, lack its last LF, have one long line or be of other bytes.
+    """
     lines = text.split(b"\n")
     place = chance.randrange(len(lines))
-    ways = [
+
+    def with_line(line: bytes) -> bytes:
+        """Returns the text with another line at the place."""
+        return b"\n".join(lines[:place] + [line] + lines[place + 1 :])
+
+    def with_long_line() -> bytes:
+        """Returns the text with a line of about as many bytes as one may have."""
+        length = chance.choice((65_535, 65_536, 65_537))
+        return with_line(lines[place].ljust(length, chance.choice((b"x", b" ", b"0"))))
+
+    ways: List[Callable[[], bytes]] = [
         lambda: text.replace(b"\n", b"\r\n"),
         lambda: text.replace(b"\n", b"\n\n"),
         lambda: text.replace(b"\n", b"\r"),
         lambda: b"\xef\xbb\xbf" + text,
         lambda: text[: chance.randrange(len(text) + 1)],
         lambda: text[:-1],
-        lambda: b"\n".join(lines[:place] + [lines[place] + b"\r"] + lines[place + 1 :]),
-        lambda: b"\n".join(lines[:place] + [lines[place].ljust(chance.choice((65_535, 65_536, 65_537)), chance.choice((b"x", b" ", b"0")))] + lines[place + 1 :]),
+        lambda: with_line(lines[place] + b"\r"),
+        with_long_line,
         lambda: bytes(chance.randrange(256) for _ in range(chance.randrange(200))),
         lambda: b"",
     ]
     return chance.choice(ways)()
 
 
-def with_changed_lines(text, chance):
-    """Lines left out, doubled, moved, swapped, put in the place of another, or said many times."""
+def with_changed_lines(text: bytes, chance: random.Random) -> bytes:
+    """Returns the text with lines left out, doubled, moved, swapped, replaced or said often."""
     lines = text.splitlines(keepends=True) or [b"\n"]
     one, other = chance.randrange(len(lines)), chance.randrange(len(lines))
     way = chance.randrange(8)
@@ -310,8 +456,8 @@ def with_changed_lines(text, chance):
     return b"".join(lines)
 
 
-def with_changed_number(text, chance):
-    """One number or word changed, or another of the text put in its place."""
+def with_changed_number(text: bytes, chance: random.Random) -> bytes:
+    """Returns the text with one number or word changed, or another of the text in its place."""
     found = list(re.finditer(rb"[0-9]+|[A-Za-z]+", text))
     if not found:
         return text
@@ -320,13 +466,14 @@ def with_changed_number(text, chance):
     return text[: word.start()] + new + text[word.end() :]
 
 
-def with_changed_fields(text, chance):
-    """Two fields of a line swapped, or one left out or doubled."""
+def with_changed_fields(text: bytes, chance: random.Random) -> bytes:
+    """Returns the text with two fields of a line swapped, or one left out or doubled."""
     lines = text.split(b"\n")
     place = chance.randrange(len(lines))
     by = b"|" if b"|" in lines[place] else b" "
     fields = lines[place].split(by)
-    one, other, way = chance.randrange(len(fields)), chance.randrange(len(fields)), chance.randrange(3)
+    one, other = chance.randrange(len(fields)), chance.randrange(len(fields))
+    way = chance.randrange(3)
     if way == 0:
         fields[one], fields[other] = fields[other], fields[one]
     elif way == 1:
@@ -337,8 +484,11 @@ def with_changed_fields(text, chance):
     return b"\n".join(lines)
 
 
-def with_another_code(text, chance):
-    """A code of five digits changed to another one of the text, which most often stays a text that can be read."""
+def with_another_code(text: bytes, chance: random.Random) -> bytes:
+    """Returns the text with a code of five digits changed to another one of the text.
+
+    Most often it stays a text that can be read.
+    """
     found = list(re.finditer(rb"(?<![0-9])[0-9]{5}(?![0-9])", text))
     if not found:
         return text
@@ -346,7 +496,8 @@ def with_another_code(text, chance):
     return text[: one.start()] + other[0] + text[one.end() :]
 
 
-CHANGES = (
+Change = Callable[[bytes, random.Random], bytes]
+CHANGES: Tuple[Change, ...] = (
     with_changed_bytes,
     with_other_ends,
     with_changed_lines,
@@ -356,7 +507,7 @@ CHANGES = (
     with_changed_fields,
     with_another_code,
 )
-MILD_CHANGES = (with_changed_number, with_another_code, with_changed_lines)
+MILD_CHANGES: Tuple[Change, ...] = (with_changed_number, with_another_code, with_changed_lines)
 
 
 # ---- the runs ----
@@ -364,66 +515,100 @@ MILD_CHANGES = (with_changed_number, with_another_code, with_changed_lines)
 
 @dataclasses.dataclass
 class Made:
-    """What a run made: its text, its status, standard error, and the files that lie there afterwards. Of a told run, those are the files that its text
-    shows as stored."""
+    """What a run made: its text, its status, standard error, and the files afterwards.
+
+    Of a told run, those are the files that its text shows as stored.
+    """
 
     text: bytes
     status: int
     told: bytes
-    files: dict
+    files: Files
 
 
-def made_by(program, run, room, asked, pipes=()):
-    """What the program makes of a run. The files of these names are pipes, which it can read once."""
-    files, forms = {} if run.is_told else run.files, given_files.Forms(pipes={it: b"" for it in pipes})
-    words, text = ([], run.text()) if run.is_told else (run.words, run.stdin)
+def made_by(
+    program: str, run: Given, room: str, asked: argparse.Namespace, pipes: Iterable[str] = ()
+) -> Made:
+    """Returns what the program makes of a run.
+
+    The files of the names `pipes` are pipes, which it can read once.
+    """
+    files = {} if run.is_told else run.files
+    forms = given_files.Forms(pipes={it: b"" for it in pipes})
+    words = [] if run.is_told else run.words
+    text = run.text() if run.is_told else run.stdin
     folder = program_runs.fresh_folder(room, files)
     with given_files.as_given(folder, files, forms):
-        made = program_runs.run(program, words, folder, text, most=asked.memory, seconds=asked.limit)
+        made = program_runs.run(
+            program, words, folder, text, most=asked.memory, seconds=asked.limit
+        )
     wrote, files = made.wrote, program_runs.files_below(folder)
     if run.is_told and not files:
         wrote, files = parted(wrote, outputs_of(run.words).values())
     return Made(wrote, made.status, made.told, files)
 
 
-def pipes_of(run):
-    """The files of a run that may be pipes: those that it reads once, if it is given as files."""
+def pipes_of(run: Given) -> List[str]:
+    """Returns the files of a run that may be pipes.
+
+    They are those that it reads once, if it is given as files.
+    """
     if run.is_told or run.words[0] == "audit":
         return []
     named = [os.path.normpath(word.split("=", 1)[-1]) for word in run.words if word]
-    names = {run.words[place + 1] for place, _ in run.named()} - {*outputs_of(run.words).values()}
+    names = {run.words[place + 1] for place, _ in run.named()}
+    names -= {*outputs_of(run.words).values()}
     return sorted(it for it in names if named.count(os.path.normpath(it)) == 1)
 
 
-def wrong_pipes(plain, piped):
-    """What is wrong with a run whose files are pipes, if something is."""
+def wrong_pipes(plain: Made, piped: Made) -> Optional[str]:
+    """Returns what is wrong with a run whose files are pipes, or None."""
     if (plain.text, plain.status, plain.files) == (piped.text, piped.status, piped.files):
         return None
-    one, other = (f"status {it.status}, `{shown(it.text)}`" for it in (piped, plain))
-    return f"pipes: {one}; of plain files {other}"
+    return f"pipes: {answer_told(piped)}; of plain files {answer_told(plain)}"
 
 
-def outputs_of(words):
-    """The names under which a run may store files, by what it stores there, in order of storing."""
-    names = {option: named_by(words, f"--{option}") for option, commands in STORING.items() if words[0] in commands}
-    return {option: name for option, name in names.items() if name is not None}
+def answer_told(made: Made) -> str:
+    """Returns the status and the beginning of the text of a run, for a person."""
+    return f"status {made.status}, `{shown(made.text)}`"
 
 
-def parted(wrote, names):
-    """The text of a told run, and the stored files behind it, each under one of these names."""
-    names = [re.escape(it.encode("utf-8", "surrogateescape")) for it in names]
-    heads = list(re.finditer(rb"^file (" + b"|".join(names) + rb")\n", wrote, re.MULTILINE)) if names else []
+def outputs_of(words: Words) -> Dict[str, str]:
+    """Returns the names under which a run may store files, in order of storing.
+
+    They stand by what the run stores there.
+    """
+    outputs = {}
+    for option, commands in STORING.items():
+        name = named_by(words, f"--{option}") if words[0] in commands else None
+        if name is not None:
+            outputs[option] = name
+    return outputs
+
+
+def parted(wrote: bytes, names: Iterable[str]) -> Tuple[bytes, Files]:
+    """Returns the text of a told run, and the stored files behind it.
+
+    Each of these stands under one of the names.
+    """
+    shapes = [re.escape(it.encode("utf-8", "surrogateescape")) for it in names]
+    if not shapes:
+        return wrote, {}
+    heads = list(re.finditer(rb"^file (" + b"|".join(shapes) + rb")\n", wrote, re.MULTILINE))
     ends = [it.start() for it in heads[1:]] + [len(wrote)]
-    files = {it[1].decode("utf-8", "surrogateescape"): wrote[it.end() : end] for it, end in zip(heads, ends)}
+    files = {}
+    for head, end in zip(heads, ends):
+        files[head[1].decode("utf-8", "surrogateescape")] = wrote[head.end() : end]
     return wrote[: heads[0].start()] if heads else wrote, files
 
 
-def shown(text):
+def shown(text: bytes) -> str:
+    """Returns the beginning of a text, on one line."""
     return repr(text[:160])[2:-1]
 
 
-def wrong_ending(run, made, asked):
-    """What is wrong with the end of a run and its texts, if something is."""
+def wrong_ending(run: Given, made: Made, asked: argparse.Namespace) -> Optional[str]:
+    """Returns what is wrong with the end of a run and its texts, or None."""
     if made.status == 128 + signal.SIGXCPU:
         return f"hang: more than {asked.limit} seconds"
     if made.status == 128 + signal.SIGKILL:
@@ -433,61 +618,93 @@ def wrong_ending(run, made, asked):
     if not is_told(run.words[0], made.told.decode("utf-8", "replace")):
         return f"report: status {made.status}, `{shown(made.told)}`"
     if not is_of_format(run.words[0], made.text.decode("latin-1"), made.status):
-        return f"format: status {made.status}, `{shown(made.text)}`"
+        return f"format: {answer_told(made)}"
     return None
 
 
-def wrong_files(run, made):
-    """What is wrong with the files after a run, if something is: each is as it was, or whole under a name that the words give."""
+def wrong_files(run: Given, made: Made) -> Optional[str]:
+    """Returns what is wrong with the files after a run, or None.
+
+    Each is as it was, or whole under a name that the words give.
+    """
     before, outputs = {} if run.is_told else run.files, outputs_of(run.words)
     for name, held in made.files.items():
-        if before.get(name) != held and not any(is_whole(option, held, run, made) for option, it in outputs.items() if it == name):
+        options = [option for option, it in outputs.items() if it == name]
+        is_as_it_was = before.get(name) == held
+        if not is_as_it_was and not any(is_whole(it, held, run, made) for it in options):
             return f"stored: {name} is neither as it was nor whole: `{shown(held)}`"
     gone = [name for name in before if name not in made.files]
     return f"stored: {gone[0]} is gone" if gone else wrong_outputs(run, made)
 
 
-def is_whole(option, held, run, made):
-    """Whether these bytes are what an option has a run store. Whether a record is right is asked later, of the record that is left."""
+def answer_in(made: Made) -> bytes:
+    """Returns the answer of a run: its text, or what standard error has behind a failed store."""
+    _, mark, answer = made.told.partition(b"countygroups: the answer is:\n")
+    return answer if mark else made.text
+
+
+def is_whole(option: str, held: bytes, run: Given, made: Made) -> bool:
+    """Returns whether these bytes are what an option has a run store.
+
+    Whether a record is right is asked later, of the record that is left.
+    """
+    words, files, text = run.words, run.all_files(), answer_in(made)
     if option == "table":
-        return b"\ncounts " in made.text and held == table_of(run.words, run.all_files(), made.text)
-    return {"certificate": is_certificate, "out": is_grouping, "record": is_record}[option](held)
+        return b"\ncounts " in text and held == table_of(words, files, text)
+    if option == "groupings":
+        is_listing = b"\nanswer all\n" in text
+        return is_listing and held == groupings_table_of(words, files, text, held)
+    if option == "districts":
+        return text.startswith(b"findings ") and held == districts_table_of(words, files)
+    forms = {"certificate": is_certificate, "out": is_grouping, "record": is_record}
+    return forms[option](held)
 
 
-def is_stored(option, run, made):
-    """Whether a run that came to an answer stores what an option names."""
-    has_grouping = b"\ncounts " in made.text
+def is_stored(option: str, run: Given, made: Made) -> bool:
+    """Returns whether a run that came to an answer stores what an option names."""
     if option == "certificate":
         return made.status in (0, 1) if run.words[0] == "solve" else made.status == 0
-    return has_grouping if option in ("out", "table") else True
+    return b"\ncounts " in made.text if option in ("out", "table", "groupings") else True
 
 
-def wrong_outputs(run, made):
-    """What is wrong with the files that a run was to store, if something is. A later file replaces an earlier one of its name."""
-    outputs = outputs_of(run.words)
-    if made.status not in (0, 1, 3) or b"Usage:" in made.text or made.text.startswith(b"countygroups "):
+def wrong_outputs(run: Given, made: Made) -> Optional[str]:
+    """Returns what is wrong with the files that a run was to store, or None.
+
+    A later file replaces an earlier one of its name.
+    """
+    is_help = b"Usage:" in made.text or made.text.startswith(b"countygroups ")
+    if made.status not in (0, 1, 3) or is_help:
         return None
+    outputs = outputs_of(run.words)
     stored = {option: name for option, name in outputs.items() if is_stored(option, run, made)}
     if any(name not in made.files for name in stored.values()):
         return f"stored: {' or '.join(stored.values())} isn't there"
     if len({*stored.values()}) < len(stored):
         return None
     for option, name in stored.items():
-        if not is_whole(option, made.files[name], run, made):
-            return f"stored: {name} isn't what --{option} stores: `{shown(made.files[name])}`"
+        held = made.files[name]
+        if not is_whole(option, held, run, made):
+            return f"stored: {name} isn't what --{option} stores: `{shown(held)}`"
     record = stored.pop("record", None)
-    held = [(option, name, made.files[name]) for option, name in stored.items()]
-    return record and wrong_record(run.words, run.all_files(), held, made.text, made.status, made.files[record])
+    if record is None:
+        return None
+    others = [(option, name, made.files[name]) for option, name in stored.items()]
+    files, found = run.all_files(), made.files[record]
+    return wrong_record(run.words, files, others, made.text, made.status, found)
 
 
 class TooSlow(Exception):
-    pass
+    """The second checker isn't quick."""
 
 
-def second_answer(words, files):
-    """What the second checker answers, or None if it isn't quick. If it ends by an error of its own, the error is its text, and it has no status."""
+def second_answer(words: Words, files: Files) -> Optional[Answer]:
+    """Returns what the second checker answers, or None if it isn't quick.
 
-    def give_up(*_):
+    If it ends by an error of its own, the error is its text, and it has no status.
+    """
+
+    def give_up(*_: Any) -> NoReturn:
+        """Ends the second checker."""
         raise TooSlow
 
     signal.signal(signal.SIGALRM, give_up)
@@ -497,8 +714,8 @@ def second_answer(words, files):
         return None
 
 
-def timed_answer(words, files):
-    """What the second checker answers, or `TooSlow` if it isn't quick."""
+def timed_answer(words: Words, files: Files) -> Answer:
+    """Returns what the second checker answers. Raises `TooSlow` if it isn't quick."""
     signal.alarm(QUICK_SECONDS)
     try:
         made = compare_checkers.second_checker(words, files)
@@ -511,82 +728,142 @@ def timed_answer(words, files):
         signal.alarm(0)
 
 
-def asked_of_second(run, made):
-    """The words and files of a check, and what the second checker is to answer, or None if it isn't asked. A list says what a check says up to its
-    answer, and a grouping that `judge` calls best has the counts of the check; of a certificate that was stored, only the answer is known."""
+def words_of_check(words: Words) -> Words:
+    """Returns the words of a check of the same problem and certificate.
+
+    Of a list the table of all groupings becomes a table: with either, names are read.
+    """
+    kept = ["check"]
+    for option in CHECK_OPTIONS:
+        name = named_by(words, option)
+        kept += [option, name] if name is not None else []
+    groupings = named_by(words, "--groupings") if words[0] == "list" else None
+    return kept + (["--table", groupings] if groupings is not None else [])
+
+
+def asked_of_second(run: Given, made: Made) -> Optional[Tuple[Words, Files]]:
+    """Returns the words and files of a check for the second checker, or None if it isn't asked.
+
+    A list says what a check says up to its answer, and a grouping that `judge` calls best has the
+    counts of the check. Of a certificate that was stored, only the answer is known.
+    """
     command, certificate = run.words[0], named_by(run.words, "--certificate")
-    is_unread = b"Usage:" in made.text or made.text.startswith((b"budget\n", b"refused case "))
+    # (the second checker reads no grouping, which a list reads before the certificate)
+    unread = (b"budget\n", b"refused case ", b"refused grouping ")
+    is_unread = b"Usage:" in made.text or made.text.startswith(unread)
     if made.status in (2, 5) or is_unread or certificate is None:
         return None
-    kept = ["check"]
-    for option in ("--geo", "--segment", "--chamber", "--state", "--part", "--of", "--adjacency", "--links", "--withdrawn", "--certificate", "--table"):
-        kept += [option, named_by(run.words, option)] if named_by(run.words, option) is not None else []
+    kept = words_of_check(run.words)
     if command in ("check", "list") or command == "judge" and b"answer best\n" in made.text:
-        return kept, run.files, made.text
+        return kept, run.files
     is_alone = [word for _, word in named_words(run.words)].count(certificate) == 1
-    if command in ("solve", "share") and is_alone and made.files.get(certificate, run.files.get(certificate)) != run.files.get(certificate):
-        return kept, {**run.files, certificate: made.files[certificate]}, made.text
+    before = run.files.get(certificate)
+    stored = made.files.get(certificate, before)
+    if command in ("solve", "share") and is_alone and stored is not None and stored != before:
+        return kept, {**run.files, certificate: stored}
     return None
 
 
-def named_words(words):
-    """The options of a run, each with the word that it is given."""
-    spaced = [(one, other) for one, other in zip(words, words[1:]) if one.startswith("--") and "=" not in one]
-    return spaced + [tuple(word.split("=", 1)) for word in words if word.startswith("--") and "=" in word]
+def named_words(words: Words) -> List[Tuple[str, str]]:
+    """Returns the options of a run, each with the word that it is given."""
+    found = []
+    for one, other in zip(words, words[1:]):
+        if one.startswith("--") and "=" not in one:
+            found.append((one, other))
+    for word in words:
+        option, equals, behind = word.partition("=")
+        if equals and word.startswith("--"):
+            found.append((option, behind))
+    return found
 
 
-def agrees(command, text, status, found):
-    """Whether the answer of a run agrees with the text and the status of the second checker."""
+def head_of(text: bytes, mark: bytes) -> bytes:
+    """Returns what a text has before the first mark, or the whole text without one."""
+    return text.split(mark)[0]
+
+
+def agrees(command: str, text: bytes, status: int, found: Answer) -> bool:
+    """Returns whether the answer of a run agrees with that of the second checker."""
     if command == "check":
         return found == (text, status)
-    best, impossible = b"answer best\n" in found[0], b"answer impossible\n" in found[0]
+    is_best = b"answer best\n" in found[0]
     if command == "solve":
         return found == (text, status) if status in (0, 1) else False
     if command == "share":
-        return best
+        return is_best
     if command == "judge":
-        return best and found[0].split(b"group ")[0] == text.split(b"group ")[0]
-    if status == 1 or b"refused" in text:
+        return is_best and head_of(found[0], b"group ") == head_of(text, b"group ")
+    is_listing = b"\nanswer all\n" in text
+    if status == 1 and not is_listing or b"refused" in text:
         return found == (text, status)
-    return best and (status != 0 or found[0].split(b"answer")[0] == text.split(b"answer")[0])
+    is_same = head_of(found[0], b"answer") == head_of(text, b"answer")
+    return is_best and (not is_listing or is_same)
 
 
-def denial(run, made):
-    """What the second checker says against a run, and its whole answer, if it says something."""
+def denial(run: Given, made: Made) -> Tuple[Optional[str], Optional[Answer]]:
+    """Returns what the second checker says against a run, and its whole answer, or nothing."""
     asked = asked_of_second(run, made)
-    found = second_answer(asked[0], asked[1]) if asked else None
+    found = second_answer(*asked) if asked else None
     if found is None or agrees(run.words[0], made.text, made.status, found):
         return None, None
-    return f"checker: tools/check.py says `{shown(found[0])}`, status {found[1]}; the program `{shown(made.text)}`, status {made.status}", found
+    second = f"tools/check.py says `{shown(found[0])}`, status {found[1]}"
+    return f"checker: {second}; the program `{shown(made.text)}`, status {made.status}", found
 
 
-def faults_of(run, runs, asked):
-    """What is wrong with what each program made of a run; and the answer of the second checker where it differs."""
-    faults, wanted = [], None
+def differ(runs: Sequence[Made]) -> bool:
+    """Returns whether programs answered otherwise, though none of them was refused memory."""
+    answers = [(it.text, it.status, it.files) for it in runs]
+    is_refused = any(it.text == b"memory\n" for it in runs)
+    return any(it != answers[0] for it in answers) and not is_refused
+
+
+def faults_of(
+    run: Given, runs: Sequence[Made], asked: argparse.Namespace
+) -> Tuple[List[str], Optional[Answer]]:
+    """Returns what is wrong with what each program made of a run.
+
+    Behind it stands the answer of the second checker, where it differs.
+    """
+    faults: List[str] = []
+    wanted: Optional[Answer] = None
     for made in runs:
-        why = wrong_ending(run, made, asked) or wrong_files(run, made)
+        why = wrong_ending(run, made, asked)
+        why = why or wrong_listing(run.words, run.all_files(), made.text)
+        why = why or wrong_files(run, made)
         if why is None:
             why, wanted = denial(run, made)
         faults += [why] if why else []
-    if any((it.text, it.status, it.files) != (runs[0].text, runs[0].status, runs[0].files) for it in runs) and not any(it.text == b"memory\n" for it in runs):
-        faults.append("programs: " + " and ".join(f"status {it.status}, `{shown(it.text)}`" for it in runs))
+    if differ(runs):
+        faults.append("programs: " + " and ".join(map(answer_told, runs)))
     return faults, wanted
 
 
-def keep(folder, run, faults, wanted, how, pipes=()):
+def lines_of(words: Iterable[str]) -> bytes:
+    """Returns the words, one a line."""
+    return "".join(f"{it}\n" for it in words).encode("utf-8", "surrogateescape")
+
+
+def keep(
+    folder: str,
+    run: Given,
+    faults: Iterable[str],
+    wanted: Optional[Answer],
+    how: str,
+    pipes: Sequence[str] = (),
+) -> None:
     """Keeps a run as a case that repeats it."""
     os.makedirs(folder, exist_ok=True)
     files = {"found.txt": "".join(f"{it}\n" for it in [how, *faults]).encode()}
-    has_answer = wanted is not None and wanted[1] is not None
-    files["found.out"] = wanted[0] + b"exit %d\n" % wanted[1] if has_answer else b"an answer of the formats\n"
+    files["found.out"] = b"an answer of the formats\n"
+    if wanted is not None and wanted[1] is not None:
+        files["found.out"] = wanted[0] + b"exit %d\n" % wanted[1]
     if run.is_told:
         files["found.case"] = run.text()
     else:
-        files["found.words"] = "".join(f"{it}\n" for it in run.words).encode("utf-8", "surrogateescape")
-        files["found.case"] = run.stdin
+        files["found.words"], files["found.case"] = lines_of(run.words), run.stdin
         files.update({f"found.files/{name}": held for name, held in run.files.items()})
         if pipes:
-            files["found.pipes"] = "".join(f"{it}\n" for it in pipes).encode("utf-8", "surrogateescape")
+            files["found.pipes"] = lines_of(pipes)
     for name, held in files.items():
         os.makedirs(os.path.dirname(f"{folder}/{name}"), exist_ok=True)
         with open(f"{folder}/{name}", "wb") as file:
@@ -595,108 +872,208 @@ def keep(folder, run, faults, wanted, how, pipes=()):
 
 # ---- tests ----
 
+# What is tested: a name, what is found, and what is wanted.
+Tests = Iterator[Tuple[str, object, object]]
 
-def tests():
-    """What is tested of this script: a name, what is found, and what is wanted."""
-    report = "people 400\nchamber 4\nseats left 4\ncounties 4\nanswer best\ncounts 2 1\ngroup 1 seats 1 people 100 counties 37001\n"
-    yield "a report", is_of_format("check", report, 0), True
-    yield "options", named_words(["solve", "--geo", "a", "--out=b"]), [("--geo", "a"), ("--out", "b")]
-    over = Given(["solve", "--geo", "g", "--certificate", "g"], {"g": b"x"})
-    yield "a certificate over an input", asked_of_second(over, Made(b"answer best\n", 0, b"", {"g": b"y"})), None
-    beside = Given(["solve", "--geo", "g", "--certificate", "c"], {"g": b"x"})
-    yield "a certificate beside it", asked_of_second(beside, Made(b"answer best\n", 0, b"", {"c": b"y"})) is not None, True
-    yield "a case that is too large", asked_of_second(beside, Made(b"refused case TooLarge line 0\n", 4, b"", {})), None
-    yield "a report with a window", is_of_format("check", report.replace("seats left", "window 1 10\nseats left"), 0), True
-    yield "a report with another status", is_of_format("check", report, 1), False
-    yield "a report of another command", is_of_format("list", report, 0), False
-    yield "a report that is cut", is_of_format("check", report[:-1], 0), False
-    yield "a number with a leading zero", is_of_format("check", report.replace("400", "0400"), 0), False
-    yield "no leaf", is_of_format("list", "no NoLeaf line 8\n", 1), True
-    yield "a refused file", is_of_format("size", "refused geo DoubleCounty line 3\n", 4), True
-    yield "a kind that isn't there", is_of_format("size", "refused geo Memory line 3\n", 4), False
-    yield "replies", is_of_format("share", "piece 1 1\naccepted\nmemory\nleft 1\nopen 1 2\n", 3), True
-    yield "replies without an end", is_of_format("share", "accepted\n", 3), False
-    yield "a piece", is_of_format("piece", "result 1 1\nbound 1\nweigh 2 37001:1\n", 0), True
-    yield "a status that isn't named", is_of_format("size", "", 101), False
-    run = Given(["solve", "--geo", "g", "--certificate", "c", "--out", "o"], {"g": b"x", "h": b"y\n"})
-    yield "a case text", run.text(), b"solve --geo g --certificate c --out o\nfile h\ny\nfile g\nx"
-    yield "options that name a file", run.named(), [(1, "--geo")]
-    torn = {"g": b"x", "h": b"y", "i": b"", "j": b"z\n"}
-    told = Given(["size"], as_told(torn)).text()
-    yield "files of a case text", as_told(torn), {"i": b"", "j": b"z\n", "g": b"x\n", "h": b"y"}
-    yield "they are those of the text", compare_checkers.case_parts(told)[1], as_told(torn)
-    certificate = b"county-groups certificate 1\norder\nlimit 0\ntarget none\nseats\nend\n"
-    wrote = b"answer best\nfile c\n" + certificate + b"file o\n1|37001\n"
-    yield "stored files", parted(wrote, outputs_of(run.words).values()), (b"answer best\n", {"c": certificate, "o": b"1|37001\n"})
-    yield "a file that isn't stored", parted(b"file g\nx\n", ["c"]), (b"file g\nx\n", {})
-    made = Made(b"", 0, b"", {"c": certificate, "o": b"1|37001\n"})
-    yield "whole files", wrong_files(run, made), None
-    made.files["c"] = certificate[:-1]
-    yield "a torn certificate", wrong_files(run, made), f"stored: c is neither as it was nor whole: `{shown(made.files['c'])}`"
-    folder = dataclasses.replace(run, is_told=False)
-    made.files = {"g": b"x", "h": b"y\n", "c.part": b""}
-    yield "a file that was left", wrong_files(folder, made), "stored: c.part is neither as it was nor whole: ``"
-    made.files = {"g": b"x"}
-    yield "a file that is gone", wrong_files(folder, made), "stored: h is gone"
-    limits = argparse.Namespace(limit=20, memory=1024)
-    yield "a signal", wrong_ending(run, Made(b"", 134, b"", {}), limits), "signal 6: ``"
-    yield "a hang", wrong_ending(run, Made(b"", 152, b"", {}), limits), "hang: more than 20 seconds"
-    yield "too much memory", wrong_ending(run, Made(b"", 137, b"", {}), limits), "memory: more than 1024 megabytes"
-    yield "a report of a bad access", wrong_ending(run, Made(b"memory\n", 5, b"ERROR: x\n", {}), limits), "report: status 5, `ERROR: x\\n`"
-    yield "a byte that isn't escaped", wrong_ending(run, Made(b"memory\n", 5, b"countygroups: \x07\n", {}), limits)[:6], "report"
-    behind = "countygroups: --record r could not be stored: x\ncountygroups: the answer is:\n"
-    yield "the answer behind a failed store", is_told("audit", behind + "findings 1\nUnassigned 370010001001000\n"), True
-    yield "the answer of another command behind a failed store", is_told("size", behind + "findings 0\n"), False
-    yield "an answer without its line", is_told("audit", "countygroups: x\nfindings 0\n"), False
-    yield "an ordinary end", wrong_ending(run, Made(b"memory\n", 5, b"countygroups: x\n", {}), limits), None
-    yield "both say best", agrees("check", b"answer best\n", 0, (b"answer best\n", 0)), True
-    yield "a No that is denied", agrees("check", b"no NoLeaf line 6\n", 1, (b"answer best\n", 0)), False
-    yield "a joined board that is denied", agrees("share", b"joined\n", 0, (b"no NotStuck line 6\n", 1)), False
-    best, lesser = b"answer best\ncounts 0 2\ngroup 1 seats 1\n", b"answer best\ncounts 0 1\ngroup 1 seats 2\n"
-    yield "another grouping that is best", agrees("judge", best, 0, (best.replace(b"seats 1", b"seats 3"), 0)), True
-    yield "a lesser grouping called best", agrees("judge", lesser, 0, (best, 0)), False
-    yield "a list behind a best one", agrees("list", b"people 1\nanswer all\n", 0, (b"people 1\nanswer best\n", 0)), True
-    yield "an open list of no certificate", agrees("list", b"open SeatsOff line 6\n", 3, (b"no NotStuck line 6\n", 1)), False
+
+def tests() -> Tests:
+    """Yields what is tested of this script."""
+    yield from tests_of_formats()
+    yield from tests_of_case_texts()
+    yield from tests_of_stored_files()
+    yield from tests_of_endings()
+    yield from tests_of_second()
     yield from tests_of_pipes()
     yield from tests_of_places()
-    yield "words without an option", words_without(run.words, "--geo"), ["solve", "--certificate", "c", "--out", "o"]
-    yield from tests_of_outputs()
+    yield from tests_of_table()
+    yield from tests_of_record()
+    yield from tests_of_listings()
+    yield from tests_of_numbers()
+    yield from tests_of_groupings()
+    yield from tests_of_districts()
+    yield from tests_of_wrong_districts()
+    yield from tests_of_assignments()
+    yield from tests_of_asking()
     yield from tests_of_changes()
     yield from tests_of_errors()
 
 
-def tests_of_pipes():
-    """Which files may be pipes, and what is wrong with a run of them."""
+def tests_of_formats() -> Tests:
+    """Yields tests of texts that a command writes, and of others."""
+    of = is_of_format
+    report = "people 400\nchamber 4\nseats left 4\ncounties 4\nanswer best\ncounts 2 1\n"
+    report += "group 1 seats 1 people 100 counties 37001\n"
+    with_window = report.replace("seats left", "window 1 10\nseats left")
+    yield "a report", of("check", report, 0), True
+    yield "a report with a window", of("check", with_window, 0), True
+    yield "a report with another status", of("check", report, 1), False
+    yield "a report of another command", of("list", report, 0), False
+    yield "a report that is cut", of("check", report[:-1], 0), False
+    zero = report.replace("400", "0400")
+    yield "a number with a leading zero", of("check", zero, 0), False
+    yield "no leaf", of("list", "no NoLeaf line 8\n", 1), True
+    yield "a refused file", of("size", "refused geo DoubleCounty line 3\n", 4), True
+    yield "a kind that isn't there", of("size", "refused geo Memory line 3\n", 4), False
+    replies = "piece 1 1\naccepted\nmemory\nleft 1\nopen 1 2\n"
+    yield "replies", of("share", replies, 3), True
+    yield "replies without an end", of("share", "accepted\n", 3), False
+    yield "a piece", of("piece", "result 1 1\nbound 1\nweigh 2 37001:1\n", 0), True
+    yield "a status that isn't named", of("size", "", 101), False
+
+
+def storing_run() -> Given:
+    """Returns a run of `solve` that stores two files."""
+    words = ["solve", "--geo", "g", "--certificate", "c", "--out", "o"]
+    return Given(words, {"g": b"x", "h": b"y\n"})
+
+
+def tests_of_case_texts() -> Tests:
+    """Yields tests of words and of the text of a case."""
+    run = storing_run()
+    found = named_words(["solve", "--geo", "a", "--out=b"])
+    yield "options", found, [("--geo", "a"), ("--out", "b")]
+    wanted = b"solve --geo g --certificate c --out o\nfile h\ny\nfile g\nx"
+    yield "a case text", run.text(), wanted
+    yield "options that name a file", run.named(), [(1, "--geo")]
+    torn = {"g": b"x", "h": b"y", "i": b"", "j": b"z\n"}
+    told = Given(["size"], as_told(torn)).text()
+    wanted_files = {"i": b"", "j": b"z\n", "g": b"x\n", "h": b"y"}
+    yield "files of a case text", as_told(torn), wanted_files
+    yield "they are those of the text", compare_checkers.case_parts(told)[1], as_told(torn)
+    kept = ["solve", "--certificate", "c", "--out", "o"]
+    yield "words without an option", words_without(run.words, "--geo"), kept
+
+
+def tests_of_stored_files() -> Tests:
+    """Yields tests of the files after a run."""
+    run = storing_run()
+    certificate = b"county-groups certificate 1\norder\nlimit 0\ntarget none\nseats\nend\n"
+    wrote = b"answer best\nfile c\n" + certificate + b"file o\n1|37001\n"
+    stored = {"c": certificate, "o": b"1|37001\n"}
+    found = parted(wrote, outputs_of(run.words).values())
+    yield "stored files", found, (b"answer best\n", stored)
+    found = parted(b"file g\nx\n", ["c"])
+    yield "a file that isn't stored", found, (b"file g\nx\n", {})
+    made = Made(b"", 0, b"", stored)
+    yield "whole files", wrong_files(run, made), None
+    made.files["c"] = certificate[:-1]
+    wanted = f"stored: c is neither as it was nor whole: `{shown(made.files['c'])}`"
+    yield "a torn certificate", wrong_files(run, made), wanted
+    folder = dataclasses.replace(run, is_told=False)
+    made.files = {"g": b"x", "h": b"y\n", "c.part": b""}
+    wanted = "stored: c.part is neither as it was nor whole: ``"
+    yield "a file that was left", wrong_files(folder, made), wanted
+    made.files = {"g": b"x"}
+    yield "a file that is gone", wrong_files(folder, made), "stored: h is gone"
+
+
+def tests_of_endings() -> Tests:
+    """Yields tests of how runs end, and of standard error."""
+    limits = argparse.Namespace(limit=20, memory=1024)
+    run = storing_run()
+
+    def ended(text: bytes, status: int, told: bytes) -> Optional[str]:
+        """Returns what is wrong with such an end."""
+        return wrong_ending(run, Made(text, status, told, {}), limits)
+
+    yield "a signal", ended(b"", 134, b""), "signal 6: ``"
+    yield "a hang", ended(b"", 152, b""), "hang: more than 20 seconds"
+    yield "too much memory", ended(b"", 137, b""), "memory: more than 1024 megabytes"
+    found = ended(b"memory\n", 5, b"ERROR: x\n")
+    yield "a report of a bad access", found, "report: status 5, `ERROR: x\\n`"
+    found = ended(b"memory\n", 5, b"countygroups: \x07\n")
+    yield "a byte that isn't escaped", (found or "")[:6], "report"
+    yield "an ordinary end", ended(b"memory\n", 5, b"countygroups: x\n"), None
+    behind = "countygroups: --record r could not be stored: x\ncountygroups: the answer is:\n"
+    answer = behind + "findings 1\nUnassigned 370010001001000\n"
+    yield "the answer behind a failed store", is_told("audit", answer), True
+    other = behind + "findings 0\n"
+    yield "the answer of another command behind a failed store", is_told("size", other), False
+    other = "countygroups: x\nfindings 0\n"
+    yield "an answer without its line", is_told("audit", other), False
+
+
+def tests_of_second() -> Tests:
+    """Yields tests of what the second checker is asked, and of what it says."""
+    over = Given(["solve", "--geo", "g", "--certificate", "g"], {"g": b"x"})
+    found = asked_of_second(over, Made(b"answer best\n", 0, b"", {"g": b"y"}))
+    yield "a certificate over an input", found, None
+    beside = Given(["solve", "--geo", "g", "--certificate", "c"], {"g": b"x"})
+    found = asked_of_second(beside, Made(b"answer best\n", 0, b"", {"c": b"y"}))
+    yield "a certificate beside it", found is not None, True
+    found = asked_of_second(beside, Made(b"refused case TooLarge line 0\n", 4, b"", {}))
+    yield "a case that is too large", found, None
+    of = agrees
+    says_best: Answer = b"answer best\n", 0
+    yield "both say best", of("check", b"answer best\n", 0, says_best), True
+    yield "a No that is denied", of("check", b"no NoLeaf line 6\n", 1, says_best), False
+    says_no: Answer = b"no NotStuck line 6\n", 1
+    yield "a joined board that is denied", of("share", b"joined\n", 0, says_no), False
+    best = b"answer best\ncounts 0 2\ngroup 1 seats 1\n"
+    lesser = b"answer best\ncounts 0 1\ngroup 1 seats 2\n"
+    other = best.replace(b"seats 1", b"seats 3")
+    yield "another grouping that is best", of("judge", best, 0, (other, 0)), True
+    yield "a lesser grouping called best", of("judge", lesser, 0, (best, 0)), False
+    listing = b"people 1\nanswer all\nnumber none\n"
+    one, two = b"people 1\nanswer best\n", b"people 2\nanswer best\n"
+    yield "a list behind a best one", of("list", listing, 0, (one, 0)), True
+    yield "a list without the grouping asked for", of("list", listing, 1, (one, 0)), True
+    yield "a list of other people", of("list", listing, 1, (two, 0)), False
+    found_open = of("list", b"open SeatsOff line 6\n", 3, says_no)
+    yield "an open list of no certificate", found_open, False
+
+
+def tests_of_pipes() -> Tests:
+    """Yields tests of which files may be pipes, and of what is wrong with a run of them."""
     files = {"g": b"x", "h": b"y", "o": b"z", "w": b""}
     words = "solve --geo g --segment=g --adjacency h --out o --links ./w --withdrawn w".split()
+    audit = Given(["audit", *words[1:]], files, b"", False)
     yield "files that are read once", pipes_of(Given(words, files, b"", False)), ["h"]
     yield "none of a case text", pipes_of(Given(words, files)), []
-    yield "none of an audit", pipes_of(Given(["audit", *words[1:]], files, b"", False)), []
+    yield "none of an audit", pipes_of(audit), []
     plain, other = Made(b"a\n", 0, b"", {"t": b""}), Made(b"b\n", 1, b"", {"t": b""})
     yield "the same of pipes", wrong_pipes(plain, Made(b"a\n", 0, b"x", {"t": b""})), None
     wanted = "pipes: status 1, `b\\n`; of plain files status 0, `a\\n`"
     yield "another answer of pipes", wrong_pipes(plain, other), wanted
-    yield "other files of pipes", wrong_pipes(plain, Made(b"a\n", 0, b"", {})) is not None, True
+    found = wrong_pipes(plain, Made(b"a\n", 0, b"", {}))
+    yield "other files of pipes", found is not None, True
 
 
-def tests_of_places():
-    """Which runs might store a file outside of their folder."""
-    of = lambda words, is_told=False: stores_outside(Given(words.split(), {"g": b"x"}, b"", is_told))
+def tests_of_places() -> Tests:
+    """Yields tests of which runs might store a file outside of their folder."""
+
+    def of(words: str, is_told: bool = False) -> bool:
+        """Returns whether a run of these words might."""
+        return stores_outside(Given(words.split(), {"g": b"x"}, b"", is_told))
+
     yield "a table outside of the folder", of("judge --geo g --table /dev/stdin"), True
-    yield "a name in one word with its option", of("solve --geo g --out=/dev/stdin"), True
+    joined = "solve --geo g --out=/dev/stdin"
+    yield "a name in one word with its option", of(joined), True
     yield "the second of two names", of("solve --out o --out /dev/stdin"), True
     yield "a name that leads out of the folder", of("size --geo g --record ../r"), True
-    yield "nothing outside of a told run", of("judge --geo g --table /dev/stdin", True), False
-    yield "an input outside of the folder", of("check --certificate /dev/stdin --table t"), False
+    told = "judge --geo g --table /dev/stdin"
+    yield "nothing outside of a told run", of(told, True), False
+    inner = "check --certificate /dev/stdin --table t"
+    yield "an input outside of the folder", of(inner), False
 
 
-def tests_of_outputs():
-    """The table and the record that docs/formats.md shows, and changes to them."""
-    line = b"||050||00|||%d|||||37||%s" + b"|" * 73
-    geo = line % (1, b"001") + b"Alamance County\n" + line % (2, b"003") + b'Alexander, the "first"\n' + (line % (3, b"005"))[:-1] + b"\n"
-    files = {"g": geo, "s": b"||||1|100\n||||2|200\n||||3|300\n", "w": b"3|37005\n"}
-    words = "judge --geo g --segment s --chamber 6 --adjacency a --withdrawn w --grouping o --table t".split()
-    report = b"people 600\nchamber 6\nseats left 3\ncounties 2\nanswer lawful\ncounts 2\ngroup 1 seats 2 people 200 counties 37003\ngroup 2 seats 1 people 100 counties 37001\n"
+def county_line(record: int, county: bytes, name: bytes) -> bytes:
+    """Returns the line of the geographic header that a county has."""
+    return b"||050||00|||%d|||||37||%s" % (record, county) + b"|" * 73 + name + b"\n"
+
+
+def tests_of_table() -> Tests:
+    """Yields tests of the table that docs/formats.md shows, and of changes to it."""
+    geo = county_line(1, b"001", b"Alamance County")
+    geo += county_line(2, b"003", b'Alexander, the "first"')
+    geo += county_line(3, b"005", b"").replace(b"|\n", b"\n")
+    segment = b"||||1|100\n||||2|200\n||||3|300\n"
+    files = {"g": geo, "s": segment, "w": b"3|37005\n"}
+    words = "judge --geo g --segment s --chamber 6 --adjacency a --withdrawn w".split()
+    words += ["--grouping", "o", "--table", "t"]
+    report = b"people 600\nchamber 6\nseats left 3\ncounties 2\nanswer lawful\ncounts 2\n"
+    report += b"group 1 seats 2 people 200 counties 37003\n"
+    report += b"group 2 seats 1 people 100 counties 37001\n"
     table = b'''GEOID,NAME,POPULATION,GROUP,SEATS,GROUP_POPULATION
 37001,Alamance County,100,2,1,100
 37003,"Alexander, the ""first""",200,1,2,200
@@ -706,85 +1083,437 @@ def tests_of_outputs():
     run, made = Given(words, files), Made(report, 0, b"", {"t": table})
     yield "a table that is stored", wrong_files(run, made), None
     made.files["t"] = table.replace(b"W1", b"3")
-    yield "a table with another label", wrong_files(run, made)[:23], "stored: t is neither as"
+    yield "a table with another label", begun(wrong_files(run, made)), "stored: t is neither as"
     made.files = {}
     yield "a table that isn't there", wrong_files(run, made), "stored: t isn't there"
-    yield "no grouping and no table", wrong_files(run, Made(b"fault EmptyGroup group 1\n", 1, b"", {})), None
+    fault = Made(b"fault EmptyGroup group 1\n", 1, b"", {})
+    yield "no grouping and no table", wrong_files(run, fault), None
+
+
+def begun(why: Optional[str]) -> str:
+    """Returns how a reason begins, or nothing if there is none."""
+    return (why or "")[:23]
+
+
+def tests_of_record() -> Tests:
+    """Yields tests of the record that docs/formats.md shows, and of changes to it."""
     words, files = ["check", "--geo", "my geo.pl"], {"my geo.pl": b"abc"}
     record = b"countygroups record 1\nversion 1.2.3\nword check\nword --geo\nword my geo.pl\n"
-    record += b"read geo 3 ba7816bf8f01cfea414140de5dae2223b00361a396177a9cb410ff61f20015ad my geo.pl\nstatus 0\nanswer best\n"
-    of = lambda changed, stored=(): wrong_record(words, files, stored, b"people 1\nanswer best\n", 0, changed)
+    record += b"read geo 3 ba7816bf8f01cfea414140de5dae2223b00361a396177a9cb410ff61f20015ad"
+    record += b" my geo.pl\nstatus 0\nanswer best\n"
+
+    def of(changed: bytes, stored: Sequence[Tuple[str, str, bytes]] = ()) -> Optional[str]:
+        """Returns what is wrong with a record of this run."""
+        text = b"people 1\nanswer best\n"
+        return wrong_record(words, files, stored, text, 0, changed)
+
     yield "a record", (is_record(record), of(record)), (True, None)
-    yield "a record with a left file", of(record.replace(b"my geo.pl\nstatus", b"my geo.pl left\nstatus")), None
-    yield "a record of other bytes", of(record.replace(b"ba78", b"ba79")) is not None, True
-    yield "a record without a word", of(record.replace(b"word check\n", b"")) is not None, True
-    yield "a record without a stored file", of(record, [("table", "t", b"")]) is not None, True
-    nameless, bare = record.replace(b"my geo.pl\nread", b"\nread").replace(b" my geo.pl\n", b" \n"), {"": b"abc"}
-    yield "a record of a file whose name is empty", wrong_record(["check", "--geo", ""], bare, (), b"answer best\n", 0, nameless), None
+    left = record.replace(b"my geo.pl\nstatus", b"my geo.pl left\nstatus")
+    yield "a record with a left file", of(left), None
+    other = record.replace(b"ba78", b"ba79")
+    yield "a record of other bytes", of(other) is not None, True
+    fewer = record.replace(b"word check\n", b"")
+    yield "a record without a word", of(fewer) is not None, True
+    found = of(record, [("table", "t", b"")])
+    yield "a record without a stored file", found is not None, True
+    nameless = record.replace(b"my geo.pl\nread", b"\nread").replace(b" my geo.pl\n", b" \n")
+    bare = ["check", "--geo", ""]
+    found = wrong_record(bare, {"": b"abc"}, (), b"answer best\n", 0, nameless)
+    yield "a record of a file whose name is empty", found, None
     yield "a record that is cut", is_record(record[:-1]), False
-    yield "a record with a byte that isn't escaped", is_record(record.replace(b"best", b"b\xffst")), False
+    unescaped = record.replace(b"best", b"b\xffst")
+    yield "a record with a byte that isn't escaped", is_record(unescaped), False
 
 
-def tests_of_changes():
+# The listing that docs/formats.md shows, up to its last line.
+LISTING = b"""people 600
+chamber 6
+seats left 6
+counties 6
+answer all
+counts 2 2
+best groupings 2
+shared groups 2
+group seats 1 people 100 counties 37011
+group seats 2 people 210 counties 37007 37009
+region 1 counties 3 alternatives 2
+alternative 1
+group seats 1 people 100 counties 37001
+group seats 2 people 190 counties 37003 37005
+alternative 2
+group seats 1 people 100 counties 37005
+group seats 2 people 190 counties 37001 37003
+"""
+# One of two regions, in which two of four combinations are listed.
+COUPLED = b"""people 600
+chamber 6
+seats left 6
+counties 6
+answer all
+counts 2 2
+best groupings 2
+shared groups 0
+region 1 counties 3 alternatives 2
+alternative 1
+group seats 1 people 100 counties 37001
+group seats 2 to 3 people 190 counties 37003 37005
+alternative 2
+group seats 1 people 100 counties 37005
+group seats 2 people 190 counties 37001 37003
+region 2 counties 3 alternatives 2
+alternative 1
+group seats 1 people 100 counties 37011
+group seats 2 people 210 counties 37007 37009
+alternative 2
+group seats 1 people 100 counties 37007
+group seats 2 people 210 counties 37009 37011
+grouping 1 alternatives 1 1
+grouping 2 alternatives 2 2
+"""
+
+
+EVERY = LISTING + b"every choice\n"
+NO_GROUPS = b"answer all\ncounts none\nbest groupings 1\nshared groups 0\nevery choice\n"
+
+
+def codes_in(listing: bytes) -> List[List[str]]:
+    """Returns the last two digits of the codes of each group, for each grouping of a listing."""
+    return [
+        ["".join(code[3:] for code in group.codes) for group in groups]
+        for groups in groupings_in(listing)
+    ]
+
+
+def tests_of_listings() -> Tests:
+    """Yields tests of what a listing tells."""
+    wanted = [["01", "11", "0305", "0709"], ["05", "11", "0103", "0709"]]
+    yield "the groupings of a listing", codes_in(EVERY), wanted
+    wanted = [["01", "11", "0305", "0709"], ["05", "07", "0103", "0911"]]
+    yield "the groupings of two regions", codes_in(COUPLED), wanted
+    yield "a listing without groups", groupings_in(NO_GROUPS), [[]]
+
+    def is_one(text: bytes, status: int) -> bool:
+        """Returns whether `list` writes the text with this status."""
+        return is_of_format("list", text.decode(), status)
+
+    yield "a listing with a number", is_one(EVERY + b"number 2\n", 0), True
+    yield "a number with another status", is_one(EVERY + b"number 2\n", 1), False
+    yield "a listing without a number", is_one(COUPLED + b"number none\n", 1), True
+    yield "no number with another status", is_one(COUPLED + b"number none\n", 0), False
+    yield "the number 0", is_one(EVERY + b"number 0\n", 0), False
+    yield "two numbers", is_one(EVERY + b"number 1\nnumber 1\n", 0), False
+
+    def of(text: bytes) -> Optional[str]:
+        """Returns what is wrong with a listing, if no number is asked for."""
+        return wrong_listing(["list"], {}, text)
+
+    yield "no number that nobody asked for", (of(EVERY), of(COUPLED)), (None, None)
+    yield "a number that nobody asked for", of(EVERY + b"number 1\n") is not None, True
+    wrong = EVERY.replace(b"groupings 2", b"groupings 3")
+    yield "a wrong count", of(wrong), "listing: it tells 2 groupings, and counts 3"
+    wrong = COUPLED.replace(b"es 1 1", b"es 2 2", 1)
+    yield "a grouping twice", of(wrong), "listing: its groupings don't ascend"
+    yield "an answer without a listing", of(b"people 1\nanswer impossible\n"), None
+
+
+def tests_of_numbers() -> Tests:
+    """Yields tests of the number of a grouping in a listing."""
+    second = b"0|37009|37007\n1|37011\n7|37003|37001|37003\n1|37005\n"
+    further, lesser = second + b"1|37001\n", second.replace(b"1|37005\n", b"")
+    number, none = EVERY + b"number 2\n", EVERY + b"number none\n"
+
+    def of(which: bytes, text: bytes) -> Optional[str]:
+        """Returns what is wrong with a listing, if the number of this grouping is asked for."""
+        return wrong_listing(["list", "--which", "w"], {"w": which}, text)
+
+    yield "the number of a grouping", of(second, number), None
+    yield "a set that is said twice", of(second + b"1|37011\n", number), None
+    wanted = "listing: behind it stands b'number 1\\n', wanted b'number 2\\n'"
+    yield "another number", of(second, EVERY + b"number 1\n"), wanted
+    yield "no number of one that is listed", of(second, none) is not None, True
+    yield "a number that isn't told", of(second, EVERY) is not None, True
+    yield "one with a further set", of(further, none), None
+    yield "the number of one with a further set", of(further, number) is not None, True
+    yield "one without a set", of(lesser, none), None
+    yield "the number of one without a set", of(lesser, number) is not None, True
+    other = COUPLED + b"number none\n"
+    yield "one of a combination that isn't listed", of(second, other), None
+    yield "a grouping without groups", of(b"", NO_GROUPS + b"number 1\n"), None
+
+
+# The table of all groupings of `COUPLED`, with a withdrawn county.
+GROUPINGS_TABLE = b'''GROUPING,GEOID,NAME,GROUP,SEATS
+1,37001,Alamance County,1,1
+1,37003,"Alexander, the ""first""",3,3
+1,37005,,3,3
+1,37007,,4,2
+1,37009,,4,2
+1,37011,Avery,2,1
+1,37013,Bertie,W1,3
+2,37001,Alamance County,3,2
+2,37003,"Alexander, the ""first""",3,2
+2,37005,,1,1
+2,37007,,2,1
+2,37009,,4,2
+2,37011,Avery,4,2
+2,37013,Bertie,W1,3
+'''
+
+
+def wrong_groupings_tables() -> Dict[str, bytes]:
+    """Returns tables that aren't that of all groupings, each by what it has."""
+    table = GROUPINGS_TABLE
+    return {
+        "seats that don't suit": table.replace(b",3,3\n", b",3,4\n"),
+        "a group of two numbers of seats": table.replace(b"37005,,3,3", b"37005,,3,2"),
+        "another label": table.replace(b"2,37005,,1,1", b"2,37005,,2,1"),
+        "a withdrawn set of other seats": table.replace(b"W1,3", b"W1,2"),
+        "another name": table.replace(b"Avery", b"Ashe"),
+        "a name that isn't quoted": table.replace(b'"Alexander, the ""first"""', b"Alexander"),
+        "one grouping": table[: table.index(b"2,37001")],
+        "the groupings twice": table + table[table.index(b"1,") :],
+        "another header": table.replace(b"GROUPING", b"NUMBER"),
+        "no line": b"",
+    }
+
+
+def tests_of_groupings() -> Tests:
+    """Yields tests of the table of all groupings."""
+    names = {b"001": b"Alamance County", b"003": b'Alexander, the "first"', b"005": b""}
+    names.update({b"007": b"", b"009": b"", b"011": b"Avery", b"013": b"Bertie"})
+    lines = [county_line(at, *it) for at, it in enumerate(names.items())]
+    files = {"g": b"".join(reversed(lines)), "w": b"3|37013\n"}
+    run = Given("list --geo g --withdrawn w --certificate c --groupings t".split(), files)
+
+    def of(held: bytes) -> Optional[str]:
+        """Returns what is wrong with a run that stores these bytes."""
+        return wrong_files(run, Made(COUPLED, 0, b"", {"t": held}))
+
+    yield "a table of all groupings", of(GROUPINGS_TABLE), None
+    fewer = GROUPINGS_TABLE.replace(b",3,3\n", b",3,2\n")
+    yield "the other number of seats that suits", of(fewer), None
+    for name, wrong in wrong_groupings_tables().items():
+        yield f"a table with {name}", begun(of(wrong)), "stored: t is neither as"
+    missing = "stored: t isn't there"
+    yield "no table", wrong_files(run, Made(COUPLED, 0, b"", {})), missing
+    made = Made(COUPLED + b"number none\n", 1, b"", {})
+    yield "no table beside no number", wrong_files(run, made), missing
+    made = Made(b"open SeatsOff line 6\n", 3, b"", {})
+    yield "no table of an open list", wrong_files(run, made), None
+    made.files["t"] = GROUPINGS_TABLE
+    yield "a table of an open list", begun(wrong_files(run, made)), "stored: t is neither as"
+    failed = Made(b"device r Device\n", 5, b"", {"t": GROUPINGS_TABLE})
+    found = begun(wrong_files(run, failed))
+    yield "a table before a failed store of nothing", found, "stored: t is neither as"
+    failed.told = b"countygroups: x\ncountygroups: the answer is:\n" + COUPLED
+    yield "a table before a failed store", wrong_files(run, failed), None
+
+
+# Three counties of four blocks, of which lines give one twice.
+BLOCKS = {b"001000": (b"001", 60), b"001001": (b"001", 40)}
+BLOCKS.update({b"003000": (b"003", 100), b"005000": (b"005", 200)})
+ASSIGNMENTS = b"""BLOCK,DISTRICT
+370010001001000,10
+370010001001001,9
+370010001001001,9
+370030001001000,10
+370050001001000,"a"
+370990001001000,8
+370030001001000,ZZZ
+370050001001000,
+"""
+DISTRICTS_TABLE = b'''DISTRICT,POPULATION,LEAST,GREATEST,SETS,COUNTIES
+"""a""",200,95,105,W1,37005
+10,160,95,105,1 2,37001 37003
+9,40,95,105,2,37001
+'''
+FINDINGS = b"findings 1\nGrouping Twice county 37003\n"
+
+
+def audited_run(*more: str) -> Given:
+    """Returns a run of `audit` that stores the districts, with more words behind the others.
+
+    Its grouping has a county in two groups.
+    """
+    geo, segment = b"", b""
+    people = {b"001": 100, b"003": 100, b"005": 200}
+    for record, (county, count) in enumerate(people.items()):
+        geo += b"||050||00|||%d||x|||37||%s\n" % (record, county)
+        segment += b"||||%d|%d\n" % (record, count)
+    for record, (block, (county, count)) in enumerate(BLOCKS.items(), 10):
+        code = b"37" + block[:3] + b"0001001" + block[3:]
+        geo += b"||750||00|||%d||%s|||37||x\n" % (record, code)
+        segment += b"||||%d|%d\n" % (record, count)
+    files = {"g": geo, "s": segment, "b": ASSIGNMENTS, "w": b"2|37005\n"}
+    files["o"] = b"1|37003\n1|37001|37003\n"
+    words = "audit --geo g --segment s --chamber 4 --assignments b --grouping o --districts d"
+    return Given([*words.split(), *more], files)
+
+
+def tests_of_districts() -> Tests:
+    """Yields tests of the table of the districts."""
+    withdrawing, bare = audited_run("--withdrawn", "w"), audited_run()
+
+    def of(run: Given, held: bytes) -> Optional[str]:
+        """Returns what is wrong with a run that stores these bytes."""
+        return wrong_files(run, Made(FINDINGS, 1, b"", {"d": held}))
+
+    yield "a table of districts", of(withdrawing, DISTRICTS_TABLE), None
+    found = begun(of(bare, DISTRICTS_TABLE))
+    yield "a district of a county in no set", found, "stored: d is neither as"
+    fewer = DISTRICTS_TABLE.replace(b'"""a""",200,95,105,W1,37005\n', b"")
+    yield "no district of a county in no set", of(bare, fewer), None
+    exact = audited_run("--withdrawn", "w", "--part", "0")
+    narrow = DISTRICTS_TABLE.replace(b"95,105", b"100,100")
+    yield "another allowance", of(exact, narrow), None
+    missing = "stored: d isn't there"
+    yield "no districts", wrong_files(bare, Made(FINDINGS, 1, b"", {})), missing
+    made = Made(b"findings 0\n", 0, b"", {})
+    yield "no districts without findings", wrong_files(bare, made), missing
+    made = Made(b"refused geo NoBlocks line 0\n", 4, b"", {"d": fewer})
+    found = begun(wrong_files(bare, made))
+    yield "districts of a refused file", found, "stored: d is neither as"
+
+
+def tests_of_wrong_districts() -> Tests:
+    """Yields tests of tables that aren't that of the districts."""
+    run, table = audited_run("--withdrawn", "w"), DISTRICTS_TABLE
+    wrong_ones = {
+        "a block that counts for each line": table.replace(b"9,40", b"9,80"),
+        "a district of an unknown block": table.replace(b"9,40", b"8,0,95,105,,\n9,40"),
+        "labels in another order": b"".join(sorted(table.splitlines(True), reverse=True)),
+        "sets in another order": table.replace(b"1 2", b"2 1"),
+        "the second set of a county": table.replace(b"1 2", b"2"),
+        "counties in another order": table.replace(b"37001 37003", b"37003 37001"),
+        "other bounds": table.replace(b"95,105", b"94,105"),
+        "a label that isn't quoted": table.replace(b'"""a"""', b'"a"'),
+        "another header": table.replace(b"DISTRICT", b"LABEL"),
+    }
+    for name, wrong in wrong_ones.items():
+        found = begun(wrong_files(run, Made(FINDINGS, 1, b"", {"d": wrong})))
+        yield f"districts with {name}", found, "stored: d is neither as"
+
+
+def tests_of_assignments() -> Tests:
+    """Yields tests of how assignments are read."""
+    text = b"\xef\xbb\xbf\r\n370010001001000|A,1|x\r\n\n370010001001001|\n370030001001000|2"
+    wanted = [("370010001001000", b"A,1"), ("370010001001001", b""), ("370030001001000", b"2")]
+    yield "assignments at pipes", assignments_in(text), wanted
+    text = b"370010001001000,A|1\n"
+    yield "a header with a pipe", assignments_in(text), []
+    wanted = [("370010001001000", b"A|1")]
+    yield "assignments at commas with a pipe", assignments_in(b"B,D\n" + text), wanted
+    yield "no assignments", (assignments_in(b""), assignments_in(b"B,D\n")), ([], [])
+
+
+def tests_of_asking() -> Tests:
+    """Yields tests of what a run with the options of lists is asked, stores and records."""
+    words = "list --record r --groupings t --out o --geo g --certificate c --which w".split()
+    certificate = b"group 1 37001 37003\ngroup 2 37005\n"
+    files = {"g": b"x", "c": certificate, "w": b"1|37001\n"}
+    yield "the order of storing", [*outputs_of(words)], ["out", "groupings", "record"]
+    yield "districts of an audit alone", outputs_of(["list", "--districts", "d"]), {}
+    read = [it.split(b" ")[1] for it in read_lines(words, files, b"")]
+    yield "the order of reading", read, [b"geo", b"grouping", b"certificate"]
+    record = b"countygroups record 1\nversion 1\nstored %s 0 " + b"0" * 64
+    record += b" t\nstatus 0\nanswer x\n"
+    yield "a record of groupings", is_record(record % b"groupings"), True
+    yield "a record of districts", is_record(record % b"districts"), True
+    yield "a record of what isn't stored", is_record(record % b"which"), False
+    asked = asked_of_second(Given(words, files), Made(b"answer all\n", 0, b"", {}))
+    yield "a list whose table has names", asked and asked[0][-2:], ["--table", "t"]
+    refused = Made(b"refused grouping BadCode line 1\n", 4, b"", {})
+    found = asked_of_second(Given(words, files), refused)
+    yield "a grouping before the certificate", found, None
+    made = []
+    for turn in range(200):
+        run = Given(words[:-2], {"g": b"x", "c": certificate})
+        add_which(run, True, random.Random(turn))
+        made.append(run.files.get("which"))
+    yield "a grouping of the certificate", b"1|37001|37003\n2|37005\n" in made, True
+    yield "it in another order", b"2|37005\n1|37001|37003\n" in made, True
+    yield "no grouping", None in made, True
+
+
+def tests_of_changes() -> Tests:
+    """Yields tests of what is changed at random."""
     sources = Sources()
     yield "each command has runs", {it.words[0] for it in sources.runs}, {*TEXTS}
     turns = [sources.changed(random.Random(f"1 {turn}")) for turn in range(300)]
-    yield "the same seed and turn", turns[7], sources.changed(random.Random("1 7"))
+    again = sources.changed(random.Random("1 7"))
+    yield "the same seed and turn", turns[7], again
     told = [it for it in turns if it.is_told and it.whole is None]
-    yield "a told run has the files of its text", [it for it in told if it.files != as_told(it.files)], []
+    others = [it for it in told if it.files != as_told(it.files)]
+    yield "a told run has the files of its text", others, []
     yield "few runs are as they were", sum(it in sources.runs for it in turns) < 30, True
     nameless = Given(["size", "--geo", ""], {"": b"x"}, b"", True)
     yield "a file without a name is in no folder", fits_folder(nameless), False
-    yield "a folder's words stay in it", all(it.is_told or is_plain(it.words) for it in turns), True
+    are_inside = all(it.is_told or is_plain(it.words) for it in turns)
+    yield "a folder's words stay in it", are_inside, True
     yield "both kinds of run", {it.is_told for it in turns}, {True, False}
     bare = ["check", "--geo", "g", "--certificate"]
     made = [changed_words(bare, random.Random(turn)) for turn in range(300)]
     yield "words that end with an option", [*bare, "--links", ""] in made, True
     yield "they get the words of other options", [*bare, "--links", "g"] in made, True
+    texts = (b"", b"\n", b"take 37001 37003\nmark\n")
     for change in dict.fromkeys(CHANGES):
-        made = [change(text, random.Random(turn)) for turn in range(200) for text in (b"", b"\n", b"take 37001 37003\nmark\n")]
-        yield f"{change.__name__} gives bytes", all(isinstance(it, bytes) for it in made), True
-        yield f"{change.__name__} changes something", len(set(made)) > 3, True
+        changed = {change(text, random.Random(turn)) for turn in range(200) for text in texts}
+        name = getattr(change, "__name__", "")
+        yield f"{name} gives bytes", all(isinstance(it, bytes) for it in changed), True
+        yield f"{name} changes something", len(changed) > 3, True
 
 
 class Stand:
     """Stands for the sources of a turn: it gives one run, or ends by an error."""
 
-    def __init__(self, run=None):
+    def __init__(self, run: Optional[Given] = None) -> None:
         self.run = run
 
-    def changed(self, chance):
+    def changed(self, _: random.Random) -> Given:
+        """Returns the run."""
         if self.run is None:
             raise IndexError("no word")
         return self.run
 
 
-def turn_of(sources, programs, keep_folder):
-    """The tally of one turn, what it printed, and its status."""
-    asked, tally, said = argparse.Namespace(seed=5, limit=20, memory=1024, keep=keep_folder), Tally(), io.StringIO()
-    with tempfile.TemporaryDirectory(prefix="fuzz-") as room, contextlib.redirect_stdout(said), contextlib.redirect_stderr(io.StringIO()):
-        tally.turn(asked, sources, programs, [], os.path.realpath(room), 7)
-        tally.told()
+def turn_of(sources: Stand, programs: Sequence[str], keep_folder: str) -> Tuple[int, List[str]]:
+    """Returns the status of one turn, and the lines that it printed."""
+    asked = argparse.Namespace(seed=5, limit=20, memory=1024, keep=keep_folder)
+    tally, said = Tally(), io.StringIO()
+    with tempfile.TemporaryDirectory(prefix="fuzz-") as room:
+        with contextlib.redirect_stdout(said), contextlib.redirect_stderr(io.StringIO()):
+            tally.turn(asked, sources, programs, [], os.path.realpath(room), 7)
+            tally.told()
     return tally.status(), said.getvalue().splitlines()
 
 
-def tests_of_errors():
-    """Errors of this script and finds, which never pass for one another. The program of these turns is `false`, whose text is none of a command."""
-    run = Given(["size", "--geo", "g"], {"g": b"x"}, b"", False)
+def tests_of_errors() -> Tests:
+    """Yields tests of errors of this script and of finds, which never pass for one another.
+
+    The program of these turns is `false`, whose text is none of a command.
+    """
+    run, program = Given(["size", "--geo", "g"], {"g": b"x"}, b"", False), "/bin/false"
     found = "FOUND seed 5 turn 7: format: status 1, ``"
-    yield "an error is no find", turn_of(Stand(), [], ""), (3, ["ERROR seed 5 turn 7: IndexError: no word", "0 runs, 0 finds, 1 error of this script"])
+    error = "ERROR seed 5 turn 7: IndexError: no word"
+    wanted = [error, "0 runs, 0 finds, 1 error of this script"]
+    yield "an error is no find", turn_of(Stand(), [], ""), (3, wanted)
     with tempfile.TemporaryDirectory(prefix="fuzz-") as room:
-        yield "a find is no error", turn_of(Stand(run), ["/bin/false"], room), (1, [found, "status 1: 1 runs", "1 runs, 1 finds, 0 errors of this script"])
-        yield "it is kept", sorted(os.listdir(f"{room}/5-7")), ["found.case", "found.files", "found.out", "found.txt", "found.words"]
-        yield "it is kept again", turn_of(Stand(run), ["/bin/false"], room)[0], 1
+        wanted = [found, "status 1: 1 runs", "1 runs, 1 finds, 0 errors of this script"]
+        yield "a find is no error", turn_of(Stand(run), [program], room), (1, wanted)
+        names = [f"found.{it}" for it in ("case", "files", "out", "txt", "words")]
+        yield "it is kept", sorted(os.listdir(f"{room}/5-7")), names
+        yield "it is kept again", turn_of(Stand(run), [program], room)[0], 1
         keep(f"{room}/8", run, ["checker: x"], (b"KeyError()", None), "seed 5 turn 8")
-        yield "an error of the second checker is kept", "found.out" in os.listdir(f"{room}/8"), True
-    status, lines = turn_of(Stand(run), ["/bin/false"], "/dev/null")
+        kept = "found.out" in os.listdir(f"{room}/8")
+        yield "an error of the second checker is kept", kept, True
+    status, lines = turn_of(Stand(run), [program], "/dev/null")
     yield "a find that can't be kept is told", (status, lines[0]), (4, found)
-    yield "and so is the error", (lines[1][:27], lines[-1]), ("ERROR seed 5 turn 7: NotADi", "1 runs, 1 finds, 1 error of this script")
+    last = "1 runs, 1 finds, 1 error of this script"
+    yield "and so is the error", (lines[1][:27], lines[-1]), ("ERROR seed 5 turn 7: NotADi", last)
 
 
-def test():
+def test() -> int:
+    """Runs the tests, and returns the exit status."""
     passed = failed = 0
     for name, found, wanted in tests():
         passed, failed = passed + (found == wanted), failed + (found != wanted)
@@ -797,77 +1526,108 @@ def test():
 # ---- the command ----
 
 
-def programs_of(asked):
-    programs = [os.path.realpath(it) for it in asked.program or [cases.built_program("countygroups")]]
+def programs_of(asked: argparse.Namespace) -> List[str]:
+    """Returns the programs that are asked for. Stops if one isn't there."""
+    given = asked.program or [cases.built_program("countygroups")]
+    programs = [os.path.realpath(it) for it in given]
     for program in programs:
         if not os.access(program, os.X_OK):
             program_runs.stop(f"{program} isn't there: `rt run` or `rt ci` builds it")
     return programs
 
 
-def stores(program, option):
-    """Whether a program stores what an option names: one without the option doesn't."""
-    case = f"solve --geo g --segment s --chamber 1 --adjacency a --{option} stored\nfile g\n||050||00|||1|||||37||001\nfile s\n||||1|1\nfile a\n"
-    return b"\nfile stored\n" in subprocess.run([program], input=case.encode(), stdout=subprocess.PIPE, stderr=subprocess.DEVNULL).stdout
+def has_option(program: str, command: str, option: str) -> bool:
+    """Returns whether a program's command has an option, by what it says of itself."""
+    asked = [program, command, "--help"]
+    ran = subprocess.run(asked, stdout=subprocess.PIPE, stderr=subprocess.DEVNULL)
+    return b" --%s " % option.encode() in ran.stdout
+
+
+def chance_of(asked: argparse.Namespace, turn: int, what: str = "") -> random.Random:
+    """Returns what picks at random in a turn: the change, the outputs or the pipes."""
+    return random.Random(f"{asked.seed} {turn}{what}")
 
 
 class Tally:
-    """How many runs ended with each status, and how many finds and errors of this script there were."""
+    """How many runs ended with each status, and how many finds and errors there were."""
 
-    def __init__(self):
-        self.statuses, self.finds, self.errors = collections.Counter(), 0, 0
+    def __init__(self) -> None:
+        self.statuses: Dict[int, int] = collections.Counter()
+        self.finds = self.errors = 0
 
-    def turn(self, asked, sources, programs, options, room, turn):
-        """Runs one turn. If this script itself ends by an error, the error is told and counted, and is no find."""
+    def turn(
+        self,
+        asked: argparse.Namespace,
+        sources: Union[Sources, Stand],
+        programs: Sequence[str],
+        options: Iterable[str],
+        room: str,
+        turn: int,
+    ) -> None:
+        """Runs one turn. If this script itself ends by an error, the error is told and counted."""
         try:
-            self.tried_turn(asked, sources, programs, options, room, turn)
+            run = sources.changed(chance_of(asked, turn))
+            add_outputs(run, options, chance_of(asked, turn, " outputs"))
+            self.tried_turn(asked, run, programs, room, turn)
         except Exception as error:
             self.errors += 1
-            print(f"ERROR seed {asked.seed} turn {turn}: {type(error).__name__}: {error}", flush=True)
+            what = f"{type(error).__name__}: {error}"
+            print(f"ERROR seed {asked.seed} turn {turn}: {what}", flush=True)
             traceback.print_exc()
 
-    def tried_turn(self, asked, sources, programs, options, room, turn):
-        """Runs one turn. What was found is told before it is kept."""
-        run = sources.changed(random.Random(f"{asked.seed} {turn}"))
-        add_outputs(run, options, random.Random(f"{asked.seed} {turn} outputs"))
+    def tried_turn(
+        self,
+        asked: argparse.Namespace,
+        run: Given,
+        programs: Sequence[str],
+        room: str,
+        turn: int,
+    ) -> None:
+        """Runs the programs over the run of a turn. What was found is told before it is kept."""
         if stores_outside(run):
             # (a told run stores nothing on the machine)
             run.is_told, run.files = True, as_told(run.files)
         runs = [made_by(program, run, room, asked) for program in programs]
         faults, wanted = faults_of(run, runs, asked)
-        may_be_pipes = random.Random(f"{asked.seed} {turn} pipes").random() < 0.3 and not faults
+        may_be_pipes = chance_of(asked, turn, " pipes").random() < 0.3 and not faults
         pipes = pipes_of(run) if may_be_pipes else []
         if pipes:
             why = wrong_pipes(runs[0], made_by(programs[0], run, room, asked, pipes))
-            faults, wanted = ([why], (runs[0].text, runs[0].status)) if why else ([], None)
-        self.statuses.update(it.status for it in runs)
+            if why is not None:
+                faults, wanted = [why], (runs[0].text, runs[0].status)
+        for made in runs:
+            self.statuses[made.status] += 1
         self.finds += bool(faults)
+        how = f"seed {asked.seed} turn {turn}"
         for why in faults:
-            print(f"FOUND seed {asked.seed} turn {turn}: {why}", flush=True)
+            print(f"FOUND {how}: {why}", flush=True)
         if faults:
-            how = f"seed {asked.seed} turn {turn}"
             keep(f"{asked.keep}/{asked.seed}-{turn}", run, faults, wanted, how, pipes)
 
-    def told(self):
+    def told(self) -> None:
         """Prints how many runs ended with each status, and how many finds and errors there were."""
         for status, count in sorted(self.statuses.items()):
             print(f"status {status}: {count} runs")
         errors = f"{self.errors} error{'' if self.errors == 1 else 's'} of this script"
         print(f"{sum(self.statuses.values())} runs, {self.finds} finds, {errors}")
 
-    def status(self):
-        """The exit status: 0 nothing, 1 finds, 3 errors of this script, 4 both."""
+    def status(self) -> int:
+        """Returns the exit status: 0 nothing, 1 finds, 3 errors of this script, 4 both."""
         return (1 if self.finds else 0) + (3 if self.errors else 0)
 
 
-def interrupt(*_):
+def interrupt(*_: Any) -> NoReturn:
+    """Ends the turns."""
     raise KeyboardInterrupt
 
 
-def fuzz(asked, room):
-    """Runs turns until the time or their number is over, or until this program is asked to end."""
+def fuzz(asked: argparse.Namespace, room: str) -> int:
+    """Runs turns until their time or number is over, or until this program is asked to end."""
     programs, sources, tally = programs_of(asked), Sources(), Tally()
-    options = [it for it in ("table", "record") if all(stores(program, it) for program in programs)]
+    options = []
+    for option, command in MORE.items():
+        if all(has_option(program, command, option) for program in programs):
+            options.append(option)
     # (a machine that is busy gives a run little of its time)
     program_runs.SECONDS = 100 * asked.limit
     began, turn = time.time(), asked.turn or 0
@@ -883,11 +1643,10 @@ def fuzz(asked, room):
     return tally.status()
 
 
-def main():
-    if {"-h", "--help"} & {*sys.argv[1:]}:
-        print(__doc__, end="")
-        return 0
-    parser = argparse.ArgumentParser(usage=__doc__.split("usage: ")[1].split("\n\n")[0], add_help=False)
+def words_given() -> argparse.Namespace:
+    """Returns what the words of this script ask for."""
+    usage = (__doc__ or "").split("usage: ")[1].split("\n\n")[0]
+    parser = argparse.ArgumentParser(usage=usage, add_help=False)
     parser.add_argument("--program", action="append")
     parser.add_argument("--seconds", type=float, default=60)
     parser.add_argument("--runs", type=int)
@@ -897,7 +1656,15 @@ def main():
     parser.add_argument("--memory", type=int, default=1024)
     parser.add_argument("--keep", default="fuzz-finds")
     parser.add_argument("--test", action="store_true")
-    asked = parser.parse_args()
+    return parser.parse_args()
+
+
+def main() -> int:
+    """Runs what the words ask for, and returns the exit status."""
+    if {"-h", "--help"} & {*sys.argv[1:]}:
+        print(__doc__, end="")
+        return 0
+    asked = words_given()
     if asked.test:
         return test()
     try:

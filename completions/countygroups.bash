@@ -38,13 +38,13 @@ _countygroups() {
             with_value="--chamber --state --part --of --budget"
             ;;
         audit)
-            options="--geo --segment --chamber --state --part --of --record --adjacency --links --withdrawn --grouping --assignments -h --help"
-            with_file="--geo --segment --record --adjacency --links --withdrawn --grouping --assignments"
+            options="--geo --segment --chamber --state --part --of --record --adjacency --links --withdrawn --grouping --assignments --districts -h --help"
+            with_file="--geo --segment --record --adjacency --links --withdrawn --grouping --assignments --districts"
             with_value="--chamber --state --part --of"
             ;;
         list)
-            options="--geo --segment --chamber --state --part --of --record --adjacency --links --withdrawn --certificate --budget --number --out -h --help"
-            with_file="--geo --segment --record --adjacency --links --withdrawn --certificate --out"
+            options="--geo --segment --chamber --state --part --of --record --adjacency --links --withdrawn --certificate --budget --number --out --which --groupings -h --help"
+            with_file="--geo --segment --record --adjacency --links --withdrawn --certificate --out --which --groupings"
             with_value="--chamber --state --part --of --budget --number"
             ;;
         share)

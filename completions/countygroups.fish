@@ -80,6 +80,7 @@ complete -c countygroups -n '__fish_seen_subcommand_from audit' -l links -r -F -
 complete -c countygroups -n '__fish_seen_subcommand_from audit' -l withdrawn -r -F -d 'The withdrawn sets'
 complete -c countygroups -n '__fish_seen_subcommand_from audit' -l grouping -r -F -d 'The groups, each with its seats'
 complete -c countygroups -n '__fish_seen_subcommand_from audit' -l assignments -r -F -d 'The district of each census block'
+complete -c countygroups -n '__fish_seen_subcommand_from audit' -l districts -r -F -d 'The file to write the table of the districts to, as CSV'
 complete -c countygroups -n '__fish_seen_subcommand_from audit' -s h -l help -d 'Print help'
 
 complete -c countygroups -n '__fish_seen_subcommand_from list' -l geo -r -F -d 'The PL 94-171 geographic header'
@@ -96,6 +97,8 @@ complete -c countygroups -n '__fish_seen_subcommand_from list' -l certificate -r
 complete -c countygroups -n '__fish_seen_subcommand_from list' -l budget -x -d 'The most steps of the checker [default: 10000000]'
 complete -c countygroups -n '__fish_seen_subcommand_from list' -l number -x -d 'Which grouping --out stores, from 1 (with --out)'
 complete -c countygroups -n '__fish_seen_subcommand_from list' -l out -r -F -d 'The file to write that grouping to (with --number)'
+complete -c countygroups -n '__fish_seen_subcommand_from list' -l which -r -F -d 'A grouping whose number in the list is asked for (without --number and --out)'
+complete -c countygroups -n '__fish_seen_subcommand_from list' -l groupings -r -F -d 'The file to write the table of all best groupings to, as CSV'
 complete -c countygroups -n '__fish_seen_subcommand_from list' -s h -l help -d 'Print help'
 
 complete -c countygroups -n '__fish_seen_subcommand_from share' -l geo -r -F -d 'The PL 94-171 geographic header'

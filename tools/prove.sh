@@ -1,5 +1,5 @@
 #!/usr/bin/env bash
-# Proves and builds every crate from nothing, in a copy of the crates. See `tools/prove.sh --help`.
+# Proves and builds every crate, in a copy of the crates. See `tools/prove.sh --help`.
 set -euo pipefail
 
 usage() {
@@ -7,8 +7,9 @@ usage() {
 usage: tools/prove.sh FOLDER LOG [--all-edits] [--module FILE]
 
 Copies the crates to FOLDER, which is empty or missing, with the must-fail edits that are due, and
-runs `rt ci` there: it proves each crate, tries the edits, and runs the programs. The built programs
-are in FOLDER/crates/NAME/out, and what `rt ci` said is in LOG. As many checks run side by side as
+runs `rt ci` there: it proves each crate, tries the edits, and runs the programs. What it passed on
+this machine before, with the same files, it takes as passed. The built programs are in
+FOLDER/crates/NAME/out, and what `rt ci` said is in LOG. As many checks run side by side as
 there are processors, four at most, each with one job: a check with several jobs takes more time of
 the processors.
 --all-edits: tries all edits, those of `tried/` too (`tools/gate_room.py`).
@@ -43,56 +44,17 @@ if [ ${#names[@]} != 2 ]; then
     usage >&2
     refuse 2 "it takes a folder and a log"
 fi
-rt=$(command -v rt) || refuse 2 "there is no \`rt\` on the path; it comes with the Rattle kit"
+command -v rt >/dev/null || refuse 2 "there is no \`rt\` on the path; it comes with the Rattle kit"
 top=$(cd "$(dirname "$0")/.." && pwd)
 folder=${names[0]}
 : >"${names[1]}"
 log=$(realpath "${names[1]}")
 processors=$(nproc)
-kept=$(mktemp -d)
-trap 'rm -rf "$kept"' EXIT
-
-# Makes a kit whose clang keeps each module that it compiles, beside the sum of its object.
-keep_modules() {
-    cat >"$kept/clang" <<SCRIPT
-#!/usr/bin/env bash
-clang=$(printf %q "$(dirname "$(rt doc)")/toolchain/bin/clang")
-kept=$(printf %q "$kept")
-SCRIPT
-    cat >>"$kept/clang" <<'SCRIPT'
-module=
-object=
-previous=
-for word in "$@"; do
-    case $word in *.bc) module=$word ;; esac
-    [ "$previous" != -o ] || object=$word
-    previous=$word
-done
-[ -f "$module" ] || exec -a "${0%-script}" "$clang" "$@"
-(exec -a "${0%-script}" "$clang" "$@") || exit
-name=$kept/$(sha256sum <"$object" | cut -c1-64)
-cp "$module" "$name.part.$$" && mv "$name.part.$$" "$name.bc"
-SCRIPT
-    "$top/tools/kit_links.sh" "$kept/kit" "$kept/clang"
-    rt=$kept/kit/bin/rt
-}
-
-# Stores the module whose object is the one that the program was linked of.
-store_module() {
-    local object=$folder/crates/countygroups/out/countygroups.o name
-    name=$(sha256sum <"$object" | cut -c1-64)
-    [ -f "$kept/$name.bc" ] || refuse 1 "no module was kept of which $object was made"
-    cp "$kept/$name.bc" "$module"
-}
-
-if [ -n "$module" ]; then
-    keep_modules
-fi
 python3 "$top/tools/gate_room.py" "${edits[@]}" "$folder"
-(cd "$folder" && env RT_JOBS=$((processors < 4 ? processors : 4)) "$rt" ci) 2>&1 | tee "$log"
+(cd "$folder" && env RT_JOBS=$((processors < 4 ? processors : 4)) rt ci) 2>&1 | tee "$log"
 if grep -q 'BAD EDIT' "$log"; then
     refuse 1 "an edit can't be applied, compiled or read, so that it shows nothing"
 fi
 if [ -n "$module" ]; then
-    store_module
+    python3 "$top/tools/program_module.py" "$folder" "$module"
 fi

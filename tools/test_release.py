@@ -3,9 +3,9 @@
 
 usage: python3 tools/test_release.py
 
-It needs git, and says so where git isn't there. Nothing is proved. The stand-in's `rt ci` has its
-clang compile two modules, links one of them, and says what the test wants. If the kit is there,
-`tools/kit_links.sh` is tried with the kit itself.
+It needs git, and says so where git isn't there. Nothing is proved. The stand-in's `rt ci` makes two
+programs, and says what the test wants. Its compiler has clang compile a module, and links it. If
+the kit is there, `tools/kit_links.sh` is tried with the kit itself.
 """
 from __future__ import annotations
 
@@ -18,8 +18,8 @@ import unittest
 import dist_folder
 
 TOOLS = os.path.join(dist_folder.TOP, "tools")
-NEEDED = ("compare_dist.py", "dist_folder.py", "gate_room.py", "kit_links.sh", "prove.sh",
-          "release.sh")
+NEEDED = ("compare_dist.py", "dist_folder.py", "gate_room.py", "kit_links.sh",
+          "program_module.py", "prove.sh", "release.sh")
 RT = """#!/usr/bin/env bash
 set -e
 kit=$(cd "$(dirname "$0")/.." && pwd)
@@ -27,18 +27,38 @@ case $1 in
     doc) echo "$kit/START-HERE.md" ;;
     version) echo "rattle-kit-0 logic 0" ;;
     ci)
-        room=$(mktemp -d)
         for name in other countygroups; do
             mkdir -p "crates/$name/out"
-            echo "module of $name" >"$room/module.bc"
-            (cd "$room" && env -i "$kit/toolchain/bin/clang" -x ir module.bc -o module.o)
-            cp "$room/module.o" "crates/$name/out/$name.o"
-            (echo "#!/bin/sh"; cat "crates/$name/out/$name.o") >"crates/$name/out/$name"
+            (echo "#!/bin/sh"; echo "# object of module of $name") >"crates/$name/out/$name"
             chmod +x "crates/$name/out/$name"
         done
         cat "$kit/said"
         ;;
 esac
+"""
+RATTLE = """#!/usr/bin/env bash
+set -e
+verb=$1
+name=$3
+while [ $# -gt 1 ]; do
+    case $1 in
+        --toolchain) toolchain=$2 ;;
+        -o) made=$2 ;;
+    esac
+    shift
+done
+if [ "$verb" = check ]; then
+    touch "$made"
+else
+    room=$(mktemp -d)
+    echo "module of $name" >"$room/module.bc"
+    (cd "$room" && env -i "$toolchain/bin/clang" -x ir module.bc -o module.o)
+    cp "$room/module.o" "$made"
+fi
+"""
+LINK = """#!/usr/bin/env bash
+(echo "#!/bin/sh"; cat "$7") >"$6"
+chmod +x "$6"
 """
 CLANG = """#!/usr/bin/env bash
 sed 's/^/# object of /' "$3" >"$5"
@@ -85,6 +105,8 @@ class TestRelease(unittest.TestCase):
         self.top, self.kit = f"{self.room}/top", f"{self.room}/kit"
         write(f"{self.kit}/bin/rt", RT, True)
         write(f"{self.kit}/bin/rtlib.py", "")
+        write(f"{self.kit}/bin/rattle", RATTLE, True)
+        write(f"{self.kit}/bin/rattle-link", LINK, True)
         write(f"{self.kit}/toolchain/bin/clang", CLANG, True)
         write(f"{self.kit}/toolchain/lib/libc.so", "")
         write(f"{self.kit}/said", "rt: ok\n9 passed, 0 failed\n")
@@ -137,6 +159,19 @@ class TestRelease(unittest.TestCase):
         self.assertEqual(self.prove().returncode, 0)
         self.assertEqual(read(f"{self.room}/m.bc"), "module of countygroups\n")
         self.assertEqual(read(f"{self.room}/log"), "rt: ok\n9 passed, 0 failed\n")
+
+    def test_a_second_build_that_differs_is_refused(self) -> None:
+        write(f"{self.kit}/bin/rattle-link", LINK.replace("#!/bin/sh", "#!/bin/bash"), True)
+        ran = self.prove()
+        self.assertEqual(ran.returncode, 1)
+        self.assertIn("the second build differs", ran.stderr)
+        self.assertFalse(os.path.exists(f"{self.room}/m.bc"))
+
+    def test_a_program_that_does_not_compile_is_refused(self) -> None:
+        write(f"{self.kit}/bin/rattle", "#!/bin/sh\necho too little\nexit 1\n", True)
+        ran = self.prove()
+        self.assertEqual(ran.returncode, 1)
+        self.assertIn("`rattle check` fails: too little", ran.stderr)
 
     def test_an_edit_that_shows_nothing_fails(self) -> None:
         write(f"{self.kit}/said", "rt: other: BAD EDIT\n9 passed, 0 failed\n")

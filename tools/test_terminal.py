@@ -1,5 +1,5 @@
 #!/usr/bin/env python3
-"""Tests what the program says at a terminal of words that are no command.
+"""Tests what the program says at a terminal: of words that are no command, and behind an answer.
 
 usage: python3 tools/test_terminal.py [--program FILE]
 
@@ -7,7 +7,9 @@ usage: python3 tools/test_terminal.py [--program FILE]
 
 Standard output has the text of the error, wherever it leads. Standard error has the error's lines
 too, since a program may keep standard output to itself. If standard output is a terminal, standard
-error leaves them out, so that nobody reads them twice. The terminals are pseudo terminals.
+error leaves them out, so that nobody reads them twice. Behind an answer standard error then has the
+groups with the names of their counties, and the findings of an audit by kind. The terminals are
+pseudo terminals.
 """
 from __future__ import annotations
 
@@ -138,6 +140,103 @@ class OtherTexts(unittest.TestCase):
             with self.subTest(words=words):
                 piped, said = run_at(words, "none"), run_at(words, "output")
                 self.assertEqual(said, piped)
+
+
+NAMES = {"37001": "Alamance County", "37003": "Alexander County", "37007": "Ashe County"}
+PEOPLE = {"37001": 100, "37003": 60, "37005": 40, "37007": 200}
+BORDERS = (("37001", "37003"), ("37003", "37005"), ("37005", "37007"))
+BLOCKS = {"370010001001000": 100, "370030001001000": 60, "370050001001000": 40,
+          "370070001001000": 101, "370070001001001": 99}
+GROUPING = "1|37001\n2|37007\n1|37003|37005\n"
+# District 1 has a block in two groups, and district 2 has too few people.
+PLAN = ("370010001001000|1\n370030001001000|1\n370050001001000|2\n"
+        "370070001001000|3\n370070001001001|4\n")
+GROUPS = [
+    "countygroups: group 1 seats 1 people 100: Alamance County",
+    "countygroups: group 2 seats 2 people 200: Ashe County",
+    "countygroups: group 3 seats 1 people 100: Alexander County, 37005",
+]
+
+
+def header_line(number: int, level: str, code: str, name: str) -> str:
+    """Returns a line of a geographic header: its record's number, its level, and its codes."""
+    fields = [""] * 88
+    fields[2], fields[4], fields[7], fields[9] = level, "00", str(number), code
+    fields[12], fields[14], fields[87] = code[:2], code[2:5], name
+    return "|".join(fields) + "\n"
+
+
+def write_files(folder: str) -> None:
+    """Writes the census files, the border list, a grouping and a plan of four counties."""
+    areas = [("050", code, people) for code, people in PEOPLE.items()]
+    areas += [("750", code, people) for code, people in BLOCKS.items()]
+    geo = [header_line(i, level, code, NAMES.get(code, ""))
+           for i, (level, code, _) in enumerate(areas)]
+    segment = [f"||||{i}|{people}\n" for i, (_, _, people) in enumerate(areas)]
+    borders = "".join(f"A|{one}|B|{other}|1\n" for one, other in BORDERS)
+    borders = "County Name|County GEOID|Neighbor Name|Neighbor GEOID|Length\n" + borders
+    files = {"geo": "".join(geo), "segment": "".join(segment), "borders": borders,
+             "grouping": GROUPING, "plan": PLAN}
+    for name, text in files.items():
+        with open(f"{folder}/{name}", "w", encoding="utf-8") as file:
+            file.write(text)
+
+
+class Names(unittest.TestCase):
+    """The names of counties behind an answer."""
+
+    def setUp(self) -> None:
+        room = tempfile.TemporaryDirectory(prefix="test-terminal-")
+        self.addCleanup(room.cleanup)
+        self.room = room.name
+        write_files(self.room)
+        self.problem = ["--geo", f"{self.room}/geo", "--segment", f"{self.room}/segment",
+                        "--chamber", "4", "--adjacency", f"{self.room}/borders"]
+
+    def told_at(self, *words: str) -> list[str]:
+        """Returns the lines on standard error of a run at a terminal.
+
+        Its answer and its status are those of a run through pipes, which tells fewer lines.
+        """
+        command = [words[0], *self.problem, *words[1:]]
+        piped, said = run_at(command, "none"), run_at(command, "output")
+        self.assertEqual((said.output, said.status), (piped.output, piped.status))
+        told, less = said.error.splitlines(), piped.error.splitlines()
+        self.assertEqual([line for line in told if line in less], less)
+        return [line for line in told if line not in less]
+
+    def test_reports(self) -> None:
+        """The groups of `solve`, `check` and `judge` have names, or codes where none is known."""
+        certificate = ["--certificate", f"{self.room}/certificate"]
+        self.assertEqual(self.told_at("solve", *certificate), GROUPS)
+        self.assertEqual(self.told_at("check", *certificate), GROUPS)
+        self.assertEqual(self.told_at("judge", "--grouping", f"{self.room}/grouping"), GROUPS)
+
+    def test_list(self) -> None:
+        """The groups of a listing have names, below the listing's own headings."""
+        certificate = ["--certificate", f"{self.room}/certificate"]
+        self.told_at("solve", *certificate)
+        told = self.told_at("list", *certificate)
+        self.assertEqual(told[0], "countygroups: shared groups 3")
+        bare = [line.replace(" 1 seats", " seats").replace(" 2 seats", " seats")
+                .replace(" 3 seats", " seats") for line in GROUPS]
+        self.assertEqual(sorted(told[1:]), sorted(bare))
+
+    def test_findings(self) -> None:
+        """Findings are told by kind, with the counties of each set that they name."""
+        plan = ["--grouping", f"{self.room}/grouping", "--assignments", f"{self.room}/plan"]
+        told = self.told_at("audit", *plan)
+        self.assertEqual(told, [
+            "countygroups: 1 pair of sets has a district in common",
+            "countygroups: 1 set has another number of districts than seats",
+            "countygroups: 2 districts have too many or too few people",
+            "countygroups: group 1: Alamance County",
+            "countygroups: group 3: Alexander County, 37005",
+        ])
+
+    def test_refusals(self) -> None:
+        """A run that is refused tells the same as through pipes."""
+        self.assertEqual(self.told_at("judge", "--grouping", f"{self.room}/missing"), [])
 
 
 def main(words: Optional[list[str]] = None) -> int:

@@ -29,7 +29,7 @@ use Rattle.baf_auditor.specs.declared.finding.Set.{Set}
 use Rattle.baf_auditor.specs.declared.finding.Set.TheVariants as sets
 use Rattle.baf_auditor.specs.declared.finding.Finding.{Finding}
 use Rattle.baf_auditor.specs.declared.finding.Finding.TheVariants as findings
-use Rattle.baf_auditor.proofs.ListLemmas.{chosen_from, chosen_to, mapped_to}
+use Rattle.baf_auditor.proofs.ListLemmas.{chosen_from, chosen_to, mapped_from, mapped_to}
 use Rattle.baf_auditor.proofs.DistrictLemmas.{item_at, label_same, is_listed, people_sum, has_people, people_are, district_of_sum, sum_of_district, stands_from, stands_to, has_districts, districts_are}
 use Rattle.baf_auditor.proofs.OrderLemmas.{IsOrdered, ordered_both, codes_kind, codes_ordered, place_before, before_place, place_alone}
 use Rattle.baf_auditor.proofs.CrossingLemmas.{Pair, crossings_from, crossings_to, crossings_sorted}
@@ -43,17 +43,6 @@ all_of P xs h = All-weaker (Contains xs) P h xs (All-contains_itself xs)
 groups_long : (gs : Grouping) (n : ℕ) → length (groups_from n gs) ≡ length gs
 groups_long [] n = refl
 groups_long (g ∷ gs) n = ap suc (groups_long gs (n + 1))
-
-withdrawn_long : (ws : List county.Withdrawn) (n : ℕ) → length (withdrawn_from n ws) ≡ length ws
-withdrawn_long [] n = refl
-withdrawn_long (w ∷ ws) n = ap suc (withdrawn_long ws (n + 1))
-
-pub drawn_long : (gs : Grouping) (ws : List county.Withdrawn) → length (groups_from 1 gs ++ withdrawn_from 1 ws) ≡ length gs + length ws
-drawn_long gs ws =
-    let all = length-append (groups_from 1 gs) (withdrawn_from 1 ws) in
-    let one = groups_long gs 1 in
-    let other = withdrawn_long ws 1 in
-    omega (arith, all, one, other)
 
 withdrawn_named : (ws : List county.Withdrawn) (n i : ℕ) (d : DrawnSet) → item_at (withdrawn_from n ws) i ≡ Some d → d.name ≡ sets.Withdrawn (n + i)
 withdrawn_named [] n i d is = cc
@@ -115,7 +104,7 @@ kinds_added a b c d e u t n f g h i =
     ∙ ap (λ (l : List Finding). l ++ d) (append_assoc u t n) ∙ append_assoc u (t ++ n) d ∙ ap (λ (l : List Finding). u ++ l) (append_assoc t n d)
 
 -- ---- sums by label
-label_tied : (x y : List ℕ) → eq_by_cmp (slice_cmp nat_cmp) x y ≡ true → x ≡ y
+pub label_tied : (x y : List ℕ) → eq_by_cmp (slice_cmp nat_cmp) x y ≡ true → x ≡ y
 label_tied x y tied = label_same x y (texts_ties x y ∙ tied)
 
 -- ---- all findings of a plan
@@ -128,12 +117,13 @@ module _ (problem : ProblemValue) (gs : Grouping) (blocks : List Block) (lines :
   plan = record { drawn = drawn_sets problem gs; blocks = blocks; lines = lines }
 
   -- the codes of listed blocks
-  pub given_fit : All (λ b. b.code < 1000000000000000) blocks → (k : List ℕ × ℕ) (e : GivenBlock) → Contains given e → e.0 ≡ k → k.1 < 1000000000000000
-  given_fit fits k e h same =
-      let b = is_listed plan blocks_sorted listed listing_is given given_sorted giving_is e h in
+  pub given_fit : All (λ b. b.code < 1000000000000000) blocks → All (λ k. k.1 < 1000000000000000) (map (λ e. e.0) given)
+  given_fit fits = all_of (λ (k : List ℕ × ℕ). k.1 < 1000000000000000) (map (λ (e : GivenBlock). e.0) given) (λ k h.
+      let e = mapped_from (λ (x : GivenBlock). x.0) given k h in
+      let b = is_listed plan blocks_sorted listed listing_is given given_sorted giving_is e.0 e.1 in
       let small : b.0.code < 1000000000000000 = All-contains (λ (x : Block). x.code < 1000000000000000) blocks b.0 fits b.1.1.0 in
-      let code : b.0.code ≡ k.1 = b.2 ∙ ap (λ (q : List ℕ × ℕ). q.1) same in
-      subst (λ (c : ℕ). c < 1000000000000000) code small
+      let code : b.0.code ≡ k.1 = b.2 ∙ ap (λ (q : List ℕ × ℕ). q.1) e.2 in
+      subst (λ (c : ℕ). c < 1000000000000000) code small)
 
   module _ (list : List Finding) (ds : AreOfDistricts (problem_of problem) (drawn_sets problem gs) (length gs) given list) where
     abbrev keys : List (List ℕ × ℕ)

@@ -30,7 +30,7 @@ label_same a b is = same_text a b (sym is)
 pub same_label : (a b : List ℕ) → a ≡ b → bytes_eq a b ≡ true
 same_label a b same = texts_ties a b ∙ ap (λ l. is_eq (slice_cmp nat_cmp a l)) (sym same) ∙ ap is_eq (tied_itself nat_list_cmp_total a)
 
-both_true : (s t : Bool) → s ≡ true → t ≡ true → (s && t) ≡ true
+pub both_true : (s t : Bool) → s ≡ true → t ≡ true → (s && t) ≡ true
 both_true true t f g = g
 both_true false t f g = cc
 
@@ -115,21 +115,6 @@ module _ (drawn : List DrawnSet) where
     | inr later ↦ shown_to key ks (after_shown drawn key o l) k later is
   ]
 
-  -- a place is one of the sets
-  pub places_within : (found : List ((List ℕ × ℕ) × Unit {0})) (given : List (List ℕ × ℕ)) → IsStrictlySortedBy by_label (map (λ e. e.0) found)
-      → ((key : List ℕ × ℕ) → lookup (is_at (by_label key)) found ≡ standing drawn given key) → (k : List ℕ × ℕ) → Contains (map (λ e. e.0) found) k → k.1 < length drawn
-  places_within found given sorted is k h =
-      let m = mapped_from (λ (e : (List ℕ × ℕ) × Unit {0}). e.0) found k h in
-      let there : standing drawn given k ≡ Some tt = subst (λ (key : List ℕ × ℕ). standing drawn given key ≡ Some tt) m.2 (sym (is m.0.0) ∙ entry_to found sorted m.0.0 m.0.1 m.1) in
-      by (shown_from k given None there)
-    where
-      by : (◌≡◌ {A = Option (Unit {0})} None (Some tt)) ⊎ Shown given k → k.1 < length drawn
-      by (inl e) = absurd cc
-      by (inr s) =
-          let parts = both (is_place (place_of drawn (county_of_block s.0.1)) k.1) (bytes_eq s.0.0 k.0) s.2 in
-          let item = item_found (λ (set : DrawnSet). member set.codes (county_of_block s.0.1)) drawn 0 k.1 (place_is (place_of drawn (county_of_block s.0.1)) k.1 parts.0) in
-          omega (arith, item.1, item.3)
-
 -- ---- the districts of a plan, by the listed blocks that lines give to them
 module _ (plan : Plan) (blocks_sorted : IsStrictlySortedBy nat_cmp (map (λ b. b.code) plan.blocks)) (listed : ℕ → Option ℕ)
     (listing_is : (code : ℕ) → listed code ≡ listing plan.drawn plan.blocks code)
@@ -148,17 +133,17 @@ module _ (plan : Plan) (blocks_sorted : IsStrictlySortedBy nat_cmp (map (λ b. b
       let same : l.0.label ≡ label = label_same l.0.label label two.0 in
       record { line = l.0; stands = l.1; names = same_number l.0.block code two.1; labelled = same; assigned = sym (ap assigns same) ∙ one.0 }
 
-  abbrev FoundGiven : List ℕ → ℕ → ℕ → Type 0
+  abbrev pub FoundGiven : List ℕ → ℕ → ℕ → Type 0
   FoundGiven label code people = IsGivenTo plan code label × (listing plan.drawn plan.blocks code ≡ Some people)
 
-  given_from : (label : List ℕ) (code people : ℕ) → Contains given ((label, code), people) → FoundGiven label code people
+  pub given_from : (label : List ℕ) (code people : ℕ) → Contains given ((label, code), people) → FoundGiven label code people
   given_from label code people h = by (list_any (gives (label, code)) plan.lines) refl (sym (giving_is (label, code)) ∙ entry_to given given_sorted (label, code) people h)
     where
       by : (b : Bool) → list_any (gives (label, code)) plan.lines ≡ b → (if b then listed code else None) ≡ Some people → FoundGiven label code people
       by true is there = (given_line code label is, sym (listing_is code) ∙ there)
       by false is there = cc
 
-  given_to : (block : Block) (label : List ℕ) → IsListedBlock plan block → IsGivenTo plan block.code label → Contains given ((label, block.code), block.people)
+  pub given_to : (block : Block) (label : List ℕ) → IsListedBlock plan block → IsGivenTo plan block.code label → Contains given ((label, block.code), block.people)
   given_to block label is g = entry_from given given_sorted (label, block.code) block.people
       (giving_is (label, block.code) ∙ ap (λ (b : Bool). if b then listed block.code else None) (line_gives block.code label g) ∙ listing_is block.code ∙ listed_found plan blocks_sorted block is)
 

@@ -14,7 +14,7 @@ use Rattle.baf_auditor.specs.Labels.{assigns}
 use Rattle.baf_auditor.specs.Findings.{DrawnSet, county_of_block}
 use Rattle.baf_auditor.specs.Listing.{place_of}
 use Rattle.baf_auditor.specs.Giving.{by_label, gives, giving, after_given}
-use Rattle.baf_auditor.specs.Districts.{with_people, is_place, after_shown}
+use Rattle.baf_auditor.specs.Districts.{with_people, is_place, after_shown, shows_county}
 use Rattle.baf_auditor.specs.declared.assignments.Assignment.{Assignment}
 
 module _ (listed : ℕ → Option ℕ) (key : List ℕ × ℕ) where
@@ -122,3 +122,18 @@ put_place label code place drawn key before new is put =
 pub no_place : (label : List ℕ) (code : ℕ) (drawn : List DrawnSet) (key : List ℕ × ℕ) (before : Option (Unit {0})) → place_of drawn (county_of_block code) ≡ None
     → before ≡ after_shown drawn key before (label, code)
 no_place label code drawn key before none = ap (λ (o : Option ℕ). if (is_place o key.1 && bytes_eq label key.0) then Some tt else before) (sym none)
+
+-- ---- a district is put with a county
+pub put_county : (label : List ℕ) (code : ℕ) (key : List ℕ × ℕ) (before new : Bool) → new ≡ cond (is_at (by_label (label, county_of_block code)) key) true before
+    → new ≡ (shows_county key (label, code) || before)
+put_county label code key before new put =
+    put ∙ ap (λ (b : Bool). cond b true before) (tied_key (label, county_of_block code) key) ∙ by (shows_county key (label, code))
+  where
+    by : (b : Bool) → cond b true before ≡ (b || before)
+    by true = refl
+    by false = refl
+
+pub or_moved : (s o r : Bool) → ((s || o) || r) ≡ (o || (s || r))
+or_moved true true r = refl
+or_moved true false r = refl
+or_moved false o r = refl

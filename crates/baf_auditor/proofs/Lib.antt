@@ -10,3 +10,4 @@ pub mod CrossingLemmas
 pub mod NumberLemmas
 pub mod AuditLemmas
 pub mod LoopLemmas
+pub mod DistrictListLemmas

@@ -55,12 +55,12 @@ assignment_on delimiter line = do
 abbrev pub most_assignments : ℕ
 most_assignments = 4000000
 
--- what is wrong with the line after so many assignments
+-- what is wrong with the line after a number of assignments
 abbrev pub row_fault : ℕ → Result Assignment AssignmentKind → Option AssignmentKind
 row_fault count (Err kind) = Some kind
 row_fault count (Ok assignment) = if nat_le most_assignments count then Some TooMany else None
 
--- what is wrong with the first line at fault after so many assignments, and its number
+-- what is wrong with the first line at fault after a number of assignments, and its number
 abbrev pub first_assignment_fault : ℕ → ℕ → List Line → Option (AssignmentKind × ℕ)
 first_assignment_fault delimiter count lines =
     first_fault_after (λ count l. row_fault count (assignment_on delimiter l.bytes)) (λ count l. count + 1) count lines

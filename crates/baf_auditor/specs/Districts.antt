@@ -1,11 +1,13 @@
 -- Districts: their people, and the sets in which they have blocks.
-use Rattle.std.specs.Prelude.{ℕ, nat_lt, ◌+◌, ◌-◌, ◌==◌, ◌&&◌, ◌||◌, Bool, false, List, [], ◌∷◌, ◌++◌, Option, Some}
-use Rattle.std.specs.Prelude.{None, if◌then◌else◌}
+use Rattle.std.specs.Prelude.{◌≡◌, ℕ, nat_lt, ◌+◌, ◌-◌, ◌==◌, ◌&&◌, ◌||◌, Bool, false, List, [], ◌∷◌, ◌++◌, Option, Some}
+use Rattle.std.specs.Prelude.{None, All, map, if◌then◌else◌}
+use Rattle.std.specs.List.{filter_map, list_any}
 use Rattle.std.specs.Str.{bytes_eq}
 use Rattle.std.specs.Option.{unwrap_or}
 use Rattle.grouping_laws.specs.Sets.{digit, total}
 use Rattle.baf_auditor.specs.Findings.{DrawnSet, county_of_block}
 use Rattle.baf_auditor.specs.Listing.{place_of}
+use Rattle.baf_auditor.specs.declared.district.District.{District}
 use Rattle.baf_auditor.specs.declared.finding.Set.{Set}
 use Rattle.baf_auditor.specs.declared.finding.Set.TheVariants.{Group, Withdrawn}
 use Rattle.baf_auditor.specs.declared.finding.Finding.{Finding}
@@ -58,7 +60,7 @@ stands_after drawn key before (own ∷ more) = stands_after drawn key (after_sho
 abbrev pub standing : List DrawnSet → List (List ℕ × ℕ) → List ℕ × ℕ → Option (Unit {0})
 standing drawn given key = stands_after drawn key None given
 
--- the name of the set at a place, counted from 0, after so many groups
+-- the name of the set at a place, counted from 0; groups, this number of them, stand before withdrawn sets
 abbrev pub name_at : ℕ → ℕ → Set
 name_at groups place = if nat_lt place groups then Group (place + 1) else Withdrawn (place - groups + 1)
 
@@ -94,3 +96,29 @@ abbrev pub numbers_from : List (List ℕ × ℕ) → ℕ → List DrawnSet → L
 numbers_from keys place [] = []
 numbers_from keys place (d ∷ ds) =
     number_finding d.name d.seats (districts_at place keys) ++ numbers_from keys (place + 1) ds
+
+-- ---- counties
+
+-- whether a block of a district, by label and code, shows that the district has a block in a county
+abbrev pub shows_county : List ℕ × ℕ → List ℕ × ℕ → Bool
+shows_county key own = bytes_eq own.0 key.0 && county_of_block own.1 == key.1
+
+-- whether the district of a label has a block in a county, by the labels and codes of the blocks of districts
+abbrev pub has_county : List (List ℕ × ℕ) → List ℕ × ℕ → Bool
+has_county given key = list_any (shows_county key) given
+
+-- ---- what is listed of each district
+
+-- what the function gives of a key's number, if the key has the label
+abbrev pub of_label : {Y : Type 0} → (ℕ → Y) → List ℕ → List ℕ × ℕ → Option Y
+of_label f label key = if bytes_eq key.0 label then Some (f key.1) else None
+
+-- the sets and counties of a district are those that stand with its label
+pub record IsListedBy (groups : ℕ) (places counties : List (List ℕ × ℕ)) (d : District) : Type 0 where
+  pub sets : d.sets.items ≡ filter_map (of_label (name_at groups) d.label) places
+  pub counties_are : d.counties.items ≡ filter_map (of_label (λ county. county) d.label) counties
+
+-- a list has one district for each sum of people, in the order of the sums, with its sets and counties
+pub record AreListedBy (groups : ℕ) (places counties sums : List (List ℕ × ℕ)) (list : List District) : Type 0 where
+  pub people : map (λ d. (d.label, d.people)) list ≡ sums
+  pub each : All (IsListedBy groups places counties) list

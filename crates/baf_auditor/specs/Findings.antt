@@ -152,7 +152,7 @@ pub record IsCrossing (plan : Plan) (label : List ℕ) (first second : Set) : Ty
   pub in_one : HasBlockIn plan label one
   pub in_other : HasBlockIn plan label other
 
--- the set has so many seats, and another number of districts
+-- the set has this number of seats, and another number of districts
 pub record IsWrongNumber (plan : Plan) (name : Set) (seats districts : ℕ) : Type 0 where
   pub set : DrawnSet
   pub stands : Contains plan.drawn set
@@ -161,7 +161,7 @@ pub record IsWrongNumber (plan : Plan) (name : Set) (seats districts : ℕ) : Ty
   pub counted : HasDistricts plan set districts
   pub wrong : districts ≢ seats
 
--- the district has so many people, and they don't suit one seat
+-- the district has this number of people, and they don't suit one seat
 pub record IsWrongSize (problem : ProblemValue) (plan : Plan) (label : List ℕ) (people : ℕ) : Type 0 where
   pub district : IsDistrict plan label
   pub counted : HasPeople plan label people

@@ -6,3 +6,4 @@ pub mod Listing
 pub mod Giving
 pub mod Districts
 pub mod Kinds
+pub mod DistrictList

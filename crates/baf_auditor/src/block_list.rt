@@ -1,6 +1,6 @@
 //! The listed census blocks with their people, and the set of counties in which a block lies.
 
-ghost use Rattle.std.specs.Prelude.{◌≡◌, ◌<◌, ℕ, IfOk, IfSome, OnOk, All, length};
+ghost use Rattle.std.specs.Prelude.{◌≡◌, ◌<◌, ◌+◌, ℕ, Some, IfOk, IfSome, OnOk, All, length};
 ghost use Rattle.std.specs.List.{position_from};
 ghost use Rattle.std.specs.Ordering.{nat_cmp};
 ghost use Rattle.std.specs.BTreeMap.{get};
@@ -17,9 +17,18 @@ use std::collections::BTreeMap;
 /// What a block's number is divided by to give its county's.
 const BLOCKS_OF_COUNTY: u64 = 10_000_000_000;
 
+/// Returns the county of the block `code`: the first five of its fifteen digits. It is never `None`.
+pub(crate) fn county_of_block(code: u64) -> Option<CountyCode>
+    requires { code < 1000000000000000 }
+    ensures { result ≡ Some (county_of_block code) }
+{
+    CountyCode::new((code / BLOCKS_OF_COUNTY) as u32)
+}
+
 /// The place of the group that has a county.
 fn group_place(groups: &[Group], county: CountyCode) -> Option<usize>
-    ensures { result ≡ position_from (λ group. member group.codes county) 0 groups.now }
+    ensures place { result ≡ position_from (λ group. member group.codes county) 0 groups.now }
+    ensures bound { IfSome result (λ place. place < length groups.now) }
 {
     groups
         .iter()
@@ -39,9 +48,10 @@ fn withdrawn_place(sets: &[Withdrawn], county: CountyCode) -> Option<usize>
 #[tactic(auto, using(crate::proofs::ListingLemmas::place_in_sets))]
 pub(crate) fn place_of_block(problem: &Problem, grouping: &Grouping, code: u64) -> Option<usize>
     requires { code < 1000000000000000 }
-    ensures { result ≡ place_of (drawn_sets problem.now grouping.now.groups.items) (county_of_block code) }
+    ensures place { result ≡ place_of (drawn_sets problem.now grouping.now.groups.items) (county_of_block code) }
+    ensures bound { IfSome result (λ place. place < length grouping.now.groups.items + 1000) }
 {
-    let county = CountyCode::new((code / BLOCKS_OF_COUNTY) as u32)?;
+    let county = county_of_block(code)?;
     let groups = grouping.groups.as_slice();
     match group_place(groups, county) {
         Some(place) => Some(place),

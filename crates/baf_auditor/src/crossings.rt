@@ -7,9 +7,9 @@ use crate::finding::{Finding, Set};
 use crate::label::Label;
 use std::alloc::AllocError;
 
-/// The set at a place, counted from 0, after so many groups.
-fn set_at(groups: usize, place: usize) -> Set
-    requires { place < 1000000 }
+/// Returns the name of the set at `place`, counted from 0, where `groups` groups stand before the withdrawn sets.
+pub(crate) fn set_at(groups: usize, place: usize) -> Set
+    requires { place < 4294967295 }
     ensures { result ≡ name_at groups place }
 {
     if place < groups {

@@ -1,6 +1,6 @@
 //! The sets of counties in which each district has census blocks.
 
-ghost use Rattle.std.specs.Prelude.{◌≡◌, ◌<◌, ◌≤◌, ◌+◌, ℕ, List, All, IfOk, OnOk, map};
+ghost use Rattle.std.specs.Prelude.{◌≡◌, ◌<◌, ◌≤◌, ◌+◌, ℕ, List, All, IfOk, OnOk, length, map};
 ghost use Rattle.std.specs.List.Sorted.{IsStrictlySortedBy};
 ghost use Rattle.std.specs.BTreeMap.{get, btree_map_len, keys};
 ghost use Rattle.baf_auditor.specs.Findings.{drawn_sets};
@@ -27,6 +27,8 @@ fn add_standing(
         → get by_label found.new key
         ≡ after_shown (drawn_sets problem.now grouping.now.groups.items) key (get by_label found.old key) (label.now, code)) }
     ensures few { OnOk result (btree_map_len found.new ≤ btree_map_len found.old + 1) }
+    ensures within { OnOk result (All (λ k. k.1 < length grouping.now.groups.items + 1000) (keys found.old)
+        → All (λ k. k.1 < length grouping.now.groups.items + 1000) (keys found.new)) }
 {
     if let Some(place) = place_of_block(problem, grouping, code) {
         found.insert((label.copy()?, place), ())?;
@@ -45,6 +47,7 @@ pub(crate) fn standing_places(
     ensures entries { IfOk result (λ m. (key : List ℕ × ℕ)
         → get by_label m key ≡ standing (drawn_sets problem.now grouping.now.groups.items) (keys given.now) key) }
     ensures few { IfOk result (λ m. btree_map_len m ≤ btree_map_len given.now) }
+    ensures within { IfOk result (λ m. All (λ k. k.1 < length grouping.now.groups.items + 1000) (keys m)) }
 {
     let mut found = BTreeMap::new(alloc);
     for key in given.keys() {

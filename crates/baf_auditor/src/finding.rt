@@ -26,9 +26,9 @@ pub enum Finding {
     Unassigned(u64),
     /// The district has listed blocks in both sets, the first of which comes before the second.
     Crosses(Label, Set, Set),
-    /// The set has so many seats, and another number of districts has a block in it.
+    /// The set has this number of seats, and another number of districts has a block in it.
     WrongNumber(Set, u16, u32),
-    /// The district has so many people, and they don't suit one seat.
+    /// The district has this number of people, and they don't suit one seat.
     DistrictSize(Label, u64),
 }
 

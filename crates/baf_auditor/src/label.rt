@@ -11,7 +11,7 @@ use std::marker::Model;
 /// The greatest length of a label.
 const LONGEST: usize = 32;
 
-/// A label of at most so many bytes stands in the value itself. Plans have labels of one to three bytes.
+/// How many bytes of a label stand in the value itself at most. Plans have labels of one to three bytes.
 const INLINE: usize = 16;
 
 /// What some files have as the label of a block without a district.

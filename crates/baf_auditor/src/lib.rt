@@ -1,5 +1,6 @@
 //! Block assignment files, which give census blocks to districts by their labels, and the audit of a plan's assignments
-//! against a grouping of counties.
+//! against a grouping of counties. `districts` lists the districts of a plan: the people of each, and the sets and the
+//! counties in which it has blocks.
 //!
 //! A further kind of finding begins with a variant of `Finding` in `finding.rt` and its definition in
 //! `specs/Findings.antt`. `grouping_report` writes the line of a finding (`findings.rt`, `specs/FindingsText.antt`),
@@ -12,7 +13,10 @@ mod block_findings;
 mod block_kinds;
 mod block_list;
 mod crossings;
+mod district;
 mod district_blocks;
+mod district_counties;
+mod district_list;
 mod district_sets;
 mod fault;
 mod finding;
@@ -23,6 +27,8 @@ mod sizes;
 
 pub use assignments::{Assignment, read_assignments};
 pub use auditing::audit;
+pub use district::District;
+pub use district_list::districts;
 pub use fault::{AssignmentFault, AssignmentKind};
 pub use finding::{Finding, Findings, Set};
 pub use label::Label;

@@ -57,7 +57,7 @@ pub(crate) fn add_group_numbers(
     Ok(())
 }
 
-/// Adds the findings of withdrawn sets that have another number of districts than seats, after so many groups.
+/// Adds the findings of withdrawn sets that have another number of districts than seats, behind `groups` groups.
 pub(crate) fn add_withdrawn_numbers(
     findings: &mut Vec<Finding>,
     groups: usize,

@@ -1,28 +1,33 @@
 //! The subcommand `audit`.
 
-ghost use Rattle.std.specs.Prelude.{◌≡◌, ◌≤◌, ◌<◌, All, length, map};
+ghost use Rattle.std.specs.Prelude.{◌≡◌, ◌≤◌, ◌<◌, All, List, length, map};
 ghost use Rattle.std.specs.List.Sorted.{IsStrictlyIncreasing};
+ghost use Rattle.cli_shelves.specs.Files.{NamedFile};
 ghost use Rattle.cli_shelves.specs.History.{History};
-ghost use Rattle.cli_answers.specs.Answers.{answer_of, Comes};
+ghost use Rattle.cli_answers.specs.Answers.{Comes, said_by};
 ghost use Rattle.cli_runs.specs.JudgeCourse.{audit_step, audit_course};
+ghost use Rattle.cli_runs.specs.Run.{CommandRun};
+ghost use Rattle.cli_runs.specs.Storing.{HasStored};
+ghost use Rattle.cli_runs.specs.Texts.{audited_of};
 
 use crate::census_files::load_blocks;
-use crate::end::{End, Ending};
+use crate::end::{End, Ending, FileOption};
 use crate::files::load_grouping;
 use crate::plan_files::load_assignments;
 use crate::problem::load_problem;
-use baf_auditor::{Assignment, Findings, audit as audit_plan};
+use crate::storing::store_named;
+use baf_auditor::{Assignment, Findings};
 use cli_answers::{Refusal, RunAnswer};
+use cli_runs::{Audited, audit_and_say};
 use cli_shelves::Shelf;
-use cli_words::AuditWords;
+use cli_words::{AuditWords, CommandWords};
 use county_codes::Grouping;
 use county_problem::Problem;
-use grouping_report::findings_text;
 use pl94_counties::Block;
 use std::alloc::Global;
 
-/// The end of an audit with these findings.
-fn audited(findings: Findings, problem: Problem, grouping: Grouping) -> Ending {
+/// Returns the end of an audit with these findings.
+fn audited_end(findings: Findings, problem: Problem, grouping: Grouping) -> Ending {
     if findings.list.is_empty() {
         Ending::Done
     } else {
@@ -30,30 +35,60 @@ fn audited(findings: Findings, problem: Problem, grouping: Grouping) -> Ending {
     }
 }
 
-/// The text of all findings, with status 0 where there are none, else 1.
-fn all_findings(
+/// What `audit` says, and what was audited.
+#[derive(Drop)]
+struct AuditedPlan {
+    audited: Audited,
+    problem: Problem,
+    grouping: Grouping,
+}
+
+/// Returns all findings, and the table of the districts if it is asked for.
+fn audit_plan(
     alloc: Global,
     problem: Problem,
     grouping: Grouping,
     blocks: &[Block],
     lines: &[Assignment],
-    end: &mut End,
-) -> Result<RunAnswer, Refusal>
+    asked: bool,
+) -> Result<AuditedPlan, Refusal>
     requires fits { All (λ block. block.code < 1000000000000000) blocks.now }
     requires ascending { IsStrictlyIncreasing (map (λ block. block.code) blocks.now) }
     requires few { length lines.now ≤ 4000000 }
     ensures { (history : History)
-        → Comes answer_of result (audit_step problem grouping.groups.items blocks.now lines.now history history) }
+        → Comes (λ p. audited_of p.audited) result (audit_step asked problem grouping.groups.items blocks.now lines.now history history) }
 {
-    let findings = audit_plan(alloc, &problem, &grouping, blocks, lines)?;
-    let text = findings_text(alloc, &findings)?;
-    let status = if findings.list.is_empty() { 0 } else { 1 };
-    end.note(audited(findings, problem, grouping));
-    Ok(RunAnswer { text, status })
+    let audited = audit_and_say(alloc, &problem, &grouping, blocks, lines, asked)?;
+    Ok(AuditedPlan {
+        audited,
+        problem,
+        grouping,
+    })
 }
 
-/// All that is wrong with the assignments of a plan. The problem is built before the census blocks are read, then the
-/// grouping, then the assignments; the first fault met is the answer.
+/// Returns what `audit` says of the assignments of a file, before anything is stored.
+fn audit_files<H: Shelf>(
+    alloc: Global,
+    words: AuditWords<'_>,
+    shelf: &mut H,
+    end: &mut End,
+) -> Result<AuditedPlan, Refusal>
+    requires { words.problem.common.state ≤ 99 }
+    ensures course { Comes (λ p. audited_of p.audited) result (audit_course (H.contents shelf.old) words.entry (H.history shelf.old) (H.history shelf.new)) }
+    ensures same { H.contents shelf.new ≡ H.contents shelf.old }
+    ensures kept { H.stored shelf.new ≡ H.stored shelf.old }
+{
+    let problem = load_problem(alloc, words.problem, shelf, end)?;
+    let blocks = load_blocks(alloc, words.problem.common, shelf, end)?;
+    let grouping = load_grouping(alloc, FileOption::Grouping, words.grouping, shelf, end)?;
+    let lines = load_assignments(alloc, words.assignments, shelf, end)?;
+    let asked = words.districts.is_some();
+    audit_plan(alloc, problem, grouping, &blocks, &lines, asked)
+}
+
+/// Returns all that is wrong with the assignments of a plan. The problem is built before the census blocks are read,
+/// then the grouping, then the assignments. The table of the districts is stored if the words name its file, whether or
+/// not anything is found. The first fault met is the answer.
 pub(crate) fn audit<H: Shelf>(
     alloc: Global,
     words: AuditWords<'_>,
@@ -61,13 +96,31 @@ pub(crate) fn audit<H: Shelf>(
     end: &mut End,
 ) -> Result<RunAnswer, Refusal>
     requires { words.problem.common.state ≤ 99 }
-    ensures course { Comes answer_of result (audit_course (H.contents shelf.old) words.entry (H.history shelf.old) (H.history shelf.new)) }
-    ensures same { H.contents shelf.new ≡ H.contents shelf.old }
-    ensures kept { H.stored shelf.new ≡ H.stored shelf.old }
+    ensures { (stored : List NamedFile)
+        × HasStored (H.contents shelf.old) (H.contents shelf.new) (H.stored shelf.old) (H.stored shelf.new) stored
+        × CommandRun (H.contents shelf.old) (CommandWords.Audit words.entry) (H.history shelf.old) (H.history shelf.new) stored (said_by result) }
 {
-    let problem = load_problem(alloc, words.problem, shelf, end)?;
-    let blocks = load_blocks(alloc, words.problem.common, shelf, end)?;
-    let grouping = load_grouping(alloc, words.grouping, shelf, end)?;
-    let lines = load_assignments(alloc, words.assignments, shelf, end)?;
-    all_findings(alloc, problem, grouping, &blocks, &lines, end)
+    let plan = audit_files(alloc, words, shelf, end)?;
+    let AuditedPlan {
+        audited,
+        problem,
+        grouping,
+    } = plan;
+    match store_named(
+        alloc,
+        FileOption::Districts,
+        words.districts,
+        audited.districts.as_ref(),
+        shelf,
+        end,
+    ) {
+        Ok(()) => {
+            end.note(audited_end(audited.findings, problem, grouping));
+            Ok(audited.answer)
+        }
+        Err(refusal) => {
+            end.note_report(audited.answer.text);
+            Err(refusal)
+        }
+    }
 }

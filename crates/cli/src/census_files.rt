@@ -80,6 +80,7 @@ fn counties_read(
     match read {
         Ok(counties) => {
             end.note_counties(&counties, &texts.notes);
+            end.note_geo_head(texts.geo);
             Ok(counties)
         }
         Err(fault) => {
@@ -144,6 +145,7 @@ fn named_read(
     match read {
         Ok(named) => {
             end.note_census(&texts.notes);
+            end.note_geo_head(texts.geo);
             Ok(named)
         }
         Err(fault) => {

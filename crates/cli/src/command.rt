@@ -127,12 +127,16 @@ pub(crate) fn deliver<W: Sink>(out: &mut W, text: &[u8], status: u8) -> u8
     }
 }
 
-/// Writes an answer, or that a growth was refused, and answers the status, or 5 where the writing failed.
-fn deliver_said<W: Sink>(out: &mut W, said: Result<RunAnswer, AllocError>) -> u8
+/// Writes an answer, or that a growth was refused. Returns the status, or 5 where the writing failed.
+fn deliver_said<W: Sink>(out: &mut W, said: Result<RunAnswer, AllocError>, end: &mut End) -> u8
     ensures { Delivers (W.is_failed out.new) (W.contents out.old) (W.contents out.new) (said_of said) result }
 {
     match said {
-        Ok(answer) => deliver(out, &answer.text, answer.status),
+        Ok(answer) => {
+            let status = deliver(out, &answer.text, answer.status);
+            end.note_answer(answer.text);
+            status
+        }
         Err(AllocError) => deliver(out, MEMORY, 5),
     }
 }
@@ -157,7 +161,8 @@ pub fn run_with_end<H: Shelf, W: Sink, V: Watcher>(
 {
     let mut end = End::new(alloc);
     let said = words_answer(alloc, words, shelf, &mut end, watcher);
-    (deliver_said(out, said), end)
+    let status = deliver_said(out, said, &mut end);
+    (status, end)
 }
 
 /// Runs one command and answers the exit status. The words are those after the program's name. The answer
@@ -168,13 +173,14 @@ pub fn run_with_end<H: Shelf, W: Sink, V: Watcher>(
 /// machine's files too. `specs/Told` of `cli_runs` says what the other answers tell.
 ///
 /// The status is 0 for an answer, for help and for the version, 1 where `judge` finds a fault of the grouping, `audit`
-/// finds anything, `solve`, `check` or `list` that no grouping is lawful, or `check` or `list` that the text is no
-/// certificate, 2 for usage, 3 where the steps of `solve` or `piece` or the budget of `check`, `list` or `share` ran
+/// finds anything, `solve`, `check` or `list` that no grouping is lawful, `check` or `list` that the text is no
+/// certificate, or `list` that the grouping of `--which` isn't one of the best, 2 for usage, 3 where the steps of `solve` or `piece` or the budget of `check`, `list` or `share` ran
 /// out, the certificate of `list` doesn't show which other groupings are best, or pieces are left to `share`, 4 where
 /// the input was refused, no grouping has the number that `list` should store or no piece that of `piece`, 5 where a
 /// file could not be had or stored or memory was refused (the line is then `memory`), and 5 where the writing failed:
 /// how much went out is then not said. `solve` stores the certificate, the grouping and the table, `judge` and `check`
-/// the table, `list` a grouping, `share` a certificate, each if the words name its file. If the words name a file for
+/// the table, `list` a grouping and the table of all groupings, `audit` the table of the districts, `share` a
+/// certificate, each if the words name its file. If the words name a file for
 /// the record of the run and the status is 0, 1 or 3, the record is stored last. What was stored before a fault stays
 /// stored.
 pub fn run<H: Shelf, W: Sink>(alloc: Global, words: &[&str], shelf: &mut H, out: &mut W) -> u8

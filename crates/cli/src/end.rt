@@ -32,6 +32,8 @@ pub enum FileOption {
     Withdrawn,
     /// A grouping that is read.
     Grouping,
+    /// A grouping whose number is asked for.
+    Which,
     /// A certificate that is read.
     Certificate,
     /// A block assignment file.
@@ -44,6 +46,10 @@ pub enum FileOption {
     Out,
     /// The table that is stored.
     Table,
+    /// The table of all listed groupings that is stored.
+    Groupings,
+    /// The table of the districts that is stored.
+    Districts,
     /// The record of the run.
     Record,
 }
@@ -58,11 +64,14 @@ impl fmt::Display for FileOption {
             FileOption::Links => "--links",
             FileOption::Withdrawn => "--withdrawn",
             FileOption::Grouping => "--grouping",
+            FileOption::Which => "--which",
             FileOption::Certificate | FileOption::CertificateOut => "--certificate",
             FileOption::Assignments => "--assignments",
             FileOption::Events => "--events",
             FileOption::Out => "--out",
             FileOption::Table => "--table",
+            FileOption::Groupings => "--groupings",
+            FileOption::Districts => "--districts",
             FileOption::Record => "--record",
         })
     }
@@ -147,7 +156,9 @@ pub enum Ending {
     /// The target of a certificate is best, but the certificate doesn't show which other groupings are: the line of the
     /// first leaf at which it doesn't, from 1.
     ListOpen(u64),
-    /// So many groupings are best, and none of them has the number that was to be stored.
+    /// All best groupings are listed, this number of them, and none has the sets of the grouping that was asked for.
+    Unlisted(usize),
+    /// This number of groupings is best, and none of them has the number that was to be stored.
     NoSuchGrouping(usize),
     /// There is no board for the grouping and its round.
     Board(BoardFault),
@@ -183,10 +194,18 @@ pub struct End {
     pub has_stored_out: bool,
     /// Whether the file of `--table` was stored.
     pub has_stored_table: bool,
+    /// Whether the file of `--groupings` was stored.
+    pub has_stored_groupings: bool,
+    /// Whether the file of `--districts` was stored.
+    pub has_stored_districts: bool,
     /// Whether the file of `--record` was stored.
     pub has_stored_record: bool,
     /// The report of a command, or the text of a list or of a board, whose files could not all be stored.
     pub report: Option<Vec<u8>>,
+    /// The answer that was written; none where memory was refused.
+    pub answer: Option<Vec<u8>>,
+    /// The first bytes of the geographic header, at most 65,536; none of them where the counties were not read.
+    pub geo_head: Vec<u8>,
 }
 
 /// The people of the counties.
@@ -216,8 +235,12 @@ impl End {
             has_stored_certificate: false,
             has_stored_out: false,
             has_stored_table: false,
+            has_stored_groupings: false,
+            has_stored_districts: false,
             has_stored_record: false,
             report: None,
+            answer: None,
+            geo_head: Vec::new(alloc),
         }
     }
 
@@ -284,6 +307,16 @@ impl End {
         self.note_census(notes);
     }
 
+    /// Notes the first bytes of the geographic header.
+    pub(crate) fn note_geo_head(&mut self, head: Vec<u8>) {
+        self.geo_head = head;
+    }
+
+    /// Notes the answer that was written.
+    pub(crate) fn note_answer(&mut self, text: Vec<u8>) {
+        self.answer = Some(text);
+    }
+
     /// Notes whether there is a pair of listed counties.
     pub(crate) fn note_pairs(&mut self, has_pairs: bool) {
         self.has_pairs = Some(has_pairs);
@@ -324,6 +357,8 @@ impl End {
             FileOption::CertificateOut => self.has_stored_certificate = true,
             FileOption::Out => self.has_stored_out = true,
             FileOption::Table => self.has_stored_table = true,
+            FileOption::Groupings => self.has_stored_groupings = true,
+            FileOption::Districts => self.has_stored_districts = true,
             FileOption::Record => self.has_stored_record = true,
             _ => {}
         }

@@ -84,14 +84,19 @@ fn withdrawn_from(alloc: Global, text: Vec<u8>, end: &mut End) -> Result<Vec<Wit
     }
 }
 
-/// The grouping that a file gives.
-fn grouping_from(alloc: Global, text: Vec<u8>, end: &mut End) -> Result<Grouping, Refusal>
+/// Returns the grouping that the file of `option` gives.
+fn grouping_from(
+    alloc: Global,
+    option: FileOption,
+    text: Vec<u8>,
+    end: &mut End,
+) -> Result<Grouping, Refusal>
     ensures { (history : History) → Comes (λ g. g.groups.items) result (grouping_in text.items history history) }
 {
     match read_grouping(alloc, &text) {
         Ok(grouping) => Ok(grouping),
         Err(fault) => {
-            end.note_refused(FileOption::Grouping, FileFault::Codes(fault), text);
+            end.note_refused(option, FileFault::Codes(fault), text);
             Err(refuse_codes(alloc, InputFile::Grouping, fault))
         }
     }
@@ -173,9 +178,10 @@ pub(crate) fn load_adjacency<H: Shelf>(
     Ok(linked)
 }
 
-/// The grouping of a file.
+/// Returns the grouping of the file that `option` names.
 pub(crate) fn load_grouping<H: Shelf>(
     alloc: Global,
+    option: FileOption,
     name: &str,
     shelf: &mut H,
     end: &mut End,
@@ -184,6 +190,6 @@ pub(crate) fn load_grouping<H: Shelf>(
     ensures same { H.contents shelf.new ≡ H.contents shelf.old }
     ensures kept { H.stored shelf.new ≡ H.stored shelf.old }
 {
-    let text = load(alloc, FileOption::Grouping, name, shelf, end)?;
-    grouping_from(alloc, text, end)
+    let text = load(alloc, option, name, shelf, end)?;
+    grouping_from(alloc, option, text, end)
 }

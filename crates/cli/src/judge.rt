@@ -97,7 +97,7 @@ fn judge_files<H: Shelf>(
     ensures kept { H.stored shelf.new ≡ H.stored shelf.old }
 {
     let tabled = load_tabled_problem(alloc, words.problem, words.table, shelf, end)?;
-    let grouping = load_grouping(alloc, words.grouping, shelf, end)?;
+    let grouping = load_grouping(alloc, FileOption::Grouping, words.grouping, shelf, end)?;
     let certificate = load_certificate(alloc, words.certificate, shelf, end)?;
     verdict(alloc, tabled, grouping, certificate, words.budget, end)
 }

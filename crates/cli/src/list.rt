@@ -3,24 +3,26 @@
 ghost use Rattle.std.specs.Prelude.{◌≡◌, ◌≤◌, List, option_map};
 ghost use Rattle.cli_shelves.specs.Files.{NamedFile};
 ghost use Rattle.cli_answers.specs.Answers.{Comes, said_by};
-ghost use Rattle.cli_runs.specs.Storing.{HasStored};
-ghost use Rattle.cli_runs.specs.ListCourse.{list_course};
+ghost use Rattle.cli_runs.specs.Storing.{HasStored, store_steps};
+ghost use Rattle.cli_runs.specs.ListCourse.{list_course, listed_files, which_of};
 ghost use Rattle.cli_runs.specs.Run.{CommandRun};
 ghost use Rattle.cli_runs.specs.Texts.{listed_of};
+ghost use Rattle.cli.specs.Ends.{refusal_by};
 
 use crate::end::{End, Ending, FileOption};
 use crate::fault_text::FaultText;
-use crate::files::load;
-use crate::problem::load_problem;
+use crate::files::{load, load_grouping};
+use crate::problem::load_tabled_problem;
 use crate::storing::store_named;
 use cli_answers::{Refusal, RunAnswer};
-use cli_runs::{ListEnd, Listed, list_and_say};
+use cli_runs::{Asked, ListEnd, Listed, list_and_say};
 use cli_shelves::Shelf;
 use cli_words::{CommandWords, ListWords, StoredWords};
+use county_codes::Grouping;
 use county_problem::Problem;
 use std::alloc::Global;
 
-/// The number of the grouping that is stored, if one is.
+/// Returns the number of the grouping that is stored, if one is.
 fn number_in(words: Option<StoredWords<'_>>) -> Option<u32>
     ensures { result ≡ option_map (λ w. w.number) words.entry }
 {
@@ -30,7 +32,7 @@ fn number_in(words: Option<StoredWords<'_>>) -> Option<u32>
     }
 }
 
-/// The file that the grouping is written to, if one is stored.
+/// Returns the file that the grouping is written to, if one is stored.
 fn out_in<'a>(words: Option<StoredWords<'a>>) -> Option<&'a str>
     ensures { result ≡ option_map (λ w. w.out) words.entry }
 {
@@ -40,10 +42,11 @@ fn out_in<'a>(words: Option<StoredWords<'a>>) -> Option<&'a str>
     }
 }
 
-/// The end of a list of this text.
+/// Returns the end of a list of this text.
 fn listed_end(end: ListEnd, text: Vec<u8>, problem: Problem) -> Ending {
     match end {
         ListEnd::All => Ending::Done,
+        ListEnd::Unlisted(count) => Ending::Unlisted(count),
         ListEnd::NoSuchGrouping(count) => Ending::NoSuchGrouping(count),
         ListEnd::Open(_, line) => Ending::ListOpen(line),
         ListEnd::Impossible => Ending::Impossible,
@@ -57,7 +60,27 @@ fn listed_end(end: ListEnd, text: Vec<u8>, problem: Problem) -> Ending {
     }
 }
 
-/// What `list` says of the certificate of a file, before anything is stored.
+/// Returns the grouping whose number is asked for, if its file is named.
+fn load_which<H: Shelf>(
+    alloc: Global,
+    name: Option<&str>,
+    shelf: &mut H,
+    end: &mut End,
+) -> Result<Option<Grouping>, Refusal>
+    ensures course { Comes (option_map (λ g. g.groups.items)) result (which_of (H.contents shelf.old) name.entry (H.history shelf.old) (H.history shelf.new)) }
+    ensures same { H.contents shelf.new ≡ H.contents shelf.old }
+    ensures kept { H.stored shelf.new ≡ H.stored shelf.old }
+{
+    match name {
+        Some(name) => {
+            let grouping = load_grouping(alloc, FileOption::Which, name, shelf, end)?;
+            Ok(Some(grouping))
+        }
+        None => Ok(None),
+    }
+}
+
+/// Returns what `list` says of the certificate of a file, before anything is stored.
 fn list_files<H: Shelf>(
     alloc: Global,
     words: ListWords<'_>,
@@ -69,7 +92,8 @@ fn list_files<H: Shelf>(
     ensures same { H.contents shelf.new ≡ H.contents shelf.old }
     ensures kept { H.stored shelf.new ≡ H.stored shelf.old }
 {
-    let problem = load_problem(alloc, words.check.problem, shelf, end)?;
+    let tabled = load_tabled_problem(alloc, words.check.problem, words.groupings, shelf, end)?;
+    let which = load_which(alloc, words.which, shelf, end)?;
     let text = load(
         alloc,
         FileOption::Certificate,
@@ -78,13 +102,46 @@ fn list_files<H: Shelf>(
         end,
     )?;
     let number = number_in(words.stored);
-    let listed = list_and_say(alloc, &problem, &text, words.check.budget, number)?;
-    end.note(listed_end(listed.end, text, problem));
+    let asked = Asked { number, which };
+    let listed = list_and_say(alloc, &tabled, &text, words.check.budget, &asked)?;
+    end.note(listed_end(listed.end, text, tabled.problem));
     Ok(listed)
 }
 
-/// All best groupings, by a certificate. The problem is built before the certificate is loaded; then the grouping of
-/// the number is stored, where the words give it; the first fault met is the answer.
+/// Stores the grouping of the number and then the table of all groupings, each where there is one and its file is named.
+fn store_listed<H: Shelf>(
+    alloc: Global,
+    words: ListWords<'_>,
+    listed: &Listed,
+    shelf: &mut H,
+    end: &mut End,
+) -> Result<(), Refusal>
+    ensures { (stored : List NamedFile)
+        × HasStored (H.contents shelf.old) (H.contents shelf.new) (H.stored shelf.old) (H.stored shelf.new) stored
+        × store_steps (listed_files words.entry (listed_of listed.now)) (H.history shelf.old) (H.history shelf.new) stored (refusal_by result) }
+{
+    let out = out_in(words.stored);
+    store_named(
+        alloc,
+        FileOption::Out,
+        out,
+        listed.grouping.as_ref(),
+        shelf,
+        end,
+    )?;
+    store_named(
+        alloc,
+        FileOption::Groupings,
+        words.groupings,
+        listed.table.as_ref(),
+        shelf,
+        end,
+    )
+}
+
+/// Returns all best groupings, by a certificate. The problem is built first, then the grouping whose number is asked for
+/// is loaded, and then the certificate. The grouping of a number and the table of all are stored if the words name their
+/// files. The first fault met is the answer.
 pub(crate) fn list<H: Shelf>(
     alloc: Global,
     words: ListWords<'_>,
@@ -97,15 +154,7 @@ pub(crate) fn list<H: Shelf>(
         × CommandRun (H.contents shelf.old) (CommandWords.List words.entry) (H.history shelf.old) (H.history shelf.new) stored (said_by result) }
 {
     let listed = list_files(alloc, words, shelf, end)?;
-    let out = out_in(words.stored);
-    match store_named(
-        alloc,
-        FileOption::Out,
-        out,
-        listed.grouping.as_ref(),
-        shelf,
-        end,
-    ) {
+    match store_listed(alloc, words, &listed, shelf, end) {
         Ok(()) => Ok(listed.answer),
         Err(refusal) => {
             end.note_report(listed.answer.text);

@@ -7,7 +7,7 @@ ghost use Rattle.cli_answers.specs.Answers.{answer_of, Comes};
 ghost use Rattle.cli_runs.specs.PieceCourse.{said_step, piece_course};
 
 use crate::board_files::load_named_events;
-use crate::end::{End, Ending};
+use crate::end::{End, Ending, FileOption};
 use crate::files::load_grouping;
 use crate::problem::load_problem;
 use cli_answers::{Refusal, RunAnswer, refuse_board};
@@ -66,7 +66,13 @@ pub(crate) fn piece<H: Shelf>(
     ensures kept { H.stored shelf.new ≡ H.stored shelf.old }
 {
     let problem = load_problem(alloc, words.board.problem, shelf, end)?;
-    let grouping = load_grouping(alloc, words.board.grouping, shelf, end)?;
+    let grouping = load_grouping(
+        alloc,
+        FileOption::Grouping,
+        words.board.grouping,
+        shelf,
+        end,
+    )?;
     let events = load_named_events(alloc, words.events, words.board.round, &problem, shelf, end)?;
     proved(alloc, &problem, &grouping, events, words, end)
 }

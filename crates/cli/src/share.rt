@@ -65,7 +65,13 @@ fn share_files<H: Shelf>(
     ensures kept { H.stored shelf.new ≡ H.stored shelf.old }
 {
     let problem = load_problem(alloc, words.board.problem, shelf, end)?;
-    let grouping = load_grouping(alloc, words.board.grouping, shelf, end)?;
+    let grouping = load_grouping(
+        alloc,
+        FileOption::Grouping,
+        words.board.grouping,
+        shelf,
+        end,
+    )?;
     let events = load_events(alloc, words.events, words.board.round, &problem, shelf, end)?;
     taken(alloc, &problem, &grouping, events, words, end)
 }

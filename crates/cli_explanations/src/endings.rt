@@ -5,6 +5,7 @@ use crate::certificate_fault::explain_certificate;
 use crate::device::{Unmoved, explain_unloaded, explain_unstored, push_report};
 use crate::findings::explain_findings;
 use crate::grouping_fault::explain_fault;
+use crate::named_groups::push_named;
 use crate::options::Options;
 use crate::outputs::{warn_of_older_files, warn_of_outputs};
 use crate::refusals::{explain_problem, explain_refused};
@@ -57,6 +58,19 @@ fn explain_number(out: &mut String, count: usize) -> Result<(), AllocError> {
     )
 }
 
+/// Explains that no best grouping has the sets of the grouping that was asked for.
+fn explain_unlisted(
+    out: &mut String,
+    options: Options<'_>,
+    count: usize,
+) -> Result<(), AllocError> {
+    let file = options.file(FileOption::Which);
+    writeln!(
+        out,
+        "countygroups: the sets of {file} are not those of a best grouping, of which there are {count}"
+    )
+}
+
 /// A run that has ended.
 #[derive(Clone, Copy)]
 pub struct Ended<'a> {
@@ -97,8 +111,12 @@ fn explain_device(out: &mut String, ended: Ended<'_>) -> Result<(), AllocError> 
         reason: ended.reason,
     };
     match option {
-        FileOption::CertificateOut | FileOption::Out | FileOption::Table | FileOption::Record =>
-            explain_unstored(out, file),
+        FileOption::CertificateOut
+        | FileOption::Out
+        | FileOption::Table
+        | FileOption::Groupings
+        | FileOption::Districts
+        | FileOption::Record => explain_unstored(out, file),
         _ => explain_unloaded(out, file, ended.words.is_empty()),
     }
 }
@@ -142,6 +160,7 @@ fn explain_ending(
         Ending::Open => out.push_str(OPEN),
         Ending::ListOpen(line) => explain_open_list(out, *line),
         Ending::NoSuchGrouping(count) => explain_number(out, *count),
+        Ending::Unlisted(count) => explain_unlisted(out, options, *count),
         Ending::Board(fault) => explain_board(out, options, fault),
         Ending::PiecesLeft(left) => explain_left(out, *left),
         Ending::PieceOpen(is_split) => explain_open_piece(out, *is_split),
@@ -179,8 +198,9 @@ fn warn(
     warn_of_older_files(rt, out, command, end)
 }
 
-/// What a person is told of a run that has ended, in whole lines that each begin with `countygroups: `; nothing of one
-/// that went well. Where a store failed after a search, the report of the search follows as it is.
+/// Returns what a person is told of a run that has ended, in whole lines that each begin with `countygroups: `. Of a run
+/// that went well nothing is told, unless standard output is a terminal: then the groups of the answer follow with the
+/// names of their counties. Where a store failed after a search, the report of the search follows as it is.
 ///
 /// # Errors
 ///
@@ -192,6 +212,9 @@ pub fn explain(rt: &(impl Files + AllocGlobal), ended: Ended<'_>) -> Result<Stri
         out.push_str(UNWRITTEN)?;
     } else {
         explain_ending(rt, &mut out, options, ended)?;
+    }
+    if ended.is_at_terminal && !ended.is_unwritten {
+        push_named(&mut out, options, ended.end)?;
     }
     warn(rt, &mut out, options, ended.end)?;
     if let Some(report) = &ended.end.report {

@@ -4,12 +4,14 @@
 
 mod board;
 mod certificate_fault;
+mod county_names;
 mod device;
 mod endings;
 mod file_lines;
 mod findings;
 mod grouping_fault;
 mod machine_files;
+mod named_groups;
 mod options;
 mod outputs;
 mod refusals;

@@ -10,7 +10,7 @@ use std::fmt::Write;
 use std::rt::Files;
 
 /// The options of the files that commands read.
-const INPUTS: [FileOption; 9] = [
+const INPUTS: [FileOption; 10] = [
     FileOption::Geo,
     FileOption::Segment,
     FileOption::Adjacency,
@@ -18,15 +18,18 @@ const INPUTS: [FileOption; 9] = [
     FileOption::Withdrawn,
     FileOption::Certificate,
     FileOption::Grouping,
+    FileOption::Which,
     FileOption::Assignments,
     FileOption::Events,
 ];
 
 /// The options of the files that commands store, in their order, and what each file is.
-const OUTPUTS: [(FileOption, &str); 4] = [
+const OUTPUTS: [(FileOption, &str); 6] = [
     (FileOption::CertificateOut, "certificate"),
     (FileOption::Out, "grouping"),
     (FileOption::Table, "table"),
+    (FileOption::Groupings, "table of all groupings"),
+    (FileOption::Districts, "table of the districts"),
     (FileOption::Record, "record"),
 ];
 
@@ -36,6 +39,8 @@ fn has_stored_option(end: &End, option: FileOption) -> bool {
         FileOption::CertificateOut => end.has_stored_certificate,
         FileOption::Out => end.has_stored_out,
         FileOption::Table => end.has_stored_table,
+        FileOption::Groupings => end.has_stored_groupings,
+        FileOption::Districts => end.has_stored_districts,
         FileOption::Record => end.has_stored_record,
         _ => false,
     }

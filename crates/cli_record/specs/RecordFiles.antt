@@ -1,5 +1,5 @@
 -- The files that the record of a run lists.
-use Rattle.std.specs.Prelude.{ℕ, ◌==◌, ◌&&◌, Bool, true, false, List, [], ◌∷◌, ◌++◌, Option, Some, None, find, filter}
+use Rattle.std.specs.Prelude.{ℕ, nat_le, ◌==◌, ◌&&◌, Bool, true, false, List, [], ◌∷◌, ◌++◌, Option, Some, None, find, filter}
 use Rattle.std.specs.Prelude.{if◌then◌else◌}
 use Rattle.std.specs.List.{filter_map}
 use Rattle.std.specs.Option.{option_map, option_or}
@@ -61,7 +61,9 @@ files_to_read (Solve w) = problem_files w.problem
 files_to_read (Check w) = problem_and w.check.problem files.Certificate w.check.certificate.now
 files_to_read (Audit w) =
     problem_and w.problem files.Grouping w.grouping.now ++ file_named files.Assignments w.assignments.now ∷ []
-files_to_read (ListAll w) = problem_and w.check.problem files.Certificate w.check.certificate.now
+files_to_read (ListAll w) =
+    problem_files w.check.problem
+    ++ (if_named files.Grouping w.which ++ file_named files.Certificate w.check.certificate.now ∷ [])
 files_to_read (Share w) = board_files w.board ++ file_named files.Events w.events.now ∷ []
 files_to_read (Piece w) = board_files w.board ++ if_named files.Events w.events
 
@@ -109,15 +111,22 @@ if_listed (Some w) = options.Out ∷ []
 abbrev pub at_status : ℕ → ℕ → List StoreOption → List StoreOption
 at_status want status list = if status == want then list else []
 
--- The options whose files a command stores, in order, where it ends with this status: the certificate of a proof, and
--- the grouping and the table where there is a grouping.
+-- options for a run that ends with status 0 or 1
+abbrev pub if_answered : ℕ → List StoreOption → List StoreOption
+if_answered status list = if nat_le status 1 then list else []
+
+-- The options whose files a command stores, in order, where it ends with this status: the certificate of a proof, the
+-- grouping and the table where there is a grouping, and the table of the districts behind each audit. `list` stores its
+-- files with status 1 too, if it tells that a grouping isn't listed.
 abbrev pub options_to_store : CommandWords → ℕ → List StoreOption
 options_to_store (Judge w) status = at_status 0 status (if_given options.Table w.table)
 options_to_store (Solve w) status =
     (if status == 3 then [] else if_given options.Certificate w.certificate)
     ++ (if status == 1 then [] else if_given options.Out w.out ++ if_given options.Table w.table)
 options_to_store (Check w) status = at_status 0 status (if_given options.Table w.table)
-options_to_store (ListAll w) status = at_status 0 status (if_listed w.stored)
+options_to_store (Audit w) status = if_answered status (if_given options.Districts w.districts)
+options_to_store (ListAll w) status =
+    if_answered status (if_listed w.stored ++ if_given options.Groupings w.groupings)
 options_to_store (Share w) status = at_status 0 status (if_given options.Certificate w.certificate)
 options_to_store command status = []
 

@@ -2,7 +2,7 @@
 
 ghost use Rattle.std.specs.Prelude.{◌≡◌, ◌++◌, ◌∷◌, [], List, IfOk, OnOk, map, find};
 ghost use Rattle.std.specs.Option.{option_map};
-ghost use Rattle.cli_words.specs.declared.words.CommandWords.TheVariants.{Judge, Audit, Share, Piece};
+ghost use Rattle.cli_words.specs.declared.words.CommandWords.TheVariants.{Judge, Audit, List as ListAll, Share, Piece};
 ghost use Rattle.cli_record_text.specs.declared.run.ReadFile.TheVariants.{Certificate};
 ghost use Rattle.cli_shelves.specs.Sums.{sum_value};
 ghost use Rattle.cli_record.specs.RunRecord.{read_line_of};
@@ -13,8 +13,8 @@ ghost use Rattle.cli_record.specs.RecordFiles.{problem_and, board_files, files_t
 use cli_record_text::{FileRead, ReadFile};
 use cli_shelves::{EventKind, EventSum};
 use cli_words::{
-    AuditWords, BoardWords, CertificateWords, CommandWords, CommonWords, JudgeWords, PieceWords,
-    ProblemWords, ShareWords,
+    AuditWords, BoardWords, CertificateWords, CommandWords, CommonWords, JudgeWords, ListWords,
+    PieceWords, ProblemWords, ShareWords,
 };
 use std::alloc::{AllocError, Global};
 
@@ -179,6 +179,20 @@ fn push_judge(
     push_if_named(reads, sums, ReadFile::Certificate, words.certificate)
 }
 
+/// Appends the lines of the files that `list` reads.
+fn push_list(
+    reads: &mut Vec<FileRead>,
+    sums: &[EventSum],
+    words: &ListWords<'_>,
+) -> Result<(), AllocError>
+    ensures { OnOk result (map read_line_of reads.new.items
+        ≡ map read_line_of reads.old.items ++ files_read (files_to_read (ListAll words.now)) (map sum_value sums.now)) }
+{
+    push_problem(reads, sums, &words.check.problem)?;
+    push_if_named(reads, sums, ReadFile::Grouping, words.which)?;
+    push_read(reads, sums, ReadFile::Certificate, words.check.certificate)
+}
+
 /// Appends the lines of the files that `audit` reads.
 fn push_audit(
     reads: &mut Vec<FileRead>,
@@ -248,7 +262,7 @@ fn push_files(
         CommandWords::Solve(words) => push_problem(reads, sums, &words.problem),
         CommandWords::Check(words) => push_certificate(reads, sums, &words.check),
         CommandWords::Audit(words) => push_audit(reads, sums, words),
-        CommandWords::List(words) => push_certificate(reads, sums, &words.check),
+        CommandWords::List(words) => push_list(reads, sums, words),
         CommandWords::Share(words) => push_share(reads, sums, words),
         CommandWords::Piece(words) => push_piece(reads, sums, words),
     }

@@ -4,14 +4,14 @@ ghost use Rattle.std.specs.Prelude.{◌≡◌, ◌++◌, List, IfOk, OnOk, map};
 ghost use Rattle.cli_shelves.specs.declared.sums.EventKind.TheVariants.{Taken};
 ghost use Rattle.cli_shelves.specs.Sums.{sum_value};
 ghost use Rattle.cli_record.specs.RunRecord.{stored_line_of};
-ghost use Rattle.cli_record.specs.RecordFiles.{if_given, if_listed, files_stored, options_to_store as options_of};
-ghost use Rattle.cli_record.specs.RecordFiles.{stored_value};
-ghost use Rattle.cli_words.specs.declared.words.CommandWords.TheVariants.{Solve};
+ghost use Rattle.cli_record.specs.RecordFiles.{at_status, if_given, if_listed, files_stored, stored_value};
+ghost use Rattle.cli_record.specs.RecordFiles.{options_to_store as options_of};
+ghost use Rattle.cli_words.specs.declared.words.CommandWords.TheVariants.{Audit, List as ListAll, Solve};
 
 use crate::reads::went;
 use cli_record_text::{FileStored, StoreOption};
 use cli_shelves::{EventKind, EventSum};
-use cli_words::{CommandWords, SolveWords};
+use cli_words::{AuditWords, CommandWords, ListWords, SolveWords, StoredWords};
 use std::alloc::{AllocError, Global};
 
 /// Appends an option, if the words name its file.
@@ -49,29 +49,88 @@ fn push_solve(
     Ok(())
 }
 
-/// Appends the options whose files a command stores that ends with status 0.
-fn push_options(
+/// Appends an option, if the words name its file and the run ends with status 0.
+fn push_at_0(
     options: &mut Vec<StoreOption>,
-    command: &CommandWords<'_>,
+    option: StoreOption,
+    name: Option<&str>,
+    status: u8,
 ) -> Result<(), AllocError>
-    ensures { OnOk result (options.new.items ≡ options.old.items ++ options_of command.now 0) }
+    ensures { OnOk result (options.new.items ≡ options.old.items ++ at_status 0 status (if_given option name.entry)) }
 {
-    match command {
-        CommandWords::Judge(words) => push_if_given(options, StoreOption::Table, words.table),
-        CommandWords::Solve(words) => push_solve(options, words, 0),
-        CommandWords::Check(words) => push_if_given(options, StoreOption::Table, words.table),
-        CommandWords::List(words) => match &words.stored {
-            Some(stored) => push_if_given(options, StoreOption::Out, Some(stored.out)),
-            None => Ok(()),
-        },
-        CommandWords::Share(words) => {
-            push_if_given(options, StoreOption::Certificate, words.certificate)
-        }
-        CommandWords::Size(_) | CommandWords::Audit(_) | CommandWords::Piece(_) => Ok(()),
+    if status == 0 {
+        push_if_given(options, option, name)
+    } else {
+        Ok(())
     }
 }
 
-/// The options whose files a command stores, in order, if the command ends with this status.
+/// Appends the options of `audit` at a status.
+fn push_audit(
+    options: &mut Vec<StoreOption>,
+    words: &AuditWords<'_>,
+    status: u8,
+) -> Result<(), AllocError>
+    ensures { OnOk result (options.new.items ≡ options.old.items ++ options_of (Audit words.now) status) }
+{
+    if status <= 1 {
+        push_if_given(options, StoreOption::Districts, words.districts)
+    } else {
+        Ok(())
+    }
+}
+
+/// Appends the option of a listed grouping, if one is stored.
+fn push_if_listed(
+    options: &mut Vec<StoreOption>,
+    words: &Option<StoredWords<'_>>,
+) -> Result<(), AllocError>
+    ensures { OnOk result (options.new.items ≡ options.old.items ++ if_listed words.now) }
+{
+    match words {
+        Some(stored) => push_if_given(options, StoreOption::Out, Some(stored.out)),
+        None => Ok(()),
+    }
+}
+
+/// Appends the options of `list` at a status.
+fn push_list(
+    options: &mut Vec<StoreOption>,
+    words: &ListWords<'_>,
+    status: u8,
+) -> Result<(), AllocError>
+    ensures { OnOk result (options.new.items ≡ options.old.items ++ options_of (ListAll words.now) status) }
+{
+    if status <= 1 {
+        push_if_listed(options, &words.stored)?;
+        push_if_given(options, StoreOption::Groupings, words.groupings)
+    } else {
+        Ok(())
+    }
+}
+
+/// Appends the options whose files a command stores, in order, if the command ends with this status.
+fn push_options(
+    options: &mut Vec<StoreOption>,
+    command: &CommandWords<'_>,
+    status: u8,
+) -> Result<(), AllocError>
+    ensures { OnOk result (options.new.items ≡ options.old.items ++ options_of command.now status) }
+{
+    match command {
+        CommandWords::Judge(words) => push_at_0(options, StoreOption::Table, words.table, status),
+        CommandWords::Solve(words) => push_solve(options, words, status),
+        CommandWords::Check(words) => push_at_0(options, StoreOption::Table, words.table, status),
+        CommandWords::Audit(words) => push_audit(options, words, status),
+        CommandWords::List(words) => push_list(options, words, status),
+        CommandWords::Share(words) => {
+            push_at_0(options, StoreOption::Certificate, words.certificate, status)
+        }
+        CommandWords::Size(_) | CommandWords::Piece(_) => Ok(()),
+    }
+}
+
+/// Returns the options whose files a command stores, in order, if the command ends with this status.
 fn options_to_store(
     alloc: Global,
     command: &CommandWords<'_>,
@@ -80,11 +139,7 @@ fn options_to_store(
     ensures { IfOk result (λ v. v.items ≡ options_of command.now status) }
 {
     let mut options = Vec::new(alloc);
-    match command {
-        CommandWords::Solve(words) => push_solve(&mut options, words, status)?,
-        _ if status == 0 => push_options(&mut options, command)?,
-        _ => {}
-    }
+    push_options(&mut options, command, status)?;
     Ok(options)
 }
 

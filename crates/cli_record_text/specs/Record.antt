@@ -28,6 +28,8 @@ abbrev pub option_word : StoreOption → List ℕ
 option_word options.Certificate = codes "certificate"
 option_word options.Out = codes "out"
 option_word options.Table = codes "table"
+option_word options.Groupings = codes "groupings"
+option_word options.Districts = codes "districts"
 
 -- a count of bytes, their digest and a name, with a blank before each
 unfoldable pub named_sum : SumValue → List ℕ → List ℕ

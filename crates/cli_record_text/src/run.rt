@@ -34,6 +34,10 @@ pub enum StoreOption {
     Out,
     /// `--table`.
     Table,
+    /// `--groupings`.
+    Groupings,
+    /// `--districts`.
+    Districts,
 }
 
 /// A file that a run read.

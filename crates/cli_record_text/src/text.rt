@@ -38,6 +38,8 @@ fn push_option_word(out: &mut Vec<u8>, option: StoreOption) -> Result<(), AllocE
         StoreOption::Certificate => out.extend_from_slice(b"certificate"),
         StoreOption::Out => out.extend_from_slice(b"out"),
         StoreOption::Table => out.extend_from_slice(b"table"),
+        StoreOption::Groupings => out.extend_from_slice(b"groupings"),
+        StoreOption::Districts => out.extend_from_slice(b"districts"),
     }
 }
 

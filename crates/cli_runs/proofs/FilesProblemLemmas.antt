@@ -1,6 +1,7 @@
--- The problem that steps over told files come to is the problem of the files.
-use Rattle.std.proofs.Common.{ℕ, List, Some}
+-- The problem that steps over the files that a run was given come to is the problem of these files.
+use Rattle.std.proofs.Common.{ℕ, List, Option, Some, None}
 use Rattle.std.specs.Prelude.{Ok}
+use Rattle.std.specs.Borrow.{Bor}
 use Rattle.grouping_laws.specs.Grouping as groups
 use Rattle.county_problem.specs.ProblemValue.{ProblemValue}
 use Rattle.pl94_counties.specs.declared.blocks.Block.{Block}
@@ -12,7 +13,8 @@ use Rattle.cli_shelves.specs.Files.{Files}
 use Rattle.cli_shelves.specs.History.{History}
 use Rattle.cli_runs.specs.ProblemCourse.{problem_course, grouping_of}
 use Rattle.cli_runs.specs.PlanCourse.{blocks_of, plan_assignments}
-use Rattle.cli_runs.specs.FilesProblem.{AreBlocksOfFiles, IsProblemOfFiles, IsGroupingOfFile, AreAssignmentsOfFile}
+use Rattle.cli_runs.specs.ListCourse.{which_of}
+use Rattle.cli_runs.specs.FilesProblem.{AreBlocksOfFiles, IsProblemOfFiles, IsGroupingOfFile, IsGroupingIfNamed, AreAssignmentsOfFile}
 use Rattle.cli_runs.proofs.Texts.{given_of_both_told}
 use Rattle.cli_runs.proofs.FilesRead.{went, problem_reads, problem_of_files}
 
@@ -37,6 +39,12 @@ module _ (files : Files) where
   grouping_told name before after grouping h =
       let t = went _ _ before after grouping h in
       (t.value, t.given.0, t.goes_on.1)
+
+  pub which_told : (name : Option (Bor (List ℕ))) (before after : History) (which : Option groups.Grouping) → which_of (Some files) name before after (Ok which) → IsGroupingIfNamed files name which
+  which_told None before after which h = h.1
+  which_told (Some name) before after which h =
+      let g = went _ _ before after which h in
+      (g.value, g.goes_on.1, grouping_told name.now before g.between g.value g.given)
 
   pub assignments_told : (name : List ℕ) (before after : History) (lines : List Assignment) → plan_assignments (Some files) name before after (Ok lines) → AreAssignmentsOfFile files name lines
   assignments_told name before after lines h =

@@ -1,4 +1,4 @@
--- The values of readers by which steps over told files come to a problem.
+-- The values of readers by which steps over the files that a run was given come to a problem.
 use Rattle.std.proofs.Common.{◌≡◌, ℕ, List, [], ◌∷◌, ◌++◌, Contains, Option, Some, None, inl, inr, refl, sym, ap, ◌∙◌, subst, subst₂}
 use Rattle.std.specs.Prelude.{Result, Ok, option_map}
 use Rattle.std.proofs.lemmas.List.Elements.{Contains-append_right}
@@ -18,6 +18,7 @@ use Rattle.adjacency_reader.specs.Links.{link_list}
 use Rattle.adjacency_reader.specs.WithdrawnSets.{withdrawn_list}
 use Rattle.adjacency_reader.specs.Adjacency.{AreLinked}
 use Rattle.grouping_table.specs.Table.{unnamed_counties as without_names, table_text}
+use Rattle.grouping_table.specs.GroupingsTable.{groupings_text}
 use Rattle.cli_words.specs.declared.words.CommonWords.{CommonWords}
 use Rattle.cli_words.specs.declared.words.ProblemWords.{ProblemWords}
 use Rattle.cli_shelves.specs.Files.{NamedFile, Files}
@@ -25,7 +26,8 @@ use Rattle.cli_shelves.specs.History.{History}
 use Rattle.cli_runs.specs.Course.{Course, ◌>>=◌, GoesOn}
 use Rattle.cli_runs.specs.ProblemCourse.{IsBuilt, links_of, withdrawn_of, problem_over, problem_course}
 use Rattle.cli_runs.specs.TableCourse.{Tabled, named_counties_of, tabled_problem_in, table_of}
-use Rattle.cli_runs.specs.FilesProblem.{IsReadAsIfNamed, AreNamedByFiles, IsProblemOfFiles, IsTableOfFiles}
+use Rattle.cli_runs.specs.ListCourse.{table_of_all}
+use Rattle.cli_runs.specs.FilesProblem.{IsReadAsIfNamed, AreNamedByFiles, IsProblemOfFiles, IsTableOfFiles, IsLongTableOfFiles}
 use Rattle.cli_runs.specs.Storing.{IsStoredAs, named_file}
 use Rattle.cli_runs.specs.Headline.{HoldsSameIfNamed, HasSameProblem}
 use Rattle.cli_runs.proofs.Texts.{given_of_both_told}
@@ -59,6 +61,22 @@ pub record ReadsProblem (files : Files) (words : ProblemWords) (v : ProblemValue
 pub went : {X Y : Type 0} (first : Course X) (next : X → Course Y) (before after : History) (y : Y) → (first >>= next) before after (Ok y) → GoesOn first next before after (Ok y)
 went first next before after y (inl stop) = absurd stop
 went first next before after y (inr on) = on
+
+-- a text for which P holds is the last of the files that are stored
+pub stored_last : (name : Bor (List ℕ)) (P : List ℕ → Type 0) (bytes : List ℕ) (text : Option (List ℕ)) (earlier stored : List NamedFile)
+    → P bytes → text ≡ Some bytes → stored ≡ earlier ++ named_file (Some name) text → IsStoredAs (Some name) P stored
+stored_last name P bytes text earlier stored holds is all =
+    let file : NamedFile = record { name = name.now; bytes = bytes } in
+    let whole : stored ≡ earlier ++ file ∷ [] = all ∙ ap (λ (x : Option (List ℕ)). earlier ++ named_file (Some name) x) is in
+    (bytes, holds, subst (λ (list : List NamedFile). Contains list file) (sym whole) (Contains-append_right earlier (file ∷ []) file (contains_head file [])))
+
+-- the same of the first of them
+pub stored_first_of : (name : Bor (List ℕ)) (P : List ℕ → Type 0) (bytes : List ℕ) (text : Option (List ℕ)) (later stored : List NamedFile)
+    → P bytes → text ≡ Some bytes → stored ≡ named_file (Some name) text ++ later → IsStoredAs (Some name) P stored
+stored_first_of name P bytes text later stored holds is all =
+    let file : NamedFile = record { name = name.now; bytes = bytes } in
+    let whole : stored ≡ file ∷ later = all ∙ ap (λ (x : Option (List ℕ)). named_file (Some name) x ++ later) is in
+    (bytes, holds, subst (λ (list : List NamedFile). Contains list file) (sym whole) (contains_head file later))
 
 module _ (files : Files) where
   links_told : (name : Option (Bor (List ℕ))) (before after : History) (links : List Link) → links_of (Some files) name before after (Ok links) → IsReadAsIfNamed link_list files name links
@@ -188,13 +206,17 @@ module _ (files : Files) where
   table_stored words None t g text earlier stored r is all = tt
   table_stored words (Some name) t g text earlier stored r is all =
       let bytes = table_text r.names.0 t.problem.withdrawn g in
-      let file : NamedFile = record { name = name.now; bytes = bytes } in
       let own : text ≡ Some bytes = is ∙ ap (option_map (λ named. table_text named t.problem.withdrawn g)) r.names.1 in
-      let whole : stored ≡ earlier ++ file ∷ [] = all ∙ ap (λ (x : Option (List ℕ)). earlier ++ named_file (Some name) x) own in (
-        bytes,
-        record { named = r.names.0; named_are = r.names.2; table = refl },
-        subst (λ (list : List NamedFile). Contains list file) (sym whole) (Contains-append_right earlier (file ∷ []) file (contains_head file [])),
-      )
+      stored_last name (IsTableOfFiles files words t.problem g) bytes text earlier stored (record { named = r.names.0; named_are = r.names.2; table = refl }) own all
+
+  -- the table of several groupings is the last of the files that are stored
+  pub long_table_stored : (words : ProblemWords) (table : Option (Bor (List ℕ))) (t : Tabled) (groupings : List Grouping) (text : Option (List ℕ)) (earlier stored : List NamedFile)
+      → ReadsTabled words table t → text ≡ table_of_all t groupings → stored ≡ earlier ++ named_file table text → IsStoredAs table (IsLongTableOfFiles files words t.problem groupings) stored
+  long_table_stored words None t groupings text earlier stored r is all = tt
+  long_table_stored words (Some name) t groupings text earlier stored r is all =
+      let bytes = groupings_text r.names.0 t.problem.withdrawn groupings in
+      let own : text ≡ Some bytes = is ∙ ap (option_map (λ named. groupings_text named t.problem.withdrawn groupings)) r.names.1 in
+      stored_last name (IsLongTableOfFiles files words t.problem groupings) bytes text earlier stored (record { named = r.names.0; named_are = r.names.2; table = refl }) own all
 
 -- the same bytes are read as the same values
 read_again : {X F : Type 0} (read : List ℕ → Result (List X) F) (files others : Files) (name other : Option (Bor (List ℕ))) (list : List X)

@@ -139,7 +139,7 @@ said_so v g budget (Some text) a by = go by.said
     go (inl said) = inr (said.1, by.best said.1)
     go (inr said) = inl said.1
 
--- the grouping of a told file
+-- the grouping of a file that a run was given
 pub record IsReadFrom (files : Files) (name : List ℕ) (g : Grouping) : Type 0 where
   pub text : List ℕ
   pub held : files name ≡ Some text

@@ -16,6 +16,7 @@ pub mod Telling
 mod Ending
 mod Listings
 mod Lists
+mod WhichExamples
 mod Boards
 mod Joined
 mod Judgments

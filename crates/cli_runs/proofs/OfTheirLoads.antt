@@ -1,7 +1,7 @@
--- Runs over files, told or not, are runs over any files by which their loads and readers answered.
+-- Runs over files, whether a shelf tells them or not, are runs over any files by which their loads and readers answered.
 use Rattle.std.proofs.Common.{◌≡◌, ◌⊎◌, ℕ, length, List, [], ◌∷◌, ◌++◌, Contains, Option, Some, None, inl, inr, sym, ap, subst, ◌∙◌, append_assoc}
 use Rattle.std.specs.Borrow.{Bor}
-use Rattle.std.specs.Prelude.{Ok, Err, true, option_map}
+use Rattle.std.specs.Prelude.{Ok, Err, true, is_some}
 use Rattle.pl94_counties.proofs.TraceLemmas.{contains_nil, contains_cases}
 use Rattle.pl94_counties.specs.Counties.{county_list, block_list}
 use Rattle.baf_auditor.specs.Assignments.{assignment_list}
@@ -35,10 +35,10 @@ use Rattle.grouping_table.specs.Table.{unnamed_counties as without_names}
 use Rattle.pl94_counties.specs.CountyNames.{named_list}
 use Rattle.cli_runs.specs.PlanCourse.{blocks_of, plan_assignments}
 use Rattle.cli_runs.specs.JudgeWithCertificate.{certificate_text_of}
-use Rattle.cli_runs.specs.JudgeCourse.{size_course, IsJudgeReport, judge_course, IsAudited, audit_course}
+use Rattle.cli_runs.specs.JudgeCourse.{size_course, IsJudgeReport, judge_course, Audited, IsAudited, audit_course}
 use Rattle.cli_runs.specs.SolveCourse.{IsSolved, solve_course, files_to_store}
 use Rattle.cli_runs.specs.CheckCourse.{IsChecked, check_course}
-use Rattle.cli_runs.specs.ListCourse.{IsListAnswer, list_course, listed_file}
+use Rattle.cli_runs.specs.ListCourse.{IsListAnswer, which_of, asked_by, list_course, listed_files}
 use Rattle.county_problem.specs.ProblemValue.{codes_of, problem_of}
 use Rattle.certificate_data.specs.declared.language.Language as rounds
 use Rattle.board_report.specs.BoardOutcome.{IsShared}
@@ -129,7 +129,7 @@ module _ (given : Option Files) (files : Files) where
   audit_lifts : (words : AuditWords) → Lifts given files (audit_course given words) (audit_course (Some files) words)
   audit_lifts words =
       lifts_bind given files (problem_lifts words.problem) (λ v. lifts_bind given files (blocks_lift words.problem.common) (λ blocks. lifts_bind given files (grouping_lifts words.grouping.now) (λ g.
-      lifts_bind given files (assignments_lift words.assignments.now) (λ lines. lifts_value given files (IsAudited v g blocks lines)))))
+      lifts_bind given files (assignments_lift words.assignments.now) (λ lines. lifts_value given files (IsAudited (is_some words.districts) v g blocks lines)))))
 
   check_lifts : (words : CheckWords) → Lifts given files (check_course given words) (check_course (Some files) words)
   check_lifts words = lifts_bind given files (tabled_lifts words.check.problem words.table) (λ t. lifts_bind given files (lifts_given_of given files words.check.certificate.now) (λ read. lifts_value given files (IsChecked t words.check.budget read)))
@@ -137,9 +137,13 @@ module _ (given : Option Files) (files : Files) where
   solve_lifts : (words : SolveWords) → Lifts given files (solve_course given words) (solve_course (Some files) words)
   solve_lifts words = lifts_bind given files (tabled_lifts words.problem words.table) (λ t. lifts_value given files (IsSolved t words.steps))
 
+  which_lifts : (name : Option (Bor (List ℕ))) → Lifts given files (which_of given name) (which_of (Some files) name)
+  which_lifts name = lifts_optional given files None name (λ file. lifts_bind given files (grouping_lifts file) (λ g. lifts_value given files (λ held. held ≡ Some g)))
+
   list_lifts : (words : ListWords) → Lifts given files (list_course given words) (list_course (Some files) words)
-  list_lifts words = lifts_bind given files (problem_lifts words.check.problem) (λ v. lifts_bind given files (lifts_load given files words.check.certificate.now) (λ text.
-      lifts_value given files (IsListAnswer v words.check.budget (option_map (λ w. w.number) words.stored) text)))
+  list_lifts words =
+      lifts_bind given files (tabled_lifts words.check.problem words.groupings) (λ t. lifts_bind given files (which_lifts words.which) (λ which.
+      lifts_bind given files (lifts_load given files words.check.certificate.now) (λ text. lifts_value given files (IsListAnswer t words.check.budget (asked_by words which) text))))
 
   events_lift : (language : rounds.Language) (counties : ℕ) (name : List ℕ) → Lifts given files (events_of given language counties name) (events_of (Some files) language counties name)
   events_lift language counties name = lifts_bind given files (lifts_load given files name) (λ text. lifts_call given files events_answer (AreEvents language counties text))
@@ -175,8 +179,8 @@ module _ (given : Option Files) (files : Files) where
   command_ends (Judge words) before after stored a h by = storing_ends _ _ (λ (r : Reported). named_file words.table r.table) (λ r. r.answer) (judge_lifts words) before after stored a h by
   command_ends (Solve words) before after stored a h by = storing_ends _ _ (files_to_store words) (λ s. s.answer) (solve_lifts words) before after stored a h by
   command_ends (Check words) before after stored a h by = storing_ends _ _ (λ (r : Reported). named_file words.table r.table) (λ r. r.answer) (check_lifts words) before after stored a h by
-  command_ends (Audit words) before after stored a h by = (ends_lift given files (audit_lifts words) before after a h.0 by, h.1)
-  command_ends (ListAll words) before after stored a h by = storing_ends _ _ (listed_file words) (λ s. s.answer) (list_lifts words) before after stored a h by
+  command_ends (Audit words) before after stored a h by = storing_ends _ _ (λ (s : Audited). named_file words.districts s.districts) (λ s. s.answer) (audit_lifts words) before after stored a h by
+  command_ends (ListAll words) before after stored a h by = storing_ends _ _ (listed_files words) (λ s. s.answer) (list_lifts words) before after stored a h by
   command_ends (Share words) before after stored a h by = storing_ends _ _ (joined_file words) share_answer (share_lifts words) before after stored a h by
   command_ends (Piece words) before after stored a h by = (ends_lift given files (piece_lifts words) before after a h.0 by, h.1)
 
@@ -198,8 +202,8 @@ module _ (given : Option Files) (files : Files) where
   command_extends (Judge words) before after stored a h = storing_extends _ _ (λ r. named_file words.table r.table) (λ r. r.answer) (judge_lifts words) before after stored a h
   command_extends (Solve words) before after stored a h = storing_extends _ _ (files_to_store words) (λ s. s.answer) (solve_lifts words) before after stored a h
   command_extends (Check words) before after stored a h = storing_extends _ _ (λ r. named_file words.table r.table) (λ r. r.answer) (check_lifts words) before after stored a h
-  command_extends (Audit words) before after stored a h = quiet_extends _ _ (audit_lifts words) before after a h.0
-  command_extends (ListAll words) before after stored a h = storing_extends _ _ (listed_file words) (λ s. s.answer) (list_lifts words) before after stored a h
+  command_extends (Audit words) before after stored a h = storing_extends _ _ (λ s. named_file words.districts s.districts) (λ s. s.answer) (audit_lifts words) before after stored a h
+  command_extends (ListAll words) before after stored a h = storing_extends _ _ (listed_files words) (λ s. s.answer) (list_lifts words) before after stored a h
   command_extends (Share words) before after stored a h = storing_extends _ _ (joined_file words) share_answer (share_lifts words) before after stored a h
   command_extends (Piece words) before after stored a h = quiet_extends _ _ (piece_lifts words) before after a h.0
 
@@ -269,8 +273,8 @@ module _ (given : Option Files) (files : Files) where
   command_taken (Judge words) before after stored a h f there = storing_taken _ _ (λ (r : Reported). named_file words.table r.table) (λ r. r.answer) (judge_lifts words) before after stored a h f there
   command_taken (Solve words) before after stored a h f there = storing_taken _ _ (files_to_store words) (λ s. s.answer) (solve_lifts words) before after stored a h f there
   command_taken (Check words) before after stored a h f there = storing_taken _ _ (λ (r : Reported). named_file words.table r.table) (λ r. r.answer) (check_lifts words) before after stored a h f there
-  command_taken (Audit words) before after stored a h f there = absurd (none_holds stored f h.1 there)
-  command_taken (ListAll words) before after stored a h f there = storing_taken _ _ (listed_file words) (λ s. s.answer) (list_lifts words) before after stored a h f there
+  command_taken (Audit words) before after stored a h f there = storing_taken _ _ (λ (s : Audited). named_file words.districts s.districts) (λ s. s.answer) (audit_lifts words) before after stored a h f there
+  command_taken (ListAll words) before after stored a h f there = storing_taken _ _ (listed_files words) (λ s. s.answer) (list_lifts words) before after stored a h f there
   command_taken (Share words) before after stored a h f there = storing_taken _ _ (joined_file words) share_answer (share_lifts words) before after stored a h f there
   command_taken (Piece words) before after stored a h f there = absurd (none_holds stored f h.1 there)
 

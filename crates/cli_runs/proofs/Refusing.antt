@@ -9,6 +9,7 @@ use Rattle.pl94_counties.specs.declared.fault.Pl94Kind.TheVariants as kinds
 use Rattle.pl94_counties.specs.declared.county_names.NamedFault.{NamedFault}
 use Rattle.pl94_counties.specs.declared.county_names.NamedFault.TheVariants as names
 use Rattle.pl94_counties.specs.CountyNames.{named_list}
+use Rattle.grouping_laws.specs.Grouping as groups
 use Rattle.county_codes.specs.declared.county.County.{County}
 use Rattle.grouping_table.specs.Table.{unnamed_counties as without_names}
 use Rattle.grouping_reader.specs.declared.fault.CodeLineKind.{CodeLineKind}
@@ -40,6 +41,7 @@ use Rattle.cli_words.specs.declared.words.ProblemWords.{ProblemWords}
 use Rattle.cli_runs.specs.Course.{Course, ◌>>=◌, load_step, call_step, value_step, optional_step}
 use Rattle.cli_runs.specs.Reading.{given_of, given_of_both, OfTexts}
 use Rattle.cli_runs.specs.PlanCourse.{blocks_of, plan_assignments}
+use Rattle.cli_runs.specs.ListCourse.{which_of}
 use Rattle.cli_runs.specs.TableCourse.{untabled, tabled_by, named_counties_of, tabled_problem_in}
 use Rattle.cli_runs.proofs.Texts.{shelf_status, given_of_cuts, given_of_both_cuts}
 use Rattle.cli_runs.specs.ProblemCourse.{counties_course, pairs_of, pairs_in, links_of, links_in, withdrawn_of, withdrawn_in, adjacency_of, IsBuilt, problem_over, problem_course, grouping_in, grouping_of}
@@ -173,6 +175,12 @@ withdrawn_refuses files name = optional_refuses [] _ name (λ file. bind_refuses
 -- a grouping that isn't had
 pub grouping_refuses : (files : Option Files) (name : List ℕ) → Refuses (grouping_of files name)
 grouping_refuses files name = bind_refuses (load_step files name) grouping_in (load_refuses files name) (λ text. code_file_refuses Grouping (λ grouping. grouping_list text ≡ grouping))
+
+-- a grouping that isn't had, if its file is named
+pub which_refuses : (files : Option Files) (name : Option (Bor (List ℕ))) → Refuses (which_of files name)
+which_refuses files name = optional_refuses None _ name (λ file.
+    bind_refuses (grouping_of files file) (λ g. value_step (λ (held : Option groups.Grouping). held ≡ Some g)) (grouping_refuses files file)
+    (λ g. value_refuses (λ (held : Option groups.Grouping). held ≡ Some g)))
 
 -- a problem that isn't had
 over_refuses : (files : Option Files) (words : ProblemWords) (counties : List County) → Refuses (problem_over files words counties)

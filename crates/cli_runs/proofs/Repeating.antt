@@ -1,4 +1,4 @@
--- Steps over told files that end in a value of a kind, or else in an answer of a kind.
+-- Steps over the files that a run was given which end in a value of a kind, or else in an answer of a kind.
 use Rattle.std.proofs.Common.{◌≡◌, ℕ, List, [], Option, Some, None, inl, inr, sym, subst, ◌∙◌}
 use Rattle.std.specs.Prelude.{Result, Ok, Err}
 use Rattle.std.specs.Borrow.{Bor}
@@ -55,7 +55,7 @@ module _ (E : Answered → Type 0) where
       ok_or_err : (fault : F) → given ≡ Err fault → ⊥
       ok_or_err fault e = let no : Ok x ≡ Err fault = sym is ∙ e in cc
 
--- steps over told files, where each refusal with status 5 is an answer for which E holds
+-- steps over the files that a run was given, where each refusal with status 5 is an answer for which E holds
 module _ (E : Answered → Type 0) (five : (a : Answered) → a.status ≡ 5 → E a) (files : Files) where
   cut_ends : {X : Type 0} (P : X → Type 0) (steps : Course X) → CutsOff steps → ((start end : History) (x : X) → steps start end (Ok x) → P x) → EndsBy P E steps
   cut_ends P steps cuts told start end (Ok x) h = told start end x h

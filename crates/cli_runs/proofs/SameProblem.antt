@@ -21,13 +21,17 @@ use Rattle.adjacency_reader.specs.Links.{link_list}
 use Rattle.adjacency_reader.specs.WithdrawnSets.{withdrawn_list}
 use Rattle.adjacency_reader.specs.Adjacency.{AreLinked}
 use Rattle.grouping_table.specs.Table.{unnamed_counties as without_names}
+use Rattle.grouping_laws.specs.Grouping.{Grouping}
+use Rattle.grouping_reader.specs.GroupingLines.{grouping_list}
 use Rattle.cli_words.specs.declared.words.ProblemWords.{ProblemWords}
 use Rattle.cli_shelves.specs.Files.{Files}
 use Rattle.cli_answers.specs.declared.refusal.InputFile.TheVariants as input
 use Rattle.cli_answers.specs.Answer.{Answered}
 use Rattle.cli_answers.specs.Refusals.{pl94_answer, named_answer, code_file_answer, problem_answer}
 use Rattle.cli_runs.specs.Course.{◌>>=◌, load_step, value_step}
-use Rattle.cli_runs.specs.ProblemCourse.{counties_course, counties_in, pairs_of, pairs_in, links_of, links_in, withdrawn_of, withdrawn_in, adjacency_of, IsBuilt, build_step, problem_over, problem_course}
+use Rattle.cli_runs.specs.ProblemCourse.{counties_course, counties_in, pairs_of, pairs_in, links_of, links_in, withdrawn_of, withdrawn_in, adjacency_of, IsBuilt, build_step, problem_over, problem_course, grouping_in, grouping_of}
+use Rattle.cli_runs.specs.ListCourse.{which_of}
+use Rattle.cli_runs.specs.FilesProblem.{IsGroupingOfFile, IsGroupingIfNamed}
 use Rattle.cli_runs.specs.TableCourse.{Tabled, untabled, tabled_by, named_counties_in, named_counties_of, named_problem_over, tabled_problem_in}
 use Rattle.field_lines.specs.Source.{Given}
 use Rattle.field_lines.specs.HeldBytes.{Foresees}
@@ -98,6 +102,19 @@ module _ (counties : List County) (pairs : List (ℕ × ℕ)) (withdrawn : List 
 
   none_or_some : (fault : ProblemFault) → problem_fault counties pairs withdrawn chamber window ≡ None → problem_fault counties pairs withdrawn chamber window ≡ Some fault → ⊥
   none_or_some fault e f = let no : None ≡ Some fault = sym e ∙ f in cc
+
+-- the grouping of a file is had again
+module _ (E : Answered → Type 0) (five : (a : Answered) → a.status ≡ 5 → E a) (files : Files) where
+  grouping_again : (name : List ℕ) (g : Grouping) → IsGroupingOfFile files name g → Gives g E (grouping_of (Some files) name)
+  grouping_again name g held =
+      bind_gives E held.0 (λ (x : Grouping). x ≡ g) (load_step (Some files) name) grouping_in (load_gives E five files name held.0 held.1)
+      (function_gives E (code_file_answer input.Grouping) (grouping_list held.0) g held.2)
+
+  pub which_again : (name : Option (Bor (List ℕ))) (which : Option Grouping) → IsGroupingIfNamed files name which → Gives which E (which_of (Some files) name)
+  which_again None which is = value_ends E (λ (x : Option Grouping). x ≡ which) (λ x. x ≡ None) (λ x e. e ∙ sym is)
+  which_again (Some name) which is =
+      bind_gives E is.0 (λ (x : Option Grouping). x ≡ which) (grouping_of (Some files) name.now) (λ g. value_step (λ held. held ≡ Some g)) (grouping_again name.now is.0 is.2)
+      (value_ends E (λ (x : Option Grouping). x ≡ which) (λ held. held ≡ Some is.0) (λ x e. e ∙ sym is.1))
 
 module _ (E : Answered → Type 0) (five : (a : Answered) → a.status ≡ 5 → E a) (files : Files) (words : ProblemWords) (v : ProblemValue) where
   -- the problem of counties is had again

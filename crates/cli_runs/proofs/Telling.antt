@@ -1,8 +1,11 @@
 -- What an answer with status 0 or 1 tells of the files.
-use Rattle.std.proofs.Common.{◌≡◌, ◌≢◌, ◌≤◌, ℕ, List, [], ◌∷◌, ◌++◌, append_assoc, Option, Some, None, inl, inr, refl, sym, ap, subst, ◌∙◌, arith}
-use Rattle.std.specs.Prelude.{Ok, true}
+use Rattle.std.proofs.Common.{◌≡◌, ◌≢◌, ◌≤◌, ◌⊎◌, ℕ, List, [], ◌∷◌, ◌++◌, append_assoc, Option, Some, None, inl, inr, refl, sym, ap, subst, ◌∙◌, arith}
+use Rattle.std.specs.Prelude.{true, is_some}
 use Rattle.std.specs.Borrow.{Bor}
-use Rattle.county_problem.specs.ProblemValue.{problem_of}
+use Rattle.county_problem.specs.ProblemValue.{ProblemValue, problem_of}
+use Rattle.grouping_laws.specs.Grouping.{Grouping}
+use Rattle.pl94_counties.specs.declared.blocks.Block.{Block}
+use Rattle.baf_auditor.specs.declared.assignments.Assignment.{Assignment}
 use Rattle.certificate_checker.specs.Answers.{IsCheckAnswer, CheckIsRight, ShowsImpossible}
 use Rattle.certificate_checker.specs.declared.verdict.Verdict.{Verdict}
 use Rattle.certificate_checker.specs.declared.verdict.Verdict.TheVariants.{Best, Impossible, No, Budget}
@@ -22,17 +25,17 @@ use Rattle.cli_shelves.specs.History.{ShelfEvent, History}
 use Rattle.cli_shelves.specs.History.ShelfEvent.{Stored}
 use Rattle.cli_answers.specs.Answer.{Answered, memory_answer}
 use Rattle.cli_runs.specs.TableCourse.{Tabled, Reported}
-use Rattle.cli_runs.specs.FilesProblem.{IsProblemOfFiles, IsTableOfFiles}
-use Rattle.cli_runs.specs.JudgeCourse.{IsAudited, audit_course}
+use Rattle.cli_runs.specs.FilesProblem.{IsProblemOfFiles, IsTableOfFiles, IsLongTableOfFiles}
+use Rattle.cli_runs.specs.JudgeCourse.{IsDistrictsTable, IsTableIfAsked, IsAudited, audit_course}
 use Rattle.cli_runs.specs.CheckCourse.{IsChecked, check_course, verdict_said, verdict_table}
 use Rattle.cli_runs.specs.Headline.{ShowsBest, RunShowsImpossible as SolvesNone}
-use Rattle.cli_runs.specs.ListHeadline.{ShowsAllBest}
+use Rattle.cli_runs.specs.ListHeadline.{ShowsAllBest, ShowsOfList}
 use Rattle.cli_runs.specs.JudgeHeadline.{ShowsJudged}
 use Rattle.cli_record.specs.RecordFiles.{record_name_of}
 use Rattle.cli_runs.specs.Storing.{IsStoredAs, named_file, said_after, store_steps}
 use Rattle.cli_runs.specs.Recording.{RecordEnds}
 use Rattle.cli_runs.specs.Run.{CommandRun, IsEndAnswer, IsRunAnswer, RunsAsAsked}
-use Rattle.cli_runs.specs.ToldFiles.{IsStoreTaken, IsTakenAs, TellsBest, TellsImpossible, TellsJudged, TellsAllBest, TellsFindings, Tells, RunTells}
+use Rattle.cli_runs.specs.ToldFiles.{IsStoreTaken, IsTakenAs, TellsBest, TellsImpossible, TellsFault, TellsJudged, TellsAllBest, TellsFindings, Tells, RunTells}
 use Rattle.cli_runs.proofs.Agrees.{agrees}
 use Rattle.cli_runs.proofs.Judgments as judgments
 use Rattle.cli_runs.proofs.Lists.{runs}
@@ -42,7 +45,7 @@ use Rattle.cli_runs.proofs.Lifting.{Extends}
 use Rattle.cli_runs.proofs.StoreLemmas.{refusal_status}
 use Rattle.cli_runs.proofs.Refusing.{IsRefusal, Refuses, bind_refuses, problem_refuses, tabled_refuses, grouping_refuses, blocks_refuse, assignments_refuse, given_refuses, value_refuses}
 use Rattle.cli_runs.proofs.Texts.{given_of_told}
-use Rattle.cli_runs.proofs.FilesRead.{ReadsTabled, went, tabled_reads, problem_of_files, table_stored}
+use Rattle.cli_runs.proofs.FilesRead.{ReadsTabled, went, stored_last, tabled_reads, problem_of_files, table_stored}
 use Rattle.cli_runs.proofs.FilesProblemLemmas.{problem_told, grouping_told, blocks_told, assignments_told}
 
 text_is : (a b : Answered) → a ≡ b → a.text ≡ b.text
@@ -80,15 +83,42 @@ module _ (files : Files) where
   none_told words stored a s = record { v = s.v; problem = s.problem; impossible = s.impossible; report = text_is a _ s.report }
 
   -- ---- list
-  all_told : (words : ListWords) (stored : List NamedFile) (a : Answered) → ShowsAllBest files words stored a → TellsAllBest files words a.text
-  all_told words stored a s = record {
+  all_told : (words : ListWords) (before after : History) (stored : List NamedFile) (a : Answered) → CommandRun (Some files) (ListAll words) before after stored a → ShowsAllBest files words stored a
+      → TellsAllBest files words before after a
+  all_told words before after stored a run s = record {
     v = s.v;
     problem = s.problem;
     groupings = s.groupings;
     all = s.all;
     in_order = s.in_order;
-    listing = text_is a _ s.listing;
+    which = s.which;
+    which_is = s.which_is;
+    listing = s.listing;
+    stored = taken_as words.groupings (IsLongTableOfFiles files words.check.problem s.v s.groupings) (ListAll words) before after stored a run s.table;
   }
+
+  -- what a list tells with status 0 or 1
+  abbrev TellsOfList : ListWords → History → History → Answered → Type 0
+  TellsOfList words before after a =
+      TellsAllBest files words before after a ⊎ ((a.status ≡ 1) × (TellsImpossible files words.check.problem a.text ⊎ TellsFault files words.check a.text))
+
+  list_told : (words : ListWords) (before after : History) (stored : List NamedFile) (a : Answered) → CommandRun (Some files) (ListAll words) before after stored a → ShowsOfList files words stored a
+      → TellsOfList words before after a
+  list_told words before after stored a run (inl s) = inl (all_told words before after stored a run s)
+  list_told words before after stored a run (inr (one, inl s)) = inr (one, inl (record { v = s.v; problem = s.problem; impossible = s.impossible; report = text_is a _ s.report }))
+  list_told words before after stored a run (inr (one, inr s)) = inr (
+    one,
+    inr (record {
+      v = s.v;
+      problem = s.problem;
+      certificate = s.text;
+      certificate_is = s.held;
+      fault = s.fault;
+      line = s.line;
+      verdict = s.verdict;
+      report = text_is a _ s.report;
+    }),
+  )
 
   -- ---- check
   module _ (words : CheckWords) (before after : History) (stored : List NamedFile) (a : Answered) (run : CommandRun (Some files) (Check words) before after stored a)
@@ -166,14 +196,22 @@ module _ (files : Files) where
   audit_refuses words = bind_refuses _ _ (problem_refuses (Some files) words.problem) (λ v.
       bind_refuses _ _ (blocks_refuse (Some files) words.problem.common) (λ blocks.
       bind_refuses _ _ (grouping_refuses (Some files) words.grouping.now) (λ g.
-      bind_refuses _ _ (assignments_refuse (Some files) words.assignments.now) (λ lines. value_refuses (IsAudited v g blocks lines)))))
+      bind_refuses _ _ (assignments_refuse (Some files) words.assignments.now) (λ lines. value_refuses (IsAudited (is_some words.districts) v g blocks lines)))))
 
-  audit_told : (words : AuditWords) (before after : History) (a : Answered) → audit_course (Some files) words before after (Ok a) → TellsFindings files words a
-  audit_told words before after a h =
-      let p = went _ _ before after a h in
-      let b = went _ _ p.between after a p.goes_on in
-      let g = went _ _ b.between after a b.goes_on in
-      let s = went _ _ g.between after a g.goes_on in
+  -- the table of the districts is stored, if its file is named
+  districts_stored : (name : Option (Bor (List ℕ))) (v : ProblemValue) (g : Grouping) (blocks : List Block) (lines : List Assignment) (table : Option (List ℕ)) (stored : List NamedFile)
+      → IsTableIfAsked (is_some name) v g blocks lines table → stored ≡ named_file name table → IsStoredAs name (IsDistrictsTable v g blocks lines) stored
+  districts_stored None v g blocks lines table stored h all = tt
+  districts_stored (Some name) v g blocks lines table stored h all = stored_last name (IsDistrictsTable v g blocks lines) h.0 table [] stored h.2 h.1 all
+
+  audit_told : (words : AuditWords) (before after : History) (stored : List NamedFile) (a : Answered) → CommandRun (Some files) (Audit words) before after stored a
+      → HasEnded (audit_course (Some files) words) (λ s. named_file words.districts s.districts) (λ s. s.answer) before stored a → TellsFindings files words before after a
+  audit_told words before after stored a run h =
+      let p = went _ _ before h.between h.s h.given in
+      let b = went _ _ p.between h.between h.s p.goes_on in
+      let g = went _ _ b.between h.between h.s b.goes_on in
+      let s = went _ _ g.between h.between h.s g.goes_on in
+      let audited : IsAudited (is_some words.districts) p.value g.value b.value s.value h.s = s.goes_on.1 in
       record {
         v = p.value;
         problem = problem_told files words.problem before p.between p.value p.given;
@@ -183,9 +221,11 @@ module _ (files : Files) where
         blocks_are = blocks_told files words.problem.common p.between b.between b.value b.given;
         assignments = s.value;
         assignments_are = assignments_told files words.assignments.now g.between s.between s.value s.given;
-        findings = s.goes_on.1.0;
-        findings_are = s.goes_on.1.1;
-        report = s.goes_on.1.2;
+        findings = audited.findings;
+        findings_are = audited.are;
+        report = h.said ∙ audited.said;
+        stored = taken_as words.districts (IsDistrictsTable p.value g.value b.value s.value) (Audit words) before after stored a run
+            (districts_stored words.districts p.value g.value b.value s.value h.s.districts stored audited.districts h.all);
       }
 
   -- ---- a command
@@ -200,10 +240,11 @@ module _ (files : Files) where
       check_told words before after stored a (inr ends) (has_ended (check_course (Some files) words) (λ r. named_file words.table r.table) (λ r. r.answer) before after stored a (check_refuses words) low ends)
   command_tells (Judge words) before after stored a run low = λ zero. judge_told words before after stored a run (judgments.runs files words before after stored a run zero)
   command_tells (Audit words) before after stored a (inl none) low = λ also. absurd (no_refusal a low (inr (inl (same_status a memory_answer none.0))))
-  command_tells (Audit words) before after stored a (inr (inl given, kept)) low = λ also. audit_told words before after a given
-  command_tells (Audit words) before after stored a (inr (inr stop, kept)) low = λ also. absurd (no_refusal a low (audit_refuses words before after a stop))
+  command_tells (Audit words) before after stored a (inr ends) low = λ also.
+      audit_told words before after stored a (inr ends)
+      (has_ended (audit_course (Some files) words) (λ s. named_file words.districts s.districts) (λ s. s.answer) before after stored a (audit_refuses words) low ends)
   command_tells (Size words) before after stored a run low = tt
-  command_tells (ListAll words) before after stored a run low = λ zero. all_told words stored a (runs.all files words before after stored a run zero)
+  command_tells (ListAll words) before after stored a run low = λ also. list_told words before after stored a run (runs.all files words before after stored a run low)
   command_tells (Share words) before after stored a run low = tt
   command_tells (Piece words) before after stored a run low = tt
 
@@ -244,12 +285,45 @@ module _ (files : Files) where
     stored = taken_as_on words.table _ before between after t.stored more;
   }
 
+  all_on : (words : ListWords) (before between after : History) (a : Answered) → TellsAllBest files words before between a → Extends between after → TellsAllBest files words before after a
+  all_on words before between after a t more = record {
+    v = t.v;
+    problem = t.problem;
+    groupings = t.groupings;
+    all = t.all;
+    in_order = t.in_order;
+    which = t.which;
+    which_is = t.which_is;
+    listing = t.listing;
+    stored = taken_as_on words.groupings _ before between after t.stored more;
+  }
+
+  list_on : (words : ListWords) (before between after : History) (a : Answered) → TellsOfList words before between a → Extends between after → TellsOfList words before after a
+  list_on words before between after a (inl t) more = inl (all_on words before between after a t more)
+  list_on words before between after a (inr t) more = inr t
+
+  findings_on : (words : AuditWords) (before between after : History) (a : Answered) → TellsFindings files words before between a → Extends between after → TellsFindings files words before after a
+  findings_on words before between after a t more = record {
+    v = t.v;
+    problem = t.problem;
+    grouping = t.grouping;
+    grouping_is = t.grouping_is;
+    blocks = t.blocks;
+    blocks_are = t.blocks_are;
+    assignments = t.assignments;
+    assignments_are = t.assignments_are;
+    findings = t.findings;
+    findings_are = t.findings_are;
+    report = t.report;
+    stored = taken_as_on words.districts _ before between after t.stored more;
+  }
+
   tells_on : (command : CommandWords) (before between after : History) (a : Answered) → Tells files command before between a → Extends between after → Tells files command before after a
   tells_on (Solve words) before between after a t more = (λ zero. best_on words.problem words.table before between after a.text (t.0 zero) more, t.1)
   tells_on (Check words) before between after a t more = (λ zero. best_on words.check.problem words.table before between after a.text (t.0 zero) more, t.1)
   tells_on (Judge words) before between after a t more = λ zero. judged_on words before between after a (t zero) more
-  tells_on (ListAll words) before between after a t more = t
-  tells_on (Audit words) before between after a t more = t
+  tells_on (ListAll words) before between after a t more = λ low. list_on words before between after a (t low) more
+  tells_on (Audit words) before between after a t more = λ low. findings_on words before between after a (t low) more
   tells_on (Size words) before between after a t more = tt
   tells_on (Share words) before between after a t more = tt
   tells_on (Piece words) before between after a t more = tt

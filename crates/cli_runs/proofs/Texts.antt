@@ -1,4 +1,4 @@
--- What the readers of told files gave, and the status in which steps end that don't have it.
+-- What the readers of the files that a run was given gave, and the status in which steps end that don't have it.
 use Rattle.std.proofs.Common.{◌≡◌, ℕ, Bool, true, false, List, [], ◌++◌, Option, Some, inl, inr, refl, sym, ap, subst, ◌∙◌}
 use Rattle.std.proofs.lemmas.List.{append-nil}
 use Rattle.std.proofs.lemmas.Bool.{false≢true}

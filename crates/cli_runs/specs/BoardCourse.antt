@@ -46,7 +46,7 @@ AreEvents language counties text (Err fault) = events_fault language counties te
 abbrev pub events_in : language_type.Language → ℕ → List ℕ → Course (List Event)
 events_in language counties text = call_step events_answer (AreEvents language counties text)
 
--- the events of a file, whose trees are of the language and for so many counties
+-- the events of a file, whose trees are of the language and for this number of counties
 abbrev pub events_of : Option Files → language_type.Language → ℕ → List ℕ → Course (List Event)
 events_of files language counties name = load_step files name >>= events_in language counties
 

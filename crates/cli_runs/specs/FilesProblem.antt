@@ -8,6 +8,7 @@ use Rattle.county_problem.specs.ProblemValue.{ProblemValue, codes_of}
 use Rattle.county_problem.specs.Building.{IsProblemOf, problem_fault}
 use Rattle.pl94_counties.specs.CountyNames.{CountyName, named_list}
 use Rattle.grouping_table.specs.Table.{table_text}
+use Rattle.grouping_table.specs.GroupingsTable.{groupings_text}
 use Rattle.pl94_counties.specs.declared.blocks.Block.{Block}
 use Rattle.pl94_counties.specs.Counties.{county_list, block_list}
 use Rattle.pl94_counties.specs.ListedAreas.{AreCounties, AreBlocks}
@@ -97,3 +98,16 @@ pub record IsTableOfFiles (files : Files) (words : ProblemWords) (v : ProblemVal
   pub named : List CountyName
   pub named_are : AreNamedByFiles files words.common named
   pub table : text ≡ table_text named v.withdrawn grouping
+
+-- The text is the table of these groupings: its counties and their names are those of the files' bytes.
+pub record IsLongTableOfFiles (files : Files) (words : ProblemWords) (v : ProblemValue)
+    (groupings : List groups.Grouping) (text : List ℕ) : Type 0 where
+  pub named : List CountyName
+  pub named_are : AreNamedByFiles files words.common named
+  pub table : text ≡ groupings_text named v.withdrawn groupings
+
+-- the grouping of a file, if it is named
+abbrev pub IsGroupingIfNamed : Files → Option (Bor (List ℕ)) → Option groups.Grouping → Type 0
+IsGroupingIfNamed files None which = which ≡ None
+IsGroupingIfNamed files (Some name) which =
+    (g : groups.Grouping) × (which ≡ Some g) × IsGroupingOfFile files name.now g

@@ -86,7 +86,7 @@ pub record RunShowsImpossible (files : Files) (words : SolveWords) (stored : Lis
   pub report : a ≡ record { text = outcome_text v outcome.Impossible; status = 1 }
   pub proof : IsStoredProof files words stored a
 
--- What runs of `solve` and of `check` over told files promise together.
+-- What runs of `solve` and of `check` promise together of the files that they were given.
 pub record RunsAgree : Type 0 where
   pub best : (files : Files) (words : SolveWords) (before after : History) (stored : List NamedFile) (a : Answered)
       → CommandRun (Some files) (Solve words) before after stored a → a.status ≡ 0 → ShowsBest files words stored a

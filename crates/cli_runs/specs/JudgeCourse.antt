@@ -1,5 +1,5 @@
 -- The steps of the size table, of the judge of a grouping and of the audit of a plan.
-use Rattle.std.specs.Prelude.{◌≡◌, ℕ, List, [], ◌∷◌, Option, Result, Ok, Err}
+use Rattle.std.specs.Prelude.{◌≡◌, ℕ, Bool, true, false, List, [], ◌∷◌, Option, Some, None, Result, Ok, Err, is_some}
 use Rattle.county_problem.specs.declared.grouping_fault.GroupingFault.{GroupingFault}
 use Rattle.county_problem.specs.ProblemValue.{ProblemValue, problem_of}
 use Rattle.grouping_laws.specs.Grouping.{Grouping, Lawful}
@@ -8,7 +8,10 @@ use Rattle.grouping_report.specs.SizeTable.{size_text}
 use Rattle.grouping_report.specs.FindingsText.{findings_text}
 use Rattle.pl94_counties.specs.declared.blocks.Block.{Block}
 use Rattle.baf_auditor.specs.declared.assignments.Assignment.{Assignment}
-use Rattle.baf_auditor.specs.Findings.{AreFindings}
+use Rattle.baf_auditor.specs.Findings.{AreFindings, plan_of}
+use Rattle.baf_auditor.specs.DistrictList.{AreDistricts}
+use Rattle.baf_auditor.specs.declared.district.District.{District}
+use Rattle.district_table.specs.DistrictTable.{IsDistrictsText}
 use Rattle.baf_auditor.specs.declared.finding.Finding.{Finding}
 use Rattle.cli_words.specs.declared.words.CommonWords.{CommonWords}
 use Rattle.cli_words.specs.declared.words.JudgeWords.{JudgeWords}
@@ -68,17 +71,46 @@ findings_status (f ∷ fs) = 1
 abbrev pub findings_answer : List Finding → Answered
 findings_answer list = record { text = findings_text list; status = findings_status list }
 
--- the answer shows all findings of blocks and assignments against a grouping
-abbrev pub IsAudited : ProblemValue → Grouping → List Block → List Assignment → Answered → Type 0
-IsAudited v g blocks lines a = (list : List Finding) × AreFindings v g blocks lines list × (a ≡ findings_answer list)
+-- what `audit` says, and the text of the table of the districts
+pub record Audited : Type 0 where
+  pub answer : Answered
+  pub districts : Option (List ℕ)
+
+-- the text is the table of the districts that assignments give to a plan
+pub record IsDistrictsTable (v : ProblemValue) (g : Grouping) (blocks : List Block) (lines : List Assignment)
+    (text : List ℕ) : Type 0 where
+  pub list : List District
+  pub are : AreDistricts (plan_of v g blocks lines) list
+  pub table : IsDistrictsText (problem_of v) list text
+
+-- there is a table of the districts exactly if it is asked for
+abbrev pub IsTableIfAsked : Bool → ProblemValue → Grouping → List Block → List Assignment → Option (List ℕ) → Type 0
+IsTableIfAsked false v g blocks lines table = table ≡ None
+IsTableIfAsked true v g blocks lines table =
+    (text : List ℕ) × (table ≡ Some text) × IsDistrictsTable v g blocks lines text
+
+-- The answer shows all findings of blocks and assignments against a grouping. The table of the districts is beside it
+-- if it is asked for.
+pub record IsAudited (asked : Bool) (v : ProblemValue) (g : Grouping) (blocks : List Block) (lines : List Assignment)
+    (s : Audited) : Type 0 where
+  pub findings : List Finding
+  pub are : AreFindings v g blocks lines findings
+  pub said : s.answer ≡ findings_answer findings
+  pub districts : IsTableIfAsked asked v g blocks lines s.districts
 
 -- the step that audits the assignments
-abbrev pub audit_step : ProblemValue → Grouping → List Block → List Assignment → Course Answered
-audit_step v g blocks lines = value_step (IsAudited v g blocks lines)
+abbrev pub audit_step : Bool → ProblemValue → Grouping → List Block → List Assignment → Course Audited
+audit_step asked v g blocks lines = value_step (IsAudited asked v g blocks lines)
 
 -- `audit`: the problem is built, then the census blocks are read, then the grouping, then the assignments
-abbrev pub audit_course : Option Files → AuditWords → Course Answered
+abbrev pub audit_course : Option Files → AuditWords → Course Audited
 audit_course files words =
     problem_course files words.problem >>= λ v. blocks_of files words.problem.common
     >>= λ blocks. grouping_of files words.grouping.now >>= λ g. plan_assignments files words.assignments.now
-    >>= audit_step v g blocks
+    >>= audit_step (is_some words.districts) v g blocks
+
+-- `audit` ends: at a fault that it met before anything was stored, or with the table of the districts stored and its
+-- answer, unless the table was refused
+abbrev pub AuditEnds : Option Files → AuditWords → History → History → List NamedFile → Answered → Type 0
+AuditEnds files words =
+    EndsStoring (audit_course files words) (λ s. named_file words.districts s.districts) (λ s. s.answer)

@@ -27,7 +27,7 @@ pub record ShowsJudged (files : Files) (words : JudgeWords) (stored : List Named
   pub said : (a ≡ lawful_answer v grouping) ⊎ ((a ≡ best_answer v grouping) × IsBest (problem_of v) grouping)
   pub table : IsStoredAs words.table (IsTableOfFiles files words.problem v grouping) stored
 
--- what runs of `judge` over told files promise
+-- what runs of `judge` promise of the files that they were given
 abbrev pub RunsJudge : Type 0
 RunsJudge =
     (files : Files) (words : JudgeWords) (before after : History) (stored : List NamedFile) (a : Answered)

@@ -5,6 +5,7 @@ pub mod TableCourse
 pub mod PlanCourse
 pub mod JudgeWithCertificate
 pub mod JudgeCourse
+pub mod WhichGrouping
 pub mod SolveCourse
 pub mod CheckCourse
 pub mod ListCourse

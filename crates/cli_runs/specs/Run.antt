@@ -10,7 +10,7 @@ use Rattle.cli_shelves.specs.Files.{NamedFile, Files}
 use Rattle.cli_shelves.specs.History.{History}
 use Rattle.cli_answers.specs.Answer.{Answered, memory_answer}
 use Rattle.cli_runs.specs.Course.{CourseEndsIn}
-use Rattle.cli_runs.specs.JudgeCourse.{size_course, JudgeEnds, audit_course}
+use Rattle.cli_runs.specs.JudgeCourse.{size_course, JudgeEnds, AuditEnds}
 use Rattle.cli_runs.specs.SolveCourse.{SolveEnds}
 use Rattle.cli_runs.specs.CheckCourse.{CheckEnds}
 use Rattle.cli_runs.specs.ListCourse.{ListEnds}
@@ -19,16 +19,15 @@ use Rattle.cli_runs.specs.PieceCourse.{piece_course}
 use Rattle.cli_record.specs.RecordFiles.{record_name_of}
 use Rattle.cli_runs.specs.Recording.{RecordEnds}
 
--- A command ends with its answer, over a shelf of these histories before and after it, with these files stored: only
--- `judge`, `solve`, `check`, `list` and `share` store any.
+-- A command ends with its answer, over a shelf of these histories before and after it, with these files stored: `size` and
+-- `piece` store none.
 abbrev pub CommandEnds : Option Files → CommandWords → History → History → List NamedFile → Answered → Type 0
 CommandEnds files (Size words) before after stored a =
     CourseEndsIn (size_course files words) before after a × (stored ≡ [])
 CommandEnds files (Judge words) before after stored a = JudgeEnds files words before after stored a
 CommandEnds files (Solve words) before after stored a = SolveEnds files words before after stored a
 CommandEnds files (Check words) before after stored a = CheckEnds files words before after stored a
-CommandEnds files (Audit words) before after stored a =
-    CourseEndsIn (audit_course files words) before after a × (stored ≡ [])
+CommandEnds files (Audit words) before after stored a = AuditEnds files words before after stored a
 CommandEnds files (ListAll words) before after stored a = ListEnds files words before after stored a
 CommandEnds files (Share words) before after stored a = ShareEnds files words before after stored a
 CommandEnds files (Piece words) before after stored a =

@@ -33,8 +33,8 @@ pub record ShowsJoined (files : Files) (words : ShareWords) (stored : List Named
   pub best : IsBest (problem_of v) target
   pub proof : IsStoredTogether files words stored v target
 
--- What runs of `share` over told files promise, whatever events their files hold: one that ends with status 0 has
--- joined, and no other stores anything.
+-- What runs of `share` promise of the files that they were given, whatever events these hold: one that ends with
+-- status 0 has joined, and no other stores anything.
 pub record RunsShare : Type 0 where
   pub joined : (files : Files) (words : ShareWords) (before after : History) (stored : List NamedFile) (a : Answered)
       → CommandRun (Some files) (Share words) before after stored a → a.status ≡ 0 → ShowsJoined files words stored

@@ -60,7 +60,7 @@ SaysSolved t (Open (Some g) steps) s =
       table = table_of t g.groups.items;
     }
 
--- what `solve` says of a problem is what a desk answers with so many steps
+-- what `solve` says of a problem is what a desk answers with this number of steps
 pub record IsSolved (t : Tabled) (limit : ℕ) (s : Solved) : Type 0 where
   pub found : desk.Answer
   pub is : IsSolveAnswer (problem_of t.problem) limit found

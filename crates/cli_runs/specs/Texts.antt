@@ -3,9 +3,13 @@ use Rattle.std.specs.Prelude.{map, option_map}
 use Rattle.cli_answers.specs.Answers.{answer_of}
 use Rattle.cli_runs.specs.SolveCourse as course
 use Rattle.cli_runs.specs.ListCourse as lists
+use Rattle.cli_runs.specs.JudgeCourse as audits
 use Rattle.cli_runs.specs.TableCourse as tables
 use Rattle.pl94_counties.specs.CountyNames.{county_name}
 use Rattle.cli_runs.specs.declared.desk_report.Solved.{Solved}
+use Rattle.cli_runs.specs.declared.audit_report.Audited.{Audited}
+use Rattle.list_groupings.specs.Walking.{sets_held}
+use Rattle.cli_runs.specs.declared.listing_report.Asked.{Asked}
 use Rattle.cli_runs.specs.declared.listing_report.Listed.{Listed}
 use Rattle.cli_runs.specs.declared.table_runs.Tabled.{Tabled}
 use Rattle.cli_runs.specs.declared.table_runs.Reported.{Reported}
@@ -28,6 +32,19 @@ solved_of s =
       table = option_map (λ t. t.items) s.table;
     }
 
--- the answer and the text of `list`
+-- what `list` is asked for
+abbrev pub asked_of : Asked → lists.Asked
+asked_of a = record { number = a.number; which = option_map sets_held a.which }
+
+-- the answer and the texts of `list`
 abbrev pub listed_of : Listed → lists.Listed
-listed_of s = record { answer = answer_of s.answer; grouping = option_map (λ t. t.items) s.grouping }
+listed_of s =
+    record {
+      answer = answer_of s.answer;
+      grouping = option_map (λ t. t.items) s.grouping;
+      table = option_map (λ t. t.items) s.table;
+    }
+
+-- the answer and the table of `audit`
+abbrev pub audited_of : Audited → audits.Audited
+audited_of s = record { answer = answer_of s.answer; districts = option_map (λ t. t.items) s.districts }

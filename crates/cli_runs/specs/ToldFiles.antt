@@ -15,7 +15,6 @@ use Rattle.baf_auditor.specs.declared.finding.Finding.{Finding}
 use Rattle.certificate_checker.specs.Answers.{IsCheckAnswer}
 use Rattle.list_laws.specs.AllBest.{AreAllBest}
 use Rattle.list_groupings.specs.ListOrder.{AreInOrder}
-use Rattle.list_report.specs.Listing.{listing_text}
 use Rattle.state_judge.specs.declared.fault.CheckFault.{CheckFault}
 use Rattle.certificate_checker.specs.declared.verdict.Verdict.TheVariants.{No}
 use Rattle.cli_words.specs.Words.{Means, takes_words}
@@ -32,9 +31,11 @@ use Rattle.cli_shelves.specs.History.ShelfEvent.{Stored}
 use Rattle.cli_answers.specs.Answer.{Answered}
 use Rattle.cli_answers.specs.CheckLines.{no_answer}
 use Rattle.cli_runs.specs.FilesProblem.{IsProblemOfFiles, IsTableOfFiles, AreBlocksOfFiles, IsGroupingOfFile}
+use Rattle.cli_runs.specs.FilesProblem.{IsLongTableOfFiles, IsGroupingIfNamed}
+use Rattle.cli_runs.specs.ListCourse.{listing_answer}
 use Rattle.cli_runs.specs.FilesProblem.{AreAssignmentsOfFile}
 use Rattle.cli_runs.specs.JudgeWithCertificate.{lawful_answer, best_answer}
-use Rattle.cli_runs.specs.JudgeCourse.{findings_status}
+use Rattle.cli_runs.specs.JudgeCourse.{findings_status, IsDistrictsTable}
 use Rattle.cli_runs.specs.Loads.{AnsweredBy}
 
 -- between two histories a file was handed over to be stored, and it was taken
@@ -88,17 +89,23 @@ pub record TellsJudged (files : Files) (words : JudgeWords) (before after : Hist
   pub report : (a ≡ lawful_answer v grouping) ⊎ ((a ≡ best_answer v grouping) × IsBest (problem_of v) grouping)
   pub stored : IsTakenAs words.table (IsTableOfFiles files words.problem v grouping) before after
 
--- the text is the listing of all groupings that are best for the problem of the files, in order
-pub record TellsAllBest (files : Files) (words : ListWords) (text : List ℕ) : Type 0 where
+-- The answer is the listing of all groupings that are best for the problem of the files, in order. If the words name a
+-- grouping, its number stands behind the listing, or that it isn't listed. If the table of all groupings is named, it was
+-- stored.
+pub record TellsAllBest (files : Files) (words : ListWords) (before after : History) (a : Answered) : Type 0 where
   pub v : ProblemValue
   pub problem : IsProblemOfFiles files words.check.problem v
   pub groupings : List groups.Grouping
   pub all : AreAllBest (problem_of v) groupings
   pub in_order : AreInOrder groupings
-  pub listing : text ≡ listing_text v groupings
+  pub which : Option groups.Grouping
+  pub which_is : IsGroupingIfNamed files words.which which
+  pub listing : a ≡ listing_answer v groupings which
+  pub stored : IsTakenAs words.groupings (IsLongTableOfFiles files words.check.problem v groupings) before after
 
--- the text has all findings of the assignments of a file, and no other; the status says whether there are any
-pub record TellsFindings (files : Files) (words : AuditWords) (a : Answered) : Type 0 where
+-- The text has all findings of the assignments of a file, and no other. The status says whether there are any. If the
+-- table of the districts is named, it was stored.
+pub record TellsFindings (files : Files) (words : AuditWords) (before after : History) (a : Answered) : Type 0 where
   pub v : ProblemValue
   pub problem : IsProblemOfFiles files words.problem v
   pub grouping : groups.Grouping
@@ -110,10 +117,11 @@ pub record TellsFindings (files : Files) (words : AuditWords) (a : Answered) : T
   pub findings : List Finding
   pub findings_are : AreFindings v grouping blocks assignments findings
   pub report : a ≡ record { text = findings_text findings; status = findings_status findings }
+  pub stored : IsTakenAs words.districts (IsDistrictsTable v grouping blocks assignments) before after
 
 -- What an answer with status 0 or 1 tells of the files. `solve` and `check` tell that a grouping is best or that none
 -- is lawful, and `check` tells besides that a certificate is at fault. `judge` tells that a grouping is lawful, or
--- best, `list` which groupings are best, `audit` the findings.
+-- best. `list` tells which groupings are best, or what `check` tells with status 1. `audit` tells the findings.
 abbrev pub Tells : Files → CommandWords → History → History → Answered → Type 0
 Tells files (Solve words) before after a =
     ((a.status ≡ 0) → TellsBest files words.problem words.table before after a.text)
@@ -122,8 +130,12 @@ Tells files (Check words) before after a =
     ((a.status ≡ 0) → TellsBest files words.check.problem words.table before after a.text)
     × ((a.status ≡ 1) → TellsImpossible files words.check.problem a.text ⊎ TellsFault files words.check a.text)
 Tells files (Judge words) before after a = (a.status ≡ 0) → TellsJudged files words before after a
-Tells files (ListAll words) before after a = (a.status ≡ 0) → TellsAllBest files words a.text
-Tells files (Audit words) before after a = (a.status ≤ 1) → TellsFindings files words a
+Tells files (ListAll words) before after a =
+    (a.status ≤ 1)
+    → TellsAllBest files words before after a
+    ⊎ ((a.status ≡ 1)
+    × (TellsImpossible files words.check.problem a.text ⊎ TellsFault files words.check a.text))
+Tells files (Audit words) before after a = (a.status ≤ 1) → TellsFindings files words before after a
 Tells files command before after a = Unit {0}
 
 -- the words mean a command, and its answer tells this of any files by which its loads and readers answered

@@ -174,8 +174,8 @@ fn say_answer(
     }
 }
 
-/// What a desk answers of a piece with at most so many steps, on a board that takes the events in turn: its target is
-/// the grouping, and its first round is that of the words.
+/// Returns what a desk answers of a piece with at most this number of steps, on a board that takes the events in turn:
+/// its target is the grouping, and its first round is that of the words.
 ///
 /// # Errors
 ///

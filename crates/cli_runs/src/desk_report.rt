@@ -152,9 +152,9 @@ fn say(alloc: Global, tabled: &Tabled, found: DeskAnswer) -> Result<Solved, Allo
     }
 }
 
-/// What `solve` says of a problem: a desk answers with at most so many steps, and its answer is told as a report, with
-/// the texts of its certificate, of its grouping and of its table. The watcher is told how far the search is, and
-/// changes nothing of what is said.
+/// Returns what `solve` says of a problem: a desk answers with at most this number of steps, and its answer is told as a
+/// report, with the texts of its certificate, of its grouping and of its table. The watcher is told how far the search
+/// is, and changes nothing of what is said.
 ///
 /// # Errors
 ///

@@ -5,9 +5,11 @@
 //! `PlanCourse` (from files to values), `JudgeCourse`, `JudgeWithCertificate`, `SolveCourse`, `CheckCourse`,
 //! `ListCourse`, `BoardCourse`, `ShareCourse` and `PieceCourse` (the commands), `Storing` (files that are stored),
 //! `Run`, `Loads` (runs over files that aren't told), `Headline` (what runs of `solve` and `check` promise together),
-//! `ListHeadline`, `ShareHeadline` and `JudgeHeadline` (what runs of `list`, of `share` and of `judge` do).
+//! `ListHeadline`, `ShareHeadline` and `JudgeHeadline` (what runs of `list`, of `share` and of `judge` do), and
+//! `WhichGrouping` (the number of a grouping in a list).
 #![tactic(auto)]
 
+mod audit_report;
 mod board_reports;
 mod checker_report;
 mod desk_report;
@@ -15,11 +17,13 @@ mod judge_report;
 mod laws;
 mod listing_report;
 mod table_runs;
+mod which_grouping;
 
+pub use audit_report::{Audited, audit_and_say};
 pub use board_reports::{PieceEnd, PieceSaid, language_for, piece_and_say, share_events};
 pub use checker_report::{Checked, check_from_and_say};
 pub use desk_report::{Solved, solve_and_say};
 pub use judge_report::{Judged, Unshown, judge_and_say};
 pub use laws::{runs_agree, runs_are_of_their_loads, runs_judge, runs_list, runs_share};
-pub use listing_report::{ListEnd, Listed, list_and_say};
+pub use listing_report::{Asked, ListEnd, Listed, list_and_say};
 pub use table_runs::{Reported, Tabled};

@@ -6,15 +6,19 @@ ghost use Rattle.list_groupings.specs.Answers.{IsListing, ListsAllBest};
 ghost use Rattle.list_groupings.specs.Walking.{sets_held};
 ghost use Rattle.cli_answers.specs.Answers.{answer_of};
 ghost use Rattle.cli_runs.specs.ListCourse.{IsListAnswer, gap_word, open_line, open_answer as answer_of_gap};
-ghost use Rattle.cli_runs.specs.ListCourse.{grouping_numbered as numbered_in, listed_all, listed_with, listing_said};
-ghost use Rattle.cli_runs.specs.ListCourse.{said_alone};
-ghost use Rattle.cli_runs.specs.Texts.{listed_of};
+ghost use Rattle.cli_runs.specs.ListCourse.{grouping_numbered as numbered_in, listed_all, listed_by_number};
+ghost use Rattle.cli_runs.specs.ListCourse.{listing_answer as answer_of_listing, listing_said, said_alone};
+ghost use Rattle.cli_runs.specs.ListCourse.{table_of_all as table_text_of_all};
+ghost use Rattle.cli_runs.specs.Texts.{asked_of, listed_of, tabled_of};
 
+use crate::table_runs::Tabled;
+use crate::which_grouping::{number_in_list, push_number_line};
 use cli_answers::{RunAnswer, budget_answer, no_answer};
 use county_codes::Grouping;
 use county_problem::Problem;
 use field_lines::push_number;
 use grouping_report::{Outcome, grouping_text, report};
+use grouping_table::groupings_table;
 use list_groupings::{Gap, Listing, all_best};
 use list_report::listing;
 use state_judge::CheckFault;
@@ -25,7 +29,9 @@ use std::alloc::{AllocError, Global};
 pub enum ListEnd {
     /// All best groupings are listed.
     All,
-    /// All best groupings are known, and there are so many, but none has the number that is to be stored.
+    /// All best groupings are listed, this number of them, and the grouping whose number is asked for isn't one.
+    Unlisted(usize),
+    /// All best groupings are known, this number of them, but none has the number that is to be stored.
     NoSuchGrouping(usize),
     /// The certificate doesn't show which other groupings are best: why not, and the line, which counts from 1.
     Open(Gap, u64),
@@ -37,13 +43,24 @@ pub enum ListEnd {
     Budget,
 }
 
-/// What `list` says, and the text for its file.
+/// What `list` is asked for beside the listing.
+#[derive(Drop)]
+pub struct Asked {
+    /// The number of the grouping that is to be stored, from 1 in the order of the list; none if none is to be.
+    pub number: Option<u32>,
+    /// The grouping whose number is to be told; none if none is.
+    pub which: Option<Grouping>,
+}
+
+/// What `list` says, and the texts for its files.
 #[derive(Drop)]
 pub struct Listed {
-    /// The listing, with status 0, or the line that stands in its place, with status 1, 3 or 4.
+    /// The listing, with status 0 or 1, or the line that stands in its place, with status 1, 3 or 4.
     pub answer: RunAnswer,
     /// The lines of the grouping that is to be stored, where the words give its number.
     pub grouping: Option<Vec<u8>>,
+    /// The table of all listed groupings; none if it isn't asked for.
+    pub table: Option<Vec<u8>>,
     /// How the list ended.
     pub end: ListEnd,
 }
@@ -55,6 +72,7 @@ fn alone(answer: RunAnswer, end: ListEnd) -> Listed
     Listed {
         answer,
         grouping: None,
+        table: None,
         end,
     }
 }
@@ -100,73 +118,125 @@ fn numbered(groupings: &[Grouping], number: u32) -> Option<&Grouping>
     groupings.get(number as usize - 1)
 }
 
-/// The listing, with the lines of a grouping that is to be stored.
-fn say_with(
+/// Returns the listing. If a grouping's number is asked for, its line stands behind the listing, and the status is 1 if it
+/// isn't listed.
+fn listing_answer(
     alloc: Global,
     problem: &Problem,
     groupings: &[Grouping],
-    grouping: &Grouping,
+    which: &Option<Grouping>,
+) -> Result<RunAnswer, AllocError>
+    requires { 1 ≤ length groupings.now }
+    ensures { IfOk result (λ a. answer_of a
+        ≡ answer_of_listing problem.now (map sets_held groupings.now) (option_map sets_held which.now)) }
+{
+    let mut text = listing(alloc, problem, groupings)?;
+    match which {
+        None => Ok(RunAnswer { text, status: 0 }),
+        Some(grouping) => {
+            let number = number_in_list(grouping, groupings);
+            push_number_line(&mut text, number)?;
+            let status = if number.is_some() { 0 } else { 1 };
+            Ok(RunAnswer { text, status })
+        }
+    }
+}
+
+/// Returns the table of all listed groupings, if it is asked for.
+fn table_of_all(
+    alloc: Global,
+    tabled: &Tabled,
+    groupings: &[Grouping],
+) -> Result<Option<Vec<u8>>, AllocError>
+    ensures { IfOk result (λ table. option_map (λ t. t.items) table
+        ≡ table_text_of_all (tabled_of tabled.now) (map sets_held groupings.now)) }
+{
+    match &tabled.named {
+        Some(named) => {
+            let withdrawn = tabled.problem.withdrawn();
+            Ok(Some(groupings_table(alloc, named, withdrawn, groupings)?))
+        }
+        None => Ok(None),
+    }
+}
+
+/// Returns the end of a list of `count` groupings with this status.
+fn end_of(status: u8, count: usize) -> ListEnd {
+    if status == 0 {
+        ListEnd::All
+    } else {
+        ListEnd::Unlisted(count)
+    }
+}
+
+/// Returns the listing and the table, beside the lines of a grouping that is to be stored.
+fn say_listing(
+    alloc: Global,
+    tabled: &Tabled,
+    groupings: &[Grouping],
+    which: &Option<Grouping>,
+    lines: Option<Vec<u8>>,
 ) -> Result<Listed, AllocError>
     requires { 1 ≤ length groupings.now }
     ensures { IfOk result (λ s. listed_of s
-        ≡ listed_with problem.now (map sets_held groupings.now) (Some (sets_held grouping.now))) }
+        ≡ listed_all (tabled_of tabled.now) (map sets_held groupings.now) (option_map sets_held which.now) (option_map (λ t. t.items) lines)) }
 {
-    let lines = grouping_text(alloc, grouping)?;
-    let text = listing(alloc, problem, groupings)?;
+    let answer = listing_answer(alloc, &tabled.problem, groupings, which)?;
+    let table = table_of_all(alloc, tabled, groupings)?;
+    let end = end_of(answer.status, groupings.len());
     Ok(Listed {
-        answer: RunAnswer { text, status: 0 },
-        grouping: Some(lines),
-        end: ListEnd::All,
+        answer,
+        grouping: lines,
+        table,
+        end,
     })
 }
 
-/// What is said of all best groupings, where the words may give the number of one to store.
+/// Returns what is said of all best groupings, where the number of one to store may be given.
 fn say_all(
     alloc: Global,
-    problem: &Problem,
+    tabled: &Tabled,
     groupings: &[Grouping],
-    number: Option<u32>,
+    asked: &Asked,
 ) -> Result<Listed, AllocError>
     requires { 1 ≤ length groupings.now }
-    ensures { IfOk result (λ s. listed_of s ≡ listed_all problem.now (map sets_held groupings.now) number) }
+    ensures { IfOk result (λ s. listed_of s
+        ≡ listed_by_number (tabled_of tabled.now) (map sets_held groupings.now) (asked_of asked.now).which asked.now.number) }
 {
-    match number {
-        None => Ok(alone(
-            RunAnswer {
-                text: listing(alloc, problem, groupings)?,
-                status: 0,
-            },
-            ListEnd::All,
-        )),
+    match asked.number {
+        None => say_listing(alloc, tabled, groupings, &asked.which, None),
         Some(number) => match numbered(groupings, number) {
             None => Ok(alone(
                 RunAnswer::new(alloc, b"no such grouping\n", 4)?,
                 ListEnd::NoSuchGrouping(groupings.len()),
             )),
-            Some(grouping) => say_with(alloc, problem, groupings, grouping),
+            Some(grouping) => {
+                let lines = grouping_text(alloc, grouping)?;
+                say_listing(alloc, tabled, groupings, &asked.which, Some(lines))
+            }
         },
     }
 }
 
-/// What is said of a listing.
+/// Returns what is said of a listing.
 fn say(
     alloc: Global,
-    problem: &Problem,
-    number: Option<u32>,
+    tabled: &Tabled,
+    asked: &Asked,
     listing: Listing,
 ) -> Result<Listed, AllocError>
-    requires listing { (text : List ℕ) × (budget : ℕ) × IsListing (problem_of problem.now) text budget listing }
-    requires all { ListsAllBest (problem_of problem.now) listing }
-    ensures { IfOk result (λ s. listed_of s ≡ listing_said problem.now number listing) }
+    requires listing { (text : List ℕ) × (budget : ℕ) × IsListing (problem_of tabled.now.problem) text budget listing }
+    requires all { ListsAllBest (problem_of tabled.now.problem) listing }
+    ensures { IfOk result (λ s. listed_of s ≡ listing_said (tabled_of tabled.now) (asked_of asked.now) listing) }
 {
     match listing {
-        Listing::All(groupings) => say_all(alloc, problem, &groupings, number),
+        Listing::All(groupings) => say_all(alloc, tabled, &groupings, asked),
         Listing::Open(gap, line) => {
             let answer = open_answer(alloc, gap, line)?;
             Ok(alone(answer, ListEnd::Open(gap, line)))
         }
         Listing::Impossible => {
-            let text = report(alloc, problem, &Outcome::Impossible)?;
+            let text = report(alloc, &tabled.problem, &Outcome::Impossible)?;
             Ok(alone(RunAnswer { text, status: 1 }, ListEnd::Impossible))
         }
         Listing::No(fault, line) => {
@@ -177,22 +247,22 @@ fn say(
     }
 }
 
-/// What `list` says of a text: all best groupings, as the text of a certificate shows them, or the line that stands in
-/// the place of the listing. Where a number is given, the grouping of the number is to be stored, from 1 in the order
-/// of the list.
+/// Returns what `list` says of `text`: all best groupings, as the text of a certificate shows them, or the line that
+/// stands in the place of the listing. `asked` may ask for the lines of the grouping of a number, and for the number of a
+/// grouping. The table of all listed groupings is beside it if `tabled` has the names of the counties.
 ///
 /// # Errors
 ///
-/// `AllocError` where memory was refused.
+/// `AllocError` if memory was refused.
 pub fn list_and_say(
     alloc: Global,
-    problem: &Problem,
+    tabled: &Tabled,
     text: &[u8],
     budget: u64,
-    number: Option<u32>,
+    asked: &Asked,
 ) -> Result<Listed, AllocError>
-    ensures { IfOk result (λ s. IsListAnswer problem.now budget number text.now (listed_of s)) }
+    ensures { IfOk result (λ s. IsListAnswer (tabled_of tabled.now) budget (asked_of asked.now) text.now (listed_of s)) }
 {
-    let found = all_best(alloc, problem, text, budget)?;
-    say(alloc, problem, number, found)
+    let found = all_best(alloc, &tabled.problem, text, budget)?;
+    say(alloc, tabled, asked, found)
 }

@@ -72,15 +72,20 @@ certificate_options =
 abbrev pub check_options : List Rule
 check_options = certificate_options ++ text_option (codes "table") ∷ []
 
--- the options of `audit`: those that give a problem and a grouping, and the file of the assignments
+-- the options of `audit`: those that give a problem and a grouping, the file of the assignments, and the file of the
+-- table of the districts, which need not be given
 abbrev pub audit_options : List Rule
-audit_options = grouping_options ++ required (text_option (codes "assignments")) ∷ []
+audit_options =
+    grouping_options ++ required (text_option (codes "assignments")) ∷ text_option (codes "districts") ∷ []
 
--- the options of `list`: those that give a certificate, the number of a listed grouping, and the file that it is
--- written to; these two need not be given
+-- the options of `list`: those that give a certificate, the number of a listed grouping and the file that it is written
+-- to, the file of a grouping whose number is asked for, and the file of the table of all listed groupings; these four
+-- need not be given
 abbrev pub list_options : List Rule
 list_options =
-    certificate_options ++ of_number 0 4294967295 (text_option (codes "number")) ∷ text_option (codes "out") ∷ []
+    certificate_options
+    ++ of_number 0 4294967295 (text_option (codes "number")) ∷ text_option (codes "out")
+    ∷ text_option (codes "which") ∷ text_option (codes "groupings") ∷ []
 
 -- the options that give a board: those that give a problem and a grouping, the limit of its first round in counties,
 -- and how many branchings stand above its pieces at most; these two need not be given

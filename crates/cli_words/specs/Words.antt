@@ -26,8 +26,8 @@ use Rattle.cli_words.specs.declared.words.RoundWords.TheVariants.{Plain, Wide}
 use Rattle.cli_words.specs.declared.words.ShareWords.{ShareWords}
 use Rattle.cli_words.specs.declared.words.SolveWords.{SolveWords}
 use Rattle.cli_words.specs.declared.words.StoredWords.{StoredWords}
-use Rattle.cli_words.specs.declared.end.LoneOption.{LoneOption}
-use Rattle.cli_words.specs.declared.end.LoneOption.TheVariants.{Depth, NumberOrOut}
+use Rattle.cli_words.specs.declared.end.OptionsFault.{OptionsFault}
+use Rattle.cli_words.specs.declared.end.OptionsFault.TheVariants.{Depth, NumberOrOut, WhichAndStored}
 use Rattle.cli_words.specs.declared.end.WordsEnd.{WordsEnd}
 use Rattle.cli_words.specs.declared.end.WordsEnd.TheVariants.{Help, Version, Usage, Memory}
 
@@ -115,11 +115,13 @@ pub record SaysCheck (rows : List Row) (words : CheckWords) : Type 0 where
   pub check : SaysCertificate rows words.check
   pub table : GivesText (codes "table") rows words.table
 
--- the values of the options of `audit` say which problem, which grouping and which assignments are meant
+-- the values of the options of `audit` say which problem, which grouping and which assignments are meant, and the file
+-- that the table of the districts is written to
 pub record SaysAudit (rows : List Row) (words : AuditWords) : Type 0 where
   pub problem : SaysProblem rows words.problem
   pub grouping : first_of (codes "grouping") rows ≡ Some words.grouping.now
   pub assignments : first_of (codes "assignments") rows ≡ Some words.assignments.now
+  pub districts : GivesText (codes "districts") rows words.districts
 
 -- what the words give of a listed grouping that is to be stored: its number and the file, or neither
 abbrev pub GivesStored : List Row → Option StoredWords → Type 0
@@ -128,11 +130,14 @@ GivesStored rows (Some words) =
     (is_given (codes "number") rows ≡ true) × GivesNumber (codes "number") rows words.number
     × (is_given (codes "out") rows ≡ true) × (first_of (codes "out") rows ≡ Some words.out.now)
 
--- the values of the options of `list` say by which certificate all best groupings are listed, and which listed grouping
--- is stored
+-- the values of the options of `list` say by which certificate all best groupings are listed, which listed grouping is
+-- stored or whose number is asked for, and the file that the table of all groupings is written to
 pub record SaysList (rows : List Row) (words : ListWords) : Type 0 where
   pub check : SaysCertificate rows words.check
   pub stored : GivesStored rows words.stored
+  pub which : GivesText (codes "which") rows words.which
+  pub groupings : GivesText (codes "groupings") rows words.groupings
+  pub apart : (words.which ≡ None) ⊎ (words.stored ≡ None)
 
 -- what the words give of a number that need not be given: the number, or nothing exactly where they don't give it
 abbrev pub GivesItsNumber : Text → List Row → Option ℕ → Type 0
@@ -187,23 +192,30 @@ SaysCommand p (Piece words) = (p.0 ≡ codes "piece") × SaysPiece p.1 words
 abbrev pub AreUnpaired : List Row → Type 0
 AreUnpaired rows = is_given (codes "number") rows ≢ is_given (codes "out") rows
 
+-- the words ask for the number of a grouping, and for a listed grouping to be stored
+abbrev pub AskAndStore : List Row → Type 0
+AskAndStore rows =
+    (is_given (codes "which") rows ≡ true) × (is_given (codes "number") rows ≡ true)
+    × (is_given (codes "out") rows ≡ true)
+
 -- the words give a depth without a limit
 abbrev pub LacksLimit : List Row → Type 0
 LacksLimit rows = (is_given (codes "depth") rows ≡ true) × (is_given (codes "limit") rows ≡ false)
 
--- which option is given without the one that it needs: one of `--number` and `--out` alone at `list`, or `--depth`
+-- which options don't go together: one of `--number` and `--out` alone at `list`, `--which` beside both, or `--depth`
 -- without `--limit` at `share` or `piece`
-abbrev pub IsLone : Text × List Row → LoneOption → Type 0
-IsLone p NumberOrOut = (p.0 ≡ codes "list") × AreUnpaired p.1
-IsLone p Depth = ((p.0 ≡ codes "share") ⊎ (p.0 ≡ codes "piece")) × LacksLimit p.1
+abbrev pub IsOptionsFault : Text × List Row → OptionsFault → Type 0
+IsOptionsFault p NumberOrOut = (p.0 ≡ codes "list") × AreUnpaired p.1
+IsOptionsFault p WhichAndStored = (p.0 ≡ codes "list") × AskAndStore p.1
+IsOptionsFault p Depth = ((p.0 ≡ codes "share") ⊎ (p.0 ≡ codes "piece")) × LacksLimit p.1
 
--- an option is given so
-abbrev pub LacksPartner : Text × List Row → Type 0
-LacksPartner p = (lone : LoneOption) × IsLone p lone
+-- some options of a subcommand don't go together
+abbrev pub HasOptionsFault : Text × List Row → Type 0
+HasOptionsFault p = (fault : OptionsFault) × IsOptionsFault p fault
 
--- the words give an option so
-abbrev pub LackPartner : List Text → Type 0
-LackPartner words = IsSomeAnd (subcommand_in words) LacksPartner
+-- the words give options that don't go together
+abbrev pub HaveOptionsFault : List Text → Type 0
+HaveOptionsFault words = IsSomeAnd (subcommand_in words) HasOptionsFault
 
 -- the words mean the command
 abbrev pub Means : List Text → CommandWords → Type 0
@@ -230,14 +242,14 @@ abbrev pub IsUsage : WordsEnd → Type 0
 IsUsage (Usage text) = ⊤
 IsUsage _ = ⊥
 
--- words without a command end as their faults say; words that have none of clap's faults, but give an option without
--- the one that it needs, end in usage
+-- words without a command end as their faults say; words that have none of clap's faults, but give options that don't go
+-- together, end in usage
 abbrev pub EndsFor : List Text → WordsEnd → Type 0
-EndsFor words end = EndsBy (faults_of words) end ⊎ ((faults_of words ≡ []) × LackPartner words × IsUsage end)
+EndsFor words end = EndsBy (faults_of words) end ⊎ ((faults_of words ≡ []) × HaveOptionsFault words × IsUsage end)
 
--- words that clap takes end in memory alone, but for words that give an option without the one that it needs
+-- words that clap takes end in memory alone, but for words that give options that don't go together
 abbrev pub EndsTaken : List Text → WordsEnd → Type 0
-EndsTaken words end = (end ≡ Memory) ⊎ (LackPartner words × IsUsage end)
+EndsTaken words end = (end ≡ Memory) ⊎ (HaveOptionsFault words × IsUsage end)
 
 -- help or the version was asked for
 abbrev pub IsHelpOrVersion : WordsEnd → Type 0

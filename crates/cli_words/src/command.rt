@@ -99,6 +99,8 @@ It tells each district that crosses two groups or has too many or too few people
 another number of districts than seats, and each block that is unknown, named twice or in no district.
 Whether districts are contiguous or compact, and the Voting Rights Act, are not looked at.
 
+With --districts it stores a table of all districts: their people, and their groups and counties.
+
 Example:
   countygroups audit --geo ncgeo2020.pl --segment nc000012020.pl --chamber 50 \\
       --adjacency county_adjacency2023.txt --grouping senate.grouping --assignments plan.csv
@@ -114,15 +116,19 @@ Exit status:
 const AFTER_LIST: &str = "\
 It shows the groups that every best grouping has, and for each region of the other counties the
 alternatives that best groupings choose from. With --number and --out it stores one grouping too:
-they are numbered from 1, in the order of their lists of groups.
+they are numbered from 1, in the order of their lists of groups. With --which the last line tells
+which number the grouping of a file has: its sets count, and its seats don't.
+
+With --groupings it stores one table of all best groupings, which joins to shapes by GEOID.
 
 Example:
   countygroups list --geo nc2020geo.pl --segment nc000012020.pl --chamber 50 \\
       --adjacency county_adjacency2023.txt --certificate senate.certificate
 
 Exit status:
-  0  these are all best groupings
-  1  no grouping is lawful, or the text is no certificate of these files
+  0  these are all best groupings; with --which, the file's grouping is one of them
+  1  no grouping is lawful, the text is no certificate of these files, or the grouping of --which
+     isn't one of the best
   2  the words are no command
   3  the budget ran out, or the certificate doesn't show which other groupings are best
   4  a file, the problem or the number was refused
@@ -411,7 +417,21 @@ fn list_command<'a>(alloc: Global) -> Result<Command<'a>, AllocError>
         "FILE",
         "The file to write that grouping to (with --number)",
     );
-    with_option(made, out)
+    let made = with_option(made, out);
+    let which = text_option(
+        alloc,
+        "which",
+        "FILE",
+        "A grouping whose number in the list is asked for (without --number and --out)",
+    );
+    let made = with_option(made, which);
+    let groupings = text_option(
+        alloc,
+        "groupings",
+        "FILE",
+        "The file to write the table of all best groupings to, as CSV",
+    );
+    with_option(made, groupings)
 }
 
 /// The subcommand `audit`.
@@ -427,7 +447,14 @@ fn audit_command<'a>(alloc: Global) -> Result<Command<'a>, AllocError>
     let grouping = file_option(alloc, "grouping", "The groups, each with its seats");
     let made = with_option(made, grouping);
     let assignments = file_option(alloc, "assignments", "The district of each census block");
-    with_option(made, assignments)
+    let made = with_option(made, assignments);
+    let districts = text_option(
+        alloc,
+        "districts",
+        "FILE",
+        "The file to write the table of the districts to, as CSV",
+    );
+    with_option(made, districts)
 }
 
 /// `--limit COUNTIES`, from 0 to 65,535.

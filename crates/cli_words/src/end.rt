@@ -25,11 +25,13 @@ pub enum WordsEnd {
     Memory,
 }
 
-/// The option that is given without the one that it needs.
+/// What is wrong with options that clap takes one by one.
 #[derive(Clone, Copy, Debug)]
-pub(crate) enum LoneOption {
+pub(crate) enum OptionsFault {
     /// One of `--number` and `--out` of `list` is given without the other.
     NumberOrOut,
+    /// `--which` of `list` is given beside `--number` and `--out`.
+    WhichAndStored,
     /// `--depth` of `share` or `piece` is given without `--limit`.
     Depth,
 }
@@ -37,6 +39,13 @@ pub(crate) enum LoneOption {
 /// The text of usage where one of `--number` and `--out` is given without the other.
 const NUMBER_OR_OUT: &str = "\
 error: the options '--number <NUMBER>' and '--out <FILE>' of `list` stand together, and one was given without the other
+
+For more information, try '--help'.
+";
+
+/// The text of usage where `--which` is given beside `--number` and `--out`.
+const WHICH_AND_STORED: &str = "\
+error: the option '--which <FILE>' of `list` can't be used with '--number <NUMBER>' and '--out <FILE>'
 
 For more information, try '--help'.
 ";
@@ -49,13 +58,14 @@ For more information, try '--help'.
 ";
 
 impl WordsEnd {
-    /// The end where an option is given without the one that it needs.
-    pub(crate) fn of_lone(alloc: Global, lone: LoneOption) -> WordsEnd
+    /// Returns usage, with what is wrong with the options. The end is `Memory` if a growth was refused.
+    pub(crate) fn of_options(alloc: Global, fault: OptionsFault) -> WordsEnd
         ensures { (result ≡ Memory) ⊎ IsUsage result }
     {
-        let text = match lone {
-            LoneOption::NumberOrOut => NUMBER_OR_OUT,
-            LoneOption::Depth => DEPTH,
+        let text = match fault {
+            OptionsFault::NumberOrOut => NUMBER_OR_OUT,
+            OptionsFault::WhichAndStored => WHICH_AND_STORED,
+            OptionsFault::Depth => DEPTH,
         };
         match String::from_str(alloc, text) {
             Ok(text) => WordsEnd::Usage(text),

@@ -1,5 +1,5 @@
 //! The command that the words name.
-ghost use Rattle.std.specs.Prelude.{◌≡◌, ◌≢◌, [], IfErr, IfOk, MatchResult, Some, true, codes};
+ghost use Rattle.std.specs.Prelude.{◌≡◌, ◌≢◌, ◌⊎◌, [], IfErr, IfOk, MatchResult, None, Some, true, codes};
 ghost use Rattle.std.specs.Option.{IsSomeAnd};
 ghost use Rattle.clap.specs.Takes.{is_given};
 ghost use Rattle.clap.specs.Walk.{texts};
@@ -8,14 +8,14 @@ ghost use Rattle.cli_words.specs.Command.{audit_options, board_options, certific
 ghost use Rattle.cli_words.specs.Command.{common_options, grouping_options, judge_options, list_options, piece_options};
 ghost use Rattle.cli_words.specs.Command.{problem_options, share_options, solve_options};
 ghost use Rattle.cli_words.specs.Options.{HasCommand, HasValues};
-ghost use Rattle.cli_words.specs.Words.{AreUnpaired, EndsFor, EndsTaken, GivesRoundWords, GivesStored, IsLone};
+ghost use Rattle.cli_words.specs.Words.{AreUnpaired, EndsFor, EndsTaken, GivesRoundWords, GivesStored, GivesText, IsOptionsFault};
 ghost use Rattle.cli_words.specs.Words.{LacksLimit, Means, SaysAudit, SaysBoard, SaysCertificate, SaysCheck};
 ghost use Rattle.cli_words.specs.Words.{SaysCommand, SaysCommon, SaysJudge, SaysList, SaysPiece, SaysProblem};
 ghost use Rattle.cli_words.specs.Words.{SaysShare, SaysSolve, SaysWindow, faults_of, subcommand_in, takes_words};
-ghost use Rattle.cli_words.specs.declared.end.LoneOption.TheVariants.{Depth, NumberOrOut};
+ghost use Rattle.cli_words.specs.declared.end.OptionsFault.TheVariants.{Depth, NumberOrOut};
 
 use crate::command::program;
-use crate::end::{LoneOption, WordsEnd};
+use crate::end::{OptionsFault, WordsEnd};
 use clap::error::ErrorKind;
 use clap::{ArgMatches, Error};
 use county_codes::Window;
@@ -134,6 +134,8 @@ pub struct AuditWords<'a> {
     pub grouping: &'a str,
     /// The name of the block assignment file.
     pub assignments: &'a str,
+    /// The name of the file that the table of the districts is written to, where the words give one.
+    pub districts: Option<&'a str>,
 }
 
 /// Which listed grouping is stored, and where.
@@ -152,6 +154,10 @@ pub struct ListWords<'a> {
     pub check: CertificateWords<'a>,
     /// The grouping that is stored, where the words give its number and a file.
     pub stored: Option<StoredWords<'a>>,
+    /// The name of the file of a grouping whose number is asked for, where the words give one.
+    pub which: Option<&'a str>,
+    /// The name of the file that the table of all listed groupings is written to, where the words give one.
+    pub groupings: Option<&'a str>,
 }
 
 /// How the rounds of a board are.
@@ -321,72 +327,97 @@ fn audit_words<'a>(found: &ArgMatches<'a>) -> AuditWords<'a>
         problem: problem_words(found),
         grouping: found.get_str("grouping").unwrap(),
         assignments: found.get_str("assignments").unwrap(),
+        districts: found.get_str("districts"),
     }
 }
 
 /// Which listed grouping is stored and where, by the values of the options of `list`.
-fn stored_words<'a>(found: &ArgMatches<'a>) -> Result<Option<StoredWords<'a>>, LoneOption>
+fn stored_words<'a>(found: &ArgMatches<'a>) -> Result<Option<StoredWords<'a>>, OptionsFault>
     requires { HasValues list_options (rows_of (found_of found.now)) }
     ensures { MatchResult
         result
         (GivesStored (rows_of (found_of found.now)))
-        (λ lone. (lone ≡ NumberOrOut) × AreUnpaired (rows_of (found_of found.now))) }
+        (λ fault. (fault ≡ NumberOrOut) × AreUnpaired (rows_of (found_of found.now))) }
 {
     let number = found.get_one::<u32>("number");
     let out = found.get_str("out");
     match number {
         Some(number) => match out {
             Some(out) => Ok(Some(StoredWords { number, out })),
-            None => Err(LoneOption::NumberOrOut),
+            None => Err(OptionsFault::NumberOrOut),
         },
         None => match out {
-            Some(_) => Err(LoneOption::NumberOrOut),
+            Some(_) => Err(OptionsFault::NumberOrOut),
             None => Ok(None),
         },
     }
 }
 
+/// Returns what the values of the options of `list` say: which listed grouping is stored, or whose number is asked for.
+fn list_words_with<'a>(
+    found: &ArgMatches<'a>,
+    stored: Option<StoredWords<'a>>,
+    which: Option<&'a str>,
+) -> ListWords<'a>
+    requires values { HasValues list_options (rows_of (found_of found.now)) }
+    requires stored { GivesStored (rows_of (found_of found.now)) stored }
+    requires which { GivesText (codes "which") (rows_of (found_of found.now)) which }
+    requires apart { (which ≡ None) ⊎ (stored ≡ None) }
+    ensures { SaysList (rows_of (found_of found.now)) result }
+{
+    ListWords {
+        check: certificate_words(found),
+        stored,
+        which,
+        groupings: found.get_str("groupings"),
+    }
+}
+
 /// What the values of the options of `list` say.
-fn list_words<'a>(found: &ArgMatches<'a>) -> Result<ListWords<'a>, LoneOption>
+fn list_words<'a>(found: &ArgMatches<'a>) -> Result<ListWords<'a>, OptionsFault>
     requires { HasValues list_options (rows_of (found_of found.now)) }
     ensures { MatchResult
         result
         (SaysList (rows_of (found_of found.now)))
-        (λ lone. (lone ≡ NumberOrOut) × AreUnpaired (rows_of (found_of found.now))) }
+        (IsOptionsFault (codes "list", rows_of (found_of found.now))) }
 {
     let stored = stored_words(found)?;
-    Ok(ListWords {
-        check: certificate_words(found),
-        stored,
-    })
+    let which = found.get_str("which");
+    match stored {
+        None => Ok(list_words_with(found, None, which)),
+        Some(_) => match which {
+            None => Ok(list_words_with(found, stored, None)),
+            Some(_) => Err(OptionsFault::WhichAndStored),
+        },
+    }
 }
 
 /// How the rounds of a board are, by the values of its options.
-fn round_words<'a>(found: &ArgMatches<'a>) -> Result<RoundWords, LoneOption>
+fn round_words<'a>(found: &ArgMatches<'a>) -> Result<RoundWords, OptionsFault>
     requires { HasValues board_options (rows_of (found_of found.now)) }
     ensures { MatchResult
         result
         (GivesRoundWords (rows_of (found_of found.now)))
-        (λ lone. (lone ≡ Depth) × LacksLimit (rows_of (found_of found.now))) }
+        (λ fault. (fault ≡ Depth) × LacksLimit (rows_of (found_of found.now))) }
 {
     let limit = found.get_one::<u16>("limit");
     let depth = found.get_one::<u8>("depth");
     match depth {
         Some(depth) => match limit {
             Some(limit) => Ok(RoundWords::Plain { limit, depth }),
-            None => Err(LoneOption::Depth),
+            None => Err(OptionsFault::Depth),
         },
         None => Ok(RoundWords::Wide { limit }),
     }
 }
 
 /// What the values of the options say that give a board.
-fn board_words<'a>(found: &ArgMatches<'a>) -> Result<BoardWords<'a>, LoneOption>
+fn board_words<'a>(found: &ArgMatches<'a>) -> Result<BoardWords<'a>, OptionsFault>
     requires { HasValues board_options (rows_of (found_of found.now)) }
     ensures { MatchResult
         result
         (SaysBoard (rows_of (found_of found.now)))
-        (λ lone. (lone ≡ Depth) × LacksLimit (rows_of (found_of found.now))) }
+        (λ fault. (fault ≡ Depth) × LacksLimit (rows_of (found_of found.now))) }
 {
     let round = round_words(found)?;
     let (problem, grouping) = grouping_words(found);
@@ -398,12 +429,12 @@ fn board_words<'a>(found: &ArgMatches<'a>) -> Result<BoardWords<'a>, LoneOption>
 }
 
 /// What the values of the options of `share` say.
-fn share_words<'a>(found: &ArgMatches<'a>) -> Result<ShareWords<'a>, LoneOption>
+fn share_words<'a>(found: &ArgMatches<'a>) -> Result<ShareWords<'a>, OptionsFault>
     requires { HasValues share_options (rows_of (found_of found.now)) }
     ensures { MatchResult
         result
         (SaysShare (rows_of (found_of found.now)))
-        (λ lone. (lone ≡ Depth) × LacksLimit (rows_of (found_of found.now))) }
+        (λ fault. (fault ≡ Depth) × LacksLimit (rows_of (found_of found.now))) }
 {
     let board = board_words(found)?;
     let certificate = found.get_str("certificate");
@@ -416,12 +447,12 @@ fn share_words<'a>(found: &ArgMatches<'a>) -> Result<ShareWords<'a>, LoneOption>
 }
 
 /// What the values of the options of `piece` say.
-fn piece_words<'a>(found: &ArgMatches<'a>) -> Result<PieceWords<'a>, LoneOption>
+fn piece_words<'a>(found: &ArgMatches<'a>) -> Result<PieceWords<'a>, OptionsFault>
     requires { HasValues piece_options (rows_of (found_of found.now)) }
     ensures { MatchResult
         result
         (SaysPiece (rows_of (found_of found.now)))
-        (λ lone. (lone ≡ Depth) × LacksLimit (rows_of (found_of found.now))) }
+        (λ fault. (fault ≡ Depth) × LacksLimit (rows_of (found_of found.now))) }
 {
     let board = board_words(found)?;
     Ok(PieceWords {
@@ -434,9 +465,9 @@ fn piece_words<'a>(found: &ArgMatches<'a>) -> Result<PieceWords<'a>, LoneOption>
 }
 
 /// What the subcommand of this name says, by the values of its options.
-fn command_words<'a>(name: &str, found: &ArgMatches<'a>) -> Result<CommandWords<'a>, LoneOption>
+fn command_words<'a>(name: &str, found: &ArgMatches<'a>) -> Result<CommandWords<'a>, OptionsFault>
     requires { HasCommand (name.now, rows_of (found_of found.now)) }
-    ensures { MatchResult result (SaysCommand (name.now, rows_of (found_of found.now))) (IsLone (name.now, rows_of (found_of found.now))) }
+    ensures { MatchResult result (SaysCommand (name.now, rows_of (found_of found.now))) (IsOptionsFault (name.now, rows_of (found_of found.now))) }
 {
     match name {
         "size" => Ok(CommandWords::Size(common_words(found))),
@@ -452,12 +483,12 @@ fn command_words<'a>(name: &str, found: &ArgMatches<'a>) -> Result<CommandWords<
 }
 
 /// What the subcommand that was found says.
-fn command_in<'a>(matches: &ArgMatches<'a>) -> Result<CommandWords<'a>, LoneOption>
+fn command_in<'a>(matches: &ArgMatches<'a>) -> Result<CommandWords<'a>, OptionsFault>
     requires { IsSomeAnd (subcommand_rows_of matches.now) HasCommand }
     ensures { MatchResult
         result
         (λ command. IsSomeAnd (subcommand_rows_of matches.now) (λ p. SaysCommand p command))
-        (λ lone. IsSomeAnd (subcommand_rows_of matches.now) (λ p. IsLone p lone)) }
+        (λ fault. IsSomeAnd (subcommand_rows_of matches.now) (λ p. IsOptionsFault p fault)) }
 {
     match matches.subcommand() {
         Some((name, found)) => command_words(name, found),
@@ -478,25 +509,24 @@ fn matches_in<'a>(alloc: Global, words: &'a [&'a str]) -> Result<ArgMatches<'a>,
 /// The command that the words after the program's name say.
 ///
 /// Words that `clap` does not take end in `Help` where they ask for help before anything is wrong,
-/// and else in `Usage`. Words of `list` that give one of `--number` and `--out` without the other end in `Usage` too,
-/// and words of `share` and `piece` that give `--depth` without `--limit`.
+/// and else in `Usage`. Words of `list` that give one of `--number` and `--out` without the other, or `--which` beside
+/// both, end in `Usage` too, and words of `share` and `piece` that give `--depth` without `--limit`.
 /// `Memory` may come for any words.
 pub fn parse<'a>(alloc: Global, words: &'a [&'a str]) -> Result<CommandWords<'a>, WordsEnd>
     // The command is what the words mean.
     ensures said { IfOk result (Means (texts words.now)) }
 
-    // Words that `clap` takes end in no usage and no help, but for those that give an option without the one that it
-    // needs.
+    // Words that `clap` takes end in no usage and no help, but for those whose options don't go together.
     ensures taken { IfErr result (λ end. takes_words (texts words.now) ≡ true → EndsTaken (texts words.now) end) }
 
-    // A command comes only of words without a fault, and each end only of its faults, or of an option without the one
-    // that it needs.
+    // A command comes only of words without a fault, and each end only of its faults, or of options that don't go
+    // together.
     ensures ends { MatchResult result (λ _. faults_of (texts words.now) ≡ []) (EndsFor (texts words.now)) }
 {
     match matches_in(alloc, words) {
         Ok(matches) => match command_in(&matches) {
             Ok(command) => Ok(command),
-            Err(lone) => Err(WordsEnd::of_lone(alloc, lone)),
+            Err(fault) => Err(WordsEnd::of_options(alloc, fault)),
         },
         Err(error) => Err(WordsEnd::of_error(alloc, &error)),
     }

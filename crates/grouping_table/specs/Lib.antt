@@ -1,3 +1,4 @@
 pub mod Quoting
 pub mod LabelledSets
 pub mod Table
+pub mod GroupingsTable

@@ -8,10 +8,17 @@
 //! let text = county_table(alloc, &listed, problem.withdrawn(), &grouping.groups)?;
 //! ```
 //!
-//! The definitions stand in `specs/`: `Table`, `LabelledSets`, and `Quoting`.
+//! `groupings_table` writes the long table of several groupings, with a line for each county in each of them.
+//! `csv_line` writes one line of a comma-separated text.
+//!
+//! The definitions stand in `specs/`: `Table`, `GroupingsTable`, `LabelledSets`, and `Quoting`.
 #![tactic(auto)]
 
+mod csv_lines;
+mod groupings;
 mod sets;
 mod table;
 
+pub use csv_lines::csv_line;
+pub use groupings::groupings_table;
 pub use table::county_table;

@@ -1,42 +1,18 @@
 //! The lines of the table: a header, and a line for each county.
 
-ghost use Rattle.std.specs.Prelude.{◌≡◌, ℕ, ◌≤◌, ◌++◌, IfOk, OnOk, length, map};
+ghost use Rattle.std.specs.Prelude.{◌≡◌, ◌++◌, IfOk, OnOk, map};
 ghost use Rattle.std.specs.Option.{option_copied};
-ghost use Rattle.csv.specs.Writing.{default_writer, row_text};
 ghost use Rattle.grouping_table.specs.Quoting.{line_text};
 ghost use Rattle.grouping_table.specs.LabelledSets.{set_of_code as set_of_code};
 ghost use Rattle.pl94_counties.specs.CountyNames.{county_name};
 ghost use Rattle.grouping_table.specs.Table.{county_fields, county_lines, table_text};
 
+use crate::csv_lines::csv_line;
 use crate::sets::{LabelledSet, labelled_sets, set_of};
 use county_codes::{Group, Withdrawn, push_code};
-use csv::WriterBuilder;
 use itoa::Buffer;
 use pl94_counties::NamedCounty;
 use std::alloc::{AllocError, Global};
-
-/// The text of a record, as the crate `csv` writes it.
-fn record_of(alloc: Global, fields: &[&[u8]]) -> Result<Vec<u8>, csv::Error>
-    ensures { IfOk result (λ v. v.items ≡ row_text default_writer (map (λ f. f.now) fields.now)) }
-{
-    let mut writer = WriterBuilder::new().from_writer(Vec::new(alloc));
-    writer.write_fields(fields)?;
-    match writer.into_inner() {
-        Ok(text) => Ok(text),
-        Err(fault) => Err(fault.into_error()),
-    }
-}
-
-/// The line of fields, of which there are two or more.
-fn line_of(alloc: Global, fields: &[&[u8]]) -> Result<Vec<u8>, AllocError>
-    requires { 2 ≤ length fields.now }
-    ensures { IfOk result (λ v. v.items ≡ line_text (map (λ f. f.now) fields.now)) }
-{
-    match record_of(alloc, fields) {
-        Ok(line) => Ok(line),
-        Err(_) => Err(AllocError),
-    }
-}
 
 /// The line of a county.
 fn county_line(
@@ -52,13 +28,13 @@ fn county_line(
     let people = people.format(listed.county.people).as_bytes();
     let name = listed.name.as_bytes();
     match set_of(sets, listed.county.code) {
-        None => line_of(alloc, &[geoid.as_slice(), name, people, b"", b"", b""]),
+        None => csv_line(alloc, &[geoid.as_slice(), name, people, b"", b"", b""]),
         Some(set) => {
             let mut seats = Buffer::new();
             let mut inside = Buffer::new();
             let seats = seats.format(set.seats()).as_bytes();
             let inside = inside.format(set.people()).as_bytes();
-            line_of(
+            csv_line(
                 alloc,
                 &[geoid.as_slice(), name, people, set.label(), seats, inside],
             )

@@ -1,25 +1,18 @@
-use Rattle.std.proofs.Common.{◌≡◌, ◌++◌, ◌<◌, ◌≤◌, ℕ, List, length, rules, sym, subst, refl, arith}
+use Rattle.std.proofs.Common.{◌≡◌, ◌++◌, ◌+◌, ◌<◌, ℕ, List, length, rules, sym, subst, refl, arith}
 use Rattle.std.specs.List.{All, filter_map}
 use Rattle.std.specs.BTreeMap.{keys}
-use Rattle.county_codes.specs.declared.withdrawn.Withdrawn as county
+use Rattle.std.proofs.lemmas.List.Elements.{All-weaker}
 use Rattle.baf_auditor.specs.Findings.{drawn_sets, groups_from, withdrawn_from}
 use Rattle.baf_auditor.specs.Districts.{size_finding, crossings, numbers_from}
-use Rattle.baf_auditor.proofs.DistrictLemmas.{places_within}
-use Rattle.baf_auditor.proofs.AuditLemmas.{all_of, drawn_long, districts_added}
+use Rattle.baf_auditor.proofs.AuditLemmas.{districts_added}
 use Rattle.baf_auditor.proofs.auditing.add_district_findings.Goals as goal
 
 pub add_crossings-requires : goal.add_crossings-requires
 add_crossings-requires c =
-    let gs = c.args.grouping.now.groups.items in
-    let ws = c.args.problem.now.withdrawn in
     let found = c.in_ok-found.found in
     let same : c.deref.result.now ≡ keys found = search rules in
-    let few : length ws ≤ 1000 = subst (λ (l : List county.Withdrawn). length l ≤ 1000) c.withdrawn-sets.ensures.value c.withdrawn-sets.ensures.few in
-    let long = drawn_long gs ws in
     subst (λ (l : List (List ℕ × ℕ)). All (λ k. k.1 < 1000000) l) (sym same)
-    (all_of (λ (k : List ℕ × ℕ). k.1 < 1000000) (keys found) (λ k h.
-    let below = places_within (drawn_sets c.args.problem.now gs) found.entries (keys c.args.given.now) c.listed_places.ensures.ordered c.in_ok-found.ensures.entries k h in
-    omega (arith, below, long, few, c.requires.few_groups)))
+    (All-weaker (λ (k : List ℕ × ℕ). k.1 < length c.args.grouping.now.groups.items + 1000) (λ k. k.1 < 1000000) (λ k below. omega (arith, below, c.requires.few_groups)) (keys found) c.in_ok-found.ensures.within)
 
 pub returns : goal.returns
 returns c =

@@ -1,24 +1,20 @@
-use Rattle.std.proofs.Common.{◌≡◌, ◌++◌, ◌<◌, ℕ, List, [], map, rules, sym, subst}
+use Rattle.std.proofs.Common.{◌≡◌, ◌++◌, ℕ, List, [], map, rules, sym, subst}
 use Rattle.std.specs.Ordering.{nat_cmp}
-use Rattle.std.specs.BTreeMap.{get, keys}
+use Rattle.std.specs.BTreeMap.{get}
 use Rattle.std.proofs.lemmas.Map.Keys.{sorted_from_strictly_increasing}
 use Rattle.baf_auditor.specs.Findings.{plan_of, IsFinding, AreAll}
-use Rattle.baf_auditor.specs.Districts.{GivenBlock}
 use Rattle.baf_auditor.specs.Kinds.{code_finding}
 use Rattle.baf_auditor.specs.declared.block_findings.CodeKind.TheVariants as kinds
 use Rattle.baf_auditor.specs.declared.finding.Finding.{Finding}
-use Rattle.baf_auditor.proofs.ListLemmas.{mapped_from}
-use Rattle.baf_auditor.proofs.AuditLemmas.{all_of, kinds_added, given_fit, are_all}
+use Rattle.baf_auditor.proofs.AuditLemmas.{kinds_added, given_fit, are_all}
 use Rattle.baf_auditor.proofs.auditing.plan_findings.Goals as goal
 
 pub add_district_findings-requires-clause-fits : goal.add_district_findings-requires-clause-fits
 add_district_findings-requires-clause-fits c =
     let given = c.in_ok-given.given in
     let sorted = sorted_from_strictly_increasing (map (λ b. b.code) c.args.blocks.now) c.requires.ascending in
-    all_of (λ (k : List ℕ × ℕ). k.1 < 1000000000000000) (keys given) (λ k h.
-    let e = mapped_from (λ (x : GivenBlock). x.0) given.entries k h in
     given_fit c.args.problem.now c.args.grouping.now.groups.items c.args.blocks.now c.args.lines.now sorted (λ (code : ℕ). get nat_cmp c.in_ok-kinds.kinds.listed code) c.in_ok-kinds.ensures.listed
-    given.entries c.in_ok-given.ensures.ordered c.in_ok-given.ensures.entries c.requires.fits k e.0 e.1 e.2)
+    given.entries c.in_ok-given.ensures.ordered c.in_ok-given.ensures.entries c.requires.fits
 
 pub returns : goal.returns
 returns c =

@@ -7,8 +7,8 @@ use Rattle.baf_auditor.specs.Findings.{county_of_block}
 use Rattle.baf_auditor.proofs.ListingLemmas.{place_late}
 use Rattle.baf_auditor.proofs.block_list.place_of_block.Goals as goal
 
-pub returns-in_ok-place-in-None : goal.returns-in_ok-place-in-None
-returns-in_ok-place-in-None c =
+pub returns-in_ok-place-in-None-clause-place : goal.returns-in_ok-place-in-None-clause-place
+returns-in_ok-place-in-None-clause-place c =
     let code = c.in_ok-county.county in
     let county_is : code ≡ county_of_block c.args.code = search rules in
     let none : position_from (λ (g : Group). member g.codes code) 0 c.args.grouping.now.groups.items ≡ None = search rules in

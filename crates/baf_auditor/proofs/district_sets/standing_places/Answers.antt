@@ -17,5 +17,6 @@ loop-key-preserved c =
           ap (λ (o : Option (Unit {0})). stands_after drawn key o rest) (c.in_ok-add_standing.ensures.entries key)
           ∙ subst (λ (l : List (List ℕ × ℕ)). stands_after drawn key (get by_label c.loop-key.found key) l ≡ standing drawn (keys c.args.given.now) key) before (c.loop-key.invariant.standing key);
       few = omega (arith, long, c.loop-key.invariant.few, c.in_ok-add_standing.ensures.few);
-      within = All-rest (λ (k : List ℕ × ℕ). k.1 < 1000000000000000) c.in-Some.key.now rest c.loop-key.key-iterator before c.loop-key.invariant.within;
+      fits = All-rest (λ (k : List ℕ × ℕ). k.1 < 1000000000000000) c.in-Some.key.now rest c.loop-key.key-iterator before c.loop-key.invariant.fits;
+      within = c.in_ok-add_standing.ensures.within c.loop-key.invariant.within;
     }

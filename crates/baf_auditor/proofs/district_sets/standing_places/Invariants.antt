@@ -10,5 +10,6 @@ abbrev pub invariant-loop-key : goal.invariant-loop-key
 invariant-loop-key l = record {
   standing : (key : List ℕ × ℕ) → stands_after (drawn_sets l.problem l.grouping.groups.items) key (get by_label l.found key) l.key-iterator ≡ standing (drawn_sets l.problem l.grouping.groups.items) (keys l.given) key;
   few : btree_map_len l.found + length l.key-iterator ≤ btree_map_len l.given;
-  within : All (λ k. k.1 < 1000000000000000) l.key-iterator;
+  fits : All (λ k. k.1 < 1000000000000000) l.key-iterator;
+  within : All (λ k. k.1 < length l.grouping.groups.items + 1000) (keys l.found);
 }

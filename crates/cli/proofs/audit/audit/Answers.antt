@@ -1,110 +1,46 @@
-use Rattle.std.proofs.Common.{◌≡◌, List, Option, subst}
-use Rattle.std.specs.Prelude.{Ok, Err}
-use Rattle.county_problem.specs.ProblemValue.{ProblemValue}
-use Rattle.grouping_laws.specs.Grouping.{Grouping}
-use Rattle.pl94_counties.specs.declared.blocks.Block.{Block}
-use Rattle.baf_auditor.specs.declared.assignments.Assignment.{Assignment}
-use Rattle.cli_words.specs.declared.words.AuditWords.{AuditWords}
-use Rattle.cli_shelves.specs.Files.{Files}
-use Rattle.cli_answers.specs.Answer.{Answered}
-use Rattle.cli_answers.specs.Answers.{answer_of, Comes, AnswerMeets}
-use Rattle.cli_runs.specs.Course.{Course, ◌>>=◌}
-use Rattle.cli_runs.specs.ProblemCourse.{problem_course, grouping_of}
-use Rattle.cli_runs.specs.PlanCourse.{blocks_of, plan_assignments}
-use Rattle.cli_runs.specs.JudgeCourse.{audit_step}
-use Rattle.cli_runs.proofs.RunLemmas.{handed_on, went_on}
+use Rattle.std.proofs.Common.{refl, [], List, ℕ, Option, None, ap, subst, sym, ◌∙◌}
+use Rattle.std.specs.Prelude.{Err, option_map}
+use Rattle.cli_runs.specs.JudgeCourse.{audit_course}
+use Rattle.cli_runs.specs.Storing.{named_file, store_steps}
+use Rattle.cli_runs.specs.Texts.{audited_of}
+use Rattle.cli_runs.proofs.StoreLemmas.{none_stored}
+use Rattle.cli.specs.Ends.{refusal_by}
+use Rattle.cli.proofs.StoringLemmas.{seen_lent, from_start, refused_run, stopped_run, ended_run}
 use Rattle.cli.proofs.audit.audit.Goals as goal
 
--- the findings of the assignments of a file, where the problem, the blocks and the grouping are known
-with_grouping : Option Files → AuditWords → ProblemValue → List Block → Grouping → Course Answered
-with_grouping files words v blocks groups = plan_assignments files words.assignments.now >>= audit_step v groups blocks
+pub returns-in_err-plan : goal.returns-in_err-plan
+returns-in_err-plan g c = (
+  [],
+  none_stored (g.H.Shelf.contents c.args.shelf.now) (g.H.Shelf.contents c.audit_files.new.shelf) (g.H.Shelf.stored c.args.shelf.now) (g.H.Shelf.stored c.audit_files.new.shelf) c.audit_files.ensures.same c.audit_files.ensures.kept,
+  refused_run (audit_course (g.H.Shelf.contents c.args.shelf.now) c.args.words) (λ s. named_file c.args.words.districts s.districts) (λ s. s.answer) (g.H.Shelf.history c.args.shelf.now) (g.H.Shelf.history c.audit_files.new.shelf) c.in_err-plan.field-0.0 c.from_residual.result c.from_residual.ensures.1 c.in_err-plan.ensures.course,
+)
 
--- and where the problem and the blocks are
-with_blocks : Option Files → AuditWords → ProblemValue → List Block → Course Answered
-unfolding with_grouping
-with_blocks files words v blocks = grouping_of files words.grouping.now >>= with_grouping files words v blocks
-
--- and where the problem is
-with_problem : Option Files → AuditWords → ProblemValue → Course Answered
-unfolding with_grouping with_blocks
-with_problem files words v = blocks_of files words.problem.common >>= with_blocks files words v
-
-pub returns-in_err-blocks-clause-course : goal.returns-in_err-blocks-clause-course
-unfolding with_grouping with_blocks with_problem
-returns-in_err-blocks-clause-course g c =
+pub returns-in-Err : goal.returns-in-Err
+returns-in-Err g c =
     let files = g.H.Shelf.contents c.args.shelf.now in
-    let words = c.args.words in
     let before = g.H.Shelf.history c.args.shelf.now in
-    let built = g.H.Shelf.history c.load_problem.new.shelf in
-    let after = g.H.Shelf.history c.load_blocks.new.shelf in
-    let v = c.in_ok-problem.problem in
-    let met = subst (λ (f : Option Files). AnswerMeets c.in_err-blocks.field-0.0 (λ a. blocks_of f words.problem.common built after (Err a))) c.load_problem.ensures.same c.in_err-blocks.ensures.course in
-    went_on answer_of c.from_residual-in_err-blocks.result (problem_course files words.problem) (with_problem files words) v before built after c.in_ok-problem.ensures.course
-    (handed_on answer_of c.in_err-blocks.field-0.0 c.from_residual-in_err-blocks.result (blocks_of files words.problem.common) (with_blocks files words v) built after c.from_residual-in_err-blocks.ensures.1 met)
+    let between = g.H.Shelf.history c.audit_files.new.shelf in
+    let after = g.H.Shelf.history c.store_named.new.shelf in
+    let words = c.args.words in
+    let end = c.in-Err.ensures in
+    let table = sym (seen_lent (λ t. t.items) c.as_ref.result) ∙ ap (option_map (λ t. t.items)) c.as_ref.ensures.value in
+    let steps = subst (λ (o : Option (List ℕ)). store_steps (named_file words.districts o) between after end.0 (refusal_by (Err c.in-Err.refusal))) table end.2 in (
+      end.0,
+      from_start files (g.H.Shelf.contents c.audit_files.new.shelf) (g.H.Shelf.contents c.store_named.new.shelf) (g.H.Shelf.stored c.args.shelf.now) (g.H.Shelf.stored c.audit_files.new.shelf) (g.H.Shelf.stored c.store_named.new.shelf) end.0 c.audit_files.ensures.same c.audit_files.ensures.kept end.1,
+      stopped_run (audit_course files words) (λ s. named_file words.districts s.districts) (λ s. s.answer) (audited_of c.in_ok-plan.plan.audited) before between after end.0 c.in-Err.refusal (Err c.in-Err.refusal) refl c.in_ok-plan.ensures.course steps,
+    )
 
-pub returns-in_err-grouping-clause-course : goal.returns-in_err-grouping-clause-course
-unfolding with_grouping with_blocks with_problem
-returns-in_err-grouping-clause-course g c =
+pub returns-in-Ok : goal.returns-in-Ok
+returns-in-Ok g c =
     let files = g.H.Shelf.contents c.args.shelf.now in
-    let words = c.args.words in
     let before = g.H.Shelf.history c.args.shelf.now in
-    let built = g.H.Shelf.history c.load_problem.new.shelf in
-    let read = g.H.Shelf.history c.load_blocks.new.shelf in
-    let after = g.H.Shelf.history c.load_grouping.new.shelf in
-    let v = c.in_ok-problem.problem in
-    let blocks = c.in_ok-blocks.blocks.items in
-    let listed = subst (λ (f : Option Files). blocks_of f words.problem.common built read (Ok blocks)) c.load_problem.ensures.same c.in_ok-blocks.ensures.course in
-    let same = subst (λ (f : Option Files). g.H.Shelf.contents c.load_blocks.new.shelf ≡ f) c.load_problem.ensures.same c.load_blocks.ensures.same in
-    let met = subst (λ (f : Option Files). AnswerMeets c.in_err-grouping.field-0.0 (λ a. grouping_of f words.grouping.now read after (Err a))) same c.in_err-grouping.ensures.course in
-    went_on answer_of c.from_residual-in_err-grouping.result (problem_course files words.problem) (with_problem files words) v before built after c.in_ok-problem.ensures.course
-    (went_on answer_of c.from_residual-in_err-grouping.result (blocks_of files words.problem.common) (with_blocks files words v) blocks built read after listed
-    (handed_on answer_of c.in_err-grouping.field-0.0 c.from_residual-in_err-grouping.result (grouping_of files words.grouping.now) (with_grouping files words v blocks) read after c.from_residual-in_err-grouping.ensures.1 met))
-
-pub returns-in_err-lines-clause-course : goal.returns-in_err-lines-clause-course
-unfolding with_grouping with_blocks with_problem
-returns-in_err-lines-clause-course g c =
-    let files = g.H.Shelf.contents c.args.shelf.now in
+    let between = g.H.Shelf.history c.audit_files.new.shelf in
+    let after = g.H.Shelf.history c.store_named.new.shelf in
     let words = c.args.words in
-    let before = g.H.Shelf.history c.args.shelf.now in
-    let built = g.H.Shelf.history c.load_problem.new.shelf in
-    let read = g.H.Shelf.history c.load_blocks.new.shelf in
-    let then = g.H.Shelf.history c.load_grouping.new.shelf in
-    let after = g.H.Shelf.history c.load_assignments.new.shelf in
-    let v = c.in_ok-problem.problem in
-    let blocks = c.in_ok-blocks.blocks.items in
-    let groups = c.in_ok-grouping.grouping.groups.items in
-    let listed = subst (λ (f : Option Files). blocks_of f words.problem.common built read (Ok blocks)) c.load_problem.ensures.same c.in_ok-blocks.ensures.course in
-    let same = subst (λ (f : Option Files). g.H.Shelf.contents c.load_blocks.new.shelf ≡ f) c.load_problem.ensures.same c.load_blocks.ensures.same in
-    let grouped = subst (λ (f : Option Files). grouping_of f words.grouping.now read then (Ok groups)) same c.in_ok-grouping.ensures.course in
-    let still = subst (λ (f : Option Files). g.H.Shelf.contents c.load_grouping.new.shelf ≡ f) same c.load_grouping.ensures.same in
-    let met = subst (λ (f : Option Files). AnswerMeets c.in_err-lines.field-0.0 (λ a. plan_assignments f words.assignments.now then after (Err a))) still c.in_err-lines.ensures.course in
-    went_on answer_of c.from_residual-in_err-lines.result (problem_course files words.problem) (with_problem files words) v before built after c.in_ok-problem.ensures.course
-    (went_on answer_of c.from_residual-in_err-lines.result (blocks_of files words.problem.common) (with_blocks files words v) blocks built read after listed
-    (went_on answer_of c.from_residual-in_err-lines.result (grouping_of files words.grouping.now) (with_grouping files words v blocks) groups read then after grouped
-    (handed_on answer_of c.in_err-lines.field-0.0 c.from_residual-in_err-lines.result (plan_assignments files words.assignments.now) (audit_step v groups blocks) then after c.from_residual-in_err-lines.ensures.1 met)))
-
-pub returns-clause-course : goal.returns-clause-course
-unfolding with_grouping with_blocks with_problem
-returns-clause-course g c =
-    let files = g.H.Shelf.contents c.args.shelf.now in
-    let words = c.args.words in
-    let before = g.H.Shelf.history c.args.shelf.now in
-    let built = g.H.Shelf.history c.load_problem.new.shelf in
-    let read = g.H.Shelf.history c.load_blocks.new.shelf in
-    let then = g.H.Shelf.history c.load_grouping.new.shelf in
-    let after = g.H.Shelf.history c.load_assignments.new.shelf in
-    let v = c.in_ok-problem.problem in
-    let blocks = c.in_ok-blocks.blocks.items in
-    let groups = c.in_ok-grouping.grouping.groups.items in
-    let lines = c.in_ok-lines.lines.items in
-    let listed = subst (λ (f : Option Files). blocks_of f words.problem.common built read (Ok blocks)) c.load_problem.ensures.same c.in_ok-blocks.ensures.course in
-    let same = subst (λ (f : Option Files). g.H.Shelf.contents c.load_blocks.new.shelf ≡ f) c.load_problem.ensures.same c.load_blocks.ensures.same in
-    let grouped = subst (λ (f : Option Files). grouping_of f words.grouping.now read then (Ok groups)) same c.in_ok-grouping.ensures.course in
-    let still = subst (λ (f : Option Files). g.H.Shelf.contents c.load_grouping.new.shelf ≡ f) same c.load_grouping.ensures.same in
-    let assigned = subst (λ (f : Option Files). plan_assignments f words.assignments.now then after (Ok lines)) still c.in_ok-lines.ensures.course in
-    let by_blocks = subst (λ (bs : List Block). Comes answer_of c.all_findings.result (audit_step v groups bs c.deref-2.result.now after after)) c.deref.ensures.value (c.all_findings.ensures after) in
-    let by_lines = subst (λ (ls : List Assignment). Comes answer_of c.all_findings.result (audit_step v groups blocks ls after after)) c.deref-2.ensures.value by_blocks in
-    went_on answer_of c.all_findings.result (problem_course files words.problem) (with_problem files words) v before built after c.in_ok-problem.ensures.course
-    (went_on answer_of c.all_findings.result (blocks_of files words.problem.common) (with_blocks files words v) blocks built read after listed
-    (went_on answer_of c.all_findings.result (grouping_of files words.grouping.now) (with_grouping files words v blocks) groups read then after grouped
-    (went_on answer_of c.all_findings.result (plan_assignments files words.assignments.now) (audit_step v groups blocks) lines then after after assigned by_lines)))
+    let end = c.in-Ok.ensures in
+    let table = sym (seen_lent (λ t. t.items) c.as_ref.result) ∙ ap (option_map (λ t. t.items)) c.as_ref.ensures.value in
+    let steps = subst (λ (o : Option (List ℕ)). store_steps (named_file words.districts o) between after end.0 None) table end.2 in (
+      end.0,
+      from_start files (g.H.Shelf.contents c.audit_files.new.shelf) (g.H.Shelf.contents c.store_named.new.shelf) (g.H.Shelf.stored c.args.shelf.now) (g.H.Shelf.stored c.audit_files.new.shelf) (g.H.Shelf.stored c.store_named.new.shelf) end.0 c.audit_files.ensures.same c.audit_files.ensures.kept end.1,
+      ended_run (audit_course files words) (λ s. named_file words.districts s.districts) (λ s. s.answer) (audited_of c.in_ok-plan.plan.audited) before between after end.0 c.in_ok-plan.ensures.course steps,
+    )

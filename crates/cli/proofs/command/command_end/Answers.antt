@@ -1,9 +1,9 @@
 use Rattle.std.proofs.Common.{List, [], refl, sym, subst}
 use Rattle.cli_shelves.specs.Files.{NamedFile}
 use Rattle.cli_words.specs.declared.words.CommandWords.{CommandWords}
-use Rattle.cli_words.specs.declared.words.CommandWords.TheVariants.{Size, Audit, Piece}
+use Rattle.cli_words.specs.declared.words.CommandWords.TheVariants.{Size, Piece}
 use Rattle.cli_answers.specs.Answers.{said_by}
-use Rattle.cli_runs.specs.JudgeCourse.{size_course, audit_course}
+use Rattle.cli_runs.specs.JudgeCourse.{size_course}
 use Rattle.cli_runs.specs.PieceCourse.{piece_course}
 use Rattle.cli_runs.specs.Storing.{HasStored}
 use Rattle.cli_runs.specs.Run.{CommandRun}
@@ -66,11 +66,8 @@ returns-in-Audit g c =
     let last = g.H.Shelf.stored c.audit.new.shelf in
     let before = g.H.Shelf.history c.args.shelf.now in
     let after = g.H.Shelf.history c.audit.new.shelf in
-    subst (λ (command : CommandWords). (x : List NamedFile) × HasStored files later listed last x × CommandRun files command before after x (said_by c.audit.result)) (sym c.in-Audit.is) (
-      [],
-      none_stored files later listed last c.audit.ensures.same c.audit.ensures.kept,
-      quiet_run files (Audit c.in-Audit.words) (audit_course files c.in-Audit.words) before after c.audit.result (λ a h. (h, refl)) c.audit.ensures.course,
-    )
+    subst (λ (command : CommandWords). (x : List NamedFile) × HasStored files later listed last x × CommandRun files command before after x (said_by c.audit.result)) (sym c.in-Audit.is)
+    c.audit.ensures
 
 pub returns-in-List : goal.returns-in-List
 returns-in-List g c =

@@ -8,8 +8,8 @@ use Rattle.cli.proofs.command.deliver_said.Goals as goal
 
 pub returns-in-Ok : goal.returns-in-Ok
 returns-in-Ok g c =
-    let failed = g.W.Sink.is_failed c.deliver.new.out in
+    let failed = g.W.Sink.is_failed c.deliver-status.new.out in
     let before = g.W.Sink.contents c.args.out.now in
-    let after = g.W.Sink.contents c.deliver.new.out in
-    subst (λ (said : Result RunAnswer AllocError). Delivers failed before after (said_of said) c.deliver.result) (sym c.in-Ok.is)
-    (subst (λ (text : List ℕ). Delivers failed before after (record { text = text; status = c.in-Ok.answer.status }) c.deliver.result) c.deref.ensures.value c.deliver.ensures)
+    let after = g.W.Sink.contents c.deliver-status.new.out in
+    subst (λ (said : Result RunAnswer AllocError). Delivers failed before after (said_of said) c.deliver-status.result) (sym c.in-Ok.is)
+    (subst (λ (text : List ℕ). Delivers failed before after (record { text = text; status = c.in-Ok.answer.status }) c.deliver-status.result) c.deref.ensures.value c.deliver-status.ensures)

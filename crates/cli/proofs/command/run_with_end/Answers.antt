@@ -13,6 +13,6 @@ returns g c =
         run.1,
         run.2,
         run_tells (g.H.Shelf.contents c.args.shelf.now) (texts c.args.words.now) (g.H.Shelf.history c.args.shelf.now) (g.H.Shelf.history c.words_answer-said.new.shelf) run.0 said run.2,
-        c.deliver_said.ensures,
+        c.deliver_said-status.ensures,
       );
     }

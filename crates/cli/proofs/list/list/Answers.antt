@@ -1,19 +1,16 @@
-use Rattle.std.proofs.Common.{refl, [], List, ℕ, Option, None, ap, subst₂, sym, ◌∙◌}
-use Rattle.std.specs.Borrow.{Bor}
-use Rattle.std.specs.Prelude.{Err, option_map}
-use Rattle.cli_runs.specs.Storing.{named_file, store_steps}
-use Rattle.cli_runs.specs.ListCourse.{list_course, listed_file}
+use Rattle.std.proofs.Common.{refl, []}
+use Rattle.std.specs.Prelude.{Err}
+use Rattle.cli_runs.specs.ListCourse.{list_course, listed_files}
 use Rattle.cli_runs.proofs.StoreLemmas.{none_stored}
 use Rattle.cli_runs.specs.Texts.{listed_of}
-use Rattle.cli.specs.Ends.{refusal_by}
-use Rattle.cli.proofs.StoringLemmas.{seen_lent, from_start, refused_run, stopped_run, ended_run}
+use Rattle.cli.proofs.StoringLemmas.{from_start, refused_run, stopped_run, ended_run}
 use Rattle.cli.proofs.list.list.Goals as goal
 
 pub returns-in_err-listed : goal.returns-in_err-listed
 returns-in_err-listed g c = (
   [],
   none_stored (g.H.Shelf.contents c.args.shelf.now) (g.H.Shelf.contents c.list_files.new.shelf) (g.H.Shelf.stored c.args.shelf.now) (g.H.Shelf.stored c.list_files.new.shelf) c.list_files.ensures.same c.list_files.ensures.kept,
-  refused_run (list_course (g.H.Shelf.contents c.args.shelf.now) c.args.words) (listed_file c.args.words) (λ s. s.answer) (g.H.Shelf.history c.args.shelf.now) (g.H.Shelf.history c.list_files.new.shelf) c.in_err-listed.field-0.0 c.from_residual.result c.from_residual.ensures.1 c.in_err-listed.ensures.course,
+  refused_run (list_course (g.H.Shelf.contents c.args.shelf.now) c.args.words) (listed_files c.args.words) (λ s. s.answer) (g.H.Shelf.history c.args.shelf.now) (g.H.Shelf.history c.list_files.new.shelf) c.in_err-listed.field-0.0 c.from_residual.result c.from_residual.ensures.1 c.in_err-listed.ensures.course,
 )
 
 pub returns : goal.returns
@@ -21,13 +18,11 @@ returns g c =
     let files = g.H.Shelf.contents c.args.shelf.now in
     let before = g.H.Shelf.history c.args.shelf.now in
     let between = g.H.Shelf.history c.list_files.new.shelf in
-    let after = g.H.Shelf.history c.store_named.new.shelf in
-    let end = c.in-Err.ensures in
-    let grouping = sym (seen_lent (λ t. t.items) c.as_ref.result) ∙ ap (option_map (λ t. t.items)) c.as_ref.ensures.value in
-    let steps = subst₂ (λ (name : Option (Bor (List ℕ))) (o : Option (List ℕ)). store_steps (named_file name o) between after end.0 (refusal_by (Err c.in-Err.refusal))) c.out_in-out.ensures grouping end.2 in (
+    let after = g.H.Shelf.history c.store_listed.new.shelf in
+    let end = c.in-Err.ensures in (
       end.0,
-      from_start files (g.H.Shelf.contents c.list_files.new.shelf) (g.H.Shelf.contents c.store_named.new.shelf) (g.H.Shelf.stored c.args.shelf.now) (g.H.Shelf.stored c.list_files.new.shelf) (g.H.Shelf.stored c.store_named.new.shelf) end.0 c.list_files.ensures.same c.list_files.ensures.kept end.1,
-      stopped_run (list_course files c.args.words) (listed_file c.args.words) (λ s. s.answer) (listed_of c.in_ok-listed.listed) before between after end.0 c.in-Err.refusal (Err c.in-Err.refusal) refl c.in_ok-listed.ensures.course steps,
+      from_start files (g.H.Shelf.contents c.list_files.new.shelf) (g.H.Shelf.contents c.store_listed.new.shelf) (g.H.Shelf.stored c.args.shelf.now) (g.H.Shelf.stored c.list_files.new.shelf) (g.H.Shelf.stored c.store_listed.new.shelf) end.0 c.list_files.ensures.same c.list_files.ensures.kept end.1,
+      stopped_run (list_course files c.args.words) (listed_files c.args.words) (λ s. s.answer) (listed_of c.in_ok-listed.listed) before between after end.0 c.in-Err.refusal (Err c.in-Err.refusal) refl c.in_ok-listed.ensures.course end.2,
     )
 
 pub returns-in-Ok : goal.returns-in-Ok
@@ -35,11 +30,9 @@ returns-in-Ok g c =
     let files = g.H.Shelf.contents c.args.shelf.now in
     let before = g.H.Shelf.history c.args.shelf.now in
     let between = g.H.Shelf.history c.list_files.new.shelf in
-    let after = g.H.Shelf.history c.store_named.new.shelf in
-    let end = c.in-Ok.ensures in
-    let grouping = sym (seen_lent (λ t. t.items) c.as_ref.result) ∙ ap (option_map (λ t. t.items)) c.as_ref.ensures.value in
-    let steps = subst₂ (λ (name : Option (Bor (List ℕ))) (o : Option (List ℕ)). store_steps (named_file name o) between after end.0 None) c.out_in-out.ensures grouping end.2 in (
+    let after = g.H.Shelf.history c.store_listed.new.shelf in
+    let end = c.in-Ok.ensures in (
       end.0,
-      from_start files (g.H.Shelf.contents c.list_files.new.shelf) (g.H.Shelf.contents c.store_named.new.shelf) (g.H.Shelf.stored c.args.shelf.now) (g.H.Shelf.stored c.list_files.new.shelf) (g.H.Shelf.stored c.store_named.new.shelf) end.0 c.list_files.ensures.same c.list_files.ensures.kept end.1,
-      ended_run (list_course files c.args.words) (listed_file c.args.words) (λ s. s.answer) (listed_of c.in_ok-listed.listed) before between after end.0 c.in_ok-listed.ensures.course steps,
+      from_start files (g.H.Shelf.contents c.list_files.new.shelf) (g.H.Shelf.contents c.store_listed.new.shelf) (g.H.Shelf.stored c.args.shelf.now) (g.H.Shelf.stored c.list_files.new.shelf) (g.H.Shelf.stored c.store_listed.new.shelf) end.0 c.list_files.ensures.same c.list_files.ensures.kept end.1,
+      ended_run (list_course files c.args.words) (listed_files c.args.words) (λ s. s.answer) (listed_of c.in_ok-listed.listed) before between after end.0 c.in_ok-listed.ensures.course end.2,
     )

@@ -8,7 +8,7 @@ use Rattle.cli_runs.proofs.listing_report.say.Goals as goal
 
 pub say_all-requires : goal.say_all-requires
 say_all-requires c =
-    let p = problem_of c.args.problem.now in
+    let p = problem_of c.args.tabled.now.problem in
     let is = subst (λ (l : Listing). IsListing p c.requires.listing.0 c.requires.listing.1 l) c.in-All.is c.requires.listing.2 in
     let all = subst (ListsAllBest p) c.in-All.is c.requires.all in
     subst (λ (list : List Grouping). 1 ≤ length list) (sym c.deref.ensures.value) (lists_one p c.requires.listing.0 c.requires.listing.1 c.in-All.groupings is all.0)

@@ -1,7 +1,7 @@
 use Rattle.std.proofs.Common.{◌≤◌, ◌∙◌, List, ℕ, length, map}
 use Rattle.std.proofs.lemmas.List.{length-map}
 use Rattle.grouping_table.proofs.RowText.{row_is_line}
-use Rattle.grouping_table.proofs.table.line_of.Goals as goal
+use Rattle.grouping_table.proofs.csv_lines.csv_line.Goals as goal
 
 pub returns-in-Ok : goal.returns-in-Ok
 returns-in-Ok c =

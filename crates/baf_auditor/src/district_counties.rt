@@ -1,0 +1,56 @@
+//! The counties in which each district has census blocks.
+
+ghost use Rattle.std.specs.Prelude.{◌≡◌, ◌<◌, ◌||◌, ℕ, List, All, IfOk, OnOk};
+ghost use Rattle.std.specs.List.Sorted.{IsStrictlySortedBy};
+ghost use Rattle.std.specs.BTreeMap.{keys};
+ghost use Rattle.std.specs.BTreeSet.{contains};
+ghost use Rattle.baf_auditor.specs.Giving.{by_label};
+ghost use Rattle.baf_auditor.specs.Districts.{shows_county, has_county};
+
+use crate::block_list::county_of_block;
+use crate::label::Label;
+use county_codes::CountyCode;
+use std::alloc::{AllocError, Global};
+use std::collections::{BTreeMap, BTreeSet};
+
+/// Adds the county of the block `code` to those in which the district of `label` has blocks.
+fn add_county(
+    found: &mut BTreeSet<(Label, CountyCode)>,
+    label: &Label,
+    code: u64,
+) -> Result<(), AllocError>
+    requires { code < 1000000000000000 }
+    ensures { OnOk result ((key : List ℕ × ℕ)
+        → contains by_label found.new key ≡ (shows_county key (label.now, code) || contains by_label found.old key)) }
+{
+    if let Some(county) = county_of_block(code) {
+        found.insert((label.copy()?, county))?;
+    }
+    Ok(())
+}
+
+/// Returns the districts with the counties in which they have blocks, by label and county.
+pub(crate) fn given_counties(
+    alloc: Global,
+    given: &BTreeMap<(Label, u64), u32>,
+) -> Result<BTreeSet<(Label, CountyCode)>, AllocError>
+    requires { All (λ k. k.1 < 1000000000000000) (keys given.now) }
+    ensures { IfOk result (λ s. (key : List ℕ × ℕ) → contains by_label s key ≡ has_county (keys given.now) key) }
+{
+    let mut found = BTreeSet::new(alloc);
+    for key in given.keys() {
+        add_county(&mut found, &key.0, key.1)?;
+    }
+    Ok(found)
+}
+
+/// Lists the districts with their counties, by label and county.
+pub(crate) fn listed_counties(
+    alloc: Global,
+    found: BTreeSet<(Label, CountyCode)>,
+) -> Result<Vec<(Label, CountyCode)>, AllocError>
+    ensures items { IfOk result (λ v. v.items ≡ found.keys) }
+    ensures ordered { IsStrictlySortedBy by_label found.keys }
+{
+    found.into_iter().collect(alloc)
+}

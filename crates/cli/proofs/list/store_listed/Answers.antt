@@ -1,0 +1,42 @@
+use Rattle.std.proofs.Common.{◌++◌, List, ℕ, Option, None, ap, subst, subst₂, sym, ◌∙◌}
+use Rattle.std.specs.Borrow.{Bor}
+use Rattle.std.specs.Prelude.{Err, option_map}
+use Rattle.cli_runs.specs.Storing.{named_file, store_steps}
+use Rattle.cli_runs.proofs.StoreLemmas.{stored_after, stores_on}
+use Rattle.cli.specs.Ends.{refusal_by}
+use Rattle.cli.proofs.StoringLemmas.{seen_lent, stops_with}
+use Rattle.cli.proofs.list.store_listed.Goals as goal
+
+pub returns : goal.returns
+returns g c =
+    let before = g.H.Shelf.history c.args.shelf.now in
+    let between = g.H.Shelf.history c.store_named.new.shelf in
+    let after = g.H.Shelf.history c.store_named-2.new.shelf in
+    let words = c.args.words in
+    let listed = c.args.listed.now in
+    let first = c.in_ok-store_named.ensures in
+    let last = c.store_named-2.ensures in
+    let out = option_map (λ w. w.out) words.stored in
+    let grouping = sym (seen_lent (λ t. t.items) c.as_ref.result) ∙ ap (option_map (λ t. t.items)) c.as_ref.ensures.value in
+    let table = sym (seen_lent (λ t. t.items) c.as_ref-2.result) ∙ ap (option_map (λ t. t.items)) c.as_ref-2.ensures.value in
+    let steps = subst₂ (λ (name : Option (Bor (List ℕ))) (o : Option (List ℕ)). store_steps (named_file name o) before between first.0 None) c.out_in-out.ensures grouping first.2 in
+    let end = subst (λ (o : Option (List ℕ)). store_steps (named_file words.groupings o) between after last.0 (refusal_by c.store_named-2.result)) table last.2 in (
+      first.0 ++ last.0,
+      stored_after (g.H.Shelf.contents c.args.shelf.now) (g.H.Shelf.contents c.store_named.new.shelf) (g.H.Shelf.contents c.store_named-2.new.shelf) (g.H.Shelf.stored c.args.shelf.now) (g.H.Shelf.stored c.store_named.new.shelf) (g.H.Shelf.stored c.store_named-2.new.shelf) first.0 last.0 first.1 last.1,
+      stores_on (named_file out (option_map (λ t. t.items) listed.grouping)) (named_file words.groupings (option_map (λ t. t.items) listed.table)) before between after first.0 last.0 (refusal_by c.store_named-2.result) steps end,
+    )
+
+pub returns-in_err-store_named : goal.returns-in_err-store_named
+returns-in_err-store_named g c =
+    let before = g.H.Shelf.history c.args.shelf.now in
+    let after = g.H.Shelf.history c.store_named.new.shelf in
+    let words = c.args.words in
+    let listed = c.args.listed.now in
+    let first = c.in_err-store_named.ensures in
+    let out = option_map (λ w. w.out) words.stored in
+    let grouping = sym (seen_lent (λ t. t.items) c.as_ref.result) ∙ ap (option_map (λ t. t.items)) c.as_ref.ensures.value in
+    let steps = subst₂ (λ (name : Option (Bor (List ℕ))) (o : Option (List ℕ)). store_steps (named_file name o) before after first.0 (refusal_by (Err c.in_err-store_named.field-0.0))) c.out_in-out.ensures grouping first.2 in (
+      first.0,
+      first.1,
+      stops_with (named_file out (option_map (λ t. t.items) listed.grouping)) (named_file words.groupings (option_map (λ t. t.items) listed.table)) before after first.0 c.in_err-store_named.field-0.0 c.from_residual.result c.from_residual.ensures.1 steps,
+    )

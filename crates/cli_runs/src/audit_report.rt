@@ -1,0 +1,81 @@
+//! What `audit` says of the assignments of a plan.
+
+ghost use Rattle.std.specs.Prelude.{◌≤◌, ◌<◌, All, IfOk, length, map, option_map};
+ghost use Rattle.std.specs.List.Sorted.{IsStrictlyIncreasing};
+ghost use Rattle.cli_runs.specs.JudgeCourse.{IsAudited, IsTableIfAsked};
+ghost use Rattle.cli_runs.specs.Texts.{audited_of};
+
+use baf_auditor::{Assignment, Findings, audit, districts};
+use cli_answers::RunAnswer;
+use county_codes::Grouping;
+use county_problem::Problem;
+use district_table::districts_table;
+use grouping_report::findings_text;
+use pl94_counties::Block;
+use std::alloc::{AllocError, Global};
+
+/// What `audit` says, and the text of its table.
+#[derive(Drop)]
+pub struct Audited {
+    /// The findings, with status 0 if there are none, else 1.
+    pub answer: RunAnswer,
+    /// The table of the districts; none if it isn't asked for.
+    pub districts: Option<Vec<u8>>,
+    /// The findings, for whoever explains them to a person; no clause speaks of them.
+    pub findings: Findings,
+}
+
+/// Returns the table of the districts of a plan, if it is asked for.
+fn table_if_asked(
+    alloc: Global,
+    problem: &Problem,
+    grouping: &Grouping,
+    blocks: &[Block],
+    lines: &[Assignment],
+    asked: bool,
+) -> Result<Option<Vec<u8>>, AllocError>
+    requires fits { All (λ block. block.code < 1000000000000000) blocks.now }
+    requires ascending { IsStrictlyIncreasing (map (λ block. block.code) blocks.now) }
+    requires few { length lines.now ≤ 4000000 }
+    ensures { IfOk result (λ table. IsTableIfAsked asked problem.now grouping.now.groups.items blocks.now lines.now (option_map (λ t. t.items) table)) }
+{
+    if !asked {
+        return Ok(None);
+    }
+    let list = districts(alloc, problem, grouping, blocks, lines)?;
+    let table = districts_table(alloc, problem, &list)?;
+    Ok(Some(table))
+}
+
+/// Returns what `audit` says of the assignments of a plan: all findings of `blocks` and `lines` against `grouping`. The
+/// table of the districts is beside them if it is asked for.
+///
+/// The blocks ascend by code, as `read_blocks` gives them. There are at most 4,000,000 lines, as `read_assignments` gives
+/// them.
+///
+/// # Errors
+///
+/// `AllocError` if a growth was refused.
+pub fn audit_and_say(
+    alloc: Global,
+    problem: &Problem,
+    grouping: &Grouping,
+    blocks: &[Block],
+    lines: &[Assignment],
+    asked: bool,
+) -> Result<Audited, AllocError>
+    requires fits { All (λ block. block.code < 1000000000000000) blocks.now }
+    requires ascending { IsStrictlyIncreasing (map (λ block. block.code) blocks.now) }
+    requires few { length lines.now ≤ 4000000 }
+    ensures { IfOk result (λ s. IsAudited asked problem.now grouping.now.groups.items blocks.now lines.now (audited_of s)) }
+{
+    let findings = audit(alloc, problem, grouping, blocks, lines)?;
+    let table = table_if_asked(alloc, problem, grouping, blocks, lines, asked)?;
+    let text = findings_text(alloc, &findings)?;
+    let status = if findings.list.is_empty() { 0 } else { 1 };
+    Ok(Audited {
+        answer: RunAnswer { text, status },
+        districts: table,
+        findings,
+    })
+}
