@@ -72,7 +72,7 @@ import program_runs  # noqa: E402
 from formats import TEXTS, assignments_in, districts_table_of, groupings_in  # noqa: E402
 from formats import groupings_table_of, is_certificate, is_grouping, is_of_format  # noqa: E402
 from formats import is_record, is_told, read_lines, table_of  # noqa: E402
-from formats import wrong_listing, wrong_record  # noqa: E402
+from formats import sum_of, wrong_listing, wrong_record  # noqa: E402
 from sweeps import named_by  # noqa: E402
 
 Words, Files = List[str], Dict[str, bytes]
@@ -561,11 +561,26 @@ def pipes_of(run: Given) -> List[str]:
     return sorted(it for it in names if named.count(os.path.normpath(it)) == 1)
 
 
-def wrong_pipes(plain: Made, piped: Made) -> Optional[str]:
-    """Returns what is wrong with a run whose files are pipes, or None."""
-    if (plain.text, plain.status, plain.files) == (piped.text, piped.status, piped.files):
-        return None
-    return f"pipes: {answer_told(piped)}; of plain files {answer_told(plain)}"
+def wrong_pipes(run: Given, plain: Made, piped: Made) -> Optional[str]:
+    """Returns what is wrong with a run whose files are pipes, or None.
+
+    A pipe gives fewer bytes at once than a file. So a run that leaves a file before its end may
+    have read more or less of it, and its record may say so: each record is that of its own run.
+    """
+    if (plain.text, plain.status) != (piped.text, piped.status):
+        return f"pipes: {answer_told(piped)}; of plain files {answer_told(plain)}"
+    record = outputs_of(run.words).get("record")
+    for name in sorted({*plain.files, *piped.files}):
+        held, of_pipes = plain.files.get(name), piped.files.get(name)
+        if held is None or of_pipes is None or name != record and held != of_pipes:
+            return f"pipes: {name} is {stored_told(of_pipes)}; of plain files {stored_told(held)}"
+    why = wrong_outputs(run, piped)
+    return f"pipes: {why}" if why is not None else None
+
+
+def stored_told(held: Optional[bytes]) -> str:
+    """Returns the beginning of a stored file, or that there is none, for a person."""
+    return f"`{shown(held)}`" if held is not None else "not there"
 
 
 def answer_told(made: Made) -> str:
@@ -1031,12 +1046,35 @@ def tests_of_pipes() -> Tests:
     yield "files that are read once", pipes_of(Given(words, files, b"", False)), ["h"]
     yield "none of a case text", pipes_of(Given(words, files)), []
     yield "none of an audit", pipes_of(audit), []
+    run = Given(words, files, b"", False)
     plain, other = Made(b"a\n", 0, b"", {"t": b""}), Made(b"b\n", 1, b"", {"t": b""})
-    yield "the same of pipes", wrong_pipes(plain, Made(b"a\n", 0, b"x", {"t": b""})), None
+    yield "the same of pipes", wrong_pipes(run, plain, Made(b"a\n", 0, b"x", {"t": b""})), None
     wanted = "pipes: status 1, `b\\n`; of plain files status 0, `a\\n`"
-    yield "another answer of pipes", wrong_pipes(plain, other), wanted
-    found = wrong_pipes(plain, Made(b"a\n", 0, b"", {}))
-    yield "other files of pipes", found is not None, True
+    yield "another answer of pipes", wrong_pipes(run, plain, other), wanted
+    found = wrong_pipes(run, plain, Made(b"a\n", 0, b"", {}))
+    yield "a file less of pipes", found, "pipes: t is not there; of plain files ``"
+    found = wrong_pipes(run, plain, Made(b"a\n", 0, b"", {"t": b"u"}))
+    yield "another file of pipes", found, "pipes: t is `u`; of plain files ``"
+    yield from tests_of_records_of_pipes()
+
+
+def tests_of_records_of_pipes() -> Tests:
+    """Yields tests of runs whose records differ in how much they read of a file that was left."""
+    run = Given(["check", "--certificate", "c", "--record", "r"], {"c": b"a\nb\n"}, b"", False)
+    text = b"no Text BadWord line 1\n"
+
+    def made(read: bytes) -> Made:
+        """Returns what a run made that read so much of the certificate."""
+        lines = [b"countygroups record 1", b"version 1"]
+        lines += [b"word " + os.fsencode(it) for it in run.words]
+        lines += [b"read certificate %s c left" % sum_of(read), b"status 1"]
+        record = b"\n".join([*lines, b"answer " + text])
+        return Made(text, 1, b"", {"r": record})
+
+    found = wrong_pipes(run, made(b"a\nb\n"), made(b"a\n"))
+    yield "less of a file through a pipe", found, None
+    found = wrong_pipes(run, made(b"a\nb\n"), made(b"x\n"))
+    yield "other bytes of a pipe", found is not None and found.startswith("pipes: record: "), True
 
 
 def tests_of_places() -> Tests:
@@ -1592,7 +1630,7 @@ class Tally:
         may_be_pipes = chance_of(asked, turn, " pipes").random() < 0.3 and not faults
         pipes = pipes_of(run) if may_be_pipes else []
         if pipes:
-            why = wrong_pipes(runs[0], made_by(programs[0], run, room, asked, pipes))
+            why = wrong_pipes(run, runs[0], made_by(programs[0], run, room, asked, pipes))
             if why is not None:
                 faults, wanted = [why], (runs[0].text, runs[0].status)
         for made in runs:
