@@ -70,7 +70,9 @@ processors=$(nproc)
 jobs=$((processors < 4 ? processors : 4))
 room=$(mktemp -d)
 found=$(mktemp -d)
+changing=
 finish() {
+    [ -z "$changing" ] || kill "$changing" 2>/dev/null || true
     rm -rf "$room"
     rmdir "$found" 2>/dev/null || echo "test.sh: what was found is kept in $found" >&2
 }
@@ -120,9 +122,8 @@ test_desk() { # PROGRAM [WASM]
 }
 
 # Tests programs that are built.
-test_programs() { # FUZZER_SECONDS SEED PROGRAM ..
-    local seconds=$1 seed=$2 words=() one
-    shift 2
+test_programs() { # PROGRAM ..
+    local words=() one
     for one in "$@"; do
         words+=(--program "$one")
     done
@@ -141,8 +142,22 @@ test_programs() { # FUZZER_SECONDS SEED PROGRAM ..
     heading "the packages for Python and R"
     COUNTYGROUPS=$(realpath "$1") python/test.sh
     COUNTYGROUPS=$(realpath "$1") r/test.sh
-    heading "cases changed at random, $seconds seconds with seed $seed"
-    python3 cases/fuzz.py --seconds "$seconds" --seed "$seed" --program "$1" --keep "$found"
+}
+
+# Changes cases at random for a time, beside the other tests. `end_of_changes` waits for the end.
+start_changes() { # SECONDS SEED PROGRAM
+    heading "cases changed at random, $1 seconds with seed $2" >"$room/changes"
+    python3 cases/fuzz.py --seconds "$1" --seed "$2" --program "$3" --keep "$found" \
+        >>"$room/changes" 2>&1 &
+    changing=$!
+}
+
+end_of_changes() {
+    local status=0
+    wait "$changing" || status=$?
+    changing=
+    cat "$room/changes"
+    return "$status"
 }
 
 # Copies each program that was proved and built, and what it wrote, to its crate here.
@@ -190,7 +205,8 @@ prove_and_test() {
     if [ -x "$built.by-rattle" ]; then
         programs+=("$built.by-rattle")
     fi
-    test_programs "$seconds" "$seed" "${programs[@]}"
+    start_changes "$seconds" "$seed" "$built"
+    test_programs "${programs[@]}"
     test_web --native "$built" --wasm "$wasm" --refusing "$refusing" "${all[@]}"
     test_desk "$built" "$wasm"
     if [ "$is_all" = yes ]; then
@@ -200,6 +216,7 @@ prove_and_test() {
     else
         sweep --sample "$RANDOM"
     fi
+    end_of_changes
 }
 
 if [ "$is_proved" = yes ]; then
@@ -209,7 +226,8 @@ else
     [ -x "$program" ] || refuse "there is no program $program; --program names another build"
     compare_dist
     test_scripts
-    test_programs 60 1 "$program"
+    start_changes 60 1 "$program"
+    test_programs "$program"
     if [ "$is_given" = no ]; then
         test_web --native "$program"
         test_desk "$program"
@@ -217,5 +235,6 @@ else
         test_web --native "$program" --wasm "$wasm" ${refusing:+--refusing "$refusing"}
         test_desk "$program" "$wasm"
     fi
+    end_of_changes
 fi
 heading "all passed"
