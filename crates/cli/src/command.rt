@@ -7,7 +7,7 @@ ghost use Rattle.cli_answers.specs.Answer.{Answered};
 ghost use Rattle.cli_answers.specs.Answers.{answer_of, said_by};
 ghost use Rattle.cli_runs.specs.Storing.{HasStored};
 ghost use Rattle.cli_runs.specs.Run.{CommandRun, IsEndAnswer, IsRunAnswer, HasState};
-ghost use Rattle.cli_runs.specs.ToldFiles.{RunTells};
+ghost use Rattle.cli_runs.specs.Headline.{RunTells};
 ghost use Rattle.cli.specs.Delivery.{Delivers, texts};
 ghost use Rattle.cli.specs.Ends.{said_of};
 

@@ -6,7 +6,7 @@ ghost use Rattle.cli_shelves.specs.declared.whole_source.WholeFault.{WholeFault}
 ghost use Rattle.cli_answers.specs.Answer.{Answered};
 ghost use Rattle.cli_runs.specs.Storing.{HasStored};
 ghost use Rattle.cli_runs.specs.Run.{IsRunAnswer};
-ghost use Rattle.cli_runs.specs.ToldFiles.{RunTells};
+ghost use Rattle.cli_runs.specs.Headline.{RunTells};
 ghost use Rattle.cli.specs.Delivery.{Delivers, texts};
 ghost use Rattle.cli.specs.CaseRun.{IsWholeSource, IsReadAnswer, DeliversCase};
 

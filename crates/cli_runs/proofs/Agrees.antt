@@ -1,4 +1,4 @@
--- Runs of `solve` and of `check` agree.
+-- What a run of `solve` said, and that every check of the certificate that it stored says the same.
 use Rattle.std.proofs.Common.{◌≡◌, ◌≢◌, ◌≤◌, ℕ, List, ◌∷◌, ◌++◌, Option, Some, None, inl, inr, refl, sym, ap, ap₂, subst, ◌∙◌, append_assoc, arith}
 use Rattle.std.specs.Prelude.{Ok}
 use Rattle.std.specs.Borrow.{Bor}
@@ -7,24 +7,22 @@ use Rattle.grouping_laws.specs.Grouping.{Grouping}
 use Rattle.certificate_data.specs.TreeValue.{certificate_of}
 use Rattle.branch_bound.specs.declared.answer.Answer as desk
 use Rattle.branch_bound.specs.declared.answer.Answer.TheVariants.{Best, Impossible, Open}
-use Rattle.branch_bound.specs.Answers.{IsSolveAnswer, SolveIsRight, SaysWhether}
+use Rattle.branch_bound.specs.Answers.{IsSolveAnswer}
 use Rattle.certificate_checker.proofs.Agrees as texts
 use Rattle.cli_words.specs.declared.words.SolveWords.{SolveWords}
 use Rattle.cli_words.specs.declared.words.CommandWords.TheVariants.{Solve}
 use Rattle.cli_shelves.specs.Files.{NamedFile, Files}
 use Rattle.cli_shelves.specs.History.{History}
 use Rattle.cli_answers.specs.Answer.{Answered, memory_answer}
-use Rattle.cli_runs.specs.TableCourse.{Tabled, Reported, table_of}
-use Rattle.cli_runs.specs.FilesProblem.{IsTableOfFiles}
+use Rattle.cli_runs.specs.TableCourse.{Tabled, Reported}
 use Rattle.cli_runs.specs.SolveCourse.{Solved, SaysSolved, IsSolved, solve_course, files_to_store}
-use Rattle.cli_runs.specs.JudgeWithCertificate.{best_answer}
-use Rattle.cli_runs.specs.Storing.{IsStoredAs, named_file}
+use Rattle.cli_runs.specs.Storing.{named_file}
 use Rattle.cli_runs.specs.Run.{CommandRun}
-use Rattle.cli_runs.specs.Headline.{ChecksAs, IsStoredProof, ShowsBest, RunShowsImpossible, RunsAgree}
+use Rattle.cli_runs.specs.Agreement.{ChecksAs, IsStoredFirst}
 use Rattle.cli_runs.proofs.Refusing.{Refuses, bind_refuses, tabled_refuses, value_refuses}
-use Rattle.cli_runs.proofs.Ending.{same_status, not_refused, has_ended}
-use Rattle.cli_runs.proofs.FilesRead.{ReadsTabled, tabled_reads, problem_of_files, table_stored, reads_again}
-use Rattle.cli_runs.proofs.Checking.{IsAgreed, ChecksText, impossible_answer, checked_best, checked_impossible, check_agrees}
+use Rattle.cli_runs.proofs.Ending.{same_status, not_out_of_memory, has_ended}
+use Rattle.cli_runs.proofs.FilesRead.{ReadsTabled, tabled_reads, reads_again}
+use Rattle.cli_runs.proofs.Checking.{IsAgreed, ChecksText, checked_best, checked_impossible, check_agrees}
 
 -- what a run said, after it stored all its files
 pub record HasSaid (files : Files) (words : SolveWords) (stored : List NamedFile) (a : Answered) : Type 0 where
@@ -44,10 +42,10 @@ module _ (files : Files) (words : SolveWords) (before after : History) (stored :
   said_of s between (inl stop) all said = absurd stop
   said_of s between (inr g) all said = record { t = g.value; reads = tabled_reads files words.problem words.table before g.between g.value g.given; s = s; solved = g.goes_on.1; all = all; said = said }
 
-  pub has_said : CommandRun (Some files) (Solve words) before after stored a → a.status ≤ 1 → HasSaid files words stored a
-  has_said (inl none) low = absurd (not_refused a low (inr (inl (same_status a memory_answer none.0))))
+  pub has_said : CommandRun (Some files) (Solve words) before after stored a → a.status ≤ 3 → HasSaid files words stored a
+  has_said (inl none) low = absurd (not_out_of_memory a low none.0)
   has_said (inr run) low =
-      let end = has_ended (solve_course (Some files) words) (files_to_store words) (λ s. s.answer) before after stored a solve_refuses low run in
+      let end = has_ended (solve_course (Some files) words) (files_to_store words) (λ s. s.answer) before after stored a low solve_refuses run in
       said_of end.s end.between end.given end.all end.said
 
 -- the certificate is the first file that is stored
@@ -65,67 +63,35 @@ module _ (files : Files) (words : SolveWords) (stored : List NamedFile) (a : Ans
       check_agrees others check h.t.problem text a (reads_again files others words.problem check.check.problem h.t.problem same h.reads.reads)
       certificate (checked check.check.budget) start end none b run
 
-  stored_proof : h.s.certificate ≡ Some text → IsStoredProof files words stored a
+  stored_proof : h.s.certificate ≡ Some text → IsStoredFirst words.certificate (λ text. ChecksAs files words.problem text a) stored
   stored_proof spelled name named =
       (text, named_file words.out h.s.grouping ++ named_file words.table h.s.table, h.all ∙ stored_first words h.s name text named spelled, checks_as)
 
 module _ (files : Files) (words : SolveWords) (stored : List NamedFile) (a : Answered) (h : HasSaid files words stored a) where
-  -- the table is the last file that is stored
-  table_last : (g : Grouping) → h.s.table ≡ table_of h.t g → IsStoredAs words.table (IsTableOfFiles files words.problem h.t.problem g) stored
-  table_last g is =
-      let certificate = named_file words.certificate h.s.certificate in
-      let out = named_file words.out h.s.grouping in
-      table_stored files words.problem words.table h.t g h.s.table (certificate ++ out) stored h.reads is (h.all ∙ sym (append_assoc certificate out (named_file words.table h.s.table)))
-
-  answer_is : (s : Solved) → h.s ≡ s → a ≡ s.answer
+  pub answer_is : (s : Solved) → h.s ≡ s → a ≡ s.answer
   answer_is s e = h.said ∙ ap (λ (x : Solved). x.answer) e
 
   -- the answer to what was found has another status
   pub other_status : (s : Solved) (n m : ℕ) → h.s ≡ s → a.status ≡ n → s.answer.status ≡ m → n ≢ m → ⊥
   other_status s n m e is other apart = apart (sym is ∙ same_status a s.answer (answer_is s e) ∙ other)
 
-  shows_best : (found : desk.Answer) → IsSolveAnswer (problem_of h.t.problem) words.steps found → SolveIsRight (problem_of h.t.problem) found → SaysSolved h.t found h.s → a.status ≡ 0 → ShowsBest files words stored a
-  shows_best (Best g c) is best said zero =
-      let report : a ≡ best_answer h.t.problem g.groups.items = answer_is _ said.2 in
-      record {
-        v = h.t.problem;
-        problem = problem_of_files files words.problem h.t.problem h.reads.reads;
-        grouping = g;
-        best = best;
-        report = report;
-        proof = stored_proof files words stored a h said.0
-            (λ budget t r same checked. subst (λ (x : Answered). IsAgreed x r.answer) (sym report) (checked_best h.t.problem said.0 budget t same r checked g.groups.items
-            (λ verdict. texts.agrees.best (problem_of h.t.problem) said.0 (certificate_of c) g.groups.items budget verdict said.1 is.1.proves is.1.target_is)))
-            (ap (λ (x : Solved). x.certificate) said.2);
-        table = table_last g.groups.items (ap (λ (x : Solved). x.table) said.2);
-      }
-  shows_best (Impossible c) is best said zero = absurd (other_status _ 0 1 said.2 zero refl (omega arith))
-  shows_best (Open None steps) is best said zero = absurd (other_status _ 0 3 said zero refl (omega arith))
-  shows_best (Open (Some g) steps) is best said zero = absurd (other_status _ 0 3 said zero refl (omega arith))
+  proves : (found : desk.Answer) → IsSolveAnswer (problem_of h.t.problem) words.steps found → SaysSolved h.t found h.s → a.status ≤ 1
+      → IsStoredFirst words.certificate (λ text. ChecksAs files words.problem text a) stored
+  proves (Best g c) is said low =
+      stored_proof files words stored a h said.0
+      (λ budget t r same checked. subst (λ (x : Answered). IsAgreed x r.answer) (sym (answer_is _ said.2)) (checked_best h.t.problem said.0 budget t same r checked g.groups.items
+      (λ verdict. texts.agrees.best (problem_of h.t.problem) said.0 (certificate_of c) g.groups.items budget verdict said.1 is.1.proves is.1.target_is)))
+      (ap (λ (x : Solved). x.certificate) said.2)
+  proves (Impossible c) is said low =
+      stored_proof files words stored a h said.0
+      (λ budget t r same checked. subst (λ (x : Answered). IsAgreed x r.answer) (sym (answer_is _ said.2)) (checked_impossible h.t.problem said.0 budget t same r checked
+      (λ verdict. texts.agrees.impossible (problem_of h.t.problem) said.0 (certificate_of c) budget verdict said.1 is.1.proves is.1.target_is)))
+      (ap (λ (x : Solved). x.certificate) said.2)
+  proves (Open None steps) is said low = let three : a.status ≡ 3 = same_status a _ (answer_is _ said) in absurd (omega arith)
+  proves (Open (Some g) steps) is said low = let three : a.status ≡ 3 = same_status a _ (answer_is _ said) in absurd (omega arith)
 
-  shows_impossible : (found : desk.Answer) → IsSolveAnswer (problem_of h.t.problem) words.steps found → SaysWhether (problem_of h.t.problem) words.steps found → SaysSolved h.t found h.s → a.status ≡ 1 → RunShowsImpossible files words stored a
-  shows_impossible (Best g c) is whether said one = absurd (other_status _ 1 0 said.2 one refl (omega arith))
-  shows_impossible (Impossible c) is whether said one =
-      let report : a ≡ impossible_answer h.t.problem = answer_is _ said.2 in
-      record {
-        v = h.t.problem;
-        problem = problem_of_files files words.problem h.t.problem h.reads.reads;
-        impossible = whether;
-        report = report;
-        proof = stored_proof files words stored a h said.0
-            (λ budget t r same checked. subst (λ (x : Answered). IsAgreed x r.answer) (sym report) (checked_impossible h.t.problem said.0 budget t same r checked
-            (λ verdict. texts.agrees.impossible (problem_of h.t.problem) said.0 (certificate_of c) budget verdict said.1 is.1.proves is.1.target_is)))
-            (ap (λ (x : Solved). x.certificate) said.2);
-      }
-  shows_impossible (Open None steps) is whether said one = absurd (other_status _ 1 3 said one refl (omega arith))
-  shows_impossible (Open (Some g) steps) is whether said one = absurd (other_status _ 1 3 said one refl (omega arith))
-
-pub agrees : RunsAgree
-agrees = record {
-  best = λ files words before after stored a run zero.
-      let h = has_said files words before after stored a run (omega (arith, zero)) in
-      shows_best files words stored a h h.solved.found h.solved.is h.solved.best h.solved.said zero;
-  impossible = λ files words before after stored a run one.
-      let h = has_said files words before after stored a run (omega (arith, one)) in
-      shows_impossible files words stored a h h.solved.found h.solved.is h.solved.whether h.solved.said one;
-}
+pub checked : (files : Files) (words : SolveWords) (before after : History) (stored : List NamedFile) (a : Answered) → CommandRun (Some files) (Solve words) before after stored a → a.status ≤ 1
+    → IsStoredFirst words.certificate (λ text. ChecksAs files words.problem text a) stored
+checked files words before after stored a run low =
+    let h = has_said files words before after stored a run (omega arith) in
+    proves files words stored a h h.solved.found h.solved.is h.solved.said low

@@ -22,7 +22,7 @@ use Rattle.cli_runs.specs.TableCourse.{Tabled, Reported, tabled_problem_in}
 use Rattle.cli_runs.specs.JudgeWithCertificate.{best_answer}
 use Rattle.cli_runs.specs.CheckCourse.{IsChecked, check_course, CheckEnds, verdict_said}
 use Rattle.cli_runs.specs.Storing.{named_file, store_steps, said_after}
-use Rattle.cli_runs.specs.Headline.{IsCutOff, IsUnnamed}
+use Rattle.cli_runs.specs.Agreement.{IsCutOff, IsUnnamed}
 use Rattle.field_lines.specs.Source.{Given}
 use Rattle.field_lines.specs.HeldBytes.{Foresees}
 use Rattle.cli_runs.specs.Reading.{given_of}

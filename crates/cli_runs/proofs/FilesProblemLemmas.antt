@@ -3,6 +3,7 @@ use Rattle.std.proofs.Common.{ℕ, List, Option, Some, None}
 use Rattle.std.specs.Prelude.{Ok}
 use Rattle.std.specs.Borrow.{Bor}
 use Rattle.grouping_laws.specs.Grouping as groups
+use Rattle.county_codes.specs.declared.county.County.{County}
 use Rattle.county_problem.specs.ProblemValue.{ProblemValue}
 use Rattle.pl94_counties.specs.declared.blocks.Block.{Block}
 use Rattle.pl94_counties.proofs.ListedLemmas.{are_blocks}
@@ -11,14 +12,20 @@ use Rattle.cli_words.specs.declared.words.CommonWords.{CommonWords}
 use Rattle.cli_words.specs.declared.words.ProblemWords.{ProblemWords}
 use Rattle.cli_shelves.specs.Files.{Files}
 use Rattle.cli_shelves.specs.History.{History}
-use Rattle.cli_runs.specs.ProblemCourse.{problem_course, grouping_of}
+use Rattle.cli_runs.specs.ProblemCourse.{counties_course, problem_course, grouping_of}
 use Rattle.cli_runs.specs.PlanCourse.{blocks_of, plan_assignments}
 use Rattle.cli_runs.specs.ListCourse.{which_of}
-use Rattle.cli_runs.specs.FilesProblem.{AreBlocksOfFiles, IsProblemOfFiles, IsGroupingOfFile, IsGroupingIfNamed, AreAssignmentsOfFile}
+use Rattle.cli_runs.specs.FilesProblem.{AreCountiesOfFiles, AreBlocksOfFiles, IsProblemOfFiles, IsGroupingOfFile, IsGroupingIfNamed, AreAssignmentsOfFile}
 use Rattle.cli_runs.proofs.Texts.{given_of_both_told}
-use Rattle.cli_runs.proofs.FilesRead.{went, problem_reads, problem_of_files}
+use Rattle.cli_runs.proofs.FilesRead.{went, problem_reads, counties_of_files, problem_of_files}
 
 module _ (files : Files) where
+  pub counties_told : (words : CommonWords) (before after : History) (counties : List County) → counties_course (Some files) words before after (Ok counties) → AreCountiesOfFiles files words counties
+  counties_told words before after counties h =
+      let t = went _ _ before after counties h in
+      let begun = given_of_both_told files words.geo.now words.segment.now before t.between t.value t.given in
+      counties_of_files files words begun.0.text begun.1.text counties begun.0.is begun.1.is (t.goes_on.1 begun.0.text begun.1.text begun.0.sees begun.1.sees)
+
   pub blocks_told : (words : CommonWords) (before after : History) (blocks : List Block) → blocks_of (Some files) words before after (Ok blocks) → AreBlocksOfFiles files words blocks
   blocks_told words before after blocks h =
       let t = went _ _ before after blocks h in

@@ -27,9 +27,9 @@ use Rattle.cli_runs.specs.Course.{Course, ◌>>=◌, GoesOn}
 use Rattle.cli_runs.specs.ProblemCourse.{IsBuilt, links_of, withdrawn_of, problem_over, problem_course}
 use Rattle.cli_runs.specs.TableCourse.{Tabled, named_counties_of, tabled_problem_in, table_of}
 use Rattle.cli_runs.specs.ListCourse.{table_of_all}
-use Rattle.cli_runs.specs.FilesProblem.{IsReadAsIfNamed, AreNamedByFiles, IsProblemOfFiles, IsTableOfFiles, IsLongTableOfFiles}
+use Rattle.cli_runs.specs.FilesProblem.{IsReadAsIfNamed, AreCountiesOfFiles, AreNamedByFiles, IsProblemOfFiles, IsTableOfFiles, IsLongTableOfFiles}
 use Rattle.cli_runs.specs.Storing.{IsStoredAs, named_file}
-use Rattle.cli_runs.specs.Headline.{HoldsSameIfNamed, HasSameProblem}
+use Rattle.cli_runs.specs.Agreement.{HoldsSameIfNamed, HasSameProblem}
 use Rattle.cli_runs.proofs.Texts.{given_of_both_told}
 use Rattle.cli_runs.proofs.NamedLists.{counties_named}
 
@@ -70,13 +70,14 @@ stored_last name P bytes text earlier stored holds is all =
     let whole : stored ≡ earlier ++ file ∷ [] = all ∙ ap (λ (x : Option (List ℕ)). earlier ++ named_file (Some name) x) is in
     (bytes, holds, subst (λ (list : List NamedFile). Contains list file) (sym whole) (Contains-append_right earlier (file ∷ []) file (contains_head file [])))
 
--- the same of the first of them
-pub stored_first_of : (name : Bor (List ℕ)) (P : List ℕ → Type 0) (bytes : List ℕ) (text : Option (List ℕ)) (later stored : List NamedFile)
-    → P bytes → text ≡ Some bytes → stored ≡ named_file (Some name) text ++ later → IsStoredAs (Some name) P stored
-stored_first_of name P bytes text later stored holds is all =
+-- the same between others, if its file is named
+pub stored_between : (name : Option (Bor (List ℕ))) (P : List ℕ → Type 0) (bytes : List ℕ) (text : Option (List ℕ)) (earlier later stored : List NamedFile)
+    → P bytes → text ≡ Some bytes → stored ≡ earlier ++ (named_file name text ++ later) → IsStoredAs name P stored
+stored_between None P bytes text earlier later stored holds is all = tt
+stored_between (Some name) P bytes text earlier later stored holds is all =
     let file : NamedFile = record { name = name.now; bytes = bytes } in
-    let whole : stored ≡ file ∷ later = all ∙ ap (λ (x : Option (List ℕ)). named_file (Some name) x ++ later) is in
-    (bytes, holds, subst (λ (list : List NamedFile). Contains list file) (sym whole) (contains_head file later))
+    let whole : stored ≡ earlier ++ (file ∷ later) = all ∙ ap (λ (x : Option (List ℕ)). earlier ++ (named_file (Some name) x ++ later)) is in
+    (bytes, holds, subst (λ (list : List NamedFile). Contains list file) (sym whole) (Contains-append_right earlier (file ∷ later) file (contains_head file later)))
 
 module _ (files : Files) where
   links_told : (name : Option (Bor (List ℕ))) (before after : History) (links : List Link) → links_of (Some files) name before after (Ok links) → IsReadAsIfNamed link_list files name links
@@ -172,18 +173,23 @@ module _ (files : Files) where
         names = (n.value, refl, names);
       })
 
+  -- the counties of the files
+  pub counties_of_files : (words : CommonWords) (geo segment : List ℕ) (counties : List County) → files words.geo.now ≡ Some geo → files words.segment.now ≡ Some segment
+      → county_list geo segment words.state ≡ Ok counties → AreCountiesOfFiles files words counties
+  counties_of_files words geo segment counties geo_is segment_is listed = record {
+    geo = geo;
+    segment = segment;
+    geo_is = geo_is;
+    segment_is = segment_is;
+    faultless = listed;
+    are = are_counties geo segment words.state counties listed;
+  }
+
   -- the problem of the files
   pub problem_of_files : (words : ProblemWords) (v : ProblemValue) → ReadsProblem files words v → IsProblemOfFiles files words v
   problem_of_files words v h = record {
     counties = h.counties;
-    counties_are = record {
-      geo = h.geo;
-      segment = h.segment;
-      geo_is = h.geo_is;
-      segment_is = h.segment_is;
-      faultless = h.counties_are;
-      are = are_counties h.geo h.segment words.common.state h.counties h.counties_are;
-    };
+    counties_are = counties_of_files words.common h.geo h.segment h.counties h.geo_is h.segment_is h.counties_are;
     pairs = h.over.pairs;
     pairs_are = record {
       rows = h.over.named_are.0;

@@ -14,9 +14,18 @@ pub mod OfTheirLoads
 pub mod FilesProblemLemmas
 pub mod Telling
 mod Ending
+mod AnswerStatus
+mod SolveTells
+mod CheckTells
+mod JudgeTells
+mod ListTells
+mod AuditTells
+mod BoardTells
 mod Listings
-mod Lists
-mod WhichExamples
-mod Boards
+mod LaterLists
 mod Joined
+mod Agreement
+mod WhichExamples
+mod HeadlineExamples
+mod Boards
 mod Judgments

@@ -53,7 +53,7 @@ use Rattle.cli_runs.specs.Storing.{EndsStoring, named_file, store_steps}
 use Rattle.cli_runs.specs.Recording.{RecordEnds}
 use Rattle.cli_runs.specs.Run.{CommandEnds, CommandRun, IsRunAnswer, RunsAsAsked}
 use Rattle.cli_runs.specs.Loads.{AnsweredBy, RunsAreOfTheirLoads}
-use Rattle.cli_runs.specs.ToldFiles.{IsStoreTaken}
+use Rattle.cli_runs.specs.Headline.{IsStoreTaken}
 use Rattle.cli_runs.proofs.Lifting.{Extends, extends_same, extends_twice, answered_split, Lifts, lifts_load, lifts_given_of, lifts_given_of_both, lifts_call, lifts_value, lifts_bind, lifts_optional, ends_lift}
 
 -- files that are stored add events
@@ -213,7 +213,7 @@ module _ (given : Option Files) (files : Files) where
   command_run command before after stored a (inr ends) by = inr (command_ends command before after stored a ends by)
 
   -- a run with its record
-  own_run : (words : List (List ℕ)) (command : CommandWords) (name : List ℕ) (before between after : History) (own last : List NamedFile) (said a : Answered)
+  pub own_run : (words : List (List ℕ)) (command : CommandWords) (name : List ℕ) (before between after : History) (own last : List NamedFile) (said a : Answered)
       → CommandRun given command before between own said → RecordEnds words command name before between after last said a → AnsweredBy files before after
       → CommandRun (Some files) command before between own said
   own_run words command name before between after own last said a (inl none) end by = inl none

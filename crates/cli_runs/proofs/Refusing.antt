@@ -18,8 +18,6 @@ use Rattle.grouping_reader.specs.declared.fault.CodeLineFault.{CodeLineFault}
 use Rattle.certificate_lines.specs.declared.fault.TextFault.{TextFault}
 use Rattle.certificate_lines.specs.declared.fault.TextKind.{TextKind}
 use Rattle.certificate_lines.specs.declared.fault.TextKind.TheVariants as text
-use Rattle.share_board.specs.declared.fault.BoardFault.{BoardFault}
-use Rattle.share_board.specs.declared.fault.BoardFault.TheVariants as board
 use Rattle.county_problem.specs.declared.fault.ProblemFault.{ProblemFault}
 use Rattle.county_problem.specs.declared.fault.ProblemFault.TheVariants as problem
 use Rattle.county_problem.specs.ProblemValue.{codes_of}
@@ -46,10 +44,9 @@ use Rattle.cli_runs.specs.TableCourse.{untabled, tabled_by, named_counties_of, t
 use Rattle.cli_runs.proofs.Texts.{shelf_status, given_of_cuts, given_of_both_cuts}
 use Rattle.cli_runs.specs.ProblemCourse.{counties_course, pairs_of, pairs_in, links_of, links_in, withdrawn_of, withdrawn_in, adjacency_of, IsBuilt, problem_over, problem_course, grouping_in, grouping_of}
 
--- the status of a refusal: 4 for a file, a problem or a board, 5 for a shelf or for memory, and 3 for a budget that is
--- too small
+-- the status of a refusal: 4 for a file, a problem or a board, and 5 for a shelf or for memory
 abbrev pub IsRefusal : Answered → Type 0
-IsRefusal a = (a.status ≡ 4) ⊎ ((a.status ≡ 5) ⊎ (a.status ≡ 3))
+IsRefusal a = (a.status ≡ 4) ⊎ (a.status ≡ 5)
 
 file_status : (file : InputFile) (kind : Pl94Kind) (line : ℕ) → IsRefusal (file_answer file kind line)
 file_status file kinds.TooFewFields line = inl refl
@@ -63,7 +60,7 @@ file_status file kinds.NoCounties line = inl refl
 file_status file kinds.NoBlocks line = inl refl
 file_status file kinds.TooMany line = inl refl
 file_status file (kinds.Lower fault) line = inl refl
-file_status file kinds.Memory line = inr (inl refl)
+file_status file kinds.Memory line = inr refl
 
 code_line_status : (file : InputFile) (kind : CodeLineKind) (line : ℕ) → IsRefusal (code_line_answer file kind line)
 code_line_status file lines.TooFewFields line = inl refl
@@ -71,7 +68,7 @@ code_line_status file lines.BadSign line = inl refl
 code_line_status file lines.BadSeats line = inl refl
 code_line_status file lines.BadCode line = inl refl
 code_line_status file (lines.Lower fault) line = inl refl
-code_line_status file lines.Memory line = inr (inl refl)
+code_line_status file lines.Memory line = inr refl
 
 assignment_status : (kind : AssignmentKind) (line : ℕ) → IsRefusal (assignment_line_answer kind line)
 assignment_status assigned.TooFewFields line = inl refl
@@ -79,9 +76,9 @@ assignment_status assigned.BadCode line = inl refl
 assignment_status assigned.BadLabel line = inl refl
 assignment_status assigned.TooMany line = inl refl
 assignment_status (assigned.Lower fault) line = inl refl
-assignment_status assigned.Memory line = inr (inl refl)
+assignment_status assigned.Memory line = inr refl
 
-problem_status : (fault : ProblemFault) → IsRefusal (problem_answer fault)
+pub problem_status : (fault : ProblemFault) → IsRefusal (problem_answer fault)
 problem_status problem.BadWindow = inl refl
 problem_status problem.SeatsOutOfRange = inl refl
 problem_status problem.TooManyCounties = inl refl
@@ -92,7 +89,7 @@ problem_status (problem.UnknownWithdrawn code) = inl refl
 problem_status (problem.WithdrawnTwice code) = inl refl
 problem_status problem.WithdrawnSeats = inl refl
 problem_status (problem.UnknownPair a b) = inl refl
-problem_status problem.Memory = inr (inl refl)
+problem_status problem.Memory = inr refl
 
 events_line_status : (kind : TextKind) (line : ℕ) → IsRefusal (events_line_answer kind line)
 events_line_status text.BadHead line = inl refl
@@ -103,26 +100,15 @@ events_line_status text.CutShort line = inl refl
 events_line_status text.AfterEnd line = inl refl
 events_line_status text.TooDeep line = inl refl
 events_line_status text.ReadFault line = inl refl
-events_line_status text.Memory line = inr (inl refl)
+events_line_status text.Memory line = inr refl
 
 pub events_status : (fault : TextFault) → IsRefusal (events_answer fault)
 events_status fault = events_line_status fault.kind fault.line
 
-pub board_status : (fault : BoardFault) → IsRefusal (board_answer fault)
-board_status board.DepthOutOfRange = inl refl
-board_status board.WrongOrder = inl refl
-board_status (board.Target fault) = inl refl
-board_status board.LimitTooSmall = inl refl
-board_status board.LimitTooLarge = inl refl
-board_status board.TooManyPieces = inl refl
-board_status board.Budget = inr (inr refl)
-board_status board.Memory = inr (inl refl)
-
 -- an answer that is a refusal's
-as_refused : (a b : Answered) → a ≡ b → IsRefusal b → IsRefusal a
+pub as_refused : (a b : Answered) → a ≡ b → IsRefusal b → IsRefusal a
 as_refused a b e (inl s) = inl (ap (λ (x : Answered). x.status) e ∙ s)
-as_refused a b e (inr (inl s)) = inr (inl (ap (λ (x : Answered). x.status) e ∙ s))
-as_refused a b e (inr (inr s)) = inr (inr (ap (λ (x : Answered). x.status) e ∙ s))
+as_refused a b e (inr s) = inr (ap (λ (x : Answered). x.status) e ∙ s)
 
 -- the steps end in no other answers
 abbrev pub Refuses : {X : Type 0} → Course X → Type 0
@@ -133,7 +119,7 @@ bind_refuses first next f n before after a (inl stop) = f before after a stop
 bind_refuses first next f n before after a (inr on) = n on.value on.between after a on.goes_on
 
 pub load_refuses : (files : Option Files) (name : List ℕ) → Refuses (load_step files name)
-load_refuses files name before after a h = as_refused a (shelf_answer name h.0) h.3 (inr (inl (shelf_status name h.0)))
+load_refuses files name before after a h = as_refused a (shelf_answer name h.0) h.3 (inr (shelf_status name h.0))
 
 pub call_refuses : {X F : Type 0} (refuse : F → Answered) (R : Result X F → Type 0) → ((fault : F) → IsRefusal (refuse fault)) → Refuses (call_step refuse R)
 call_refuses refuse R all before after a h = as_refused a (refuse h.1.0) h.1.2 (all h.1.0)
@@ -147,13 +133,13 @@ optional_refuses value steps (Some name) all = all name.now
 
 -- a file that isn't read
 pub given_refuses : (files : Option Files) (name : List ℕ) → Refuses (given_of files name)
-given_refuses files name before after a h = inr (inl (given_of_cuts files name before after a h))
+given_refuses files name before after a h = inr (given_of_cuts files name before after a h)
 
 -- files that aren't read
 both_refuse : (files : Option Files) (first second : List ℕ) → Refuses (given_of_both files first second)
-both_refuse files first second before after a h = inr (inl (given_of_both_cuts files first second before after a h))
+both_refuse files first second before after a h = inr (given_of_both_cuts files first second before after a h)
 
-counties_refuse : (files : Option Files) (words : CommonWords) → Refuses (counties_course files words)
+pub counties_refuse : (files : Option Files) (words : CommonWords) → Refuses (counties_course files words)
 counties_refuse files words =
     bind_refuses (given_of_both files words.geo.now words.segment.now) _ (both_refuse files words.geo.now words.segment.now) (λ given.
     call_refuses pl94_answer (λ counties. OfTexts (λ g s. county_list g s words.state ≡ counties) given.0 given.1) (λ fault. file_status _ fault.kind fault.line))

@@ -17,9 +17,6 @@ pub mod Recording
 pub mod Run
 pub mod Loads
 pub mod FilesProblem
-pub mod ToldFiles
 pub mod Headline
-pub mod ListHeadline
-pub mod ShareHeadline
-pub mod JudgeHeadline
+pub mod Agreement
 pub mod Texts

@@ -4,9 +4,8 @@
 //! The definitions stand in `specs/`: `Course` (steps up to the first fault), `ProblemCourse`, `TableCourse` and
 //! `PlanCourse` (from files to values), `JudgeCourse`, `JudgeWithCertificate`, `SolveCourse`, `CheckCourse`,
 //! `ListCourse`, `BoardCourse`, `ShareCourse` and `PieceCourse` (the commands), `Storing` (files that are stored),
-//! `Run`, `Loads` (runs over files that aren't told), `Headline` (what runs of `solve` and `check` promise together),
-//! `ListHeadline`, `ShareHeadline` and `JudgeHeadline` (what runs of `list`, of `share` and of `judge` do), and
-//! `WhichGrouping` (the number of a grouping in a list).
+//! `Run`, `Loads` (runs over files that aren't told), `Headline` (what a run of each command tells of its files),
+//! `Agreement` (what later runs say of a stored certificate), and `WhichGrouping` (the number of a grouping in a list).
 #![tactic(auto)]
 
 mod audit_report;
@@ -24,6 +23,6 @@ pub use board_reports::{PieceEnd, PieceSaid, language_for, piece_and_say, share_
 pub use checker_report::{Checked, check_from_and_say};
 pub use desk_report::{Solved, solve_and_say};
 pub use judge_report::{Judged, Unshown, judge_and_say};
-pub use laws::{runs_agree, runs_are_of_their_loads, runs_judge, runs_list, runs_share};
+pub use laws::{runs_agree, runs_are_of_their_loads, runs_tell};
 pub use listing_report::{Asked, ListEnd, Listed, list_and_say};
 pub use table_runs::{Reported, Tabled};
