@@ -152,7 +152,7 @@ pub fn run_with_end<H: Shelf, W: Sink, V: Watcher>(
 ) -> (u8, End)
 
     // The answer is that of the steps of the words' command, its files are stored, and its text is written. If the
-    // status is 0 or 1, this answer tells of the machine's files what the command promises.
+    // status is 0, 1 or 3, this answer tells of the machine's files what the command promises.
     ensures run { (a : Answered) × (stored : List NamedFile)
         × HasStored (H.contents shelf.old) (H.contents shelf.new) (H.stored shelf.old) (H.stored shelf.new) stored
         × IsRunAnswer (H.contents shelf.old) (texts words.now) (H.history shelf.old) (H.history shelf.new) stored a
@@ -165,28 +165,29 @@ pub fn run_with_end<H: Shelf, W: Sink, V: Watcher>(
     (status, end)
 }
 
-/// Runs one command and answers the exit status. The words are those after the program's name. The answer
-/// is composed whole, files are stored, and then the answer is written.
+/// Runs one command and returns its exit status. `words` are those after the program's name. The answer is composed
+/// whole, files are stored, and then the answer is written to `out`.
 ///
-/// If `solve` or `check` answers with status 0, the text is the report of a grouping that is best for the problem of
-/// the files that were read. This holds of any files by which the shelf's loads and readers answered, so of the
-/// machine's files too. `specs/Told` of `cli_runs` says what the other answers tell.
+/// If `solve` or `check` ends with status 0, the grouping that it printed is lawful for the problem of the files, and no
+/// lawful grouping has greater counts. The files are any bytes under the names by which this run's readings went as
+/// they did, so those of the machine. `specs/Headline.antt` of `cli_runs` says what each command tells with each status.
 ///
-/// The status is 0 for an answer, for help and for the version, 1 where `judge` finds a fault of the grouping, `audit`
-/// finds anything, `solve`, `check` or `list` that no grouping is lawful, `check` or `list` that the text is no
-/// certificate, or `list` that the grouping of `--which` isn't one of the best, 2 for usage, 3 where the steps of `solve` or `piece` or the budget of `check`, `list` or `share` ran
-/// out, the certificate of `list` doesn't show which other groupings are best, or pieces are left to `share`, 4 where
-/// the input was refused, no grouping has the number that `list` should store or no piece that of `piece`, 5 where a
-/// file could not be had or stored or memory was refused (the line is then `memory`), and 5 where the writing failed:
-/// how much went out is then not said. `solve` stores the certificate, the grouping and the table, `judge` and `check`
-/// the table, `list` a grouping and the table of all groupings, `audit` the table of the districts, `share` a
-/// certificate, each if the words name its file. If the words name a file for
-/// the record of the run and the status is 0, 1 or 3, the record is stored last. What was stored before a fault stays
-/// stored.
+/// The status is 0 for an answer, for help and for the version. It is 1 where `judge` finds a fault of the grouping,
+/// `audit` finds anything, `solve`, `check` or `list` that no grouping is lawful, `check` or `list` that the text is no
+/// certificate, or `list` that the grouping of `--which` isn't one of the best. It is 2 for usage, and 3 where the steps
+/// of `solve` or `piece` or the budget of `check`, `list` or `share` ran out, the certificate of `list` doesn't show
+/// which other groupings are best, or pieces are left to `share`. It is 4 where the input was refused, no grouping has
+/// the number that `list` should store or no piece that of `piece`. It is 5 where a file could not be had or stored,
+/// memory was refused (the line is then `memory`), or the writing failed: how much went out is then not said.
+///
+/// `solve` stores the certificate, the grouping and the table, `judge` and `check` the table, `list` a grouping and the
+/// table of all groupings, `audit` the table of the districts, and `share` a certificate, each if the words name its
+/// file. If they name a file for the record of the run and the status is 0, 1 or 3, the record is stored last. What was
+/// stored before a fault stays stored.
 pub fn run<H: Shelf, W: Sink>(alloc: Global, words: &[&str], shelf: &mut H, out: &mut W) -> u8
 
     // The answer is that of the steps of the words' command, its files are stored, and its text is written. If the
-    // status is 0 or 1, this answer tells of the machine's files what the command promises.
+    // status is 0, 1 or 3, this answer tells of the machine's files what the command promises.
     ensures run { (a : Answered) × (stored : List NamedFile)
         × HasStored (H.contents shelf.old) (H.contents shelf.new) (H.stored shelf.old) (H.stored shelf.new) stored
         × IsRunAnswer (H.contents shelf.old) (texts words.now) (H.history shelf.old) (H.history shelf.new) stored a

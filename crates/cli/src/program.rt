@@ -31,7 +31,7 @@ pub fn run_program<H: Shelf, R: Source, W: Sink, V: Watcher>(
 ) -> (u8, End)
     requires { R.is_failed input.old ≡ false }
 
-    // With words, their command was run over the shelf's files. If the status is 0 or 1, the answer tells of the
+    // With words, their command was run over the shelf's files. If the status is 0, 1 or 3, the answer tells of the
     // machine's files what the command promises.
     ensures words { words.now ≢ [] → (a : Answered) × (stored : List NamedFile)
         × HasStored (H.contents shelf.old) (H.contents shelf.new) (H.stored shelf.old) (H.stored shelf.new) stored

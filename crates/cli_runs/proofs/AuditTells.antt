@@ -72,7 +72,7 @@ module _ (files : Files) where
   audit_tells words before after stored a (inl none) low = absurd (not_out_of_memory a low none.0)
   audit_tells words before after stored a (inr ends) low =
       let told = ended_tells words before stored a
-          (has_ended (audit_course (Some files) words) (λ s. named_file words.districts s.districts) (λ s. s.answer) before after stored a low (audit_refuses words) ends) in
+      (has_ended (audit_course (Some files) words) (λ s. named_file words.districts s.districts) (λ s. s.answer) before after stored a low (audit_refuses words) ends) in
       by_findings words stored a told.findings told.answer told
 
   -- ---- size

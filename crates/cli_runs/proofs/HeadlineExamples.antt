@@ -90,6 +90,7 @@ module _ (files : Files) (words : CommonWords) (state : words.state ≡ 37) (seg
 
   malformed_has_none : files words.geo.now ≡ Some (county_line ++ codes "||050||00|||0|||||37||0x3\n") → (counties : List County) → ¬ AreCountiesOfFiles files words counties
   malformed_has_none geo = none_of _ _ geo malformed
+
 -- ---- the problem of files
 
 -- an adjacency file without a pair

@@ -97,8 +97,8 @@ best_said v g = success (report_text v (codes "best") g)
 pub record SharesBest (files : Files) (words : ShareWords) (stored : List NamedFile) (a : Answered) : Type 0 where
   pub told : ShareTellsBest files words a
   pub proof : IsStoredFirst words.certificate
-    (λ text. ChecksAs files words.board.problem text (best_said told.v told.target))
-    stored
+      (λ text. ChecksAs files words.board.problem text (best_said told.v told.target))
+      stored
 
 -- What runs of `solve` and of `share` promise of later runs, over files that each was given.
 pub record RunsAgree : Type 0 where
