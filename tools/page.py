@@ -44,7 +44,7 @@ SOURCES = (
     "read; the counts, the borders and a court’s reading are not."
 )
 WITHOUT_SCRIPTS = (
-    "<p>The map and the choices need scripts. This is the list of the best " "groupings:</p>"
+    "<p>The map and the choices need scripts. This is the list of the best groupings:</p>"
 )
 
 

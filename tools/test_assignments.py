@@ -128,7 +128,7 @@ class Texts(Made):
         self.assertEqual(self.made(text, "--unassigned", "0"), Ran(0, wanted, told))
         told = [
             "plan: 2 blocks in 2 districts.",
-            "Blocks in district `0`: 1; if that says that " "they have none, add `--unassigned=0`.",
+            "Blocks in district `0`: 1; if that says that they have none, add `--unassigned=0`.",
         ]
         self.assertEqual(self.made(text), Ran(0, wanted.replace("|\n", "|0\n"), told))
 
@@ -228,7 +228,7 @@ class Packed(Made):
         rounded = dbf(columns, [["3.70010001001e+014", "1"]])
         told = "`3.70010001001e+014`, which a spreadsheet rounded: its digits are lost"
         self.refused(
-            rounded, f"Record 1 of plan has the block {told}, so export the blocks as " "text."
+            rounded, f"Record 1 of plan has the block {told}, so export the blocks as text."
         )
 
 

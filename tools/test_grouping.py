@@ -292,19 +292,18 @@ class Refusals(Made):
 
     def test_rows(self) -> None:
         head = "GEOID,Group,Seats\n37001,1,1\n"
+        no_seats = "where the seats stand, which is no number up to 65,535."
+        two_states = "a county's code of state 45, and line 2 one of state 37."
+        no_code = "which is no county's code: if it is a name, give the geographic header by --geo."
         for line, sentence in {
             "37001,2,1": "Line 3 of table has county 37001, which line 2 has already.",
             "37003,1,2": "Line 3 of table gives group `1` 2 seats, and line 2 gives it 1.",
-            "37003,2,two": "Line 3 of table has `two` where the seats stand, which is no number "
-            "up to 65,535.",
-            "37003,2,65536": "Line 3 of table has `65536` where the seats stand, which is no "
-            "number up to 65,535.",
+            "37003,2,two": f"Line 3 of table has `two` {no_seats}",
+            "37003,2,65536": f"Line 3 of table has `65536` {no_seats}",
             "37003,2,": "Group `2` of table has no seats.",
             ",2,1": "Line 3 of table has no county.",
-            "45003,2,1": "Line 3 of table has a county's code of state 45, and line 2 one of state "
-            "37.",
-            "Wake,2,1": "Line 3 of table has `Wake`, which is no county's code: if it is a name, "
-            "give the geographic header by --geo.",
+            "45003,2,1": f"Line 3 of table has {two_states}",
+            "Wake,2,1": f"Line 3 of table has `Wake`, {no_code}",
         }.items():
             self.refused(f"{head}{line}\n", sentence)
 

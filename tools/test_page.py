@@ -56,7 +56,7 @@ class Refusals(PageRoom):
         )
         turned: Groups = {**GROUPS, 1: (2, ["37001"]), 2: (1, ["37003", "37005"])}
         self.refuses(
-            "The table table.csv gives counties 37001 2 seats, and the list gives them 1 " "seat.",
+            "The table table.csv gives counties 37001 2 seats, and the list gives them 1 seat.",
             table=small_table(turned),
         )
         groups: Groups = {**GROUPS, 1: (2, ["37001", "37005"]), 2: (1, ["37003"])}
@@ -71,6 +71,11 @@ class Refusals(PageRoom):
 
     def test_texts_that_are_no_list(self) -> None:
         says = "Line {} of the list list.txt says `{}`, where {} has to stand."
+        ending = "`every choice` or the alternatives of a grouping"
+        unended = SIX.removesuffix("every choice\n")
+        more = SIX.replace("groupings 2", "groupings 3")
+        astray = unended + "grouping 1 alternatives 1\ngrouping 2 alternatives 3\n"
+        other = unended.replace("groupings 2", "groupings 1") + "grouping 1 alternatives 2\n"
         cases = {
             SIX.replace("answer all", "answer best"): says.format(5, "answer best", "`answer all`"),
             "open CountiesLeft line 6\n": says.format(
@@ -78,19 +83,10 @@ class Refusals(PageRoom):
             ),
             SIX[:-1]: "The list list.txt has no end of its last line.",
             SIX + "more\n": "Line 19 of the list list.txt says `more`, where the text has to end.",
-            SIX.removesuffix(
-                "every choice\n"
-            ): "The list list.txt ends with line 17, where `every choice` or the alternatives of "
-            "a grouping has to stand.",
-            SIX.replace(
-                "groupings 2", "groupings 3"
-            ): "The list list.txt says every choice, and has 2 choices and 3 groupings.",
-            SIX.replace(
-                "every choice\n", "grouping 1 alternatives 1\ngrouping 2 alternatives 3\n"
-            ): "A grouping of the list list.txt names an alternative that isn't there.",
-            SIX.replace("groupings 2", "groupings 1").replace(
-                "every choice\n", "grouping 1 alternatives 2\n"
-            ): "The list has no grouping with the alternatives of the table table.csv.",
+            unended: f"The list list.txt ends with line 17, where {ending} has to stand.",
+            more: "The list list.txt says every choice, and has 2 choices and 3 groupings.",
+            astray: "A grouping of the list list.txt names an alternative that isn't there.",
+            other: "The list has no grouping with the alternatives of the table table.csv.",
         }
         for listed, sentence in cases.items():
             with self.subTest(sentence):
@@ -130,7 +126,7 @@ class Refusals(PageRoom):
     def test_a_table_of_another_run(self) -> None:
         stored = file_line("stored", "table", b"another", "six.csv") + "\nstatus 0"
         self.refuses(
-            "The table table.csv isn't the one that the run of the record run.record " "stored.",
+            "The table table.csv isn't the one that the run of the record run.record stored.",
             record=record_of(6).replace("status 0", stored),
         )
         self.refuses(
@@ -144,6 +140,9 @@ class Refusals(PageRoom):
         begin = "Line 2 of the table table.csv has "
         no_text = "The table table.csv isn't a comma-separated text in UTF-8."
         head = f"The table table.csv doesn't begin with its header {LINE.strip()}."
+        twice = LINE + "37001,A,10,1,1,10\n37001,A,10,1,1,10\n"
+        apart = LINE + "37001,A,10,1,1,20\n37003,B,10,1,2,20\n"
+        of_sum = "The people of the counties of withdrawn set 1 in the table table.csv"
         wrong: dict[str | bytes, str] = {
             "": head,
             "37001,A,10,1,1,10\n": head,
@@ -153,13 +152,9 @@ class Refusals(PageRoom):
             LINE + "3701,A,10,1,1,10\n": f"{begin}no GEOID.",
             LINE + "37001,A,ten,1,1,10\n": f"{begin}no POPULATION.",
             LINE + "37001,A,10,X,1,10\n": f"{begin}no GROUP.",
-            LINE
-            + "37001,A,10,1,1,10\n37001,A,10,1,1,10\n": "The table table.csv lists county 37001 twice.",
-            LINE
-            + "37001,A,10,1,1,20\n37003,B,10,1,2,20\n": "The table table.csv gives group 1 two numbers of seats or of people.",
-            LINE
-            + "37001,A,10,W1,1,20\n": "The people of the counties of withdrawn set 1 in the table table.csv don't add up "
-            "to GROUP_POPULATION.",
+            twice: "The table table.csv lists county 37001 twice.",
+            apart: "The table table.csv gives group 1 two numbers of seats or of people.",
+            LINE + "37001,A,10,W1,1,20\n": f"{of_sum} don't add up to GROUP_POPULATION.",
             LINE + '37001,"A,10,1,1,10\n': no_text,
             LINE.encode() + b"37001,\xff,10,1,1,10\n": no_text,
         }
@@ -215,7 +210,7 @@ class Refusals(PageRoom):
             status = county_page.main(["none", "none", OUTLINES, "none", out])
         self.assertEqual(status, 1)
         self.assertEqual(
-            said.getvalue(), "The table none can't be read: No such file or " "directory.\n"
+            said.getvalue(), "The table none can't be read: No such file or directory.\n"
         )
         self.refuses("The outlines none can't be read: No such file or directory.", outlines="none")
 
