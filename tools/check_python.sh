@@ -9,7 +9,7 @@ usage: tools/check_python.sh
 Checks the Python files of cases/, tools/, bench/, web/test/ and web/desk/test/ by the settings of
 pyproject.toml. It takes some ten seconds.
 
-- the layout by `black`, with lines of 100 columns;
+- the layout by `black` of release 23, with lines of 100 columns;
 - the types by `mypy --strict`.
 
 If one of the two isn't installed, a line says which Debian package has it, and its part is passed
@@ -41,6 +41,17 @@ is_there() { # PROGRAM WHAT
     fi
 }
 
+# Returns whether this is the release of black by which the files are laid out. If not, says so.
+is_known_black() {
+    case $(black --version) in
+        "black, 23."*) ;;
+        *)
+            echo "not run: the check of the layout, which is that of black 23"
+            return 1
+            ;;
+    esac
+}
+
 # Returns whether `black` would change no file. If it would, says which.
 is_laid_out() {
     local told
@@ -53,7 +64,7 @@ is_laid_out() {
 }
 
 status=0
-if is_there black "the layout"; then
+if is_there black "the layout" && is_known_black; then
     is_laid_out || status=1
 fi
 if is_there mypy "types"; then
