@@ -81,6 +81,7 @@ trap finish EXIT
 # Tests the scripts, which need no program.
 test_scripts() {
     heading "the scripts"
+    tools/check_python.sh
     python3 cases/cases.py --test
     python3 cases/fuzz.py --test
     python3 tools/trust_lines.py

@@ -176,7 +176,8 @@ def is_grouping(text: bytes) -> bool:
 
 # ---- the files that the words name ----
 
-Words, Files = Sequence[str], Mapping[str, bytes]
+Words = Sequence[str]
+Files = Mapping[str, bytes]
 SetOfCounties = Tuple[int, List[str]]  # its seats and its codes
 
 

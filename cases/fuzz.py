@@ -75,7 +75,8 @@ from formats import is_record, is_told, read_lines, table_of  # noqa: E402
 from formats import sum_of, wrong_listing, wrong_record  # noqa: E402
 from sweeps import named_by  # noqa: E402
 
-Words, Files = List[str], Dict[str, bytes]
+Words = List[str]
+Files = Dict[str, bytes]
 # A text of a check, and its status, which is None if the second checker ended by an error.
 Answer = Tuple[bytes, Optional[int]]
 MOST_BYTES, QUICK_SECONDS = 40_000, 3
@@ -115,13 +116,13 @@ BYTES += [b"\xff", b"\xc3", b"\xe2\x80\x8b", b"\xef\xbb\xbf", b"0", b"9", b"x"]
 # The options of files that are changed most often.
 INNER = ("--certificate", "--events", "--grouping", "--which", "--assignments")
 # The options that a run gets at random: those of a number, and those of a file.
-NUMBER_OPTIONS = ("--state", "--part", "--of", "--limit", "--depth", "--budget", "--number")
-NUMBER_OPTIONS += ("--round", "--steps")
-FILE_OPTIONS = ("--links", "--withdrawn", "--certificate", "--out", "--events", "--which")
-FILE_OPTIONS += ("--groupings", "--districts")
+NUMBER_OPTIONS = ["--state", "--part", "--of", "--limit", "--depth", "--budget", "--number"]
+NUMBER_OPTIONS += ["--round", "--steps"]
+FILE_OPTIONS = ["--links", "--withdrawn", "--certificate", "--out", "--events", "--which"]
+FILE_OPTIONS += ["--groupings", "--districts"]
 # The options of a check that the second checker is given.
-CHECK_OPTIONS = ("--geo", "--segment", "--chamber", "--state", "--part", "--of", "--adjacency")
-CHECK_OPTIONS += ("--links", "--withdrawn", "--certificate", "--table")
+CHECK_OPTIONS = ["--geo", "--segment", "--chamber", "--state", "--part", "--of", "--adjacency"]
+CHECK_OPTIONS += ["--links", "--withdrawn", "--certificate", "--table"]
 
 # ---- what is changed ----
 

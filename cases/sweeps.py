@@ -8,14 +8,11 @@ import hashlib
 import os
 import random
 import re
-from typing import TYPE_CHECKING, Collection, Dict, Iterable, Iterator, List, Mapping, Optional
-from typing import Sequence, Tuple, Union
+from typing import Collection, Dict, Iterable, Iterator, List, Optional, Protocol, Sequence, Tuple
+from typing import Union
 
 from given_files import Forms, as_given
 from program_runs import EIO, EINTR, Followed, Refusal, files_below, fresh_folder, run
-
-if TYPE_CHECKING:
-    from cases import Case
 
 # ---- events that `share` was refused memory for ----
 
@@ -100,11 +97,23 @@ def sampled(numbers: Sequence[int], seed: str) -> List[int]:
     return [*numbers[:AT_AN_END], *sorted(picked), *numbers[-AT_AN_END:]]
 
 
+class Swept(Protocol):
+    """What a sweep asks of a case, as `cases.Case` has it."""
+
+    stem: str
+    program: str
+    runs: List[List[str]]
+    given: bytes
+    files: Files
+    forms: Forms
+    most: int
+
+
 class Sweep:
     """What the runs of one case with refusals gave."""
 
     def __init__(
-        self, case: "Case", program: str, room: str, most: int, sample: Optional[str] = None
+        self, case: Swept, program: str, room: str, most: int, sample: Optional[str] = None
     ) -> None:
         self.case, self.program, self.room, self.sample = case, program, room, sample
         self.most = min(it for it in (most, case.most, 1 << 60) if it)
@@ -350,7 +359,7 @@ class ToyCase:
         self.stem, self.program, self.most = "cases/toy", "", 0
         self.runs: List[List[str]] = [[]]
         self.given = b"share --events e\nfile e\n" + events
-        self.files: Mapping[str, bytes] = {}
+        self.files: Files = {}
         self.forms = Forms()
 
 
@@ -361,7 +370,7 @@ class ToyShare(Sweep):
     """
 
     def __init__(self, events: bytes) -> None:
-        super().__init__(ToyCase(events), "", "", 0)  # type: ignore[arg-type]
+        super().__init__(ToyCase(events), "", "", 0)
 
     def run_with_events(self, upto: int, name: str, text: bytes) -> Tuple[Followed, Files]:
         """Returns what stands for an ordinary run."""

@@ -178,9 +178,7 @@ def read_plan(
 
 def assignment_text(plan: Plan) -> str:
     """Returns the block assignment file of a plan, with a header and pipes."""
-    lines = [
-        f"{block.zfill(BLOCK_DIGITS)}|{label}\n" for block, label in plan.districts.items()
-    ]
+    lines = [f"{block.zfill(BLOCK_DIGITS)}|{label}\n" for block, label in plan.districts.items()]
     return "".join(["BLOCKID|DISTRICT\n", *lines])
 
 
@@ -212,7 +210,8 @@ def notes_on(table: Table, plan: Plan) -> List[str]:
 def parser() -> argparse.ArgumentParser:
     """Returns the parser of the tool's words."""
     made = argparse.ArgumentParser(
-        description=__doc__, usage=argparse.SUPPRESS,
+        description=__doc__,
+        usage=argparse.SUPPRESS,
         formatter_class=argparse.RawDescriptionHelpFormatter,
     )
     made.add_argument("file", metavar="FILE")

@@ -236,9 +236,7 @@ def counted(number: int, word: str) -> str:
     return f"{number} {word}" if number == 1 else f"{number} {word}s"
 
 
-def summary(
-    borders: Borders, contacts: Contacts, reasons: Dict[Pair, str], findings: int
-) -> str:
+def summary(borders: Borders, contacts: Contacts, reasons: Dict[Pair, str], findings: int) -> str:
     """Returns the last line: the numbers of pairs by how they meet, and of findings."""
     pairs, bare = borders.pairs, borders.pairs - contacts.edges.keys()
     kinds = [reasons.get(pair) for pair in bare]

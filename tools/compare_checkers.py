@@ -32,14 +32,15 @@ import subprocess
 import sys
 import tempfile
 import time
-from typing import Dict, Iterable, Iterator, List, NamedTuple, Optional, Tuple
+from typing import Dict, Iterable, Iterator, List, Optional, Tuple
 
 TOP = os.path.dirname(os.path.dirname(os.path.realpath(__file__)))
 sys.path[:0] = [f"{TOP}/cases", f"{TOP}/tools", f"{TOP}/bench"]
-import cases  # type: ignore[import]  # noqa: E402
+import cases  # noqa: E402
 import check  # noqa: E402
-import program_runs  # type: ignore[import]  # noqa: E402
-import states  # type: ignore[import]  # noqa: E402
+import program_runs  # noqa: E402
+import states  # noqa: E402
+from program_runs import Followed  # noqa: E402
 
 # Cases that take long in Python, by their folder or the beginnings of their names.
 LONG = re.compile(r"/huge/|/long/(a_plain_text_of_a_million_marks|a_wide_text_of_a_million_raises)")
@@ -51,13 +52,6 @@ NOT_COMPARED = {"-h", "--help", "--table", "--record"}
 
 Words = List[str]
 Files = Dict[str, bytes]
-
-
-class Run(NamedTuple):
-    """What a run wrote, and its status, as `cases.Case.said` reads them."""
-
-    wrote: bytes
-    status: int
 
 
 def case_parts(text: bytes) -> Tuple[Words, Files]:
@@ -75,7 +69,7 @@ def case_parts(text: bytes) -> Tuple[Words, Files]:
     return words, files
 
 
-def second_checker(words: Words, files: Files) -> Run:
+def second_checker(words: Words, files: Files) -> Followed:
     """Runs the second checker over `files`, the bytes of each by its name."""
 
     def load(name: str) -> bytes:
@@ -85,7 +79,7 @@ def second_checker(words: Words, files: Files) -> Run:
         return files[name]
 
     text, status = check.answer(words[1:], load)
-    return Run(os.fsencode(text), status)
+    return Followed(os.fsencode(text), status=status)
 
 
 def checks_of(case: cases.Case) -> Iterator[Tuple[Words, Files, bytes]]:

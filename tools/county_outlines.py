@@ -71,8 +71,11 @@ def _rings(path: str, geoid: str, geometry: Any) -> List[Ring]:
     try:
         of_type = {"Polygon": [geometry["coordinates"]], "MultiPolygon": geometry["coordinates"]}
         polygons = of_type[geometry["type"]]
-        rings = [[(float(spot[0]), float(spot[1])) for spot in ring]
-                 for polygon in polygons for ring in polygon]
+        rings = [
+            [(float(spot[0]), float(spot[1])) for spot in ring]
+            for polygon in polygons
+            for ring in polygon
+        ]
     except (TypeError, ValueError, KeyError, IndexError) as fault:
         raise Refused(f"County {geoid} of the outlines {path} has no polygon.") from fault
     for ring in rings:

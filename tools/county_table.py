@@ -102,8 +102,10 @@ def _groups(path: str, rows: list[tuple[County, int, int]]) -> list[Group]:
         if numbers.setdefault(county.group, (seats, people)) != (seats, people):
             two = f"gives group {county.group} two numbers of seats or of people"
             raise Refused(f"The table {path} {two}.")
-    groups = [Group(label, *numbers[label], tuple(sorted(held, key=lambda one: one.geoid)))
-              for label, held in members.items()]
+    groups = [
+        Group(label, *numbers[label], tuple(sorted(held, key=lambda one: one.geoid)))
+        for label, held in members.items()
+    ]
     for group in groups:
         if group.people != sum(county.people for county in group.counties):
             counties = f"The people of the counties of {group.words} in the table {path}"

@@ -76,15 +76,33 @@ COUNTIES = Wanted(
 GROUPS = Wanted(
     "the groups",
     "--group",
-    ("group", "groupid", "groupno", "groupnumber", "countygroup", "cluster", "clusterid",
-     "clusterno", "clusternumber", "countycluster"),
+    (
+        "group",
+        "groupid",
+        "groupno",
+        "groupnumber",
+        "countygroup",
+        "cluster",
+        "clusterid",
+        "clusterno",
+        "clusternumber",
+        "countycluster",
+    ),
     is_ranked=False,
 )
 SEATS = Wanted(
     "the seats",
     "--seats",
-    ("seats", "seat", "numseats", "nseats", "numberofseats", "numdistricts", "ndistricts",
-     "numberofdistricts"),
+    (
+        "seats",
+        "seat",
+        "numseats",
+        "nseats",
+        "numberofseats",
+        "numdistricts",
+        "ndistricts",
+        "numberofdistricts",
+    ),
     is_ranked=False,
 )
 
@@ -192,9 +210,7 @@ def label_order(label: str) -> Tuple[bool, int, str]:
 
 def grouping_text(groups: Iterable[Group]) -> str:
     """Returns the grouping text of groups, each of which has its seats."""
-    return "".join(
-        "|".join([str(group.seats), *sorted(group.counties)]) + "\n" for group in groups
-    )
+    return "".join("|".join([str(group.seats), *sorted(group.counties)]) + "\n" for group in groups)
 
 
 def chosen_seats(found: CountyGroups, people: Dict[str, int], chamber: Chamber) -> List[str]:
@@ -243,7 +259,8 @@ def notes_on(table: Table, found: CountyGroups) -> List[str]:
 def parser() -> argparse.ArgumentParser:
     """Returns the parser of the tool's words."""
     made = argparse.ArgumentParser(
-        description=__doc__, usage=argparse.SUPPRESS,
+        description=__doc__,
+        usage=argparse.SUPPRESS,
         formatter_class=argparse.RawDescriptionHelpFormatter,
     )
     made.add_argument("file", metavar="FILE")

@@ -37,12 +37,15 @@ WASM = TOP / "dist" / "countygroups.wasm"
 MOST_BYTES = 4_000_000
 KEYS = {"segment1": "segment", "certificate": "chamber.certificate"}
 NEEDED = {"geo", "segment", "adjacency", "chamber.certificate"}
-SOURCES = ("By the files that the page names under “The proof”; the outlines are for pictures "
-           "only. The rule: <i>Stephenson v. Bartlett</i>, 355 N.C. 354 (2002) and 357 N.C. 301 "
-           "(2003). What the program says is proved, by a proved build, for exactly the files it "
-           "read; the counts, the borders and a court’s reading are not.")
-WITHOUT_SCRIPTS = ("<p>The map and the choices need scripts. This is the list of the best "
-                   "groupings:</p>")
+SOURCES = (
+    "By the files that the page names under “The proof”; the outlines are for pictures "
+    "only. The rule: <i>Stephenson v. Bartlett</i>, 355 N.C. 354 (2002) and 357 N.C. 301 "
+    "(2003). What the program says is proved, by a proved build, for exactly the files it "
+    "read; the counts, the borders and a court’s reading are not."
+)
+WITHOUT_SCRIPTS = (
+    "<p>The map and the choices need scripts. This is the list of the best groupings:</p>"
+)
 
 
 def file_of(line: FileLine) -> bytes | None:
@@ -121,14 +124,20 @@ def page_of(groups: list[Group], record: Record, asked: argparse.Namespace) -> s
     if enacted is not None:
         chamber["enacted"] = read_enacted(enacted, groups)
     data = {
-        "state": {"code": min(geoids)[:2]}, "chambers": [chamber], "enactedYear": int(year),
+        "state": {"code": min(geoids)[:2]},
+        "chambers": [chamber],
+        "enactedYear": int(year),
         "outlines": desk_page.slim_outlines(shapes, geoids),
         "borders": desk_page.border_lines(borders, geoids),
         "build": {"isProved": None, "text": ""},
     }
     text = chamber["list"].replace("&", "&amp;").replace("<", "&lt;")
-    parts = {"sources": SOURCES, "without-scripts": f"{WITHOUT_SCRIPTS}<pre>{text}</pre>",
-             "window-title": "Best county groups", "description": "Best county groups"}
+    parts = {
+        "sources": SOURCES,
+        "without-scripts": f"{WITHOUT_SCRIPTS}<pre>{text}</pre>",
+        "window-title": "Best county groups",
+        "description": "Best county groups",
+    }
     if asked.borders:
         parts["borders-note"] = desk_page.as_paragraph(read_words(asked.borders))
     return desk_page.page_html(data, carried, parts)
@@ -138,8 +147,9 @@ def read_arguments(words: list[str]) -> argparse.Namespace:
     """Returns the words of the command line by name, or ends the program with status 2."""
     head, _, rest = (__doc__ or "").partition("usage: ")
     usage, _, told = rest.partition("\n\n")
-    parser = argparse.ArgumentParser(usage=usage, description=head + told,
-                                     formatter_class=argparse.RawDescriptionHelpFormatter)
+    parser = argparse.ArgumentParser(
+        usage=usage, description=head + told, formatter_class=argparse.RawDescriptionHelpFormatter
+    )
     for name in ("table", "list", "outlines", "record", "out"):
         parser.add_argument(name)
     parser.add_argument("--enacted", nargs=2)

@@ -12,8 +12,17 @@ from county_table import Group, Refused
 from page_inputs import ListedGroup, Listing, Record
 
 COMMANDS = ("solve", "check", "list", "judge")
-PROBLEM_OPTIONS = ["--geo", "--segment", "--state", "--chamber", "--part", "--of", "--adjacency",
-                   "--links", "--withdrawn"]
+PROBLEM_OPTIONS = [
+    "--geo",
+    "--segment",
+    "--state",
+    "--chamber",
+    "--part",
+    "--of",
+    "--adjacency",
+    "--links",
+    "--withdrawn",
+]
 WITHOUT_WORD = {"--state": "37", "--part": "1", "--of": "20"}
 
 
@@ -35,12 +44,18 @@ def all_groups(listing: Listing) -> list[ListedGroup]:
 
 def check_choice(table: str, listing: Listing, groups: list[Group]) -> None:
     """Refuses a table whose grouping the list doesn't have."""
-    sets = {tuple(county.geoid for county in group.counties)
-            for group in groups if not group.is_withdrawn}
+    sets = {
+        tuple(county.geoid for county in group.counties)
+        for group in groups
+        if not group.is_withdrawn
+    }
     choice = []
     for number, region in enumerate(listing.regions, 1):
-        found = [one for one, alternative in enumerate(region)
-                 if all(group.codes in sets for group in alternative)]
+        found = [
+            one
+            for one, alternative in enumerate(region)
+            if all(group.codes in sets for group in alternative)
+        ]
         if len(found) != 1:
             raise Refused(f"The table {table} has no alternative of region {number} of the list.")
         choice.append(found[0])
@@ -56,13 +71,17 @@ def check_choice(table: str, listing: Listing, groups: list[Group]) -> None:
 
 def _check_seats(table: str, listed: list[ListedGroup], groups: list[Group]) -> None:
     """Refuses a table that gives a group seats which its people don't suit by the list."""
-    seats_of_set = {tuple(county.geoid for county in group.counties): group.seats
-                    for group in groups}
+    seats_of_set = {
+        tuple(county.geoid for county in group.counties): group.seats for group in groups
+    }
     for group in listed:
         seats = seats_of_set[group.codes]
         if not group.least <= seats <= group.most:
-            told = (counted(group.least, "seat") if group.least == group.most
-                    else f"{group.least} to {group.most} seats")
+            told = (
+                counted(group.least, "seat")
+                if group.least == group.most
+                else f"{group.least} to {group.most} seats"
+            )
             gives = f"counties {' '.join(group.codes)} {counted(seats, 'seat')}"
             raise Refused(f"The table {table} gives {gives}, and the list gives them {told}.")
 
@@ -99,8 +118,9 @@ def options_of(record: Record, names: list[str]) -> dict[str, str]:
     return found
 
 
-def check_record(path: str, record: Record, table: str, groups: list[Group],
-                 listing: Listing) -> None:
+def check_record(
+    path: str, record: Record, table: str, groups: list[Group], listing: Listing
+) -> None:
     """Refuses a record that isn't of a run over the problem of table and list."""
     of_run = f"The record {path} isn't of a run"
     if not record.words or record.words[0] not in COMMANDS:

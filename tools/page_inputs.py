@@ -205,6 +205,7 @@ def _file_line(found: "re.Match[str]", words: list[str]) -> FileLine:
 def plain(text: str) -> str:
     """Returns the text with each escaped byte as it was."""
     parts = re.split(r"\\x([0-9A-F]{2})", text)
-    raw = b"".join(bytes.fromhex(part) if place % 2 else part.encode()
-                   for place, part in enumerate(parts))
+    raw = b"".join(
+        bytes.fromhex(part) if place % 2 else part.encode() for place, part in enumerate(parts)
+    )
     return raw.decode("utf-8", "replace")

@@ -44,14 +44,23 @@ every choice
 """
 PEOPLE = {"37001": 100, "37003": 90, "37005": 100, "37007": 105, "37009": 105, "37011": 100}
 Groups = Dict[Union[int, str], Tuple[int, List[str]]]
-GROUPS: Groups = {1: (1, ["37001"]), 2: (2, ["37003", "37005"]), 3: (2, ["37007", "37009"]),
-                  4: (1, ["37011"])}
-WITHDRAWN: Groups = {1: (1, ["37001"]), 2: (2, ["37003", "37005"]), 3: (2, ["37007", "37009"]),
-                     "W1": (1, ["37011"])}
+GROUPS: Groups = {
+    1: (1, ["37001"]),
+    2: (2, ["37003", "37005"]),
+    3: (2, ["37007", "37009"]),
+    4: (1, ["37011"]),
+}
+WITHDRAWN: Groups = {
+    1: (1, ["37001"]),
+    2: (2, ["37003", "37005"]),
+    3: (2, ["37007", "37009"]),
+    "W1": (1, ["37011"]),
+}
 SIX_WITHDRAWN = (
     SIX.replace("seats left 6\ncounties 6", "seats left 5\ncounties 5")
     .replace("counts 2 2", "counts 1 2")
-    .replace("shared groups 2\ngroup seats 1 people 100 counties 37011\n", "shared groups 1\n"))
+    .replace("shared groups 2\ngroup seats 1 people 100 counties 37011\n", "shared groups 1\n")
+)
 
 
 def written(rows: list[list[Any]]) -> str:
@@ -81,9 +90,19 @@ def file_line(kind: str, option: str, text: bytes, name: str) -> str:
 def record_of(chamber: int | str, *more: str, withdrawn: bytes | None = None) -> str:
     """Returns a record of a run of `list` over the files of data/nc2020, perhaps with more words
     and with withdrawn sets."""
-    words = ["list", "--geo", "nc2020geo.pl", "--segment", "nc000012020.pl",
-             f"--chamber={chamber}", "--adjacency", "county_borders.txt",
-             "--certificate", "my certificate", *more]
+    words = [
+        "list",
+        "--geo",
+        "nc2020geo.pl",
+        "--segment",
+        "nc000012020.pl",
+        f"--chamber={chamber}",
+        "--adjacency",
+        "county_borders.txt",
+        "--certificate",
+        "my certificate",
+        *more,
+    ]
     lines = ["countygroups record 1", "version 1.0 (a kit)", *(f"word {word}" for word in words)]
     for option, name in FILES.items():
         lines.append(file_line("read", option, (DATA / name).read_bytes(), name))
@@ -94,9 +113,14 @@ def record_of(chamber: int | str, *more: str, withdrawn: bytes | None = None) ->
 
 def squares(*columns: tuple[str, int, int]) -> str:
     """Returns outlines of unit squares: a county at each of these places of a board."""
-    features = [{"type": "Feature", "properties": {"GEOID": geoid},
-                 "geometry": {"type": "Polygon", "coordinates": [board_ring(x, y)]}}
-                for geoid, x, y in columns]
+    features = [
+        {
+            "type": "Feature",
+            "properties": {"GEOID": geoid},
+            "geometry": {"type": "Polygon", "coordinates": [board_ring(x, y)]},
+        }
+        for geoid, x, y in columns
+    ]
     return json.dumps({"type": "FeatureCollection", "features": features})
 
 
@@ -122,15 +146,25 @@ class PageRoom(unittest.TestCase):
             file.write(text if isinstance(text, bytes) else text.encode())
         return path
 
-    def made(self, table: str | bytes, listed: str, record: str, outlines: str,
-             more: list[str] | None = None) -> tuple[int, str, str]:
+    def made(
+        self,
+        table: str | bytes,
+        listed: str,
+        record: str,
+        outlines: str,
+        more: list[str] | None = None,
+    ) -> tuple[int, str, str]:
         """Returns the status of a run, what it said, and the path of the page.
 
         The words of the run are the paths of its files, and those of `more`.
         """
         out = os.path.join(self.folder, "page.html")
-        paths = [self.file("table.csv", table), self.file("list.txt", listed), outlines,
-                 self.file("run.record", record)]
+        paths = [
+            self.file("table.csv", table),
+            self.file("list.txt", listed),
+            outlines,
+            self.file("run.record", record),
+        ]
         said = io.StringIO()
         with contextlib.redirect_stderr(said):
             status = county_page.main([*paths, out, *(more or [])])

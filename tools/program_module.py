@@ -86,8 +86,16 @@ def words_of(kit: str, repository: Repository, crate: str) -> list[str]:
 
 def call(words: list[str], folder: str) -> None:
     """Runs words in `folder`. Raises `Refused` with what they said if they fail."""
-    ran = subprocess.run(words, cwd=folder, stdout=subprocess.PIPE, stderr=subprocess.STDOUT,
-                         stdin=subprocess.DEVNULL, text=True, errors="replace", check=False)
+    ran = subprocess.run(
+        words,
+        cwd=folder,
+        stdout=subprocess.PIPE,
+        stderr=subprocess.STDOUT,
+        stdin=subprocess.DEVNULL,
+        text=True,
+        errors="replace",
+        check=False,
+    )
     if ran.returncode:
         told = ran.stdout[-2000:]
         raise Refused(f"`{os.path.basename(words[0])} {words[1]}` fails: {told}")

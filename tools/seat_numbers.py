@@ -63,7 +63,5 @@ def fit_total(chamber: Chamber, people: Sequence[int], seats: List[int]) -> None
         ]
         if not free:
             return
-        best = min(
-            free, key=lambda place: abs(people[place] / chamber.ideal - seats[place] - step)
-        )
+        best = min(free, key=lambda place: abs(people[place] / chamber.ideal - seats[place] - step))
         seats[best] += step

@@ -126,8 +126,10 @@ class Texts(Made):
             self.assertEqual(found, Ran(0, wanted, told), none)
         text = f"GEOID20,District\n{ONE},0\n{TWO},5\n"
         self.assertEqual(self.made(text, "--unassigned", "0"), Ran(0, wanted, told))
-        told = ["plan: 2 blocks in 2 districts.", "Blocks in district `0`: 1; if that says that "
-                "they have none, add `--unassigned=0`."]
+        told = [
+            "plan: 2 blocks in 2 districts.",
+            "Blocks in district `0`: 1; if that says that they have none, add `--unassigned=0`.",
+        ]
         self.assertEqual(self.made(text), Ran(0, wanted.replace("|\n", "|0\n"), told))
 
     def test_lines_that_repeat_a_block(self) -> None:
@@ -225,8 +227,9 @@ class Packed(Made):
         columns = [DbfColumn("GEOID20", "F", 19, 11), DbfColumn("DISTRICT", "C", 2)]
         rounded = dbf(columns, [["3.70010001001e+014", "1"]])
         told = "`3.70010001001e+014`, which a spreadsheet rounded: its digits are lost"
-        self.refused(rounded, f"Record 1 of plan has the block {told}, so export the blocks as "
-                     "text.")
+        self.refused(
+            rounded, f"Record 1 of plan has the block {told}, so export the blocks as text."
+        )
 
 
 class Refusals(Made):

@@ -174,9 +174,8 @@ class Board(Checked):
         status, lines, _ = self.run_text(census_text(lengths))
         self.assertEqual((status, lines[0].split(":")[0]), (0, "4 pairs"))
         text = "A|10001|A|10001|0\nA|10001|B|10003|5\nB|10003|A|10001|5\n"
-        self.assertEqual(self.run_text(text)[:2], (0, [
-            "1 pair: 1 with a common edge, 0 over water, 0 at a point in the outlines; 0 findings"
-        ]))
+        told = "1 pair: 1 with a common edge, 0 over water, 0 at a point in the outlines"
+        self.assertEqual(self.run_text(text)[:2], (0, [f"{told}; 0 findings"]))
 
     def test_reasons(self) -> None:
         lengths = {**lengths_of_edges(), ("10001", "10007"): "4", ("10009", "10011"): "3"}
@@ -191,11 +190,12 @@ class Board(Checked):
         listed = "A|10001|B|10003|over water\nB|10003|C|10005|a point in the generalised shapes\n"
         listed += "E|10009|F|10011|a point in the generalised shapes\n"
         status, lines, _ = self.run_text(census_text(lengths), listed)
-        self.assertEqual((status, [line.split(": ")[1] for line in lines[:-1]]), (1, [
+        wanted = [
             "listed without an edge, with one of 111.2 km",
             "listed without an edge, and not adjacent",
             "listed as a point, without a common corner",
-        ]))
+        ]
+        self.assertEqual((status, [line.split(": ")[1] for line in lines[:-1]]), (1, wanted))
 
 
 class Refusals(Checked):
@@ -209,28 +209,27 @@ class Refusals(Checked):
 
     def test_lines(self) -> None:
         edge = "A|10001|B|10003"
+        no_code = "Line 2 of adjacency.txt has a county code that isn't five digits."
+        no_length = "Line 1 of adjacency.txt has a length that isn't a number."
+        no_pair = "The file adjacency.txt has no pair of counties of the outlines board.geojson."
         for text, sentence in {
             f"{edge}|5\nA|10001|B\n": "Line 2 of adjacency.txt has fewer than four fields.",
-            f"{edge}|5\nA|10001|B|1003|5\n":
-                "Line 2 of adjacency.txt has a county code that isn't five digits.",
-            f"{HEADER}\n{HEADER}\n":
-                "Line 2 of adjacency.txt has a county code that isn't five digits.",
-            f"{edge}|long\n": "Line 1 of adjacency.txt has a length that isn't a number.",
-            f"{edge}|-5\n": "Line 1 of adjacency.txt has a length that isn't a number.",
-            "": "The file adjacency.txt has no pair of counties of the outlines board.geojson.",
-            "A|20001|B|20003|5\n":
-                "The file adjacency.txt has no pair of counties of the outlines board.geojson.",
+            f"{edge}|5\nA|10001|B|1003|5\n": no_code,
+            f"{HEADER}\n{HEADER}\n": no_code,
+            f"{edge}|long\n": no_length,
+            f"{edge}|-5\n": no_length,
+            "": no_pair,
+            "A|20001|B|20003|5\n": no_pair,
         }.items():
             self.assertEqual(self.refused(text), sentence + "\n", text)
 
     def test_reasons(self) -> None:
         reasons = "`over water` or `a point in the generalised shapes`"
+        no_pair = "of listed.txt has no pair, or one that stands on a line before."
         for listed, sentence in {
             "A|10001|B|10003|5\n": f"Line 1 of listed.txt has a reason that isn't {reasons}.",
-            "A|10001|B|10003|over water\nB|10003|A|10001|over water\n":
-                "Line 2 of listed.txt has no pair, or one that stands on a line before.",
-            "A|10001|A|10001|over water\n":
-                "Line 1 of listed.txt has no pair, or one that stands on a line before.",
+            "A|10001|B|10003|over water\nB|10003|A|10001|over water\n": f"Line 2 {no_pair}",
+            "A|10001|A|10001|over water\n": f"Line 1 {no_pair}",
         }.items():
             self.assertEqual(self.refused(census_text(lengths_of_edges()), listed), sentence + "\n")
 

@@ -59,8 +59,11 @@ class TestCompareDist(unittest.TestCase):
 
     def git(self, *words: str) -> None:
         """Runs git in the repository."""
-        who = {f"GIT_{role}_{part}": "tester" for role in ("AUTHOR", "COMMITTER")
-               for part in ("NAME", "EMAIL")}
+        who = {
+            f"GIT_{role}_{part}": "tester"
+            for role in ("AUTHOR", "COMMITTER")
+            for part in ("NAME", "EMAIL")
+        }
         subprocess.run(["git", *words], cwd=self.top, check=True, env={**os.environ, **who})
 
     def commit(self, what: str) -> None:

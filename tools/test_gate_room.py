@@ -46,8 +46,15 @@ class TestDue(unittest.TestCase):
         self.assertEqual(gate_room.due(NAMES, history), ["ash", "birch", "elm"])
 
     def test_files_that_concern_an_edit(self) -> None:
-        paths = ["crates/ash/src/lib.rt", "crates/elm/must-fail/a.edit", "crates/fir/tried/a.edit",
-                 "crates/hazel/stdout", "docs/src/ash/a", "crates/birch/specs/A.antt", ""]
+        paths = [
+            "crates/ash/src/lib.rt",
+            "crates/elm/must-fail/a.edit",
+            "crates/fir/tried/a.edit",
+            "crates/hazel/stdout",
+            "docs/src/ash/a",
+            "crates/birch/specs/A.antt",
+            "",
+        ]
         self.assertEqual(gate_room.crates_in(paths), {"ash", "elm", "birch"})
 
     def test_commits_on_the_border_of_three_days_count(self) -> None:
@@ -76,10 +83,15 @@ class TestHistory(unittest.TestCase):
 
     def git(self, *words: str, date: int = NOON) -> None:
         """Runs git in the repository, as somebody at a date."""
-        who = {f"GIT_{role}_{part}": "tester" for role in ("AUTHOR", "COMMITTER")
-               for part in ("NAME", "EMAIL")}
-        when = {"GIT_AUTHOR_DATE": f"{NOON - 50 * DAY} +0000",
-                "GIT_COMMITTER_DATE": f"{date} +0000"}
+        who = {
+            f"GIT_{role}_{part}": "tester"
+            for role in ("AUTHOR", "COMMITTER")
+            for part in ("NAME", "EMAIL")
+        }
+        when = {
+            "GIT_AUTHOR_DATE": f"{NOON - 50 * DAY} +0000",
+            "GIT_COMMITTER_DATE": f"{date} +0000",
+        }
         subprocess.run(["git", *words], cwd=self.top, check=True, env={**os.environ, **who, **when})
 
     def commit(self, date: int) -> None:

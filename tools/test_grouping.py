@@ -116,8 +116,10 @@ class Enacted(Made):
             self.same(name, self.table("COUNTYFP,Group", short), *problem)
             for form in ("{}", "{}, NC", "{}, North Carolina"):
                 for end in ("", " County"):
-                    named = [[form.format(county.replace(" County", end)), label]
-                             for _, county, label, _ in rows]
+                    named = [
+                        [form.format(county.replace(" County", end)), label]
+                        for _, county, label, _ in rows
+                    ]
                     self.same(name, self.table("County,Group", named).upper(), *problem)
 
     def test_labels_that_are_no_numbers(self) -> None:
@@ -168,11 +170,14 @@ class Judged(Made):
         problem = ["--geo", GEO, "--segment", SEGMENT, "--chamber", "50"]
         made = self.made(self.table("GEOID,Group", rows), *problem)
         suits = "suit no number of seats:"
-        self.assertEqual(made.told[1:], [
-            f"The 373,979 people of the group of county 37061 {suits} 2 is the nearest.",
-            f"The 29,606 people of the group of county 37017 {suits} 1 is the nearest.",
-            "The groups have 51 seats in all, and the chamber has 50.",
-        ])
+        self.assertEqual(
+            made.told[1:],
+            [
+                f"The 373,979 people of the group of county 37061 {suits} 2 is the nearest.",
+                f"The 29,606 people of the group of county 37017 {suits} 1 is the nearest.",
+                "The groups have 51 seats in all, and the chamber has 50.",
+            ],
+        )
         words = ["--adjacency", BORDERS, "--grouping", self.file("made", made.text)]
         judged = self.run_program("judge", *problem, *words)
         self.assertEqual(judged, (1, "fault OutOfWindow group 23\n"))
@@ -214,8 +219,10 @@ class Tables(Made):
         self.assertEqual(self.made(text), Ran(0, "2|37003\n1|37001\n", told))
 
     def test_names(self) -> None:
-        geo = self.file("geo", path_geo("Doña Ana County", "DeKalb County", "Queens County",
-                                        "St. Mary's County"))
+        geo = self.file(
+            "geo",
+            path_geo("Doña Ana County", "DeKalb County", "Queens County", "St. Mary's County"),
+        )
         text = "County,Group,Seats\nDona Ana,1,1\nDe Kalb county,2,1\nQUEENS,3,1\nKings,4,1\n"
         told = "Line 5 of table has `Kings`, which the geographic header doesn't have."
         self.refused(text, told, "--geo", geo)
@@ -231,14 +238,17 @@ class Tables(Made):
     def test_seats_that_dont_suit(self) -> None:
         """The ideal is 100: one seat suits 95 to 105 people, and two suit 190 to 210."""
         files = {"--geo": path_geo(), "--segment": PATH_SEGMENT}
-        words = [word for option, held in files.items()
-                 for word in (option, self.file(option[2:], held))]
+        words = [
+            word for option, held in files.items() for word in (option, self.file(option[2:], held))
+        ]
         words += ["--chamber", "4"]
         text = "37001,1\n37003,2\n37005,3\n37007,4\n"
         told = ["table: counties 4, groups 4, seats 4."]
         for code, people in (("37001", 94), ("37007", 106)):
-            told.append(f"The {people} people of the group of county {code} suit no number of "
-                        "seats: 1 is the nearest.")
+            told.append(
+                f"The {people} people of the group of county {code} suit no number of "
+                "seats: 1 is the nearest."
+            )
         wanted = "1|37001\n1|37003\n1|37005\n1|37007\n"
         self.assertEqual(self.made(text, *words), Ran(0, wanted, told))
         wide = self.made(text, *words, "--part", "1", "--of", "10")
@@ -282,19 +292,18 @@ class Refusals(Made):
 
     def test_rows(self) -> None:
         head = "GEOID,Group,Seats\n37001,1,1\n"
+        no_seats = "where the seats stand, which is no number up to 65,535."
+        two_states = "a county's code of state 45, and line 2 one of state 37."
+        no_code = "which is no county's code: if it is a name, give the geographic header by --geo."
         for line, sentence in {
             "37001,2,1": "Line 3 of table has county 37001, which line 2 has already.",
             "37003,1,2": "Line 3 of table gives group `1` 2 seats, and line 2 gives it 1.",
-            "37003,2,two": "Line 3 of table has `two` where the seats stand, which is no number "
-                           "up to 65,535.",
-            "37003,2,65536": "Line 3 of table has `65536` where the seats stand, which is no "
-                             "number up to 65,535.",
+            "37003,2,two": f"Line 3 of table has `two` {no_seats}",
+            "37003,2,65536": f"Line 3 of table has `65536` {no_seats}",
             "37003,2,": "Group `2` of table has no seats.",
             ",2,1": "Line 3 of table has no county.",
-            "45003,2,1": "Line 3 of table has a county's code of state 45, and line 2 one of state "
-                         "37.",
-            "Wake,2,1": "Line 3 of table has `Wake`, which is no county's code: if it is a name, "
-                        "give the geographic header by --geo.",
+            "45003,2,1": f"Line 3 of table has {two_states}",
+            "Wake,2,1": f"Line 3 of table has `Wake`, {no_code}",
         }.items():
             self.refused(f"{head}{line}\n", sentence)
 

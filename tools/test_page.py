@@ -26,53 +26,67 @@ ENACTED = "1|37001\n1|37011\n2|37003|37005\n2|37007|37009\n"
 class Refusals(PageRoom):
     """If a file can't be used, one sentence says why, and nothing is stored."""
 
-    def refuses(self, sentence: str, table: str | bytes | None = None, listed: str = SIX,
-                record: str | None = None, outlines: str | None = None) -> None:
+    def refuses(
+        self,
+        sentence: str,
+        table: str | bytes | None = None,
+        listed: str = SIX,
+        record: str | None = None,
+        outlines: str | None = None,
+    ) -> None:
         """The run stores nothing, and says this sentence alone."""
         own = table if table is not None else small_table(GROUPS)
-        status, said, out = self.made(own, listed, record or record_of(6),
-                                      outlines or self.squares)
+        status, said, out = self.made(own, listed, record or record_of(6), outlines or self.squares)
         self.assertEqual((status, os.path.exists(out)), (1, False))
         self.assertEqual(said.replace(self.folder + os.sep, ""), sentence + "\n")
 
     def test_a_table_of_another_problem(self) -> None:
         begin = "The table table.csv has "
         other = SIX.replace("chamber 6", "chamber 7")
-        self.refuses(f"{begin}a chamber of 6, and the list list.txt has a chamber of 7.",
-                     listed=other)
+        self.refuses(
+            f"{begin}a chamber of 6, and the list list.txt has a chamber of 7.", listed=other
+        )
         other = SIX.replace("people 600", "people 601")
         self.refuses(f"{begin}people 600, and the list list.txt has people 601.", listed=other)
         moved = SIX.replace("people 210", "people 211")
-        self.refuses("The people of counties 37007 37009 in the list list.txt aren't those of the "
-                     "table table.csv.", listed=moved)
+        self.refuses(
+            "The people of counties 37007 37009 in the list list.txt aren't those of the "
+            "table table.csv.",
+            listed=moved,
+        )
         turned: Groups = {**GROUPS, 1: (2, ["37001"]), 2: (1, ["37003", "37005"])}
-        self.refuses("The table table.csv gives counties 37001 2 seats, and the list gives them 1 "
-                     "seat.", table=small_table(turned))
+        self.refuses(
+            "The table table.csv gives counties 37001 2 seats, and the list gives them 1 seat.",
+            table=small_table(turned),
+        )
         groups: Groups = {**GROUPS, 1: (2, ["37001", "37005"]), 2: (1, ["37003"])}
-        self.refuses("The table table.csv has no alternative of region 1 of the list.",
-                     table=small_table(groups))
-        self.refuses(f"{begin}seats left 5, and the list list.txt has seats left 6.",
-                     table=small_table(WITHDRAWN))
+        self.refuses(
+            "The table table.csv has no alternative of region 1 of the list.",
+            table=small_table(groups),
+        )
+        self.refuses(
+            f"{begin}seats left 5, and the list list.txt has seats left 6.",
+            table=small_table(WITHDRAWN),
+        )
 
     def test_texts_that_are_no_list(self) -> None:
         says = "Line {} of the list list.txt says `{}`, where {} has to stand."
+        ending = "`every choice` or the alternatives of a grouping"
+        unended = SIX.removesuffix("every choice\n")
+        more = SIX.replace("groupings 2", "groupings 3")
+        astray = unended + "grouping 1 alternatives 1\ngrouping 2 alternatives 3\n"
+        other = unended.replace("groupings 2", "groupings 1") + "grouping 1 alternatives 2\n"
         cases = {
             SIX.replace("answer all", "answer best"): says.format(5, "answer best", "`answer all`"),
-            "open CountiesLeft line 6\n":
-                says.format(1, "open CountiesLeft line 6", "`people` with a number"),
+            "open CountiesLeft line 6\n": says.format(
+                1, "open CountiesLeft line 6", "`people` with a number"
+            ),
             SIX[:-1]: "The list list.txt has no end of its last line.",
-            SIX + "more\n":
-                "Line 19 of the list list.txt says `more`, where the text has to end.",
-            SIX.removesuffix("every choice\n"):
-                "The list list.txt ends with line 17, where `every choice` or the alternatives of "
-                "a grouping has to stand.",
-            SIX.replace("groupings 2", "groupings 3"):
-                "The list list.txt says every choice, and has 2 choices and 3 groupings.",
-            SIX.replace("every choice\n", "grouping 1 alternatives 1\ngrouping 2 alternatives 3\n"):
-                "A grouping of the list list.txt names an alternative that isn't there.",
-            SIX.replace("groupings 2", "groupings 1").replace(
-                "every choice\n", "grouping 1 alternatives 2\n"):
-                "The list has no grouping with the alternatives of the table table.csv.",
+            SIX + "more\n": "Line 19 of the list list.txt says `more`, where the text has to end.",
+            unended: f"The list list.txt ends with line 17, where {ending} has to stand.",
+            more: "The list list.txt says every choice, and has 2 choices and 3 groupings.",
+            astray: "A grouping of the list list.txt names an alternative that isn't there.",
+            other: "The list has no grouping with the alternatives of the table table.csv.",
         }
         for listed, sentence in cases.items():
             with self.subTest(sentence):
@@ -81,13 +95,19 @@ class Refusals(PageRoom):
     def test_texts_that_are_no_record(self) -> None:
         says = "Line {} of the record run.record says `{}`, where {} has to stand."
         self.refuses(says.format(1, "no", "`countygroups record 1`"), record="no\n")
-        self.refuses(says.format(3, "words", "`status`, a file or a word"),
-                     record="countygroups record 1\nversion 1\nwords\n")
-        self.refuses(says.format(1, " " + "x" * 59 + "..", "`countygroups record 1`"),
-                     record="\u202e" + "x" * 99 + "\n")
+        self.refuses(
+            says.format(3, "words", "`status`, a file or a word"),
+            record="countygroups record 1\nversion 1\nwords\n",
+        )
+        self.refuses(
+            says.format(1, " " + "x" * 59 + "..", "`countygroups record 1`"),
+            record="\u202e" + "x" * 99 + "\n",
+        )
         other = record_of(6).replace("status 0", "status 3")
-        self.refuses("The record run.record is of a run that ended with status 3, and not with 0.",
-                     record=other)
+        self.refuses(
+            "The record run.record is of a run that ended with status 3, and not with 0.",
+            record=other,
+        )
 
     def test_a_record_of_another_run(self) -> None:
         begin = "The record run.record isn't of a run "
@@ -96,37 +116,45 @@ class Refusals(PageRoom):
         self.refuses(of_chamber, record=record_of("many"))
         size = record_of(6).replace("word list", "word size")
         self.refuses(f"{begin}of solve, check, list or judge.", record=size)
-        self.refuses(f"{begin}for the state of the table table.csv.",
-                     record=record_of(6, "--state", "29"))
+        self.refuses(
+            f"{begin}for the state of the table table.csv.", record=record_of(6, "--state", "29")
+        )
         of_list = f"{begin}for the allowance of the list, 1/20."
         self.refuses(of_list, record=record_of(6, "--of", "21"))
         self.refuses(of_list, record=record_of(6, "--part", "x", "--of", "0"))
 
     def test_a_table_of_another_run(self) -> None:
         stored = file_line("stored", "table", b"another", "six.csv") + "\nstatus 0"
-        self.refuses("The table table.csv isn't the one that the run of the record run.record "
-                     "stored.", record=record_of(6).replace("status 0", stored))
-        self.refuses("The table table.csv has a withdrawn set, and the run of the record "
-                     "run.record read none.", table=small_table(WITHDRAWN), listed=SIX_WITHDRAWN)
+        self.refuses(
+            "The table table.csv isn't the one that the run of the record run.record stored.",
+            record=record_of(6).replace("status 0", stored),
+        )
+        self.refuses(
+            "The table table.csv has a withdrawn set, and the run of the record "
+            "run.record read none.",
+            table=small_table(WITHDRAWN),
+            listed=SIX_WITHDRAWN,
+        )
 
     def test_a_table_with_a_line_at_fault(self) -> None:
         begin = "Line 2 of the table table.csv has "
         no_text = "The table table.csv isn't a comma-separated text in UTF-8."
         head = f"The table table.csv doesn't begin with its header {LINE.strip()}."
+        twice = LINE + "37001,A,10,1,1,10\n37001,A,10,1,1,10\n"
+        apart = LINE + "37001,A,10,1,1,20\n37003,B,10,1,2,20\n"
+        of_sum = "The people of the counties of withdrawn set 1 in the table table.csv"
         wrong: dict[str | bytes, str] = {
-            "": head, "37001,A,10,1,1,10\n": head, "GEOID,NAME\n37001,A\n": head,
+            "": head,
+            "37001,A,10,1,1,10\n": head,
+            "GEOID,NAME\n37001,A\n": head,
             LINE: "The table table.csv lists no county.",
             LINE + "37001,A,10,1,1\n": f"{begin}5 fields and not 6.",
             LINE + "3701,A,10,1,1,10\n": f"{begin}no GEOID.",
             LINE + "37001,A,ten,1,1,10\n": f"{begin}no POPULATION.",
             LINE + "37001,A,10,X,1,10\n": f"{begin}no GROUP.",
-            LINE + "37001,A,10,1,1,10\n37001,A,10,1,1,10\n":
-                "The table table.csv lists county 37001 twice.",
-            LINE + "37001,A,10,1,1,20\n37003,B,10,1,2,20\n":
-                "The table table.csv gives group 1 two numbers of seats or of people.",
-            LINE + "37001,A,10,W1,1,20\n":
-                "The people of the counties of withdrawn set 1 in the table table.csv don't add up "
-                "to GROUP_POPULATION.",
+            twice: "The table table.csv lists county 37001 twice.",
+            apart: "The table table.csv gives group 1 two numbers of seats or of people.",
+            LINE + "37001,A,10,W1,1,20\n": f"{of_sum} don't add up to GROUP_POPULATION.",
             LINE + '37001,"A,10,1,1,10\n': no_text,
             LINE.encode() + b"37001,\xff,10,1,1,10\n": no_text,
         }
@@ -135,23 +163,39 @@ class Refusals(PageRoom):
                 self.refuses(sentence, table=text)
 
     def test_outlines_that_cant_be_used(self) -> None:
-        texts: list[str | bytes] = ["no", "", "[]", '{"type": "Topology"}', b"\xff\xfe",
-                                    '{"type": "FeatureCollection"}', "[" * 100000]
+        texts: list[str | bytes] = [
+            "no",
+            "",
+            "[]",
+            '{"type": "Topology"}',
+            b"\xff\xfe",
+            '{"type": "FeatureCollection"}',
+            "[" * 100000,
+        ]
         for text in texts:
             path = self.file("o.geojson", text)
-            self.refuses("The outlines o.geojson aren't GeoJSON with a list of features.",
-                         outlines=path)
-        feature: dict[str, Any] = {"type": "Feature", "properties": {"GEOID": "37001"},
-                                   "geometry": None}
-        self.refuses("County 37001 of the outlines o.geojson has no polygon.",
-                     outlines=self.outlines(feature))
+            self.refuses(
+                "The outlines o.geojson aren't GeoJSON with a list of features.", outlines=path
+            )
+        feature: dict[str, Any] = {
+            "type": "Feature",
+            "properties": {"GEOID": "37001"},
+            "geometry": None,
+        }
+        self.refuses(
+            "County 37001 of the outlines o.geojson has no polygon.",
+            outlines=self.outlines(feature),
+        )
         ring = [[0, 0], [1, 1], [0, 0]]
         feature["geometry"] = {"type": "Polygon", "coordinates": [ring]}
-        self.refuses("County 37001 of the outlines o.geojson has a ring that isn't one.",
-                     outlines=self.outlines(feature))
+        self.refuses(
+            "County 37001 of the outlines o.geojson has a ring that isn't one.",
+            outlines=self.outlines(feature),
+        )
         feature["properties"] = {"GEOID": 37001}
-        self.refuses("Feature 1 of the outlines o.geojson has no GEOID.",
-                     outlines=self.outlines(feature))
+        self.refuses(
+            "Feature 1 of the outlines o.geojson has no GEOID.", outlines=self.outlines(feature)
+        )
         self.refuses("The outlines o.geojson have no county 37001.", outlines=self.outlines())
 
     def outlines(self, *features: dict[str, Any]) -> str:
@@ -165,8 +209,9 @@ class Refusals(PageRoom):
         with contextlib.redirect_stderr(said):
             status = county_page.main(["none", "none", OUTLINES, "none", out])
         self.assertEqual(status, 1)
-        self.assertEqual(said.getvalue(), "The table none can't be read: No such file or "
-                                          "directory.\n")
+        self.assertEqual(
+            said.getvalue(), "The table none can't be read: No such file or directory.\n"
+        )
         self.refuses("The outlines none can't be read: No such file or directory.", outlines="none")
 
     def test_a_page_that_was_there_stays(self) -> None:
@@ -182,19 +227,26 @@ class Refusals(PageRoom):
             with contextlib.redirect_stderr(said), self.assertRaises(SystemExit) as ended:
                 county_page.main(words)
             self.assertEqual(ended.exception.code, 2)
-            self.assertIn("usage: python3 tools/page.py TABLE LIST OUTLINES RECORD OUT.html",
-                          said.getvalue())
+            self.assertIn(
+                "usage: python3 tools/page.py TABLE LIST OUTLINES RECORD OUT.html", said.getvalue()
+            )
 
     def test_an_enacted_grouping_of_other_counties(self) -> None:
         begin = "The grouping enacted "
         self.refuses_enacted("1|37001\n", f"{begin}doesn't have each county of the page once.")
-        self.refuses_enacted(ENACTED.replace("2|37003", "1|37003"),
-                             f"{begin}has 5 seats, and the table has 6.")
+        self.refuses_enacted(
+            ENACTED.replace("2|37003", "1|37003"), f"{begin}has 5 seats, and the table has 6."
+        )
 
     def refuses_enacted(self, enacted: str, sentence: str) -> None:
         """The run with this grouping as the enacted one says this sentence alone."""
-        status, said, out = self.made(small_table(GROUPS), SIX, record_of(6), self.squares,
-                                      ["--enacted", "2023", self.file("enacted", enacted)])
+        status, said, out = self.made(
+            small_table(GROUPS),
+            SIX,
+            record_of(6),
+            self.squares,
+            ["--enacted", "2023", self.file("enacted", enacted)],
+        )
         self.assertEqual((status, os.path.exists(out)), (1, False))
         self.assertEqual(said.replace(self.folder + os.sep, ""), sentence + "\n")
 
@@ -203,7 +255,7 @@ class Made(PageRoom):
     """What a page is made of."""
 
     def test_its_data(self) -> None:
-        table = small_table(GROUPS, {"37001": "</script><b>", "37003": "A & \"B\""})
+        table = small_table(GROUPS, {"37001": "</script><b>", "37003": 'A & "B"'})
         status, said, out = self.made(table, SIX, record_of(6), self.squares)
         self.assertEqual((status, said), (0, ""))
         with open(out, encoding="utf-8") as file:
@@ -216,8 +268,13 @@ class Made(PageRoom):
         self.assertNotRegex(text.replace("http://www.w3.org", ""), r"https?://|<link|@import")
 
     def test_the_enacted_grouping_and_where_the_borders_come_from(self) -> None:
-        more = ["--enacted", "2023", self.file("enacted", ENACTED),
-                "--borders", self.file("borders", "Made of <outlines>\nby hand.\n")]
+        more = [
+            "--enacted",
+            "2023",
+            self.file("enacted", ENACTED),
+            "--borders",
+            self.file("borders", "Made of <outlines>\nby hand.\n"),
+        ]
         status, said, out = self.made(small_table(GROUPS), SIX, record_of(6), self.squares, more)
         self.assertEqual((status, said), (0, ""))
         with open(out, encoding="utf-8") as file:
@@ -244,10 +301,12 @@ class Made(PageRoom):
 
     def test_several_numbers_of_seats(self) -> None:
         rows = [["37001", "", 300, 1, 20, 300], ["37003", "", 300, 2, 19, 300]]
-        listed = ("people 600\nchamber 39\nseats left 39\ncounties 2\nanswer all\ncounts 2\n"
-                  "best groupings 1\nshared groups 2\n"
-                  "group seats 19 to 20 people 300 counties 37001\n"
-                  "group seats 19 to 20 people 300 counties 37003\nevery choice\n")
+        listed = (
+            "people 600\nchamber 39\nseats left 39\ncounties 2\nanswer all\ncounts 2\n"
+            "best groupings 1\nshared groups 2\n"
+            "group seats 19 to 20 people 300 counties 37001\n"
+            "group seats 19 to 20 people 300 counties 37003\nevery choice\n"
+        )
         self.assertEqual(self.made(written(rows), listed, record_of(39), self.squares)[0], 0)
 
 

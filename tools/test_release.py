@@ -18,8 +18,15 @@ import unittest
 import dist_folder
 
 TOOLS = os.path.join(dist_folder.TOP, "tools")
-NEEDED = ("compare_dist.py", "dist_folder.py", "gate_room.py", "kit_links.sh",
-          "program_module.py", "prove.sh", "release.sh")
+NEEDED = (
+    "compare_dist.py",
+    "dist_folder.py",
+    "gate_room.py",
+    "kit_links.sh",
+    "program_module.py",
+    "prove.sh",
+    "release.sh",
+)
 RT = """#!/usr/bin/env bash
 set -e
 kit=$(cd "$(dirname "$0")/.." && pwd)
@@ -134,8 +141,11 @@ class TestRelease(unittest.TestCase):
 
     def run_words(self, *words: str) -> subprocess.CompletedProcess[str]:
         """Runs words in the repository, with the kit on the path."""
-        who = {f"GIT_{role}_{part}": "tester" for role in ("AUTHOR", "COMMITTER")
-               for part in ("NAME", "EMAIL")}
+        who = {
+            f"GIT_{role}_{part}": "tester"
+            for role in ("AUTHOR", "COMMITTER")
+            for part in ("NAME", "EMAIL")
+        }
         path = f"{self.kit}/bin:{os.environ['PATH']}"
         how = {**os.environ, **who, "PATH": path}
         return subprocess.run(words, cwd=self.top, env=how, capture_output=True, text=True)
@@ -183,8 +193,14 @@ class TestRelease(unittest.TestCase):
         write(f"{self.top}/dist/old", "old")
         ran = self.run_words("tools/release.sh")
         self.assertEqual(ran.returncode, 0, ran.stderr)
-        names = ["BUILD", "SHA256SUMS", "countygroups-x86_64-linux", "countygroups.cmd",
-                 "countygroups.mjs", "countygroups.wasm"]
+        names = [
+            "BUILD",
+            "SHA256SUMS",
+            "countygroups-x86_64-linux",
+            "countygroups.cmd",
+            "countygroups.mjs",
+            "countygroups.wasm",
+        ]
         self.assertEqual(sorted(os.listdir(f"{self.top}/dist")), names)
         wasm = read(f"{self.top}/dist/countygroups.wasm")
         self.assertEqual(wasm, "wasm of module of countygroups\n")
@@ -247,8 +263,7 @@ class TestKitLinks(unittest.TestCase):
     def call(self, *words: str) -> subprocess.CompletedProcess[str]:
         """Calls clang as the kit's command does: by a name, and without an environment."""
         clang = f"{self.room}/kit/toolchain/bin/clang"
-        return subprocess.run(words, executable=clang, env=NO_WORDS, capture_output=True,
-                              text=True)
+        return subprocess.run(words, executable=clang, env=NO_WORDS, capture_output=True, text=True)
 
     def test_names_are_listed(self) -> None:
         ran = self.call("llvm-nm", "-D", "--undefined-only", "-j", "/bin/sh")

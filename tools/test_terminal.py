@@ -145,12 +145,19 @@ class OtherTexts(unittest.TestCase):
 NAMES = {"37001": "Alamance County", "37003": "Alexander County", "37007": "Ashe County"}
 PEOPLE = {"37001": 100, "37003": 60, "37005": 40, "37007": 200}
 BORDERS = (("37001", "37003"), ("37003", "37005"), ("37005", "37007"))
-BLOCKS = {"370010001001000": 100, "370030001001000": 60, "370050001001000": 40,
-          "370070001001000": 101, "370070001001001": 99}
+BLOCKS = {
+    "370010001001000": 100,
+    "370030001001000": 60,
+    "370050001001000": 40,
+    "370070001001000": 101,
+    "370070001001001": 99,
+}
 GROUPING = "1|37001\n2|37007\n1|37003|37005\n"
 # District 1 has a block in two groups, and district 2 has too few people.
-PLAN = ("370010001001000|1\n370030001001000|1\n370050001001000|2\n"
-        "370070001001000|3\n370070001001001|4\n")
+PLAN = (
+    "370010001001000|1\n370030001001000|1\n370050001001000|2\n"
+    "370070001001000|3\n370070001001001|4\n"
+)
 GROUPS = [
     "countygroups: group 1 seats 1 people 100: Alamance County",
     "countygroups: group 2 seats 2 people 200: Ashe County",
@@ -170,13 +177,19 @@ def write_files(folder: str) -> None:
     """Writes the census files, the border list, a grouping and a plan of four counties."""
     areas = [("050", code, people) for code, people in PEOPLE.items()]
     areas += [("750", code, people) for code, people in BLOCKS.items()]
-    geo = [header_line(i, level, code, NAMES.get(code, ""))
-           for i, (level, code, _) in enumerate(areas)]
+    geo = [
+        header_line(i, level, code, NAMES.get(code, "")) for i, (level, code, _) in enumerate(areas)
+    ]
     segment = [f"||||{i}|{people}\n" for i, (_, _, people) in enumerate(areas)]
     borders = "".join(f"A|{one}|B|{other}|1\n" for one, other in BORDERS)
     borders = "County Name|County GEOID|Neighbor Name|Neighbor GEOID|Length\n" + borders
-    files = {"geo": "".join(geo), "segment": "".join(segment), "borders": borders,
-             "grouping": GROUPING, "plan": PLAN}
+    files = {
+        "geo": "".join(geo),
+        "segment": "".join(segment),
+        "borders": borders,
+        "grouping": GROUPING,
+        "plan": PLAN,
+    }
     for name, text in files.items():
         with open(f"{folder}/{name}", "w", encoding="utf-8") as file:
             file.write(text)
@@ -190,8 +203,16 @@ class Names(unittest.TestCase):
         self.addCleanup(room.cleanup)
         self.room = room.name
         write_files(self.room)
-        self.problem = ["--geo", f"{self.room}/geo", "--segment", f"{self.room}/segment",
-                        "--chamber", "4", "--adjacency", f"{self.room}/borders"]
+        self.problem = [
+            "--geo",
+            f"{self.room}/geo",
+            "--segment",
+            f"{self.room}/segment",
+            "--chamber",
+            "4",
+            "--adjacency",
+            f"{self.room}/borders",
+        ]
 
     def told_at(self, *words: str) -> list[str]:
         """Returns the lines on standard error of a run at a terminal.
@@ -218,21 +239,28 @@ class Names(unittest.TestCase):
         self.told_at("solve", *certificate)
         told = self.told_at("list", *certificate)
         self.assertEqual(told[0], "countygroups: shared groups 3")
-        bare = [line.replace(" 1 seats", " seats").replace(" 2 seats", " seats")
-                .replace(" 3 seats", " seats") for line in GROUPS]
+        bare = [
+            line.replace(" 1 seats", " seats")
+            .replace(" 2 seats", " seats")
+            .replace(" 3 seats", " seats")
+            for line in GROUPS
+        ]
         self.assertEqual(sorted(told[1:]), sorted(bare))
 
     def test_findings(self) -> None:
         """Findings are told by kind, with the counties of each set that they name."""
         plan = ["--grouping", f"{self.room}/grouping", "--assignments", f"{self.room}/plan"]
         told = self.told_at("audit", *plan)
-        self.assertEqual(told, [
-            "countygroups: 1 pair of sets has a district in common",
-            "countygroups: 1 set has another number of districts than seats",
-            "countygroups: 2 districts have too many or too few people",
-            "countygroups: group 1: Alamance County",
-            "countygroups: group 3: Alexander County, 37005",
-        ])
+        self.assertEqual(
+            told,
+            [
+                "countygroups: 1 pair of sets has a district in common",
+                "countygroups: 1 set has another number of districts than seats",
+                "countygroups: 2 districts have too many or too few people",
+                "countygroups: group 1: Alamance County",
+                "countygroups: group 3: Alexander County, 37005",
+            ],
+        )
 
     def test_refusals(self) -> None:
         """A run that is refused tells the same as through pipes."""

@@ -3,14 +3,13 @@
 import { stripSvg } from "./answer_parts.mjs";
 import { choicesOf, groupingText, groupsOf } from "./answers.mjs";
 import { planOf, planTable } from "./block_plan.mjs";
-import { districtsOf } from "./districts.mjs";
 import { find, findInput, stepList, verdictHtml } from "./dom.mjs";
-import { faultsByDistrict, findingKinds } from "./findings_words.mjs";
+import { districtFaults, findingKinds, setsOfDistrict } from "./findings_words.mjs";
 import { placesOf } from "./geography.mjs";
 import { groupName } from "./group_words.mjs";
 import { givenGroupingText } from "./grouping_view.mjs";
 import { PROBLEM_FILES, startProgram, wasStopped, whyNoProgram, withFile } from "./program.mjs";
-import { readFindings, readGrouping } from "./program_texts.mjs";
+import { readDistricts, readFindings, readGrouping } from "./program_texts.mjs";
 import { lastSolved } from "./solve_files.mjs";
 import { shownOption } from "./view_state.mjs";
 import {
@@ -25,6 +24,8 @@ import {
 /** @typedef {import("./geography.mjs").Geography} Geography */
 /** @typedef {import("./findings_words.mjs").Against} Against */
 /** @typedef {import("./program_texts.mjs").Finding} Finding */
+/** @typedef {import("./program_texts.mjs").District} District */
+/** @typedef {{findings: Finding[], districts: District[]}} Audited */
 /**
  * A grouping that a plan can be compared with.
  * @typedef {{key: string, words: string, text: string, seats: number, geography: Geography,
@@ -115,6 +116,7 @@ export async function takePlan(desk, state, file, given) {
   find("#audit-result").innerHTML = "";
   paintPlan(desk, state, given);
   const labels = new Set(found.rows.map((row) => row[found.district]));
+  for (const noDistrict of ["", "ZZZ"]) labels.delete(noDistrict);
   const likely = choicesFor(desk, state).find((one) => one.seats === labels.size);
   if (likely) findInput("#plan-against").value = likely.key;
 }
@@ -168,29 +170,28 @@ async function audited(given, choice, steps) {
   }
   step.end(true, `Read ${counted(plan.blocks, "block")} of the plan. ${plan.note}`);
   step = steps.begin("Comparing the plan with the groups");
-  const findings = await findingsOf({ geo, segment, adjacency }, choice, plan, step);
-  step.end(true, `Compared: ${counted(findings.length, "finding")}`);
-  step = steps.begin("Counting the people of each district");
-  const districts = await districtsOf(geo, segment, plan.lines);
-  step.end(true, `Counted the people of ${counted(districts.length, "district")}`);
-  return findingsHtml(choice, findings, districts);
+  const found = await runAudit({ geo, segment, adjacency }, choice, plan, step);
+  step.end(true, `Compared ${counted(found.districts.length, "district")}: `
+    + counted(found.findings.length, "finding"));
+  return foundHtml(choice, found);
 }
 
 /**
- * Returns the findings of the program. Throws a sentence if it refuses a file.
+ * Returns the findings and the districts of the program. Throws a sentence if it refuses a file.
  * @param {{geo: File, segment: File, adjacency: File}} census
  * @param {Choice} choice
  * @param {Plan} plan
  * @param {ReturnType<ReturnType<typeof stepList>["begin"]>} step
- * @returns {Promise<Finding[]>}
+ * @returns {Promise<Audited>}
  */
-async function findingsOf(census, choice, plan, step) {
+async function runAudit(census, choice, plan, step) {
   /** @type {Map<string, Blob>} */
   let files = new Map(Object.entries(census));
   files = withFile(files, "grouping", choice.text);
   files = withFile(files, "plan", plan.lines);
   const words = ["audit", ...PROBLEM_FILES, "--chamber", String(choice.seats), "--state",
-    String(Number(choice.geography.code)), "--grouping", "grouping", "--assignments", "plan"];
+    String(Number(choice.geography.code)), "--grouping", "grouping", "--assignments", "plan",
+    "--districts", "districts"];
   const [part, whole] = choice.allowance;
   if (part !== 1 || whole !== 20) words.push("--part", String(part), "--of", String(whole));
   const { result, stop } = await startProgram(words, files, (line) => step.tell(line));
@@ -200,7 +201,11 @@ async function findingsOf(census, choice, plan, step) {
   const run = await result.finally(() => {
     button.hidden = true;
   });
-  if (run.status === 0 || run.status === 1) return readFindings(run.output);
+  const stored = run.stored.get("districts");
+  if (stored && (run.status === 0 || run.status === 1)) {
+    const districts = readDistricts(new TextDecoder().decode(stored));
+    return { findings: readFindings(run.output), districts };
+  }
   step.end(false, "A file was refused");
   if (/NoBlocks/.test(run.output)) {
     throw new Error("The geographic header has no blocks: it is an extract. Take the state’s whole "
@@ -212,27 +217,16 @@ async function findingsOf(census, choice, plan, step) {
 /**
  * Returns findings by kind, and the table of districts, faults first.
  * @param {Choice} choice
- * @param {Finding[]} findings
- * @param {import("./districts.mjs").District[]} districts
+ * @param {Audited} found
  */
-function findingsHtml(choice, findings, districts) {
+function foundHtml(choice, { findings, districts }) {
   const grouping = findings.find((one) => one.kind === "Grouping");
   if (grouping) {
     return verdictHtml(false, "The grouping isn’t lawful.", `So no plan can be compared with it: `
       + `<code>${escapeHtml(grouping.words.join(" "))}</code>`);
   }
-  const groups = readGrouping(choice.text).map(({ seats, codes }) => (
-    { seats, counties: placesOf(choice.geography, codes) }));
-  const nameOf = (/** @type {string} */ code) => {
-    const place = choice.geography.placeOf.get(code);
-    return place === undefined ? `the county ${code}` : choice.geography.counties[place].name;
-  };
-  /** @type {Against} */
-  const against = {
-    geography: choice.geography, groups, chamber: choice.seats, allowance: choice.allowance,
-    countyWords: nameOf,
-  };
-  const kinds = findingKinds(against, findings).map(({ count, name, told }) => (
+  const against = againstOf(choice);
+  const kinds = findingKinds(against, findings, districts).map(({ count, name, told }) => (
     `<div class="${count ? "some" : ""}"><b>${numberText(count)}</b>${name}`
     + `${told ? `<br><span class="note">${escapeHtml(told)}</span>` : ""}</div>`));
   const head = findings.length ? `${capital(countedInWords(findings.length, "finding"))}.`
@@ -240,43 +234,66 @@ function findingsHtml(choice, findings, districts) {
   const more = findings.length ? `The plan was compared with ${escapeHtml(choice.words)}.`
     : `The plan keeps to the groups of ${escapeHtml(choice.words)}.`;
   return verdictHtml(!findings.length, head, more) + `<div class="kinds">${kinds.join("")}</div>`
-    + districtTable(choice, findings, districts, groups)
-    + '<p class="note">The findings are the program’s. The people of each district are counted by '
-    + 'this '
-    + "page, which no proof speaks of.</p>";
+    + districtTable(choice, against, districts)
+    + '<p class="note">The findings are the program’s, and so are the people, the groups and the '
+    + "counties of each district. The percentages are reckoned by this page, which no proof speaks "
+    + "of.</p>";
 }
 
 /**
- * Returns the table of districts.
+ * Returns what is needed to tell of a comparison with a grouping in words.
  * @param {Choice} choice
- * @param {Finding[]} findings
- * @param {import("./districts.mjs").District[]} districts
- * @param {{seats: number, counties: number[]}[]} groups
+ * @returns {Against}
  */
-function districtTable(choice, findings, districts, groups) {
-  const { geography, seats, allowance: [part, whole] } = choice;
-  const faults = faultsByDistrict(findings);
-  const groupsWith = (/** @type {Set<string>} */ counties) => {
-    const places = placesOf(geography, [...counties]);
-    return groups.filter((group) => places.some((place) => group.counties.includes(place)));
+function againstOf({ geography, text }) {
+  const groups = readGrouping(text).map(({ seats, codes }) => (
+    { seats, counties: placesOf(geography, codes) }));
+  const countyWords = (/** @type {string} */ code) => {
+    const place = geography.placeOf.get(code);
+    return place === undefined ? `the county ${code}` : geography.counties[place].name;
   };
+  return { geography, groups, countyWords };
+}
+
+/**
+ * Returns the table of districts, those with faults first.
+ * @param {Choice} choice
+ * @param {Against} against
+ * @param {District[]} districts
+ */
+function districtTable(choice, against, districts) {
+  if (!districts.length) return "";
+  const natural = new Intl.Collator("en-US", { numeric: true });
   const ordered = [...districts].sort((one, other) => (
-    (faults.get(other.label)?.length ?? 0) - (faults.get(one.label)?.length ?? 0)));
-  const rows = ordered.map(({ label, people, counties }) => {
-    const off = (people * seats) / geography.total - 1;
-    const fault = faults.get(label) ?? [];
-    const names = groupsWith(counties).map((group) => groupName(geography, group)).join("; ");
-    return `<tr><td class="number"><b>${escapeHtml(label)}</b></td><td>${escapeHtml(names)}</td>`
-      + `<td class="number people">${numberText(people)}</td>`
-      + `<td class="number deviation">${signedPercent(off)}</td>`
-      + `<td class="strip-cell">${stripSvg(off, part / whole || 0.0001, fault.length > 0)}</td>`
-      + `<td class="fault">${escapeHtml(fault.join(", "))}</td></tr>`;
-  });
-  return `<details class="fold" open><summary>All ${districts.length} districts</summary><div `
-    + 'class="scrolls"><table class="groups"><thead><tr><th '
+    districtFaults(other).length - districtFaults(one).length
+    || natural.compare(one.label, other.label)));
+  const rows = ordered.map((district) => districtRow(choice, against, district));
+  return `<details class="fold" open><summary>All ${counted(districts.length, "district")}`
+    + '</summary><div class="scrolls"><table class="groups districts"><thead><tr><th '
     + 'class="number">District</th><th>Group</th><th class="number">People</th><th '
-    + 'class="number">From the ideal (percent)</th><th></th>'
+    + 'class="number">From the ideal (percent)</th><th></th><th>Counties</th>'
     + `<th>Finding</th></tr></thead><tbody>${rows.join("")}</tbody></table></div></details>`;
+}
+
+/**
+ * Returns the row of a district.
+ * @param {Choice} choice
+ * @param {Against} against
+ * @param {District} district
+ */
+function districtRow({ geography, seats, allowance: [part, whole] }, against, district) {
+  const { label, people } = district;
+  const off = (people * seats) / geography.total - 1;
+  const faults = districtFaults(district);
+  const names = setsOfDistrict(against, district).join("; ");
+  const counties = groupName(geography, { counties: placesOf(geography, district.counties) });
+  return `<tr><td class="number label"><b>${escapeHtml(label)}</b></td>`
+    + `<td>${escapeHtml(names)}</td>`
+    + `<td class="number people">${numberText(people)}</td>`
+    + `<td class="number deviation">${signedPercent(off)}</td>`
+    + `<td class="strip-cell">${stripSvg(off, part / whole || 0.0001, faults.length > 0)}</td>`
+    + `<td class="counties">${escapeHtml(counties)}</td>`
+    + `<td class="fault">${escapeHtml(faults.join(", "))}</td></tr>`;
 }
 
 /**

@@ -1,4 +1,4 @@
-// Reads the texts that `countygroups` writes (docs/formats.md): list, report, table, record,
+// Reads the texts that `countygroups` writes (docs/formats.md): list, report, tables, record,
 // findings.
 
 import { rowsOf } from "./tables.mjs";
@@ -29,6 +29,12 @@ import { rowsOf } from "./tables.mjs";
  *   answer: string}} RunRecord
  */
 /** @typedef {{kind: string, words: string[]}} Finding */
+/**
+ * A district of a plan. `least` and `greatest` are the people that suit one seat; `sets` are those
+ * in which it has blocks: the number of a group from 1, or `W1` for a withdrawn set.
+ * @typedef {{label: string, people: number, least: number, greatest: number, sets: string[],
+ *   counties: string[]}} District
+ */
 
 /**
  * Returns the numbers behind `counts`, with no number for `counts none`.
@@ -197,5 +203,20 @@ export function readFindings(text) {
   return lines.map((line) => {
     const [kind, ...words] = line.split(" ");
     return { kind, words };
+  });
+}
+
+/**
+ * Returns the districts of a table that an audit stored.
+ * @param {string} text
+ * @returns {District[]}
+ */
+export function readDistricts(text) {
+  return rowsOf(text, ",").slice(1).map((row) => {
+    const [label, people, least, greatest, sets, counties] = row;
+    return {
+      label, people: Number(people), least: Number(least), greatest: Number(greatest),
+      sets: sets.split(" "), counties: counties.split(" "),
+    };
   });
 }

@@ -10,6 +10,7 @@ import threading
 import time
 import unittest
 from pathlib import Path
+from typing import IO
 
 from web_setting import CASES, DATA, SETTING, TOP, NotThere, make_launcher, native, run_node
 
@@ -41,17 +42,38 @@ class Launched(unittest.TestCase):
         return folder
 
     def run_in(
-        self, folder: Path, program: Path, *words: str | bytes, **how: object
+        self,
+        folder: Path,
+        program: Path,
+        *words: str | bytes,
+        given: bytes | None = None,
+        to: int | IO[bytes] = subprocess.PIPE,
     ) -> "subprocess.CompletedProcess[bytes]":
-        """Runs a program in a folder, and returns what it wrote and its status."""
-        streams: dict[str, object] = {"stdout": subprocess.PIPE, "stderr": subprocess.PIPE}
-        streams = {"stdin": subprocess.DEVNULL, **streams, **how}
-        called = [str(program), *words]
-        return subprocess.run(called, cwd=folder, env={}, check=False, **streams)  # type: ignore
+        """Runs a program in a folder, and returns what it wrote and its status.
 
-    def launch(self, *words: str | bytes, **how: object) -> "subprocess.CompletedProcess[bytes]":
+        `given` is what standard input gives, and `to` is where standard output goes.
+        """
+        called: list[str | bytes] = [str(program), *words]
+        environment: dict[str, str] = {}
+        return subprocess.run(
+            called,
+            cwd=folder,
+            env=environment,
+            stdin=subprocess.DEVNULL if given is None else None,
+            input=given,
+            stdout=to,
+            stderr=subprocess.PIPE,
+            check=False,
+        )
+
+    def launch(
+        self,
+        *words: str | bytes,
+        given: bytes | None = None,
+        to: int | IO[bytes] = subprocess.PIPE,
+    ) -> "subprocess.CompletedProcess[bytes]":
         """Runs the launcher in the folder of this test."""
-        return self.run_in(self.folder, self.program, *words, **how)
+        return self.run_in(self.folder, self.program, *words, given=given, to=to)
 
 
 class Natively(Launched):
@@ -118,14 +140,17 @@ class Words(Launched):
 class Streams(Launched):
     """Pipes, devices and signals."""
 
-    def size(self, geo: str, **how: object) -> "subprocess.CompletedProcess[bytes]":
-        return self.launch("size", "--geo", geo, *PROBLEM[2:], "--chamber", "50", **how)
+    def size(
+        self, geo: str, given: bytes | None = None, to: int | IO[bytes] = subprocess.PIPE
+    ) -> "subprocess.CompletedProcess[bytes]":
+        words = ["size", "--geo", geo, *PROBLEM[2:], "--chamber", "50"]
+        return self.launch(*words, given=given, to=to)
 
     def test_pipes_are_read_as_files(self) -> None:
         wanted = self.size("nc2020geo.pl").stdout
         self.assertEqual(wanted.count(b"\n"), 103)
         held = (self.folder / "nc2020geo.pl").read_bytes()
-        self.assertEqual(self.size("/dev/stdin", stdin=None, input=held).stdout, wanted)
+        self.assertEqual(self.size("/dev/stdin", given=held).stdout, wanted)
         os.mkfifo(self.folder / "fifo")
         writer = threading.Thread(target=(self.folder / "fifo").write_bytes, args=(held,))
         writer.start()
@@ -164,7 +189,7 @@ class Streams(Launched):
     def test_a_closed_pipe(self) -> None:
         back, to = os.pipe()
         os.close(back)
-        done = self.size("nc2020geo.pl", stdout=to)
+        done = self.size("nc2020geo.pl", to=to)
         os.close(to)
         self.assertEqual(done.returncode, 5)
 
@@ -172,7 +197,7 @@ class Streams(Launched):
         if not os.path.exists("/dev/full"):
             raise NotThere("this machine has no /dev/full")
         with open("/dev/full", "wb") as full:
-            self.assertEqual(self.size("nc2020geo.pl", stdout=full).returncode, 5)
+            self.assertEqual(self.size("nc2020geo.pl", to=full).returncode, 5)
 
     def test_closed_standard_input_is_empty(self) -> None:
         called = f'exec "{self.program}" <&-'

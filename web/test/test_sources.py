@@ -1,8 +1,10 @@
-"""What the sources of web/ are held to: types, lengths, and one list of the host calls."""
+"""What the sources of web/ are held to: types, lengths, and one list of the host calls.
+
+The lengths are those of all scripts in Python, too.
+"""
 from __future__ import annotations
 
 import ast
-import os
 import re
 import subprocess
 import unittest
@@ -39,16 +41,8 @@ def sources(*patterns: str) -> list[Path]:
 
 
 def python_files() -> list[Path]:
-    """Returns the Python files that serve web/, whose types are checked together."""
-    others = ("tools/bundle.py", "tools/launcher.py", "tools/test_web.py", "bench/web_speed.py")
-    return sources("web/test/*.py", *others)
-
-
-def all_python_files() -> list[Path]:
-    """Returns the Python files that serve web/ and the desk."""
-    names = ("browser", "desk_page", "make_desk", "what_if", "test_desk")
-    desk = sources("web/desk/test/*.py", *(f"tools/{name}.py" for name in names))
-    return [*python_files(), *desk]
+    """Returns the Python files that `tools/check_python.sh` checks."""
+    return sources("cases/*.py", "tools/*.py", "bench/*.py", "web/test/*.py", "web/desk/test/*.py")
 
 
 class Sources(unittest.TestCase):
@@ -59,20 +53,6 @@ class Sources(unittest.TestCase):
         done = subprocess.run(words, capture_output=True, text=True, check=False)
         self.assertEqual((done.returncode, done.stdout), (0, ""))
 
-    def test_types_of_the_tests(self) -> None:
-        folders = ":".join(str(path) for path in (TOP / "tools", TOP / "cases", WEB / "test"))
-        words = [program_there("mypy"), "--strict", "--follow-imports=silent"]
-        called = [*words, "--cache-dir=/dev/null", *map(str, python_files())]
-        done = subprocess.run(
-            called,
-            cwd=TOP,
-            env={**os.environ, "MYPYPATH": folders},
-            capture_output=True,
-            text=True,
-            check=False,
-        )
-        self.assertEqual(done.returncode, 0, done.stdout)
-
     def test_functions_are_short(self) -> None:
         seen = 0
         for path in sources("web/host/*.mjs", "web/desk/*.mjs", "web/test/*.mjs"):
@@ -82,7 +62,7 @@ class Sources(unittest.TestCase):
         self.assertGreater(seen, 100)
 
     def test_python_functions_are_short(self) -> None:
-        for path in all_python_files():
+        for path in python_files():
             for node in ast.walk(ast.parse(path.read_text(encoding="utf-8"))):
                 if isinstance(node, ast.FunctionDef) and node.end_lineno:
                     length = node.end_lineno - node.lineno + 1
@@ -90,7 +70,7 @@ class Sources(unittest.TestCase):
 
     def test_lines_are_short(self) -> None:
         own = sources("web/**/*.mjs", "web/**/*.c", "web/types/*.ts")
-        for path in [*own, *all_python_files()]:
+        for path in [*own, *python_files()]:
             for number, line in enumerate(path.read_text(encoding="utf-8").split("\n"), 1):
                 self.assertLessEqual(len(line), MOST_COLUMNS, f"{path.name}, line {number}")
 

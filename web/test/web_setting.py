@@ -65,8 +65,7 @@ def program_there(*names: str) -> str:
     raise NotThere(f"there is no `{names[0]}`: Debian has it as the package {PACKAGES[names[0]]}")
 
 
-PACKAGES = {name: name for name in ("chromium", "mypy")}
-PACKAGES.update(node="nodejs", tsc="node-typescript")
+PACKAGES = {"chromium": "chromium", "node": "nodejs", "tsc": "node-typescript"}
 
 
 def run_node(*words: str | Path, timeout: float = SECONDS) -> "subprocess.CompletedProcess[str]":

@@ -1,11 +1,13 @@
-"""What the program of this machine stores for an option, and what a map of it may not show."""
+"""What the program of this machine stores for an option or a plan, and what a map may not show."""
 
 from __future__ import annotations
 
+import csv
 from pathlib import Path
 from typing import Any
 
-from desk_setting import CHAMBERS, DATA, PROBLEM, run
+from desk_setting import CENSUS, CHAMBERS, DATA, PROBLEM, run
+from plan_sample import Sample
 
 COUNTS = {"senate": 16, "house": 8}
 OPTIONS = [(key, option) for key, count in COUNTS.items() for option in range(1, count + 1)]
@@ -30,6 +32,22 @@ def option_texts(room: Path, key: str, option: int) -> tuple[bytes, bytes]:
     run("list", *words, "--number", str(option), "--out", str(out))
     run("judge", *words[:-2], "--grouping", str(out), "--table", str(table))
     return out.read_bytes(), table.read_bytes()
+
+
+def audited_plan(room: Path, plan: Sample) -> tuple[list[str], list[dict[str, str]]]:
+    """Returns the findings of a plan against the Senate's groups of 2023, and its districts.
+
+    The Census files with the blocks are those that `write_census` left in the room.
+    """
+    assignments, table = room / "assignments", room / "districts"
+    lines = [f"{block}|{label}\n" for block, label in plan.district.items()]
+    assignments.write_text("".join(lines), encoding="ascii")
+    words = ["--geo", str(room / "ncgeo2020.pl"), "--segment", str(room / "nc000012020.pl")]
+    words += ["--adjacency", str(DATA / CENSUS["adjacency"]), "--chamber", str(CHAMBERS["senate"])]
+    words += ["--grouping", str(DATA / "senate2023.grouping"), "--assignments", str(assignments)]
+    findings = run("audit", *words, "--districts", str(table)).splitlines()[1:]
+    with open(table, encoding="ascii", newline="") as file:
+        return findings, list(csv.DictReader(file))
 
 
 def touching_pairs() -> set[tuple[str, str]]:

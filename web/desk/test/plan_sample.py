@@ -95,6 +95,7 @@ def write_plan(sample: Sample, path: Path) -> Path:
     blocks = list(sample.district.items())
     random.Random(1).shuffle(blocks)
     for at, (block, label) in enumerate(blocks):
-        rows.append(f'{at},"{block}","County, {block[2:5]}","{label}","said ""yes"""')
+        quoted = label.replace('"', '""')
+        rows.append(f'{at},"{block}","County, {block[2:5]}","{quoted}","said ""yes"""')
     path.write_text("\ufeff" + "\r\n".join(rows) + "\r\n", encoding="utf-8")
     return path

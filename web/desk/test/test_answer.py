@@ -5,6 +5,7 @@ import json
 import re
 import subprocess
 import xml.etree.ElementTree
+from typing import Any
 
 from desk_setting import CENSUS, DATA, PROBLEM, InDesk, native, page, run
 from native_texts import COUNTS, GROUP_OF, OPTIONS, option_texts, pairs_of_one_tint
@@ -116,9 +117,9 @@ class Stored(InDesk):
             for mine, theirs in zip(self.box(one), wanted):
                 self.assertAlmostEqual(mine, theirs, delta=0.02)
 
-    def box(self, feature: object) -> list[float]:
+    def box(self, feature: dict[str, Any]) -> list[float]:
         """Returns the box around a feature, in degrees."""
-        text = json.dumps(feature["geometry"]["coordinates"])  # type: ignore[index]
+        text = json.dumps(feature["geometry"]["coordinates"])
         numbers = [float(one) for one in re.findall(r"-?\d+\.\d+|-?\d+", text)]
         wide, high = numbers[::2], numbers[1::2]
         return [min(wide), max(wide), min(high), max(high)]

@@ -6,11 +6,14 @@ import zipfile
 from pathlib import Path
 
 from desk_setting import CENSUS, DATA, PROBLEM, STATES, InDesk, native
+from native_texts import audited_plan
 from page_samples import squares
 from plan_sample import Sample, make_sample, write_census, write_plan
 
 ANY = ".drop-zone[data-kind=geo] input"
 PLAN = "#plan-file"
+DISTRICTS = """[...document.querySelectorAll("#audit-result tbody tr")].map((row) => (
+  [...row.cells].map((cell) => cell.innerText)))"""
 
 
 class Files(InDesk):
@@ -257,6 +260,17 @@ class Grouping(Files):
         self.assertIn("It has eight groups of two counties; a best grouping has nine.", told)
 
 
+def faults_of(district: dict[str, str]) -> str:
+    """Returns what is wrong with a district by its line of the program's table."""
+    people, least, greatest = (int(district[name]) for name in ("POPULATION", "LEAST", "GREATEST"))
+    faults = ["crosses groups"] if " " in district["SETS"] else []
+    if people < least:
+        faults.append("too few people")
+    if people > greatest:
+        faults.append("too many people")
+    return ", ".join(faults)
+
+
 class Plan(Files):
     """A plan that a reader has."""
 
@@ -291,12 +305,7 @@ class Plan(Files):
 
     def districts(self) -> dict[str, int]:
         """Returns the people of each district as the page has them."""
-        script = (
-            "Object.fromEntries([...document.querySelectorAll('#audit-result tbody tr')].map("
-            "(one) => [one.children[0].innerText, Number(one.children[2].innerText"
-            ".replaceAll(',', ''))]))"
-        )
-        return dict(self.value(script))
+        return {row[0]: int(row[2].replace(",", "")) for row in self.value(DISTRICTS)}
 
     def test_a_plan_without_a_finding(self) -> None:
         self.assertGreater(len(self.sample.people), 19_900)
@@ -327,6 +336,32 @@ class Plan(Files):
         told = self.text("#audit-result .kinds")
         self.assertIn(f"District {first} has blocks in", told)
         self.assertEqual(self.districts(), people)
+        self.check_quiet()
+
+    def test_the_districts_of_the_program(self) -> None:
+        names = {"7": 'West, "A"  10', "8": 'West, "A"  9', "9": "<b>&amp;"}
+        district = {block: names.get(one, one) for block, one in self.sample.district.items()}
+        blocks = list(district)
+        district[blocks[0]] = 'West, "A"  9'
+        for block in blocks[1:61]:
+            district[block] = ""
+        for block in blocks[-60:]:
+            district[block] = "ZZZ"
+        plan = Sample(self.sample.people, district)
+        told = self.audited(write_plan(plan, self.room / "named.csv"))
+        findings, stored = audited_plan(self.room, plan)
+        self.assertIn(f"{len(findings)} findings.", told)
+        shown = self.value(DISTRICTS)
+        wanted = [
+            [one["DISTRICT"], f"{int(one['POPULATION']):,}", faults_of(one)] for one in stored
+        ]
+        self.assertEqual(sorted([row[0], row[2], row[6]] for row in shown), sorted(wanted))
+        crossing = [shown[0][at] for at in (0, 1, 5)]
+        groups = ["Johnston; Pitt and Edgecombe", "Johnston, Pitt and Edgecombe"]
+        self.assertEqual(crossing, ['West, "A"  9', *groups])
+        # (those with faults stand first, and then each in the natural order of its label)
+        labels = [row[0] for row in shown if not row[6]]
+        self.assertEqual(labels[-2:], ["49", 'West, "A"  10'])
         self.check_quiet()
 
     def refused(self, rows: list[str]) -> str:
@@ -365,6 +400,13 @@ class Plan(Files):
         self.wait("!document.querySelector('#audit').disabled")
         self.press_button("#audit")
         self.wait_words("#audit-result", "has no blocks: it is an extract")
+
+    def test_blocks_in_no_district_make_no_district(self) -> None:
+        labels = ["", "ZZZ", *map(str, range(1, 121))]
+        rows = [f"37001{at:010},{label}" for at, label in enumerate(labels)]
+        self.given(self.write("house.csv", "\n".join(["GEOID20,District", *rows])))
+        self.wait("!document.querySelector('#audit').disabled")
+        self.assertEqual(self.value("document.querySelector('#plan-against').value"), "house")
 
     def test_a_lost_zero_is_mended(self) -> None:
         script = (DATA.parent.parent / "web" / "desk" / "block_plan.mjs").as_uri()

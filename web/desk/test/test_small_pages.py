@@ -34,7 +34,7 @@ class Small(InDesk, PageRoom):
         )
         self.assertEqual(self.text("nav").split("\n")[:2], ["The answer", "The proof"])
         self.assertFalse(
-            self.value("document.querySelector('[data-view=whatif]')" ".getClientRects().length")
+            self.value("document.querySelector('[data-view=whatif]').getClientRects().length")
         )
         self.check_quiet()
 

@@ -4,7 +4,6 @@ from __future__ import annotations
 
 import http.server
 import re
-import subprocess
 import sys
 import threading
 import urllib.request
@@ -228,29 +227,3 @@ class Page(InDesk):
             self.browser.save_picture(str(folder / f"{name}.png"))
         self.open("#senate/6")
         self.browser.save_print(str(folder / "print.pdf"), 8.5, 11)
-
-
-class Sources(InDesk):
-    """The sources of the desk."""
-
-    def test_types_of_the_tests(self) -> None:
-        words = ["mypy", "--strict", "--cache-dir=/dev/null", "--follow-imports=silent"]
-        files = [
-            *map(str, (TOP / "web" / "desk" / "test").glob("*.py")),
-            *(
-                str(TOP / "tools" / f"{name}.py")
-                for name in ("browser", "desk_page", "make_desk", "what_if", "test_desk")
-            ),
-        ]
-        try:
-            done = subprocess.run(
-                [*words, *files],
-                capture_output=True,
-                text=True,
-                check=False,
-                cwd=TOP,
-                env={"MYPYPATH": f"{TOP}/tools:{TOP}/web/desk/test", "PATH": "/usr/bin:/bin"},
-            )
-        except FileNotFoundError:
-            self.skipTest("there is no `mypy`: Debian has it as the package mypy")
-        self.assertEqual(done.returncode, 0, done.stdout)
