@@ -1,49 +1,184 @@
-"""Compares the numbers of lines in docs/trust.md with the files that it names.
+"""Compares docs/trust.md with the definitions that it names.
 
 usage: python3 tools/trust_lines.py
 
-Statuses: 0 all agree, 1 some differ, or no file is named.
+A row of a table names a file of definitions, some definitions in it, and how many lines these have:
+each from its comment to the next blank line. A last row says how many lines the table has in all.
+This script compares the numbers. It also tells each definition that a named one uses, if the page
+doesn't name it up to there, and no line `Below: ..` announces it: types that the code declares and
+the standard library aside. A table may use its own names. What is announced has to have a row.
+Statuses: 0 all agree, 1 something differs, or no file is named.
 """
 from __future__ import annotations
 
+import itertools
 import os
 import re
 import sys
-from typing import List, Optional, Tuple
+from dataclasses import dataclass
+from typing import Dict, Iterable, Iterator, List, Set, Tuple
 
 TOP = os.path.dirname(os.path.dirname(os.path.abspath(__file__)))
-ROW = re.compile(r"^\| `(crates/[^`]+)` \| (\d+) \|")
+ROW = re.compile(r"^\| `(crates/[^`]+\.antt)` \| ([^|]+) \| (\d+) \|")
+SUM = re.compile(r"^\| in all \| \| (\d+) \|")
+BELOW = re.compile(r"^Below: (.*)$")
+FILE = re.compile(r"`(crates/[^`]+)`")
+# A line that begins a definition, with its name.
+HEAD = re.compile(r"^(?:abbrev |unfoldable )?pub (?:record |data )?([^\s:({]+)(?: .*)?$")
+NAME = re.compile(r"[^\W\d]\w*(?:-\w+)*")
+QUALIFIED = re.compile(r"\.\s*([^\W\d]\w*)")
+IMPORT = re.compile(r"^(?:pub )?use Rattle\.(\w+)\.specs\.([\w.]+?)(?:\.\{(.*)\}| as (\w+))$")
 
 
-def named_files() -> List[Tuple[str, int]]:
-    """Returns the path of each file that docs/trust.md names, with the lines that it says."""
-    with open(os.path.join(TOP, "docs", "trust.md"), encoding="utf-8") as page:
-        rows = [found for line in page if (found := ROW.match(line))]
-    return [(found.group(1), int(found.group(2))) for found in rows]
+@dataclass
+class Row:
+    """A row of the page: a file, the definitions that it names, and their lines."""
+
+    path: str
+    names: List[str]
+    said: int
 
 
-def fault_of(path: str, said: int) -> Optional[str]:
-    """Returns what is wrong with a row that says `said` lines of the file at `path`, or None."""
-    if not os.path.isfile(os.path.join(TOP, path)):
-        return f"docs/trust.md names {path}, which isn't there"
+@dataclass
+class Definitions:
+    """The definitions of a file by name, and what names stand for that it takes from others."""
+
+    blocks: Dict[str, List[str]]
+    taken: Dict[str, str]
+
+
+def is_of_repository(crate: str, module: str) -> bool:
+    """Returns whether the repository has a file of this module's definitions."""
+    path = os.path.join(TOP, "crates", crate, "specs", *module.split("."))
+    return os.path.isfile(f"{path}.antt")
+
+
+def taken_by(line: str) -> Iterator[Tuple[str, str]]:
+    """Yields the names that an import of the repository's definitions gives, and their own names."""
+    found = IMPORT.match(line)
+    if found is None or not is_of_repository(found.group(1), found.group(2)):
+        return
+    for part in (found.group(3) or "").split(","):
+        own, _, given = part.strip().partition(" as ")
+        yield given or own, own
+
+
+def paragraphs_of(text: str) -> Iterator[List[str]]:
+    """Yields the lines of each paragraph: what stands between blank lines."""
+    for part in re.split(r"\n\s*\n", text):
+        yield part.strip("\n").split("\n")
+
+
+def names_in(lines: List[str]) -> Iterator[str]:
+    """Yields the definitions that stand in a paragraph. Those of a mutual one stand further right."""
+    code = [line for line in lines if not line.lstrip().startswith("--")]
+    is_mutual = bool(code) and (code[0].startswith(" ") or "mutual" in code[0].split())
+    for line in code:
+        head = HEAD.match(line[2:] if is_mutual and line.startswith("  ") else line)
+        if head is not None:
+            yield head.group(1)
+
+
+def definitions_of(path: str) -> Definitions:
+    """Returns the definitions of a file. Those of a mutual one stand under each of its names."""
     with open(os.path.join(TOP, path), encoding="utf-8") as file:
-        lines = sum(1 for _ in file)
-    if lines != said:
-        return f"{path} has {lines} lines, and docs/trust.md says {said}"
-    return None
+        text = file.read()
+    blocks: Dict[str, List[str]] = {}
+    for lines in paragraphs_of(text):
+        for name in names_in(lines):
+            blocks.setdefault(name, lines)
+    taken = dict(pair for line in text.split("\n") for pair in taken_by(line))
+    return Definitions(blocks, taken)
+
+
+def used_by(lines: List[str], known: Definitions) -> Set[str]:
+    """Returns the definitions of the repository that these lines use, by their own names."""
+    code = "\n".join(line for line in lines if not line.lstrip().startswith("--"))
+    code = re.sub(r'"[^"]*"', "", code)
+    used = set()
+    for name in NAME.findall(code):
+        if name in known.blocks:
+            used.add(name)
+        elif name in known.taken:
+            used.add(known.taken[name])
+    return used
+
+
+def faults_of(row: Row, listed: Set[str]) -> Iterator[str]:
+    """Yields what is wrong with a row, if the definitions in `listed` were named before or in it."""
+    if not os.path.isfile(os.path.join(TOP, row.path)):
+        return
+    known = definitions_of(row.path)
+    counted: List[List[str]] = []
+    for name in row.names:
+        if name not in known.blocks:
+            yield f"docs/trust.md names {name} of {row.path}, which isn't there"
+            continue
+        lines = known.blocks[name]
+        if not any(lines is other for other in counted):
+            counted.append(lines)
+        for used in sorted(used_by(lines, known) - listed):
+            yield f"{name} of {row.path} uses {used}, which isn't named up to there"
+    count = sum(len(lines) for lines in counted)
+    if count != row.said:
+        yield f"{row.path}: these have {count} lines, and docs/trust.md says {row.said}"
+
+
+def names_told(text: str) -> List[str]:
+    """Returns the names that stand between backticks."""
+    return re.findall(r"`([^`]+)`", text)
+
+
+def all_row_names(lines: Iterable[str]) -> Iterator[str]:
+    """Yields the names of all rows among these lines."""
+    for line in lines:
+        found = ROW.match(line)
+        if found is not None:
+            yield from names_told(found.group(2))
+
+
+def section_of(lines: List[str]) -> List[str]:
+    """Returns the lines up to the next heading."""
+    return list(itertools.takewhile(lambda line: not line.startswith("#"), lines))
+
+
+def faults_of_page(lines: List[str]) -> Iterator[str]:
+    """Yields what is wrong with the page of these lines."""
+    named: Set[str] = set()
+    below: Set[str] = set()
+    total = 0
+    for place, line in enumerate(lines):
+        found, last, later = ROW.match(line), SUM.match(line), BELOW.match(line)
+        if later is not None:
+            below.update(names_told(later.group(1)))
+        if found is not None:
+            row = Row(found.group(1), names_told(found.group(2)), int(found.group(3)))
+            total += row.said
+            yield from faults_of(row, named | below)
+        if last is not None and int(last.group(1)) != total:
+            yield f"a table has {total} lines in all, and docs/trust.md says {last.group(1)}"
+        if line.startswith("#"):
+            total = 0
+            named.update(all_row_names(section_of(lines[place + 1 :])))
+        named.update(names_told(line))
+        for path in FILE.findall(line):
+            if not os.path.isfile(os.path.join(TOP, path)):
+                yield f"docs/trust.md names {path}, which isn't there"
+    for name in sorted(below - set(all_row_names(lines))):
+        yield f"{name} is announced, and no row has it"
 
 
 def main() -> int:
-    """Prints what is wrong and how many files were compared, and returns the status."""
-    named = named_files()
+    """Prints what is wrong and how many rows were compared, and returns the status."""
+    with open(os.path.join(TOP, "docs", "trust.md"), encoding="utf-8") as page:
+        lines = page.read().split("\n")
+    rows = sum(1 for line in lines if ROW.match(line))
     wrong = 0
-    for path, said in named:
-        fault = fault_of(path, said)
-        if fault is not None:
-            print(fault)
-            wrong += 1
-    print(f"{len(named)} files, {wrong} wrong")
-    return 1 if wrong or not named else 0
+    for fault in faults_of_page(lines):
+        print(fault)
+        wrong += 1
+    print(f"{rows} rows, {wrong} wrong")
+    return 1 if wrong or not rows else 0
 
 
 if __name__ == "__main__":
