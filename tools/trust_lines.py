@@ -54,7 +54,7 @@ def is_of_repository(crate: str, module: str) -> bool:
 
 
 def taken_by(line: str) -> Iterator[Tuple[str, str]]:
-    """Yields the names that an import of the repository's definitions gives, and their own names."""
+    """Yields the names that an import of the repository's definitions gives, with their own."""
     found = IMPORT.match(line)
     if found is None or not is_of_repository(found.group(1), found.group(2)):
         return
@@ -70,7 +70,7 @@ def paragraphs_of(text: str) -> Iterator[List[str]]:
 
 
 def names_in(lines: List[str]) -> Iterator[str]:
-    """Yields the definitions that stand in a paragraph. Those of a mutual one stand further right."""
+    """Yields the definitions of a paragraph. Those of a mutual one stand further right."""
     code = [line for line in lines if not line.lstrip().startswith("--")]
     is_mutual = bool(code) and (code[0].startswith(" ") or "mutual" in code[0].split())
     for line in code:
@@ -105,7 +105,7 @@ def used_by(lines: List[str], known: Definitions) -> Set[str]:
 
 
 def faults_of(row: Row, listed: Set[str]) -> Iterator[str]:
-    """Yields what is wrong with a row, if the definitions in `listed` were named before or in it."""
+    """Yields what is wrong with a row, if the definitions in `listed` are named up to it."""
     if not os.path.isfile(os.path.join(TOP, row.path)):
         return
     known = definitions_of(row.path)
