@@ -75,7 +75,7 @@ def ends(lines: list[str], codes: Iterable[str]) -> list[Grouping]:
 
 
 def seats(people: int, problem: Problem) -> str:
-    """Returns the numbers of seats that so many people suit."""
+    """Returns the numbers of seats that these people suit."""
     _, total, chamber = problem
     least = max(1, -(-20 * chamber * people // (21 * total)))
     most = 20 * chamber * people // (19 * total)

@@ -47,7 +47,7 @@ def is_open(program: str, words: Sequence[str], steps: int) -> bool:
 def least_steps(program: str, words: Sequence[str], enough: int) -> int:
     """Returns the least number of steps that suffices, to within a hundredth.
 
-    So many as `enough` have to suffice.
+    `enough` steps have to suffice.
     """
     low, high = 0, 1000
     while high < enough and is_open(program, words, high):

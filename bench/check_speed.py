@@ -49,7 +49,7 @@ def write_text(folder: str, lines: list[str]) -> None:
 def weighed(head: str, codes: list[str], limit: int) -> list[str]:
     """Returns a certificate of groups of one county each.
 
-    At most so many counties weigh one each.
+    Its leaf bounds the sizes up to `limit`, where each county weighs one.
     """
     lines = [head, "order " + " ".join(codes), f"limit {limit}", f"target {len(codes)}"]
     lines += [f"group 1 {code}" for code in codes]

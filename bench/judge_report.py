@@ -52,7 +52,7 @@ def connected(codes: list[str], beside: set[tuple[str, str]]) -> bool:
 
 
 def suits(problem: Problem, seats: int, codes: list[str]) -> bool:
-    """Returns whether the people of the counties suit so many seats."""
+    """Returns whether the people of the counties suit `seats` seats."""
     count = sum(problem.people[code] for code in codes)
     share = Fraction(count * problem.chamber, sum(problem.people.values()) * seats)
     return Fraction(19, 20) <= share <= Fraction(21, 20)

@@ -24,7 +24,7 @@ def counties(geo: str, segment: str, state: str) -> Iterator[tuple[str, int]]:
 
 
 def suits(people: int, seats: int, ideal: Fraction) -> bool:
-    """Returns whether so many people suit so many seats."""
+    """Returns whether `people` suit `seats` seats of `ideal` people each, within five percent."""
     return Fraction(19, 20) * seats * ideal <= people <= Fraction(21, 20) * seats * ideal
 
 

@@ -51,7 +51,7 @@ class Desk(NamedTuple):
         return Run(done.stdout, seconds, int(done.stderr.split()[-1]) / 1024)
 
     def is_solved(self, steps: int) -> bool:
-        """Returns whether so many steps suffice."""
+        """Returns whether `steps` steps suffice."""
         return b"answer open" not in self.run("solve", ["--steps", str(steps)]).text
 
     def check(self, budget: int) -> Run:

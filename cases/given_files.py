@@ -37,7 +37,7 @@ class Forms:
 
 
 def copies(lines: bytes, times: int) -> Iterator[bytes]:
-    """Yields so many copies of the lines, in pieces of about a megabyte."""
+    """Yields the lines `times` times, in pieces of about a megabyte."""
     many = 1 + PIECE // (1 + len(lines))
     piece = lines * min(many, times)
     for _ in range(times // many):
@@ -46,7 +46,7 @@ def copies(lines: bytes, times: int) -> Iterator[bytes]:
 
 
 def repeated(text: bytes, times: "int | None") -> Iterator[bytes]:
-    """Yields the text in pieces; lines between `<` and `>` stand so many times in it."""
+    """Yields the text in pieces; lines between `<` and `>` stand `times` times in it."""
     begin = 0
     for found in re.finditer(rb"(?ms)^<\n(.*?)^>\n", text) if times is not None else ():
         yield text[begin : found.start()]

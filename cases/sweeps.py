@@ -49,7 +49,7 @@ def file_in_case(given: bytes, name: str) -> Optional[Tuple[int, int]]:
 
 
 def refused_places(wrote: bytes, count: int) -> List[int]:
-    """Returns which of the first lines, so many, say that memory was refused, from 0."""
+    """Returns which of the first `count` lines say that memory was refused, from 0."""
     return [i for i, line in enumerate(wrote.split(b"\n")[:count]) if line == b"memory"]
 
 

@@ -260,7 +260,7 @@ def groups(word: bytes) -> Optional[int]:
 
 
 # What follows the first word of a line: a word for each reader (`FORMS`), and then words for one
-# reader, so many at least and at most (`REPEATED`).
+# reader, with their least and greatest number (`REPEATED`).
 FORMS: Dict[str, List[Callable[[bytes], Any]]] = {
     "window": [plain(0, 500), plain(1, 1000)],
     "limit": [plain(0, MOST_COUNTIES)],
@@ -532,7 +532,7 @@ class State(NamedTuple):
         return self._replace(raised={**self.raised, most: self.raised.get(most, 0) | county})
 
     def open_to(self, count: int) -> int:
-        """Returns the counties of the rest that may lie in a group of so many."""
+        """Returns the counties of the rest that may lie in a group of `count` counties."""
         is_open = self.rest
         for most, counties in self.raised.items():
             is_open &= ~counties if most >= count else is_open
@@ -598,7 +598,7 @@ def judge_seats(state: State, leaf: Line, _: Counts) -> None:
 def weighed(
     state: State, line: int, count: int, most: int, quota: int, *weights: Tuple[str, int]
 ) -> int:
-    """Returns what the counties open to a group of so many weigh, divided by the quota.
+    """Returns what the counties open to a group of `count` weigh, divided by the quota.
 
     Refuses the line if some group of this size that fits weighs less than the quota.
     """

@@ -21,7 +21,7 @@ class Chamber:
         return Fraction(self.people, self.seats)
 
     def suited(self, people: int) -> range:
-        """Returns the numbers of seats that so many people suit. There may be none."""
+        """Returns the numbers of seats that `people` suit. There may be none."""
         least = math.ceil(people / (self.ideal * (1 + self.allowance)))
         most = math.floor(people / (self.ideal * (1 - self.allowance)))
         return range(max(1, least), most + 1)
@@ -31,13 +31,13 @@ class Chamber:
         return max(1, math.floor(people / self.ideal + Fraction(1, 2)))
 
     def choice(self, people: int) -> int:
-        """Returns the number nearest to what so many people suit, or the nearest if none suits."""
+        """Returns the suited number that is nearest to `people`, or the nearest if none suits."""
         suited, nearest = self.suited(people), self.nearest(people)
         return min(suited, key=lambda seats: abs(seats - nearest), default=nearest)
 
 
 def choose_seats(chamber: Chamber, people: Sequence[int], is_whole: bool) -> List[int]:
-    """Returns the seats of groups with so many people.
+    """Returns the seats of groups with `people` people.
 
     If `is_whole`, the groups have all counties, so that their seats should be those of the chamber.
     Where several numbers suit a group, another one is then taken as far as that helps.

@@ -222,7 +222,8 @@ files_elsewhere() {
     done
 }
 
-# Proves pieces that are left, so many that a better target doesn't cost much work on the old one. Each job's text is a file of a new folder.
+# Proves some of the pieces that are left. There are so few that a better target doesn't cost much
+# work on the old one. Each job's text is a file of a new folder.
 prove_open() {
     local command batch
     piece_words

@@ -202,7 +202,7 @@ def plain_code(field: str) -> str:
 
 
 def is_digits(text: str, *lengths: int) -> bool:
-    """Returns whether a text is ASCII digits alone, so many as one of `lengths`."""
+    """Returns whether a text is ASCII digits alone, and has one of `lengths` of them."""
     return len(text) in lengths and DIGITS.fullmatch(text) is not None
 
 

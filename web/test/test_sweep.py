@@ -86,7 +86,7 @@ class HostSweep(Sweep):
 
 
 def with_limit(module: bytes, pages: int) -> bytes:
-    """Returns the module, whose memory has at most so many pages of 64 KB."""
+    """Returns the module, whose memory has at most `pages` pages of 64 KB."""
     at = 8
     while module[at] != MEMORY_SECTION:
         length, begin = number_at(module, at + 1)
