@@ -70,9 +70,12 @@ processors=$(nproc)
 jobs=$((processors < 4 ? processors : 4))
 room=$(mktemp -d)
 found=$(mktemp -d)
-changing=
+declare -A beside=()
 finish() {
-    [ -z "$changing" ] || kill "$changing" 2>/dev/null || true
+    local one
+    for one in "${beside[@]}"; do
+        kill -- "-$one" 2>/dev/null || true
+    done
     rm -rf "$room"
     rmdir "$found" 2>/dev/null || echo "test.sh: what was found is kept in $found" >&2
 }
@@ -145,20 +148,33 @@ test_programs() { # PROGRAM ..
     COUNTYGROUPS=$(realpath "$1") r/test.sh
 }
 
-# Changes cases at random for a time, beside the other tests. `end_of_changes` waits for the end.
-start_changes() { # SECONDS SEED PROGRAM
-    heading "cases changed at random, $1 seconds with seed $2" >"$room/changes"
-    python3 cases/fuzz.py --seconds "$1" --seed "$2" --program "$3" --keep "$found" \
-        >>"$room/changes" 2>&1 &
-    changing=$!
+# Runs a command beside the parts that follow. `end_beside` waits for it, and prints what it said.
+start_beside() { # NAME HEADING COMMAND ..
+    local name=$1
+    heading "$2" >"$room/$name"
+    shift 2
+    setsid "$@" >>"$room/$name" 2>&1 &
+    beside[$name]=$!
 }
 
-end_of_changes() {
+end_beside() { # NAME
     local status=0
-    wait "$changing" || status=$?
-    changing=
-    cat "$room/changes"
+    wait "${beside[$1]}" || status=$?
+    unset "beside[$1]"
+    cat "$room/$1"
     return "$status"
+}
+
+# Changes cases at random for a time, beside what follows.
+start_changes() { # SECONDS SEED PROGRAM
+    start_beside changes "cases changed at random, $1 seconds with seed $2" \
+        python3 cases/fuzz.py --seconds "$1" --seed "$2" --program "$3" --keep "$found"
+}
+
+# Tries every edit, beside what follows. The proofs of the crates are kept by then.
+start_edits() {
+    start_beside edits "every edit is tried" \
+        tools/prove.sh "$room/edited" "$room/edited.log" --all-edits
 }
 
 # Copies each program that was proved and built, and what it wrote, to its crate here.
@@ -190,13 +206,14 @@ prove_and_test() {
     local built=crates/countygroups/out/countygroups
     local programs edits=() all=() seconds=60 seed=1
     if [ "$is_all" = yes ]; then
-        edits=(--all-edits)
+        edits=(--no-edits)
         all=(--all)
         seconds=600
         seed=$(date +%-j)
     fi
     heading "every crate is proved"
     tools/prove.sh "$room/proved" "$room/log" "${edits[@]}" --module "$room/module.bc"
+    [ "$is_all" = no ] || start_edits
     take_programs "$room/proved"
     wasm=$room/countygroups.wasm
     refusing=$room/refusing.wasm
@@ -214,10 +231,11 @@ prove_and_test() {
         sweep
         heading "the real files, with the first calls refused"
         python3 cases/cases.py --jobs "$jobs" --sweep all --most 100 cases/carolina
+        end_beside edits
     else
         sweep --sample "$RANDOM"
     fi
-    end_of_changes
+    end_beside changes
 }
 
 if [ "$is_proved" = yes ]; then
@@ -236,6 +254,6 @@ else
         test_web --native "$program" --wasm "$wasm" ${refusing:+--refusing "$refusing"}
         test_desk "$program" "$wasm"
     fi
-    end_of_changes
+    end_beside changes
 fi
 heading "all passed"

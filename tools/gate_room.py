@@ -1,7 +1,7 @@
 #!/usr/bin/env python3
 """Copies the crates into a folder where `rt ci` proves them and tries the edits that are due.
 
-usage: gate_room.py FOLDER [--all-edits]
+usage: gate_room.py FOLDER [--all-edits | --no-edits]
 
 FOLDER gets `crates.txt`, `HANDLES` and `crates/`, without what earlier runs left in `out/`. It has
 to be empty or missing, and has to lie outside of any repository. Of the edits in `must-fail/`,
@@ -14,7 +14,7 @@ those of these crates are due:
 
 The newest commit's date stands for today's, so that each run over one commit makes one choice. If
 there is no history, as in a shallow clone or without git, all edits are due. With --all-edits all
-are due too, and those of `tried/` stand beside them.
+are due too, and those of `tried/` stand beside them. With --no-edits none is due.
 
 Statuses: 0 the folder is made; 1 it isn't empty, an edit's name stands in both folders, or a
 source lies where no check reads it; 2 these words can't be followed.
@@ -185,20 +185,31 @@ def say_choice(with_edits: list[str], tried: list[str], why: str) -> None:
     print(f"edits not tried: {' '.join(left) or 'none'}", flush=True)
 
 
+def chosen(names: list[str], all_edits: bool, no_edits: bool) -> tuple[list[str], str]:
+    """Returns the crates of `names` whose edits are tried, and why these."""
+    if all_edits:
+        return sorted(names), "--all-edits"
+    if no_edits:
+        return [], "--no-edits"
+    history = history_of(TOP)
+    why = "there is no whole history"
+    if history is not None:
+        day = f"day {history.day_of_year} of the year"
+        why = f"changed within {DAYS} days, or due on {day}"
+    return due(names, history), why
+
+
 def main(words: list[str]) -> int:
     """Makes the folder that `words` name, and returns the status to end with."""
     parser = argparse.ArgumentParser(description="Copies the crates with the edits that are due.")
     parser.add_argument("folder")
-    parser.add_argument("--all-edits", action="store_true")
+    choice = parser.add_mutually_exclusive_group()
+    choice.add_argument("--all-edits", action="store_true")
+    choice.add_argument("--no-edits", action="store_true")
     asked = parser.parse_args(words)
     folders = ("must-fail", "tried") if asked.all_edits else ("must-fail",)
     names = crates_with(TOP, folders)
-    history = None if asked.all_edits else history_of(TOP)
-    tried = due(names, history)
-    why = "--all-edits" if asked.all_edits else "there is no whole history"
-    if history is not None:
-        day = f"day {history.day_of_year} of the year"
-        why = f"changed within {DAYS} days, or due on {day}"
+    tried, why = chosen(names, asked.all_edits, asked.no_edits)
     try:
         make_room(TOP, asked.folder, tried, asked.all_edits)
     except Refused as found:

@@ -4,7 +4,7 @@ set -euo pipefail
 
 usage() {
     cat <<'TEXT'
-usage: tools/prove.sh FOLDER LOG [--all-edits] [--module FILE]
+usage: tools/prove.sh FOLDER LOG [--all-edits | --no-edits] [--module FILE]
 
 Copies the crates to FOLDER, which is empty or missing, with the must-fail edits that are due, and
 runs `rt ci` there: it proves each crate, tries the edits, and runs the programs. What it passed on
@@ -13,6 +13,7 @@ FOLDER/crates/NAME/out, and what `rt ci` said is in LOG. As many checks run side
 there are processors, four at most, each with one job: a check with several jobs takes more time of
 the processors.
 --all-edits: tries all edits, those of `tried/` too (`tools/gate_room.py`).
+--no-edits: tries none.
 --module FILE: stores the LLVM module of which the kit's clang made the program as FILE.
 Statuses: 0 all is proved and refused as it must be, 1 something isn't, 2 it can't be run.
 TEXT
@@ -29,7 +30,7 @@ names=()
 while [ $# -gt 0 ]; do
     case $1 in
         --help | -h) usage; exit 0 ;;
-        --all-edits) edits=(--all-edits) ;;
+        --all-edits | --no-edits) edits+=("$1") ;;
         --module)
             [ $# -gt 1 ] || refuse 2 "--module takes a file"
             module=$(realpath -m "$2")

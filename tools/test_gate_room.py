@@ -156,6 +156,11 @@ class TestHistory(unittest.TestCase):
         edits = sorted(os.listdir(f"{self.room}/copy/crates/ash/must-fail"))
         self.assertEqual(edits, ["a.edit", "b.edit"])
 
+    def test_the_choice_of_all_or_none(self) -> None:
+        all_edits = gate_room.chosen(["oak", "ash"], True, False)
+        self.assertEqual(all_edits, (["ash", "oak"], "--all-edits"))
+        self.assertEqual(gate_room.chosen(["oak", "ash"], False, True), ([], "--no-edits"))
+
     def test_one_name_in_both_folders_is_refused(self) -> None:
         write(f"{self.top}/crates/ash/tried/a.edit", "1")
         with self.assertRaisesRegex(Refused, "a.edit"):

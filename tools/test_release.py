@@ -224,6 +224,10 @@ class TestRelease(unittest.TestCase):
         self.assertIn("crates/other/must-fail/b.edit differs", ran.stderr)
         self.assertFalse(os.path.exists(f"{self.top}/dist"))
 
+    def test_a_proof_without_edits(self) -> None:
+        self.prove("--no-edits")
+        self.assertFalse(os.path.exists(f"{self.room}/proved/crates/other/must-fail"))
+
     def test_a_proof_of_other_crates_is_refused(self) -> None:
         self.prove("--all-edits")
         write(f"{self.top}/crates/other/src/main.rt", "changed")
