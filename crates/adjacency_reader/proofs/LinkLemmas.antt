@@ -2,10 +2,10 @@
 use Rattle.std.proofs.Common.{◌≡◌, ℕ, ◌<◌, ◌==◌, ◌&&◌, ◌⊎◌, inl, inr, ⊎_elim, nat_lt, Bool, true, false, List, [], ◌∷◌, Contains, Option, Some, None, filter, if◌then◌else◌, refl, sym, ap, ◌∙◌, arith, subst}
 use Rattle.std.specs.List.Sorted.{IsStrictlySortedBy}
 use Rattle.std.specs.Option.{option_or}
-use Rattle.std.specs.BTreeSet.{BTreeSet, contains}
+use Rattle.std.specs.BTreeSet.{BTreeSet, contains as set_contains}
 use Rattle.std.proofs.lemmas.Bool.{and_parts, and_from, or_left}
 use Rattle.std.proofs.lemmas.Bool.Decides.{Decides-eqb}
-use Rattle.grouping_laws.specs.Sets.{member}
+use Rattle.grouping_laws.specs.Sets.{contains}
 use Rattle.county_problem.specs.ProblemValue.{names_both}
 use Rattle.adjacency_reader.specs.declared.links.Sign.{Sign}
 use Rattle.adjacency_reader.specs.declared.links.Sign.TheVariants.{Add, Cut}
@@ -41,67 +41,67 @@ Pairs = BTreeSet (ℕ × ℕ)
 -- what the links that are left make of a pair, as all of them make of it
 abbrev pub Joined : List Link → List Link → List (ℕ × ℕ) → Pairs → Type 0
 Joined left links pairs linked =
-    (x y : ℕ) → (nat_lt x y && joined_by (last_sign left x y) (contains by_codes linked (x, y))) ≡ (nat_lt x y && joined_by (last_sign links x y) (names_both pairs x y))
+    (x y : ℕ) → (nat_lt x y && joined_by (last_sign left x y) (set_contains by_codes linked (x, y))) ≡ (nat_lt x y && joined_by (last_sign links x y) (names_both pairs x y))
 
 -- no pair has its greater code first
 abbrev pub Ordered : Pairs → Type 0
-Ordered linked = (x y : ℕ) → nat_lt x y ≡ false → contains by_codes linked (x, y) ≡ false
+Ordered linked = (x y : ℕ) → nat_lt x y ≡ false → set_contains by_codes linked (x, y) ≡ false
 
 module _ (pairs : List (ℕ × ℕ)) (links : List Link) (linked : Pairs) where
   -- before any link
-  pub joined_at_first : ((x y : ℕ) → contains by_codes linked (x, y) ≡ (nat_lt x y && names_both pairs x y)) → Joined links links pairs linked
+  pub joined_at_first : ((x y : ℕ) → set_contains by_codes linked (x, y) ≡ (nat_lt x y && names_both pairs x y)) → Joined links links pairs linked
   joined_at_first is x y = ap (λ (t : Bool). nat_lt x y && joined_by (last_sign links x y) t) (is x y) ∙ first_pairs (nat_lt x y) (names_both pairs x y) (last_sign links x y)
 
-  pub ordered_at_first : ((x y : ℕ) → contains by_codes linked (x, y) ≡ (nat_lt x y && names_both pairs x y)) → Ordered linked
+  pub ordered_at_first : ((x y : ℕ) → set_contains by_codes linked (x, y) ≡ (nat_lt x y && names_both pairs x y)) → Ordered linked
   ordered_at_first is x y more = is x y ∙ no_pair (nat_lt x y) (names_both pairs x y) more
 
   -- after all of them
   pub at_last : (left : List Link) → left ≡ [] → Joined left links pairs linked → Ordered linked
-      → (x y : ℕ) → contains by_codes linked (x, y) ≡ (nat_lt x y && joined_by (last_sign links x y) (names_both pairs x y))
+      → (x y : ℕ) → set_contains by_codes linked (x, y) ≡ (nat_lt x y && joined_by (last_sign links x y) (names_both pairs x y))
   at_last left none joined ordered x y =
-      only (nat_lt x y) (contains by_codes linked (x, y)) (ordered x y) ∙ subst (λ (l : List Link). (nat_lt x y && joined_by (last_sign l x y) (contains by_codes linked (x, y))) ≡ (nat_lt x y && joined_by (last_sign links x y) (names_both pairs x y))) none (joined x y)
+      only (nat_lt x y) (set_contains by_codes linked (x, y)) (ordered x y) ∙ subst (λ (l : List Link). (nat_lt x y && joined_by (last_sign l x y) (set_contains by_codes linked (x, y))) ≡ (nat_lt x y && joined_by (last_sign links x y) (names_both pairs x y))) none (joined x y)
     where
       only : (lt there : Bool) → (lt ≡ false → there ≡ false) → there ≡ (lt && there)
       only true there none = refl
       only false there none = none refl
 
 module _ (pairs : List (ℕ × ℕ)) (links left : List Link) (link : Link) (old new : Pairs)
-    (after : (x y : ℕ) → contains by_codes new (x, y) ≡ joined_by (if nat_lt x y && is_on x y link then Some link.sign else None) (contains by_codes old (x, y))) where
+    (after : (x y : ℕ) → set_contains by_codes new (x, y) ≡ joined_by (if nat_lt x y && is_on x y link then Some link.sign else None) (set_contains by_codes old (x, y))) where
   pub joined_after : Joined (link ∷ left) links pairs old → Joined left links pairs new
   joined_after before x y =
       ap (λ (t : Bool). nat_lt x y && joined_by (last_sign left x y) t) (after x y)
-      ∙ link_first (nat_lt x y) (is_on x y link) (contains by_codes old (x, y)) (last_sign left x y) link.sign
+      ∙ link_first (nat_lt x y) (is_on x y link) (set_contains by_codes old (x, y)) (last_sign left x y) link.sign
       ∙ before x y
 
   pub ordered_after : Ordered old → Ordered new
-  ordered_after before x y more = after x y ∙ not_ordered (nat_lt x y) (is_on x y link) (contains by_codes old (x, y)) link.sign more (before x y more)
+  ordered_after before x y more = after x y ∙ not_ordered (nat_lt x y) (is_on x y link) (set_contains by_codes old (x, y)) link.sign more (before x y more)
 
 -- ---- all links
 pub linked_from : (pairs : List (ℕ × ℕ)) (links : List Link) (linked : Pairs) → IsStrictlySortedBy by_codes linked.keys
-    → ((x y : ℕ) → contains by_codes linked (x, y) ≡ (nat_lt x y && joined_by (last_sign links x y) (names_both pairs x y))) → AreLinked pairs links linked.keys
+    → ((x y : ℕ) → set_contains by_codes linked (x, y) ≡ (nat_lt x y && joined_by (last_sign links x y) (names_both pairs x y))) → AreLinked pairs links linked.keys
 linked_from pairs links linked ascending is = record {
   ascending = ascending;
   each = λ (a b : ℕ). listed_where linked.keys a b (joined_by (last_sign links a b) (names_both pairs a b)) (is a b);
 }
 
 -- the pairs of listed counties that rows name, from a set of the rows of two listed counties
-pub pairs_from : (listed : List ℕ) (rows kept : List (ℕ × ℕ)) (test : ℕ → Bool) (pairs : Pairs) → ((c : ℕ) → test c ≡ member listed c) → kept ≡ filter (λ q. test q.0 && test q.1) rows
-    → IsStrictlySortedBy by_codes pairs.keys → ((x y : ℕ) → contains by_codes pairs (x, y) ≡ (nat_lt x y && names_both kept x y)) → ArePairs listed rows pairs.keys
+pub pairs_from : (listed : List ℕ) (rows kept : List (ℕ × ℕ)) (test : ℕ → Bool) (pairs : Pairs) → ((c : ℕ) → test c ≡ contains listed c) → kept ≡ filter (λ q. test q.0 && test q.1) rows
+    → IsStrictlySortedBy by_codes pairs.keys → ((x y : ℕ) → set_contains by_codes pairs (x, y) ≡ (nat_lt x y && names_both kept x y)) → ArePairs listed rows pairs.keys
 pairs_from listed rows kept test pairs same kept_is ascending is = record {
   ascending = ascending;
   each = λ (a b : ℕ).
       let whole = listed_where pairs.keys a b (names_both kept a b) (is a b) in
-      let both = member listed a && member listed b in
+      let both = contains listed a && contains listed b in
       let among : names_both kept a b ≡ (both && names_both rows a b) =
       ap (λ (k : List (ℕ × ℕ)). names_both k a b) kept_is ∙ named_among test rows a b
-      ∙ ap (λ (t : Bool). (t && test b) && names_both rows a b) (same a) ∙ ap (λ (t : Bool). (member listed a && t) && names_both rows a b) (same b) in (
+      ∙ ap (λ (t : Bool). (t && test b) && names_both rows a b) (same a) ∙ ap (λ (t : Bool). (contains listed a && t) && names_both rows a b) (same b) in (
         λ (there : Contains pairs.keys (a, b)).
             let found = whole.0 there in
             let parts = and_parts both (names_both rows a b) (sym among ∙ found.1) in
-            let members = and_parts (member listed a) (member listed b) parts.0 in
+            let members = and_parts (contains listed a) (contains listed b) parts.0 in
             (found.0, members.0, members.1, parts.1),
-        λ (q : (a < b) × (member listed a ≡ true) × (member listed b ≡ true) × (names_both rows a b ≡ true)).
-            whole.1 (q.0, among ∙ and_from both (names_both rows a b) (and_from (member listed a) (member listed b) q.1 q.2) q.3),
+        λ (q : (a < b) × (contains listed a ≡ true) × (contains listed b ≡ true) × (names_both rows a b ≡ true)).
+            whole.1 (q.0, among ∙ and_from both (names_both rows a b) (and_from (contains listed a) (contains listed b) q.1 q.2) q.3),
       );
 }
 
@@ -130,23 +130,23 @@ join sign both named (inr e) = ap (λ (s : Option Sign). joined_by s (both && na
 
 module _ (listed : List ℕ) (rows pairs : List (ℕ × ℕ)) (are : ArePairs listed rows pairs) (a b : ℕ) (less : a < b) where
   -- a pair of listed counties is among the pairs where a row names it
-  named_pairs : names_both pairs a b ≡ ((member listed a && member listed b) && names_both rows a b)
+  named_pairs : names_both pairs a b ≡ ((contains listed a && contains listed b) && names_both rows a b)
   named_pairs = same_tests _ _
       (λ (named : names_both pairs a b ≡ true). ⊎_elim
-      (λ (there : Contains pairs (a, b)). let of = (are.each a b).0 there in and_from (member listed a && member listed b) (names_both rows a b) (and_from (member listed a) (member listed b) of.1 of.2) of.3)
+      (λ (there : Contains pairs (a, b)). let of = (are.each a b).0 there in and_from (contains listed a && contains listed b) (names_both rows a b) (and_from (contains listed a) (contains listed b) of.1 of.2) of.3)
       (λ (there : Contains pairs (b, a)). let of = (are.each b a).0 there in let more : b < a = of.0 in absurd (omega arith))
       (pair_from_named pairs a b named))
-      (λ (holds : ((member listed a && member listed b) && names_both rows a b) ≡ true).
-      let parts = and_parts (member listed a && member listed b) (names_both rows a b) holds in
-      let members = and_parts (member listed a) (member listed b) parts.0 in
+      (λ (holds : ((contains listed a && contains listed b) && names_both rows a b) ≡ true).
+      let parts = and_parts (contains listed a && contains listed b) (names_both rows a b) holds in
+      let members = and_parts (contains listed a) (contains listed b) parts.0 in
       any_from_contained (names a b) pairs (a, b) ((are.each a b).1 (less, members.0, members.1, parts.1)) (names_own a b))
 
 module _ (listed : List ℕ) (rows : List (ℕ × ℕ)) (links : List Link) (a b : ℕ) (less : a < b) where
   abbrev both_listed : Bool
-  both_listed = member listed a && member listed b
+  both_listed = contains listed a && contains listed b
 
   adjacent_where : Added (last_sign links a b) both_listed (names_both rows a b) → Adjacent listed rows links a b ⊎ IsStrangeLink listed links a b
-  adjacent_where (inl e) = let members = and_parts (member listed a) (member listed b) e.0 in inl (record {
+  adjacent_where (inl e) = let members = and_parts (contains listed a) (contains listed b) e.0 in inl (record {
     apart = λ (same : a ≡ b). omega arith;
     first_listed = members.0;
     second_listed = members.1;
@@ -155,14 +155,14 @@ module _ (listed : List ℕ) (rows : List (ℕ × ℕ)) (links : List Link) (a b
   adjacent_where (inr e) = inr e
 
   added_where : Adjacent listed rows links a b ⊎ IsStrangeLink listed links a b → Added (last_sign links a b) both_listed (names_both rows a b)
-  added_where (inl e) = inl (and_from (member listed a) (member listed b) e.first_listed e.second_listed, e.joined)
+  added_where (inl e) = inl (and_from (contains listed a) (contains listed b) e.first_listed e.second_listed, e.joined)
   added_where (inr e) = inr e
 
 -- the pairs of a file's rows after links are exactly those that are adjacent, and beside them those of links to a county outside the list
 pub adjacent_from : (listed : List ℕ) (rows pairs : List (ℕ × ℕ)) (links : List Link) (linked : List (ℕ × ℕ)) → ArePairs listed rows pairs → AreLinked pairs links linked → AreAdjacent listed rows links linked
 adjacent_from listed rows pairs links linked are after a b less =
     let sign = last_sign links a b in
-    let both = member listed a && member listed b in
+    let both = contains listed a && contains listed b in
     let named = named_pairs listed rows pairs are a b less in (
       λ (there : Contains linked (a, b)).
           adjacent_where listed rows links a b less (split sign both (names_both rows a b) (ap (λ (t : Bool). joined_by sign t) (sym named) ∙ ((after.each a b).0 there).1)),

@@ -5,11 +5,11 @@ use Rattle.std.specs.declared.cmp.Ordering.{Ordering}
 use Rattle.std.specs.declared.cmp.Ordering.TheVariants.{Less, Equal, Greater}
 use Rattle.std.specs.Ordering.{nat_cmp, is_eq, ordering_then}
 use Rattle.std.specs.Bool.{Decides}
-use Rattle.std.specs.BTreeSet.{BTreeSet, contains}
+use Rattle.std.specs.BTreeSet.{BTreeSet, contains as set_contains}
 use Rattle.std.specs.Cmp.{unsigned_tied}
 use Rattle.std.proofs.lemmas.Bool.{false_from_ne_true, cases_lt}
 use Rattle.std.proofs.lemmas.Bool.Decides.{same_from_decides, Decides-eqb, Decides-ltb, Decides-and, Decides-or, Decides-like}
-use Rattle.grouping_laws.specs.Sets.{member}
+use Rattle.grouping_laws.specs.Sets.{contains}
 use Rattle.county_problem.specs.ProblemValue.{names_both}
 use Rattle.adjacency_reader.specs.Pairs.{by_codes, in_order, names}
 
@@ -100,13 +100,13 @@ module _ (key : ℕ × ℕ) (a b : ℕ) (old new : Pairs) (is : key ≡ in_order
   same_test : (x y : ℕ) → is_eq (by_codes key (x, y)) ≡ (nat_lt x y && names x y (a, b))
   same_test x y = ap (λ (k : ℕ × ℕ). is_eq (by_codes k (x, y))) is ∙ in_order_named a b x y apart
 
-  pub after_add : ((q : ℕ × ℕ) → contains by_codes new q ≡ cond (is_eq (by_codes key q)) true (contains by_codes old q))
-      → (x y : ℕ) → contains by_codes new (x, y) ≡ (nat_lt x y && names x y (a, b) || contains by_codes old (x, y))
-  after_add updates x y = updates (x, y) ∙ ap (λ (t : Bool). cond t true (contains by_codes old (x, y))) (same_test x y) ∙ added (nat_lt x y && names x y (a, b)) (contains by_codes old (x, y))
+  pub after_add : ((q : ℕ × ℕ) → set_contains by_codes new q ≡ cond (is_eq (by_codes key q)) true (set_contains by_codes old q))
+      → (x y : ℕ) → set_contains by_codes new (x, y) ≡ (nat_lt x y && names x y (a, b) || set_contains by_codes old (x, y))
+  after_add updates x y = updates (x, y) ∙ ap (λ (t : Bool). cond t true (set_contains by_codes old (x, y))) (same_test x y) ∙ added (nat_lt x y && names x y (a, b)) (set_contains by_codes old (x, y))
 
-  pub after_cut : ((q : ℕ × ℕ) → contains by_codes new q ≡ cond (is_eq (by_codes key q)) false (contains by_codes old q))
-      → (x y : ℕ) → contains by_codes new (x, y) ≡ (not (nat_lt x y && names x y (a, b)) && contains by_codes old (x, y))
-  after_cut updates x y = updates (x, y) ∙ ap (λ (t : Bool). cond t false (contains by_codes old (x, y))) (same_test x y) ∙ taken (nat_lt x y && names x y (a, b)) (contains by_codes old (x, y))
+  pub after_cut : ((q : ℕ × ℕ) → set_contains by_codes new q ≡ cond (is_eq (by_codes key q)) false (set_contains by_codes old q))
+      → (x y : ℕ) → set_contains by_codes new (x, y) ≡ (not (nat_lt x y && names x y (a, b)) && set_contains by_codes old (x, y))
+  after_cut updates x y = updates (x, y) ∙ ap (λ (t : Bool). cond t false (set_contains by_codes old (x, y))) (same_test x y) ∙ taken (nat_lt x y && names x y (a, b)) (set_contains by_codes old (x, y))
 
 -- ---- a loop that adds the pairs of rows
 next_row : (lt t n old : Bool) → (((lt && t) || old) || (lt && n)) ≡ (old || (lt && (t || n)))
@@ -122,15 +122,15 @@ no_row false true = refl
 no_row false false = refl
 
 module _ (x y : ℕ) (old new : Pairs) (whole : Bool) where
-  pub after_row : (q : ℕ × ℕ) (rows : List (ℕ × ℕ)) → contains by_codes new (x, y) ≡ (nat_lt x y && names x y q || contains by_codes old (x, y))
-      → (contains by_codes old (x, y) || (nat_lt x y && names_both (q ∷ rows) x y)) ≡ whole
-      → (contains by_codes new (x, y) || (nat_lt x y && names_both rows x y)) ≡ whole
+  pub after_row : (q : ℕ × ℕ) (rows : List (ℕ × ℕ)) → set_contains by_codes new (x, y) ≡ (nat_lt x y && names x y q || set_contains by_codes old (x, y))
+      → (set_contains by_codes old (x, y) || (nat_lt x y && names_both (q ∷ rows) x y)) ≡ whole
+      → (set_contains by_codes new (x, y) || (nat_lt x y && names_both rows x y)) ≡ whole
   after_row q rows added before =
-      ap (λ (t : Bool). t || (nat_lt x y && names_both rows x y)) added ∙ next_row (nat_lt x y) (names x y q) (names_both rows x y) (contains by_codes old (x, y)) ∙ before
+      ap (λ (t : Bool). t || (nat_lt x y && names_both rows x y)) added ∙ next_row (nat_lt x y) (names x y q) (names_both rows x y) (set_contains by_codes old (x, y)) ∙ before
 
-  pub after_rows : (rows : List (ℕ × ℕ)) → rows ≡ [] → (contains by_codes old (x, y) || (nat_lt x y && names_both rows x y)) ≡ whole → contains by_codes old (x, y) ≡ whole
+  pub after_rows : (rows : List (ℕ × ℕ)) → rows ≡ [] → (set_contains by_codes old (x, y) || (nat_lt x y && names_both rows x y)) ≡ whole → set_contains by_codes old (x, y) ≡ whole
   after_rows rows none before =
-      sym (no_row (nat_lt x y) (contains by_codes old (x, y))) ∙ ap (λ (r : List (ℕ × ℕ)). contains by_codes old (x, y) || (nat_lt x y && names_both r x y)) (sym none) ∙ before
+      sym (no_row (nat_lt x y) (set_contains by_codes old (x, y))) ∙ ap (λ (r : List (ℕ × ℕ)). set_contains by_codes old (x, y) || (nat_lt x y && names_both r x y)) (sym none) ∙ before
 
 -- ---- sets of codes
 next_code : (t n old : Bool) → ((t || old) || n) ≡ (old || (t || n))
@@ -139,11 +139,11 @@ next_code true n false = refl
 next_code false n old = refl
 
 module _ (c : ℕ) (old new : BTreeSet ℕ) (whole : Bool) where
-  pub after_code : (code : ℕ) (codes : List ℕ) → contains nat_cmp new c ≡ cond (is_eq (nat_cmp code c)) true (contains nat_cmp old c)
-      → (contains nat_cmp old c || member (code ∷ codes) c) ≡ whole → (contains nat_cmp new c || member codes c) ≡ whole
+  pub after_code : (code : ℕ) (codes : List ℕ) → set_contains nat_cmp new c ≡ cond (is_eq (nat_cmp code c)) true (set_contains nat_cmp old c)
+      → (set_contains nat_cmp old c || contains (code ∷ codes) c) ≡ whole → (set_contains nat_cmp new c || contains codes c) ≡ whole
   after_code code codes updated before =
-      ap (λ (t : Bool). t || member codes c) (updated ∙ ap (λ (t : Bool). cond t true (contains nat_cmp old c)) (unsigned_tied code c) ∙ added (code == c) (contains nat_cmp old c))
-      ∙ next_code (code == c) (member codes c) (contains nat_cmp old c) ∙ before
+      ap (λ (t : Bool). t || contains codes c) (updated ∙ ap (λ (t : Bool). cond t true (set_contains nat_cmp old c)) (unsigned_tied code c) ∙ added (code == c) (set_contains nat_cmp old c))
+      ∙ next_code (code == c) (contains codes c) (set_contains nat_cmp old c) ∙ before
 
-  pub after_codes : (codes : List ℕ) → codes ≡ [] → (contains nat_cmp old c || member codes c) ≡ whole → contains nat_cmp old c ≡ whole
-  after_codes codes none before = sym (or-false (contains nat_cmp old c)) ∙ ap (λ (l : List ℕ). contains nat_cmp old c || member l c) (sym none) ∙ before
+  pub after_codes : (codes : List ℕ) → codes ≡ [] → (set_contains nat_cmp old c || contains codes c) ≡ whole → set_contains nat_cmp old c ≡ whole
+  after_codes codes none before = sym (or-false (set_contains nat_cmp old c)) ∙ ap (λ (l : List ℕ). set_contains nat_cmp old c || contains l c) (sym none) ∙ before

@@ -1,7 +1,7 @@
 -- Which counties are adjacent, by the rows of a file and by links over them.
 use Rattle.std.specs.Prelude.{◌≡◌, ◌≢◌, ℕ, ◌<◌, ◌&&◌, ◌↔◌, ◌⊎◌, Bool, true, false, List, Option, Some, None, Contains}
 use Rattle.std.specs.List.Sorted.{IsStrictlySortedBy}
-use Rattle.grouping_laws.specs.Sets.{member}
+use Rattle.grouping_laws.specs.Sets.{contains}
 use Rattle.county_problem.specs.ProblemValue.{names_both}
 use Rattle.adjacency_reader.specs.declared.links.Sign.{Sign}
 use Rattle.adjacency_reader.specs.declared.links.Sign.TheVariants.{Add, Cut}
@@ -19,8 +19,8 @@ joined_by None before = before
 -- and some row does, in either order
 pub record Adjacent (listed : List ℕ) (rows : List (ℕ × ℕ)) (links : List Link) (a b : ℕ) : Type 0 where
   pub apart : a ≢ b
-  pub first_listed : member listed a ≡ true
-  pub second_listed : member listed b ≡ true
+  pub first_listed : contains listed a ≡ true
+  pub second_listed : contains listed b ≡ true
   pub joined : joined_by (last_sign links a b) (names_both rows a b) ≡ true
 
 -- the pairs after the links: the lesser code first, ascending, each once
@@ -31,7 +31,7 @@ pub record AreLinked (pairs : List (ℕ × ℕ)) (links : List Link) (linked : L
 
 -- two counties of which one isn't listed are added by the last link on them
 abbrev pub IsStrangeLink : List ℕ → List Link → ℕ → ℕ → Type 0
-IsStrangeLink listed links a b = ((member listed a && member listed b) ≡ false) × (last_sign links a b ≡ Some Add)
+IsStrangeLink listed links a b = ((contains listed a && contains listed b) ≡ false) × (last_sign links a b ≡ Some Add)
 
 -- the pairs are those that are adjacent, and beside them those of links that name a county outside the list
 abbrev pub AreAdjacent : List ℕ → List (ℕ × ℕ) → List Link → List (ℕ × ℕ) → Type 0

@@ -4,7 +4,7 @@ use Rattle.std.specs.Prelude.{if◌then◌else◌}
 use Rattle.std.specs.List.Sorted.{IsStrictlySortedBy}
 use Rattle.std.specs.Ordering.{nat_cmp, ordering_then}
 use Rattle.std.specs.declared.cmp.Ordering.{Ordering}
-use Rattle.grouping_laws.specs.Sets.{member}
+use Rattle.grouping_laws.specs.Sets.{contains}
 use Rattle.county_problem.specs.ProblemValue.{names_both}
 use Rattle.grouping_reader.specs.declared.fault.CodeLineFault.{CodeLineFault}
 use Rattle.adjacency_reader.specs.Rows.{row_list}
@@ -25,7 +25,7 @@ names x y q = (q.0 == x && q.1 == y) || (q.0 == y && q.1 == x)
 pub record ArePairs (listed : List ℕ) (rows pairs : List (ℕ × ℕ)) : Type 0 where
   pub ascending : IsStrictlySortedBy by_codes pairs
   pub each : (a b : ℕ) → Contains pairs (a, b)
-      ↔ ((a < b) × (member listed a ≡ true) × (member listed b ≡ true) × (names_both rows a b ≡ true))
+      ↔ ((a < b) × (contains listed a ≡ true) × (contains listed b ≡ true) × (names_both rows a b ≡ true))
 
 -- the answer to an adjacency file: the pairs of its rows, or its first fault
 abbrev pub IsPairsAnswer : List ℕ → List ℕ → Result (List (ℕ × ℕ)) CodeLineFault → Type 0

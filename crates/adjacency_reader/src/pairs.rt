@@ -3,8 +3,8 @@
 ghost use Rattle.std.specs.Prelude.{◌≡◌, ℕ, ◌&&◌, ◌||◌, nat_lt, IfOk, OnOk, filter};
 ghost use Rattle.std.specs.Ordering.{nat_cmp};
 ghost use Rattle.std.specs.List.Sorted.{IsStrictlySortedBy};
-ghost use Rattle.std.specs.BTreeSet.{contains};
-ghost use Rattle.grouping_laws.specs.Sets.{member};
+ghost use Rattle.std.specs.BTreeSet.{contains as set_contains};
+ghost use Rattle.grouping_laws.specs.Sets.{contains};
 ghost use Rattle.county_problem.specs.ProblemValue.{names_both};
 ghost use Rattle.field_lines.specs.Values.{AnswersUnless};
 ghost use Rattle.grouping_reader.specs.Faults.{IsCodeLineMemory};
@@ -25,7 +25,7 @@ pub(crate) fn in_order(a: CountyCode, b: CountyCode) -> (CountyCode, CountyCode)
 
 /// The codes as a set.
 fn code_set(alloc: Global, codes: &[CountyCode]) -> Result<BTreeSet<CountyCode>, AllocError>
-    ensures { IfOk result (λ s. (c : ℕ) → contains nat_cmp s c ≡ member codes.now c) }
+    ensures { IfOk result (λ s. (c : ℕ) → set_contains nat_cmp s c ≡ contains codes.now c) }
 {
     let mut set = BTreeSet::new(alloc);
     for code in codes {
@@ -36,7 +36,7 @@ fn code_set(alloc: Global, codes: &[CountyCode]) -> Result<BTreeSet<CountyCode>,
 
 /// Whether both codes of a row are in the set.
 fn has_both(listed: &BTreeSet<CountyCode>, row: (CountyCode, CountyCode)) -> bool
-    ensures { result ≡ (contains nat_cmp listed.now row.0 && contains nat_cmp listed.now row.1) }
+    ensures { result ≡ (set_contains nat_cmp listed.now row.0 && set_contains nat_cmp listed.now row.1) }
 {
     listed.contains(&row.0) && listed.contains(&row.1)
 }
@@ -48,7 +48,7 @@ fn listed_rows(
     rows: &[(CountyCode, CountyCode)],
 ) -> Result<Vec<(CountyCode, CountyCode)>, AllocError>
     ensures { IfOk result (λ v. v.items
-        ≡ filter (λ q. contains nat_cmp listed.now q.0 && contains nat_cmp listed.now q.1) rows.now) }
+        ≡ filter (λ q. set_contains nat_cmp listed.now q.0 && set_contains nat_cmp listed.now q.1) rows.now) }
 {
     let mut kept = Vec::new(alloc);
     for row in rows {
@@ -66,7 +66,7 @@ pub(crate) fn add_pair(
     b: CountyCode,
 ) -> Result<(), AllocError>
     ensures { OnOk result ((x y : ℕ)
-        → contains by_codes pairs.new (x, y) ≡ (nat_lt x y && names x y (a, b) || contains by_codes pairs.old (x, y))) }
+        → set_contains by_codes pairs.new (x, y) ≡ (nat_lt x y && names x y (a, b) || set_contains by_codes pairs.old (x, y))) }
 {
     if a != b {
         pairs.insert(in_order(a, b))?;
@@ -79,7 +79,7 @@ pub(crate) fn pair_set(
     alloc: Global,
     rows: &[(CountyCode, CountyCode)],
 ) -> Result<BTreeSet<(CountyCode, CountyCode)>, AllocError>
-    ensures { IfOk result (λ s. (x y : ℕ) → contains by_codes s (x, y) ≡ (nat_lt x y && names_both rows.now x y)) }
+    ensures { IfOk result (λ s. (x y : ℕ) → set_contains by_codes s (x, y) ≡ (nat_lt x y && names_both rows.now x y)) }
 {
     let mut pairs = BTreeSet::new(alloc);
     for (a, b) in rows {

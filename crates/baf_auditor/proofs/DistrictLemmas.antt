@@ -10,7 +10,7 @@ use Rattle.std.specs.BTreeMap.{is_at}
 use Rattle.std.specs.Str.{bytes_eq}
 use Rattle.std.proofs.lemmas.Map.Views.{Contains-from_lookup, lookup-from_Contains}
 use Rattle.std.proofs.lemmas.Map.Keys.{IsDistinct-from_sorted}
-use Rattle.grouping_laws.specs.Sets.{digit, total, member}
+use Rattle.grouping_laws.specs.Sets.{indicator, sum_by, contains}
 use Rattle.place_laws.proofs.Sums.{total_ones, total_same}
 use Rattle.pl94_counties.specs.declared.blocks.Block.{Block}
 use Rattle.pl94_counties.proofs.TraceLemmas.{contains_head, contains_tail, contains_nil, contains_cases}
@@ -159,7 +159,7 @@ module _ (plan : Plan) (blocks_sorted : IsStrictlySortedBy nat_cmp (map (λ b. b
   share label e = weight (λ (b : Block). b.people) (block_of_label label e)
 
   abbrev pub people_sum : List ℕ → ℕ
-  people_sum label = total (share label) given
+  people_sum label = sum_by (share label) given
 
   labelled : (label : List ℕ) (e : GivenBlock) (block : Block) → block_of_label label e ≡ Some block → (e.0.0 ≡ label) × (e.0.1 ≡ block.code) × (e.1 ≡ block.people)
   labelled label e block is = by (bytes_eq e.0.0 label) refl is
@@ -222,17 +222,17 @@ module _ (plan : Plan) (blocks_sorted : IsStrictlySortedBy nat_cmp (map (λ b. b
   abbrev HasLabel : List GivenBlock → List ℕ → Type 0
   HasLabel es label = (e : GivenBlock) × Contains es e × (e.0.0 ≡ label)
 
-  sum_more : (label : List ℕ) (es : List GivenBlock) (n : ℕ) → people_after label (Some n) es ≡ Some (n + total (share label) es)
+  sum_more : (label : List ℕ) (es : List GivenBlock) (n : ℕ) → people_after label (Some n) es ≡ Some (n + sum_by (share label) es)
   sum_more label [] n = let e : n ≡ n + 0 = omega arith in ap (λ m. Some m) e
   sum_more label (e ∷ es) n = by (λ m. sum_more label es m) (bytes_eq e.0.0 label)
     where
-      by : ((m : ℕ) → people_after label (Some m) es ≡ Some (m + total (share label) es)) → (b : Bool) → people_after label (if b then Some (n + e.1) else Some n) es ≡ Some (n + (weight (λ (b : Block). b.people) (if b then Some (record { code = e.0.1; people = e.1 }) else None) + total (share label) es))
-      by later true = later (n + e.1) ∙ (let f : n + e.1 + total (share label) es ≡ n + (e.1 + total (share label) es) = omega arith in ap (λ m. Some m) f)
-      by later false = later n ∙ (let f : n + total (share label) es ≡ n + (0 + total (share label) es) = omega arith in ap (λ m. Some m) f)
+      by : ((m : ℕ) → people_after label (Some m) es ≡ Some (m + sum_by (share label) es)) → (b : Bool) → people_after label (if b then Some (n + e.1) else Some n) es ≡ Some (n + (weight (λ (b : Block). b.people) (if b then Some (record { code = e.0.1; people = e.1 }) else None) + sum_by (share label) es))
+      by later true = later (n + e.1) ∙ (let f : n + e.1 + sum_by (share label) es ≡ n + (e.1 + sum_by (share label) es) = omega arith in ap (λ m. Some m) f)
+      by later false = later n ∙ (let f : n + sum_by (share label) es ≡ n + (0 + sum_by (share label) es) = omega arith in ap (λ m. Some m) f)
 
   abbrev Summed : List GivenBlock → List ℕ → Option ℕ → Type 0
   Summed es label None = HasLabel es label → ⊥
-  Summed es label (Some n) = HasLabel es label × (n ≡ total (share label) es)
+  Summed es label (Some n) = HasLabel es label × (n ≡ sum_by (share label) es)
 
   summed : (label : List ℕ) (es : List GivenBlock) → Summed es label (people_after label None es)
   summed label [] = λ h. contains_nil h.0 h.1
@@ -248,8 +248,8 @@ module _ (plan : Plan) (blocks_sorted : IsStrictlySortedBy nat_cmp (map (λ b. b
       by : Summed es label (people_after label None es) → (b : Bool) → bytes_eq e.0.0 label ≡ b → Summed (e ∷ es) label (people_after label (if b then Some (0 + e.1) else None) es)
       by later true is =
           let own : share label e ≡ e.1 = ap (λ (t : Bool). weight (λ (b : Block). b.people) (if t then Some (record { code = e.0.1; people = e.1 }) else None)) is in
-          let sum : people_after label (Some (0 + e.1)) es ≡ Some (0 + e.1 + total (share label) es) = sum_more label es (0 + e.1) in
-          let more : 0 + e.1 + total (share label) es ≡ share label e + total (share label) es = omega (arith, own) in
+          let sum : people_after label (Some (0 + e.1)) es ≡ Some (0 + e.1 + sum_by (share label) es) = sum_more label es (0 + e.1) in
+          let more : 0 + e.1 + sum_by (share label) es ≡ share label e + sum_by (share label) es = omega (arith, own) in
           subst (λ (o : Option ℕ). Summed (e ∷ es) label o) (sym sum) ((e, contains_head e es, label_same e.0.0 label is), more)
       by later false is =
           let nothing : share label e ≡ 0 = ap (λ (t : Bool). weight (λ (b : Block). b.people) (if t then Some (record { code = e.0.1; people = e.1 }) else None)) is in
@@ -301,7 +301,7 @@ module _ (plan : Plan) (blocks_sorted : IsStrictlySortedBy nat_cmp (map (λ b. b
             let at : place_of plan.drawn (county_of_block s.0.1) ≡ Some place = place_is plan.drawn (place_of plan.drawn (county_of_block s.0.1)) place parts.0 in
             let same : s.0.0 ≡ label = label_same s.0.0 label parts.1 in
             let g = mapped_from (λ (e : GivenBlock). e.0) given s.0 s.1 in
-            let item = item_found (λ (set : DrawnSet). member set.codes (county_of_block s.0.1)) plan.drawn 0 place at in
+            let item = item_found (λ (set : DrawnSet). contains set.codes (county_of_block s.0.1)) plan.drawn 0 place at in
             let where_is : item.0 ≡ place = omega (arith, item.1) in
             let block = is_listed g.0 g.1 in
             let line : IsGivenTo plan g.0.0.1 g.0.0.0 = (given_from g.0.0.0 g.0.0.1 g.0.1 g.1).0 in
@@ -324,7 +324,7 @@ module _ (plan : Plan) (blocks_sorted : IsStrictlySortedBy nat_cmp (map (λ b. b
     pub stands_to : (label : List ℕ) (set : DrawnSet) → HasBlockIn plan label set → PlaceOf label set
     stands_to label set h =
         let code = h.block.code in
-        let p = place_found (λ (s : DrawnSet). member s.codes (county_of_block code)) plan.drawn 0 set h.stands.1 in
+        let p = place_found (λ (s : DrawnSet). contains s.codes (county_of_block code)) plan.drawn 0 set h.stands.1 in
         let at : place_of plan.drawn (county_of_block code) ≡ Some p.0 = p.1 ∙ (let e : 0 + p.0 ≡ p.0 = omega arith in ap (λ m. Some m) e) in
         let entry = given_to h.block label (set, h.stands) h.given in
         let shown : shows plan.drawn (label, p.0) (label, code) ≡ true =
@@ -367,17 +367,17 @@ module _ (plan : Plan) (blocks_sorted : IsStrictlySortedBy nat_cmp (map (λ b. b
             let same : p.0 ≡ place = alone p.0 place set p.1 there in
             chosen_to (label_at place) places (label, place) label (subst (λ (i : ℕ). Contains places (label, i)) same p.2) (at_label place label)
 
-    weights_at : (place : ℕ) (k : List ℕ × ℕ) → weight (λ (l : List ℕ). 1) (label_at place k) ≡ digit (k.1 == place)
+    weights_at : (place : ℕ) (k : List ℕ × ℕ) → weight (λ (l : List ℕ). 1) (label_at place k) ≡ indicator (k.1 == place)
     weights_at place k = by (k.1 == place)
       where
-        by : (b : Bool) → weight (λ (l : List ℕ). 1) (if b then Some k.0 else None) ≡ digit b
+        by : (b : Bool) → weight (λ (l : List ℕ). 1) (if b then Some k.0 else None) ≡ indicator b
         by true = refl
         by false = refl
 
     labels_length : (place : ℕ) → length (filter_map (label_at place) places) ≡ districts_at place places
     labels_length place =
         sym (total_ones (filter_map (label_at place) places)) ∙ total_chosen (label_at place) (λ (l : List ℕ). 1) places
-        ∙ total_same (λ (k : List ℕ × ℕ). weight (λ (l : List ℕ). 1) (label_at place k)) (λ (k : List ℕ × ℕ). digit (k.1 == place)) places (weights_at place)
+        ∙ total_same (λ (k : List ℕ × ℕ). weight (λ (l : List ℕ). 1) (label_at place k)) (λ (k : List ℕ × ℕ). indicator (k.1 == place)) places (weights_at place)
 
     module _ (alone : (i j : ℕ) (d : DrawnSet) → item_at plan.drawn i ≡ Some d → item_at plan.drawn j ≡ Some d → i ≡ j) where
       pub has_districts : (set : DrawnSet) (place : ℕ) → item_at plan.drawn place ≡ Some set → HasDistricts plan set (districts_at place places)

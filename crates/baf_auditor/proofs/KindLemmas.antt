@@ -11,7 +11,7 @@ use Rattle.std.specs.BTreeMap.{is_at}
 use Rattle.std.proofs.lemmas.Bool.Decides.{nat_tests}
 use Rattle.std.proofs.lemmas.Map.Views.{Contains-from_lookup, lookup-from_Contains}
 use Rattle.std.proofs.lemmas.Map.Keys.{IsDistinct-from_sorted}
-use Rattle.grouping_laws.specs.Sets.{digit, member}
+use Rattle.grouping_laws.specs.Sets.{indicator, contains}
 use Rattle.pl94_counties.specs.declared.blocks.Block.{Block}
 use Rattle.pl94_counties.proofs.CollectLemmas.{tied_same}
 use Rattle.pl94_counties.proofs.TraceLemmas.{contains_head, contains_tail, contains_nil, contains_cases}
@@ -98,7 +98,7 @@ module _ (code : ℕ) where
   abbrev NamedBy : List Assignment → Type 0
   NamedBy lines = (line : Assignment) × Contains lines line × (line.block ≡ code)
 
-  named_first : (l : Assignment) (ls : List Assignment) (b : Bool) → (l.block == code) ≡ b → 1 ≤ digit b + times_named ls code → (1 ≤ times_named ls code → NamedBy ls) → NamedBy (l ∷ ls)
+  named_first : (l : Assignment) (ls : List Assignment) (b : Bool) → (l.block == code) ≡ b → 1 ≤ indicator b + times_named ls code → (1 ≤ times_named ls code → NamedBy ls) → NamedBy (l ∷ ls)
   named_first l ls true is some later = (l, contains_head l ls, same_number l.block code is)
   named_first l ls false is some later = let n = later (omega (arith, some)) in (n.0, contains_tail l ls n.0 n.1, n.2)
 
@@ -110,7 +110,7 @@ module _ (code : ℕ) where
   times_some [] line h is = absurd (contains_nil line h)
   times_some (l ∷ ls) line h is = elim (contains_cases l ls line h) as (λ _. 1 ≤ times_named (l ∷ ls) code) [
     | inl same ↦ (let here : (l.block == code) ≡ true = number_same l.block code (ap (λ (a : Assignment). a.block) same ∙ is) in
-        let one : digit (l.block == code) ≡ 1 = ap digit here in omega (arith, one))
+        let one : indicator (l.block == code) ≡ 1 = ap indicator here in omega (arith, one))
     | inr rest ↦ (let later : 1 ≤ times_named ls code = times_some ls line rest is in omega (arith, later))
   ]
 
@@ -235,7 +235,7 @@ listed_to drawn blocks block sorted h placed = listed_after drawn blocks None bl
 module _ (plan : Plan) (blocks_sorted : IsStrictlySortedBy nat_cmp (map (λ b. b.code) plan.blocks)) where
   -- a block that is listed is found, and what is found is a listed block
   pub listed_found : (block : Block) → IsListedBlock plan block → listing plan.drawn plan.blocks block.code ≡ Some block.people
-  listed_found block is = listed_to plan.drawn plan.blocks block blocks_sorted is.1.0 (place_at (λ set. member set.codes (county_of_block block.code)) plan.drawn 0 is.0 is.1.1)
+  listed_found block is = listed_to plan.drawn plan.blocks block blocks_sorted is.1.0 (place_at (λ set. contains set.codes (county_of_block block.code)) plan.drawn 0 is.0 is.1.1)
 
   abbrev pub FoundListed : ℕ → ℕ → Type 0
   FoundListed code p = (block : Block) × IsListedBlock plan block × (block.code ≡ code) × (block.people ≡ p)
@@ -244,7 +244,7 @@ module _ (plan : Plan) (blocks_sorted : IsStrictlySortedBy nat_cmp (map (λ b. b
   found_listed code p there =
       let l = listed_from plan.drawn plan.blocks code p there in
       let placed : is_some (place_of plan.drawn (county_of_block l.0.code)) ≡ true = subst (λ (k : ℕ). is_some (place_of plan.drawn (county_of_block k)) ≡ true) (sym l.2) l.4 in
-      let set = set_at (λ set. member set.codes (county_of_block l.0.code)) plan.drawn 0 placed in
+      let set = set_at (λ set. contains set.codes (county_of_block l.0.code)) plan.drawn 0 placed in
       (l.0, (set.0, (l.1, set.1)), l.2, l.3)
 
 -- ---- the kinds

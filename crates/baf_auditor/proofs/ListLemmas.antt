@@ -6,7 +6,7 @@ use Rattle.std.specs.declared.cmp.Ordering.{Ordering}
 use Rattle.std.specs.declared.cmp.Ordering.TheVariants.{Less, Equal}
 use Rattle.std.proofs.lemmas.List.Elements.{All-weaker, All-contains_itself}
 use Rattle.std.proofs.lemmas.List.Kept.{AllPairs-cons}
-use Rattle.grouping_laws.specs.Sets.{total}
+use Rattle.grouping_laws.specs.Sets.{sum_by}
 use Rattle.pl94_counties.proofs.TraceLemmas.{contains_head, contains_tail, contains_nil, contains_cases}
 use Rattle.baf_auditor.specs.Findings.{EachOnce}
 
@@ -32,14 +32,14 @@ apart_from_pairs {X = X} (x ∷ xs) pairs = (first, apart_from_pairs xs (λ i j 
 
 -- the list without a place where an item stands
 abbrev Without : {X : Type 0} → X → List X → Type 0
-Without {X} x ys = (zs : List X) × ((f : X → ℕ) → total f ys ≡ f x + total f zs) × ((y : X) → Contains ys y → (x ≡ y) ⊎ Contains zs y)
+Without {X} x ys = (zs : List X) × ((f : X → ℕ) → sum_by f ys ≡ f x + sum_by f zs) × ((y : X) → Contains ys y → (x ≡ y) ⊎ Contains zs y)
 
 pull : {X : Type 0} (x : X) (ys : List X) → Contains ys x → Without x ys
 pull x [] h = absurd (contains_nil x h)
 pull {X = X} x (y ∷ ys) h = by (contains_cases y ys x h) (pull x ys)
   where
     by : (y ≡ x) ⊎ Contains ys x → (Contains ys x → Without x ys) → Without x (y ∷ ys)
-    by (inl same) later = (ys, (λ f. ap (λ n. n + total f ys) (ap f same)), λ z k. kept z (contains_cases y ys z k))
+    by (inl same) later = (ys, (λ f. ap (λ n. n + sum_by f ys) (ap f same)), λ z k. kept z (contains_cases y ys z k))
       where
         kept : (z : X) → (y ≡ z) ⊎ Contains ys z → (x ≡ z) ⊎ Contains ys z
         kept z (inl e) = inl (sym same ∙ e)
@@ -55,7 +55,7 @@ pull {X = X} x (y ∷ ys) h = by (contains_cases y ys x h) (pull x ys)
         kept z (inr m) = more z ((later k).2 z m)
 
 -- items that differ and all stand in another list add up to no more
-total_fewer : {X : Type 0} (xs ys : List X) → Apart xs → ((x : X) → Contains xs x → Contains ys x) → (f : X → ℕ) → total f xs ≤ total f ys
+total_fewer : {X : Type 0} (xs ys : List X) → Apart xs → ((x : X) → Contains xs x → Contains ys x) → (f : X → ℕ) → sum_by f xs ≤ sum_by f ys
 total_fewer [] ys apart within f = omega arith
 total_fewer {X = X} (x ∷ xs) ys apart within f =
     let rest = pull x ys (within x (contains_head x xs)) in
@@ -68,7 +68,7 @@ total_fewer {X = X} (x ∷ xs) ys apart within f =
     stays zs y h (inr k) = k
 
 -- two lists of the same things, each once, add up to the same
-pub once_total : {X : Type 0} (P : X → Type 0) (xs ys : List X) → EachOnce P xs → EachOnce P ys → (f : X → ℕ) → total f xs ≡ total f ys
+pub once_total : {X : Type 0} (P : X → Type 0) (xs ys : List X) → EachOnce P xs → EachOnce P ys → (f : X → ℕ) → sum_by f xs ≡ sum_by f ys
 once_total P xs ys one other f =
     let less = total_fewer xs ys (apart_from_pairs xs one.once) (λ x h. (other.are x).1 ((one.are x).0 h)) f in
     let more = total_fewer ys xs (apart_from_pairs ys other.once) (λ x h. (one.are x).1 ((other.are x).0 h)) f in
@@ -114,11 +114,11 @@ module _ {X Y : Type 0} (h : X → Option Y) where
       by None is later = later
       by (Some y) is later = ((λ z c same. let l = chosen_from xs z c in apart.0 l.0 l.1 (alone x l.0 y is (l.2 ∙ ap (λ w. Some w) (sym same)))), later)
 
-  pub total_chosen : (f : Y → ℕ) (xs : List X) → total f (filter_map h xs) ≡ total (λ x. weight f (h x)) xs
+  pub total_chosen : (f : Y → ℕ) (xs : List X) → sum_by f (filter_map h xs) ≡ sum_by (λ x. weight f (h x)) xs
   total_chosen f [] = refl
   total_chosen f (x ∷ xs) = by (h x) (total_chosen f xs)
     where
-      by : (o : Option Y) → total f (filter_map h xs) ≡ total (λ x. weight f (h x)) xs → total f (cons_option o (filter_map h xs)) ≡ weight f o + total (λ x. weight f (h x)) xs
+      by : (o : Option Y) → sum_by f (filter_map h xs) ≡ sum_by (λ x. weight f (h x)) xs → sum_by f (cons_option o (filter_map h xs)) ≡ weight f o + sum_by (λ x. weight f (h x)) xs
       by None later = omega (arith, later)
       by (Some y) later = omega (arith, later)
 

@@ -4,7 +4,7 @@ use Rattle.std.specs.List.{position_from}
 use Rattle.std.specs.Option.{option_map, option_or}
 use Rattle.county_codes.specs.declared.group.Group.{Group}
 use Rattle.county_codes.specs.declared.withdrawn.Withdrawn as county
-use Rattle.grouping_laws.specs.Sets.{member}
+use Rattle.grouping_laws.specs.Sets.{contains}
 use Rattle.grouping_laws.specs.Grouping.{Grouping}
 use Rattle.baf_auditor.specs.Findings.{DrawnSet, groups_from, withdrawn_from}
 use Rattle.baf_auditor.specs.Listing.{place_of}
@@ -27,40 +27,40 @@ shifted {X = X} test (x ∷ xs) n = by (test x)
 
 -- the withdrawn sets, whatever their numbers
 of_withdrawn : (code : ℕ) (ws : List county.Withdrawn) (n k : ℕ)
-    → position_from (λ (set : DrawnSet). member set.codes code) n (withdrawn_from k ws) ≡ position_from (λ (w : county.Withdrawn). member w.codes code) n ws
+    → position_from (λ (set : DrawnSet). contains set.codes code) n (withdrawn_from k ws) ≡ position_from (λ (w : county.Withdrawn). contains w.codes code) n ws
 of_withdrawn code [] n k = refl
-of_withdrawn code (w ∷ ws) n k = ap (λ (o : Option ℕ). cond (member w.codes code) (Some n) o) (of_withdrawn code ws (n + 1) (k + 1))
+of_withdrawn code (w ∷ ws) n k = ap (λ (o : Option ℕ). cond (contains w.codes code) (Some n) o) (of_withdrawn code ws (n + 1) (k + 1))
 
 -- the groups, and then further sets
 of_groups : (code : ℕ) (rest : List DrawnSet) (gs : Grouping) (n k : ℕ)
-    → position_from (λ (set : DrawnSet). member set.codes code) n (groups_from k gs ++ rest)
-    ≡ option_or (position_from (λ (g : Group). member g.codes code) n gs) (position_from (λ (set : DrawnSet). member set.codes code) (n + length gs) rest)
-of_groups code rest [] n k = let e : n ≡ n + 0 = omega arith in ap (λ (m : ℕ). position_from (λ (set : DrawnSet). member set.codes code) m rest) e
-of_groups code rest (g ∷ gs) n k = by (member g.codes code) (of_groups code rest gs (n + 1) (k + 1))
+    → position_from (λ (set : DrawnSet). contains set.codes code) n (groups_from k gs ++ rest)
+    ≡ option_or (position_from (λ (g : Group). contains g.codes code) n gs) (position_from (λ (set : DrawnSet). contains set.codes code) (n + length gs) rest)
+of_groups code rest [] n k = let e : n ≡ n + 0 = omega arith in ap (λ (m : ℕ). position_from (λ (set : DrawnSet). contains set.codes code) m rest) e
+of_groups code rest (g ∷ gs) n k = by (contains g.codes code) (of_groups code rest gs (n + 1) (k + 1))
   where
-    by : (b : Bool) → position_from (λ (set : DrawnSet). member set.codes code) (n + 1) (groups_from (k + 1) gs ++ rest)
-        ≡ option_or (position_from (λ (h : Group). member h.codes code) (n + 1) gs) (position_from (λ (set : DrawnSet). member set.codes code) (n + 1 + length gs) rest)
-        → cond b (Some n) (position_from (λ (set : DrawnSet). member set.codes code) (n + 1) (groups_from (k + 1) gs ++ rest))
-        ≡ option_or (cond b (Some n) (position_from (λ (h : Group). member h.codes code) (n + 1) gs)) (position_from (λ (set : DrawnSet). member set.codes code) (n + suc (length gs)) rest)
+    by : (b : Bool) → position_from (λ (set : DrawnSet). contains set.codes code) (n + 1) (groups_from (k + 1) gs ++ rest)
+        ≡ option_or (position_from (λ (h : Group). contains h.codes code) (n + 1) gs) (position_from (λ (set : DrawnSet). contains set.codes code) (n + 1 + length gs) rest)
+        → cond b (Some n) (position_from (λ (set : DrawnSet). contains set.codes code) (n + 1) (groups_from (k + 1) gs ++ rest))
+        ≡ option_or (cond b (Some n) (position_from (λ (h : Group). contains h.codes code) (n + 1) gs)) (position_from (λ (set : DrawnSet). contains set.codes code) (n + suc (length gs)) rest)
     by true later = refl
     by false later =
         let e : n + 1 + length gs ≡ n + suc (length gs) = omega arith in
-        later ∙ ap (λ (m : ℕ). option_or (position_from (λ (h : Group). member h.codes code) (n + 1) gs) (position_from (λ (set : DrawnSet). member set.codes code) m rest)) e
+        later ∙ ap (λ (m : ℕ). option_or (position_from (λ (h : Group). contains h.codes code) (n + 1) gs) (position_from (λ (set : DrawnSet). contains set.codes code) m rest)) e
 
 pub place_in_sets : (code : ℕ) (gs : Grouping) (ws : List county.Withdrawn)
     → place_of (groups_from 1 gs ++ withdrawn_from 1 ws) code
-    ≡ option_or (position_from (λ (g : Group). member g.codes code) 0 gs) (option_map (λ i. length gs + i) (position_from (λ (w : county.Withdrawn). member w.codes code) 0 ws))
+    ≡ option_or (position_from (λ (g : Group). contains g.codes code) 0 gs) (option_map (λ i. length gs + i) (position_from (λ (w : county.Withdrawn). contains w.codes code) 0 ws))
 place_in_sets code gs ws =
     let e : 0 + length gs ≡ length gs = omega arith in
     of_groups code (withdrawn_from 1 ws) gs 0 1
-    ∙ ap (λ (m : ℕ). option_or (position_from (λ (g : Group). member g.codes code) 0 gs) (position_from (λ (set : DrawnSet). member set.codes code) m (withdrawn_from 1 ws))) e
-    ∙ ap (λ (o : Option ℕ). option_or (position_from (λ (g : Group). member g.codes code) 0 gs) o)
-    (of_withdrawn code ws (length gs) 1 ∙ shifted (λ (w : county.Withdrawn). member w.codes code) ws (length gs))
+    ∙ ap (λ (m : ℕ). option_or (position_from (λ (g : Group). contains g.codes code) 0 gs) (position_from (λ (set : DrawnSet). contains set.codes code) m (withdrawn_from 1 ws))) e
+    ∙ ap (λ (o : Option ℕ). option_or (position_from (λ (g : Group). contains g.codes code) 0 gs) o)
+    (of_withdrawn code ws (length gs) 1 ∙ shifted (λ (w : county.Withdrawn). contains w.codes code) ws (length gs))
 
 -- where no group has the county, the place is that of the withdrawn set
 pub place_late : (code : ℕ) (gs : Grouping) (ws : List county.Withdrawn) (place : ℕ)
-    → position_from (λ (g : Group). member g.codes code) 0 gs ≡ None → position_from (λ (w : county.Withdrawn). member w.codes code) 0 ws ≡ Some place
+    → position_from (λ (g : Group). contains g.codes code) 0 gs ≡ None → position_from (λ (w : county.Withdrawn). contains w.codes code) 0 ws ≡ Some place
     → Some (length gs + place) ≡ place_of (groups_from 1 gs ++ withdrawn_from 1 ws) code
 place_late code gs ws place none there = sym (place_in_sets code gs ws
-    ∙ ap (λ (o : Option ℕ). option_or o (option_map (λ i. length gs + i) (position_from (λ (w : county.Withdrawn). member w.codes code) 0 ws))) none
+    ∙ ap (λ (o : Option ℕ). option_or o (option_map (λ i. length gs + i) (position_from (λ (w : county.Withdrawn). contains w.codes code) 0 ws))) none
     ∙ ap (λ (o : Option ℕ). option_map (λ i. length gs + i) o) there)

@@ -2,7 +2,7 @@
 use Rattle.std.proofs.Common.{◌≡◌, ℕ, zero, suc, ◌+◌, ◌==◌, nat_le, ◌&&◌, ◌||◌, Bool, true, false, List, [], ◌∷◌, Option, Some, None, refl, sym, ap, ◌∙◌, arith, if◌then◌else◌}
 use Rattle.std.proofs.Math.Bool.{or-false}
 use Rattle.std.proofs.lemmas.Bool.Decides.{nat_tests}
-use Rattle.grouping_laws.specs.Sets.{digit}
+use Rattle.grouping_laws.specs.Sets.{indicator}
 use Rattle.baf_auditor.specs.Labels.{assigns}
 use Rattle.baf_auditor.specs.Findings.{times_named}
 use Rattle.baf_auditor.specs.Naming.{is_assigned, named_times, naming, named_again, after_line}
@@ -36,7 +36,7 @@ module _ (code : ℕ) where
 
   said_by : (line : Assignment) (lines : List Assignment) → Said lines → (times : ℕ) (assigned : Bool) → (times ≡ 0 → assigned ≡ false) → (b : Bool)
       → after_lines code (if b then Some (named_again (named_times times assigned) line.label) else named_times times assigned) lines
-      ≡ named_times (times + (digit b + times_named lines code)) (assigned || ((b && assigns line.label) || is_assigned lines code))
+      ≡ named_times (times + (indicator b + times_named lines code)) (assigned || ((b && assigns line.label) || is_assigned lines code))
   said_by line lines later times assigned fresh true =
       let e : times + 1 + times_named lines code ≡ times + (1 + times_named lines code) = omega arith in
       ap (λ (o : Option Named). after_lines code o lines) (once_more times assigned line.label fresh)

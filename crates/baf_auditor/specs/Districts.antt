@@ -4,7 +4,7 @@ use Rattle.std.specs.Prelude.{None, All, map, if◌then◌else◌}
 use Rattle.std.specs.List.{filter_map, list_any}
 use Rattle.std.specs.Str.{bytes_eq}
 use Rattle.std.specs.Option.{unwrap_or}
-use Rattle.grouping_laws.specs.Sets.{digit, total}
+use Rattle.grouping_laws.specs.Sets.{indicator, sum_by}
 use Rattle.baf_auditor.specs.Findings.{DrawnSet, county_of_block}
 use Rattle.baf_auditor.specs.Listing.{place_of}
 use Rattle.baf_auditor.specs.declared.district.District.{District}
@@ -85,7 +85,7 @@ crossings groups (k ∷ ks) = crossings_with groups k ks ++ crossings groups ks
 
 -- how many districts stand in the set at a place
 abbrev pub districts_at : ℕ → List (List ℕ × ℕ) → ℕ
-districts_at place keys = total (λ k. digit (k.1 == place)) keys
+districts_at place keys = sum_by (λ k. indicator (k.1 == place)) keys
 
 -- a finding where a set has another number of districts than seats
 abbrev pub number_finding : Set → ℕ → ℕ → List Finding

@@ -7,7 +7,7 @@ use Rattle.std.specs.Cmp.Lexicographic.{slice_cmp}
 use Rattle.std.specs.List.Sorted.{IsStrictlySortedBy}
 use Rattle.std.specs.declared.cmp.Ordering.TheVariants.{Less}
 use Rattle.county_codes.specs.declared.withdrawn.Withdrawn as county
-use Rattle.grouping_laws.specs.Sets.{digit, total, member}
+use Rattle.grouping_laws.specs.Sets.{indicator, sum_by, contains}
 use Rattle.grouping_laws.specs.Problem.{Suits}
 use Rattle.grouping_laws.specs.Grouping.{Grouping, Lawful}
 use Rattle.county_problem.specs.ProblemValue.{ProblemValue, problem_of}
@@ -63,7 +63,7 @@ county_of_block block = block / 10000000000
 
 -- the set that has a county
 abbrev pub set_of_county : List DrawnSet → ℕ → Option DrawnSet
-set_of_county drawn county = find (λ set. member set.codes county) drawn
+set_of_county drawn county = find (λ set. contains set.codes county) drawn
 
 -- a block is listed, and the set has its county
 abbrev pub BlockStandsIn : Plan → Block → DrawnSet → Type 0
@@ -106,7 +106,7 @@ HasDistricts plan set count =
 abbrev pub HasPeople : Plan → List ℕ → ℕ → Type 0
 HasPeople plan label people =
     (blocks : List Block) × EachOnce (λ block. IsListedBlock plan block × IsGivenTo plan block.code label) blocks
-    × (total (λ block. block.people) blocks ≡ people)
+    × (sum_by (λ block. block.people) blocks ≡ people)
 
 -- ---- each kind
 
@@ -119,7 +119,7 @@ pub record IsUnknown (plan : Plan) (code : ℕ) : Type 0 where
 
 -- how many lines name the block
 abbrev pub times_named : List Assignment → ℕ → ℕ
-times_named lines code = total (λ line. digit (line.block == code)) lines
+times_named lines code = sum_by (λ line. indicator (line.block == code)) lines
 
 -- two or more lines name the block
 abbrev pub IsTwice : Plan → ℕ → Type 0

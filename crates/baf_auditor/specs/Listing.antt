@@ -2,7 +2,7 @@
 use Rattle.std.specs.Prelude.{ℕ, ◌==◌, Bool, true, false, List, [], ◌∷◌, Option, Some, None, is_some, if◌then◌else◌}
 use Rattle.std.specs.List.{position_from}
 use Rattle.std.specs.Option.{option_or}
-use Rattle.grouping_laws.specs.Sets.{member}
+use Rattle.grouping_laws.specs.Sets.{contains}
 use Rattle.pl94_counties.specs.declared.blocks.Block.{Block}
 use Rattle.baf_auditor.specs.Findings.{DrawnSet, county_of_block}
 
@@ -13,7 +13,7 @@ kept false code = None
 
 -- the place of the set that has a county, counted from 0
 abbrev pub place_of : List DrawnSet → ℕ → Option ℕ
-place_of drawn county = position_from (λ set. member set.codes county) 0 drawn
+place_of drawn county = position_from (λ set. contains set.codes county) 0 drawn
 
 -- the people of a listed block, if its county is in a set
 abbrev pub people_in_set : List DrawnSet → Block → Option ℕ

@@ -4,7 +4,7 @@ ghost use Rattle.std.specs.Prelude.{◌≡◌, ◌<◌, ◌+◌, ℕ, Some, IfOk
 ghost use Rattle.std.specs.List.{position_from};
 ghost use Rattle.std.specs.Ordering.{nat_cmp};
 ghost use Rattle.std.specs.BTreeMap.{get};
-ghost use Rattle.grouping_laws.specs.Sets.{member};
+ghost use Rattle.grouping_laws.specs.Sets.{contains};
 ghost use Rattle.baf_auditor.specs.Findings.{county_of_block, drawn_sets};
 ghost use Rattle.baf_auditor.specs.Listing.{place_of, after_block, listing};
 
@@ -27,7 +27,7 @@ pub(crate) fn county_of_block(code: u64) -> Option<CountyCode>
 
 /// The place of the group that has a county.
 fn group_place(groups: &[Group], county: CountyCode) -> Option<usize>
-    ensures place { result ≡ position_from (λ group. member group.codes county) 0 groups.now }
+    ensures place { result ≡ position_from (λ group. contains group.codes county) 0 groups.now }
     ensures bound { IfSome result (λ place. place < length groups.now) }
 {
     groups
@@ -37,7 +37,7 @@ fn group_place(groups: &[Group], county: CountyCode) -> Option<usize>
 
 /// The place of the withdrawn set that has a county.
 fn withdrawn_place(sets: &[Withdrawn], county: CountyCode) -> Option<usize>
-    ensures place { result ≡ position_from (λ set. member set.codes county) 0 sets.now }
+    ensures place { result ≡ position_from (λ set. contains set.codes county) 0 sets.now }
     ensures bound { IfSome result (λ place. place < length sets.now) }
 {
     sets.iter()

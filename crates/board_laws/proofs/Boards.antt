@@ -2,7 +2,7 @@
 use Rattle.std.proofs.Common.{◌≡◌, ℕ, suc, ◌+◌, ◌≤◌, List, [], ◌∷◌, length, ◌==◌, refl, sym, ap, ◌∙◌, subst, arith, ◌⊎◌, inl, inr, Contains, Option, Some, None}
 use Rattle.county_codes.specs.declared.group.Group.{Group}
 use Rattle.std.proofs.lemmas.Bool.Decides.{nat_tests}
-use Rattle.grouping_laws.specs.Sets.{digit, often}
+use Rattle.grouping_laws.specs.Sets.{indicator, count}
 use Rattle.grouping_laws.specs.Problem.{Problem}
 use Rattle.grouping_laws.specs.Grouping.{Grouping, counts, sets_of, IsGreater, IsBest}
 use Rattle.grouping_laws.specs.Allowance.{HasWindow, named_window}
@@ -43,21 +43,21 @@ begins_content p depth b target window order is fits begins = record {
 waits_there : (p : Problem) (b : Content) (n : ℕ) (s t : State) → AreNumbered b.skeleton b.last → Waits p b n s → StandsAt b.skeleton b.round (empty_state p) n t → s ≡ t
 waits_there p b n s t are w h = stands_once b.skeleton b.round (empty_state p) n s t (numbered_once b.skeleton b.last are n) w.1 h
 
-waits_once : (p : Problem) (b : Content) (n : ℕ) (s : State) → AreNumbered b.skeleton b.last → Waits p b n s → often n (waiting b.skeleton) ≡ 1
+waits_once : (p : Problem) (b : Content) (n : ℕ) (s : State) → AreNumbered b.skeleton b.last → Waits p b n s → count n (waiting b.skeleton) ≡ 1
 waits_once p b n s are w = omega (arith, often_contains n (waiting b.skeleton) w.0, few_wait n b.skeleton, numbered_once b.skeleton b.last are n)
 
 -- the new content after one piece was given a skeleton that is one at its state
 put_content : (p : Problem) (b : Content) (n : ℕ) (new : Skeleton) (last : ℕ) (s : State) → IsContent p b → Waits p b n s → IsSkeleton new p b.round s
-    → ((x : ℕ) → often x (pieces new) + digit (is_numbered b.last x) ≡ digit (n == x) + digit (is_numbered last x))
+    → ((x : ℕ) → count x (pieces new) + indicator (is_numbered b.last x) ≡ indicator (n == x) + indicator (is_numbered last x))
     → IsContent p (record b { skeleton = put n new b.skeleton; last = last })
-put_content p b n new last s is w sound count = record {
+put_content p b n new last s is w sound counted = record {
   window = is.window;
   order = is.order;
   target = is.target;
   target_is = is.target_is;
   fits = is.fits;
   skeleton = put_is n new b.skeleton p b.round (empty_state p) is.skeleton (λ t h. subst (IsSkeleton new p b.round) (waits_there p b n s t is.numbered w h) sound);
-  numbered = λ x. omega (arith, put_count x n new b.skeleton (waits_once p b n s is.numbered w), is.numbered x, count x);
+  numbered = λ x. omega (arith, put_count x n new b.skeleton (waits_once p b n s is.numbered w), is.numbered x, counted x);
 }
 
 pub fills_content : (p : Problem) (b : Content) (n : ℕ) (tree : Tree) (c : Content) → IsContent p b → Fills p b n tree c → IsContent p c
@@ -73,22 +73,22 @@ parts_groups first [] = refl
 parts_groups first (g ∷ groups) = ap (λ z. g ∷ z) (parts_groups (first + 1) groups)
 
 -- and have the next numbers
-next_number : (x last : ℕ) → digit (is_numbered last x) + digit ((last + 1) == x) ≡ digit (is_numbered (last + 1) x)
+next_number : (x last : ℕ) → indicator (is_numbered last x) + indicator ((last + 1) == x) ≡ indicator (is_numbered (last + 1) x)
 next_number x last = grind (arith, nat_tests)
 
-parts_count : (x last : ℕ) (groups : List (List ℕ)) → digit (is_numbered last x) + often x (pieces_in (parts_from (last + 1) groups)) ≡ digit (is_numbered (last + length groups) x)
-parts_count x last [] = omega (arith, ap (λ z. digit (is_numbered z x)) (plus_none last))
+parts_count : (x last : ℕ) (groups : List (List ℕ)) → indicator (is_numbered last x) + count x (pieces_in (parts_from (last + 1) groups)) ≡ indicator (is_numbered (last + length groups) x)
+parts_count x last [] = omega (arith, ap (λ z. indicator (is_numbered z x)) (plus_none last))
   where
     plus_none : (k : ℕ) → k + 0 ≡ k
     plus_none k = omega arith
-parts_count x last (g ∷ groups) = omega (arith, next_number x last, parts_count x (last + 1) groups, ap (λ z. digit (is_numbered z x)) (moved last (length groups)))
+parts_count x last (g ∷ groups) = omega (arith, next_number x last, parts_count x (last + 1) groups, ap (λ z. indicator (is_numbered z x)) (moved last (length groups)))
   where
     moved : (k m : ℕ) → (k + 1) + m ≡ k + suc m
     moved k m = omega arith
 
 pub splits_content : (p : Problem) (b : Content) (n county limit first many : ℕ) (c : Content) → IsContent p b → Splits p b n county limit first many c → IsContent p c
 splits_content p b n county limit first many c is f =
-    subst (IsContent p) (sym f.is) (put_content p b n (split_from n county limit first f.groups) (b.last + many) f.state is f.waits sound count)
+    subst (IsContent p) (sym f.is) (put_content p b n (split_from n county limit first f.groups) (b.last + many) f.state is f.waits sound counted)
   where
     sound : IsSkeleton (split_from n county limit first f.groups) p b.round f.state
     sound = (
@@ -105,16 +105,16 @@ splits_content p b n county limit first many c is f =
     last_number : b.last + many ≡ (b.last + length f.groups) + 1
     last_number = omega (arith, f.many_is)
 
-    count : (x : ℕ) → often x (pieces (split_from n county limit first f.groups)) + digit (is_numbered b.last x) ≡ digit (n == x) + digit (is_numbered (b.last + many) x)
-    count x =
+    counted : (x : ℕ) → count x (pieces (split_from n county limit first f.groups)) + indicator (is_numbered b.last x) ≡ indicator (n == x) + indicator (is_numbered (b.last + many) x)
+    counted x =
         omega (
           arith,
           often_append x (pieces_in (parts_from first f.groups)) ((first + length f.groups) ∷ []),
-          ap (λ z. often x (pieces_in (parts_from z f.groups))) f.first_is,
+          ap (λ z. count x (pieces_in (parts_from z f.groups))) f.first_is,
           parts_count x b.last f.groups,
           next_number x (b.last + length f.groups),
-          ap (λ z. digit (z == x)) last_piece,
-          ap (λ z. digit (is_numbered z x)) last_number,
+          ap (λ z. indicator (z == x)) last_piece,
+          ap (λ z. indicator (is_numbered z x)) last_number,
         )
 
 -- a target that fits a limit fits one more

@@ -1,7 +1,7 @@
 -- What is held tells the skeleton, but for its numbers.
 use Rattle.std.proofs.Common.{◌≡◌, ℕ, ◌+◌, ◌<◌, ◌≤◌, Bool, true, false, cond, List, [], ◌∷◌, length, ◌==◌, refl, sym, ap, ◌∙◌, subst, arith, ◌⊎◌, inl, inr, ⊎_elim, Option, None, AllPairs, map, ◌↔◌}
 use Rattle.std.proofs.lemmas.Bool.{eq-eqb, eqb-true}
-use Rattle.grouping_laws.specs.Sets.{digit, stands, member}
+use Rattle.grouping_laws.specs.Sets.{indicator, count_in, contains}
 use Rattle.grouping_laws.specs.Problem.{Problem}
 use Rattle.grouping_laws.specs.GroupsFrom.{IsBefore, IsLesser, place}
 use Rattle.place_laws.proofs.Sums.{often_some}
@@ -68,13 +68,13 @@ Closed g s = Has s.closed g
 
 -- the county lies in a group of more than j, or is to lie in one
 abbrev Guarded : ℕ → ℕ → State → Type 0
-Guarded c j s = ((s.rest c ≡ true) × (j < s.least c)) ⊎ ((k : List ℕ) × Has s.closed k × (member k c ≡ true) × (j < length k))
+Guarded c j s = ((s.rest c ≡ true) × (j < s.least c)) ⊎ ((k : List ℕ) × Has s.closed k × (contains k c ≡ true) × (j < length k))
 
 guarded_closed : (p : Problem) (round : Round) (c j : ℕ) (s : State) (d i : ℕ) (g : List ℕ) → CanBranch round s d i → IsGroupAt p round s d i g → Guarded c j s → Guarded c j (close g s)
 guarded_closed p round c j s d i g can group (inr h) = inr (h.0, has_left s.closed (g ∷ []) h.0 h.1, h.2, h.3)
-guarded_closed p round c j s d i g can group (inl h) = go (member g c) refl
+guarded_closed p round c j s d i g can group (inl h) = go (contains g c) refl
   where
-    go : (b : Bool) → member g c ≡ b → Guarded c j (close g s)
+    go : (b : Bool) → contains g c ≡ b → Guarded c j (close g s)
     go true e = inr (g, has_right s.closed (g ∷ []) g (inl refl), e, omega (arith, h.1, open_least s (length g) c (group.fits.inside c e)))
     go false e = inl (rw (h.0, e) refl, rw e h.1)
 
@@ -87,19 +87,19 @@ guarded_raised round c j s d i can (inl h) = inl (h.0, go (c == d) refl)
     go false e = h.1
 
 -- two closed groups with a county in common are one
-stands_some : (c : ℕ) (sets : List (List ℕ)) (g : List ℕ) → Has sets g → member g c ≡ true → 1 ≤ stands c sets
+stands_some : (c : ℕ) (sets : List (List ℕ)) (g : List ℕ) → Has sets g → contains g c ≡ true → 1 ≤ count_in c sets
 stands_some c [] g h m = absurd h
-stands_some c (x ∷ sets) g (inl e) m = omega (arith, often_some c x (ap (λ z. member z c) e ∙ m))
+stands_some c (x ∷ sets) g (inl e) m = omega (arith, often_some c x (ap (λ z. contains z c) e ∙ m))
 stands_some c (x ∷ sets) g (inr h) m = omega (arith, stands_some c sets g h m)
 
-stands_two : (c : ℕ) (sets : List (List ℕ)) (g h : List ℕ) → Has sets g → Has sets h → member g c ≡ true → member h c ≡ true → stands c sets ≤ 1 → g ≡ h
+stands_two : (c : ℕ) (sets : List (List ℕ)) (g h : List ℕ) → Has sets g → Has sets h → contains g c ≡ true → contains h c ≡ true → count_in c sets ≤ 1 → g ≡ h
 stands_two c [] g h a b m n few = absurd a
 stands_two c (x ∷ sets) g h (inl a) (inl b) m n few = sym a ∙ b
-stands_two c (x ∷ sets) g h (inl a) (inr b) m n few = absurd (omega (arith, few, often_some c x (ap (λ z. member z c) a ∙ m), stands_some c sets h b n))
-stands_two c (x ∷ sets) g h (inr a) (inl b) m n few = absurd (omega (arith, few, often_some c x (ap (λ z. member z c) b ∙ n), stands_some c sets g a m))
+stands_two c (x ∷ sets) g h (inl a) (inr b) m n few = absurd (omega (arith, few, often_some c x (ap (λ z. contains z c) a ∙ m), stands_some c sets h b n))
+stands_two c (x ∷ sets) g h (inr a) (inl b) m n few = absurd (omega (arith, few, often_some c x (ap (λ z. contains z c) b ∙ n), stands_some c sets g a m))
 stands_two c (x ∷ sets) g h (inr a) (inr b) m n few = stands_two c sets g h a b m n (omega (arith, few))
 
-at_most_one : (b : Bool) → digit b ≤ 1
+at_most_one : (b : Bool) → indicator b ≤ 1
 at_most_one true = omega arith
 at_most_one false = omega arith
 
@@ -163,14 +163,14 @@ module _ (p : Problem) (round : Round) where
       own_size s c j = rw (eq-eqb c c refl) (omega arith)
 
   -- nothing is held in a part and where the county is raised
-  apart : (c j : ℕ) (t : State) (g : List ℕ) → IsState p round t → Has t.closed g → member g c ≡ true → length g ≤ j → Guarded c j t → ⊥
-  apart c j t g state has m small (inl h) = omega (arith, stands_some c t.closed g has m, true_digit (t.rest c) h.0, state.once c, at_most_one (member p.counties c))
+  apart : (c j : ℕ) (t : State) (g : List ℕ) → IsState p round t → Has t.closed g → contains g c ≡ true → length g ≤ j → Guarded c j t → ⊥
+  apart c j t g state has m small (inl h) = omega (arith, stands_some c t.closed g has m, true_digit (t.rest c) h.0, state.once c, at_most_one (contains p.counties c))
   apart c j t g state has m small (inr h) =
-      let same = stands_two c t.closed g h.0 has h.1 m h.2 (omega (arith, state.once c, at_most_one (member p.counties c))) in
+      let same = stands_two c t.closed g h.0 has h.1 m h.2 (omega (arith, state.once c, at_most_one (contains p.counties c))) in
       omega (arith, h.3, small, ap length same)
 
-  one_group : (c : ℕ) (t : State) (g h : List ℕ) → IsState p round t → Has t.closed g → Has t.closed h → member g c ≡ true → member h c ≡ true → g ≡ h
-  one_group c t g h state a b m n = stands_two c t.closed g h a b m n (omega (arith, state.once c, at_most_one (member p.counties c)))
+  one_group : (c : ℕ) (t : State) (g h : List ℕ) → IsState p round t → Has t.closed g → Has t.closed h → contains g c ≡ true → contains h c ≡ true → g ≡ h
+  one_group c t g h state a b m n = stands_two c t.closed g h a b m n (omega (arith, state.once c, at_most_one (contains p.counties c)))
 
   -- what is held in the parts of one is held in those of the other
   only_parts : (n : Option ℕ) (c : ℕ) (l : Option ℕ) (ps qs : Parts) (v : Skeleton) (s t : State) (held : Held) → CanBranch round s c (limit_of round l) → ((g : List ℕ) → Has (groups_in ps) g → IsGroupAt p round s c (limit_of round l) g)

@@ -1,7 +1,7 @@
 -- Each number names one state.
 use Rattle.std.proofs.Common.{◌≡◌, ℕ, ◌≤◌, List, ◌++◌, ◌==◌, refl, sym, ap, ◌∙◌, subst, arith, ◌⊎◌, inl, inr, ⊎_elim, Option, Some, None}
 use Rattle.std.proofs.lemmas.Bool.{eq-eqb}
-use Rattle.grouping_laws.specs.Sets.{often}
+use Rattle.grouping_laws.specs.Sets.{count}
 use Rattle.grouping_laws.specs.Problem.{Problem}
 use Rattle.grouping_laws.proofs.Digits.{true_digit}
 use Rattle.grouping_laws.proofs.Elements.{Has, has_append, contains_from_has}
@@ -21,7 +21,7 @@ has_onto (Some piece) xs n (inr h) = inr h
 
 -- what stands somewhere is a piece
 mutual
-  pub stands_often : (skeleton : Skeleton) (round : Round) (s : State) (n : ℕ) (t : State) → StandsAt skeleton round s n t → 1 ≤ often n (pieces skeleton)
+  pub stands_often : (skeleton : Skeleton) (round : Round) (s : State) (n : ℕ) (t : State) → StandsAt skeleton round s n t → 1 ≤ count n (pieces skeleton)
   stands_often (waits piece) round s n t h = omega (arith, true_digit (piece == n) (eq-eqb piece n h.0))
   stands_often (proved piece tree) round s n t h = omega (arith, true_digit (piece == n) (eq-eqb piece n h.0))
   stands_often (split piece county limit parts raised) round s n t (inl h) = omega (arith, onto_some n piece (pieces_in parts ++ pieces raised) h.0)
@@ -30,7 +30,7 @@ mutual
   stands_often (split piece county limit parts raised) round s n t (inr (inr h)) =
       omega (arith, stands_often raised round (raise county (limit_of round limit) s) n t h, often_append n (pieces_in parts) (pieces raised), often_onto n piece (pieces_in parts ++ pieces raised))
 
-  often_in : (parts : Parts) (round : Round) (s : State) (n : ℕ) (t : State) → StandsIn parts round s n t → 1 ≤ often n (pieces_in parts)
+  often_in : (parts : Parts) (round : Round) (s : State) (n : ℕ) (t : State) → StandsIn parts round s n t → 1 ≤ count n (pieces_in parts)
   often_in no_part round s n t h = absurd h
   often_in (part codes skeleton others) round s n t (inl h) = omega (arith, stands_often skeleton round (close codes s) n t h, often_append n (pieces skeleton) (pieces_in others))
   often_in (part codes skeleton others) round s n t (inr h) = omega (arith, often_in others round s n t h, often_append n (pieces skeleton) (pieces_in others))
@@ -61,7 +61,7 @@ mutual
 
 -- a number that stands once names one state
 mutual
-  pub stands_once : (skeleton : Skeleton) (round : Round) (s : State) (n : ℕ) (t u : State) → often n (pieces skeleton) ≤ 1 → StandsAt skeleton round s n t → StandsAt skeleton round s n u → t ≡ u
+  pub stands_once : (skeleton : Skeleton) (round : Round) (s : State) (n : ℕ) (t u : State) → count n (pieces skeleton) ≤ 1 → StandsAt skeleton round s n t → StandsAt skeleton round s n u → t ≡ u
   stands_once (waits piece) round s n t u few h k = h.1 ∙ sym k.1
   stands_once (proved piece tree) round s n t u few h k = h.1 ∙ sym k.1
   stands_once (split piece county limit parts raised) round s n t u few (inl a) (inl b) = a.1 ∙ sym b.1
@@ -74,7 +74,7 @@ mutual
   stands_once (split piece county limit parts raised) round s n t u few (inr (inr a)) (inr (inl b)) = absurd (omega (arith, few, often_append n (pieces_in parts) (pieces raised), often_onto n piece (pieces_in parts ++ pieces raised), often_in parts round s n u b, stands_often raised round (raise county (limit_of round limit) s) n t a))
   stands_once (split piece county limit parts raised) round s n t u few (inr (inr a)) (inr (inr b)) = stands_once raised round (raise county (limit_of round limit) s) n t u (omega (arith, few, often_append n (pieces_in parts) (pieces raised), often_onto n piece (pieces_in parts ++ pieces raised))) a b
 
-  once_in : (parts : Parts) (round : Round) (s : State) (n : ℕ) (t u : State) → often n (pieces_in parts) ≤ 1 → StandsIn parts round s n t → StandsIn parts round s n u → t ≡ u
+  once_in : (parts : Parts) (round : Round) (s : State) (n : ℕ) (t u : State) → count n (pieces_in parts) ≤ 1 → StandsIn parts round s n t → StandsIn parts round s n u → t ≡ u
   once_in no_part round s n t u few h k = absurd h
   once_in (part codes skeleton others) round s n t u few (inl a) (inl b) = stands_once skeleton round (close codes s) n t u (omega (arith, few, often_append n (pieces skeleton) (pieces_in others))) a b
   once_in (part codes skeleton others) round s n t u few (inl a) (inr b) = absurd (omega (arith, few, often_append n (pieces skeleton) (pieces_in others), stands_often skeleton round (close codes s) n t a, often_in others round s n u b))

@@ -1,6 +1,6 @@
 -- Which state a piece stands for.
 use Rattle.std.specs.Prelude.{ℕ, ◌≡◌, Bool, nat_le, ◌&&◌, Option, Some, ◌⊎◌}
-use Rattle.grouping_laws.specs.Sets.{digit, often}
+use Rattle.grouping_laws.specs.Sets.{indicator, count}
 use Rattle.certificate_data.specs.Round.{Round}
 use Rattle.certificate_laws.specs.State.{State, close, raise}
 use Rattle.certificate_data.specs.Tree.{Tree}
@@ -29,7 +29,7 @@ is_numbered last n = nat_le 1 n && nat_le n last
 
 -- the pieces have the numbers from 1 through the last, each number once
 abbrev pub AreNumbered : Skeleton → ℕ → Type 0
-AreNumbered skeleton last = (n : ℕ) → often n (pieces skeleton) ≡ digit (is_numbered last n)
+AreNumbered skeleton last = (n : ℕ) → count n (pieces skeleton) ≡ indicator (is_numbered last n)
 
 -- what a piece, or a branch, may have
 pub data Held : Type 0 where

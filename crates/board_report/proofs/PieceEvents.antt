@@ -9,7 +9,7 @@ use Rattle.certificate_lines.specs.declared.item.Wanted.{Wanted}
 use Rattle.grouping_laws.specs.Problem.{Problem}
 use Rattle.grouping_laws.specs.Grouping.{Grouping}
 use Rattle.grouping_laws.specs.GroupsFrom.{IsOrder}
-use Rattle.grouping_laws.specs.Sets.{member}
+use Rattle.grouping_laws.specs.Sets.{contains}
 use Rattle.grouping_laws.proofs.Digits.{true_digit, digit_true}
 use Rattle.certificate_data.specs.Round.{Round}
 use Rattle.certificate_laws.specs.State.{State, IsState}
@@ -36,7 +36,7 @@ and_left false b e = absurd (cc)
 
 -- a county of the rest is one of the problem
 rest_five : (p : Problem) (round : Round) (s : State) (county limit : ℕ) → HasFiveDigits p → IsState p round s → (s.rest county && nat_le (s.least county) limit) ≡ true → county ≤ 99999
-rest_five p round s county limit five state e = five_digits p county five (digit_true (member p.counties county) (omega (arith, state.once county, true_digit (s.rest county) (and_left (s.rest county) (nat_le (s.least county) limit) e))))
+rest_five p round s county limit five state e = five_digits p county five (digit_true (contains p.counties county) (omega (arith, state.once county, true_digit (s.rest county) (and_left (s.rest county) (nat_le (s.least county) limit) e))))
 
 pub has_text : (p : Problem) (round : Round) (s : State) (number : ℕ) (piece : Piece) → IsOrder p round.order → HasFiveDigits p → IsState p round s → round.limit ≤ most → number ≤ greatest → IsPiece p round s piece
     → HasText round.language (length round.order) number piece

@@ -3,7 +3,7 @@ use Rattle.std.proofs.Common.{◌≡◌, ℕ, zero, suc, ◌+◌, ◌/◌, min, 
 use Rattle.std.proofs.lemmas.List.{append-nil, drop_all, get_or-map, length-map}
 use Rattle.county_codes.specs.declared.county.County.{County}
 use Rattle.county_codes.specs.Counties.{codes_of}
-use Rattle.grouping_laws.specs.Sets.{often, member}
+use Rattle.grouping_laws.specs.Sets.{count, contains}
 use Rattle.grouping_laws.specs.Problem.{Problem}
 use Rattle.grouping_laws.specs.GroupsFrom.{place}
 use Rattle.grouping_laws.specs.PlaceProblem.{code_at}
@@ -40,13 +40,13 @@ first_lists f test order p round s i [] (suc k) are = tt
 first_lists f test order p round s i (x ∷ lists) (suc k) are = (are.0, first_lists f test order p round s (i + 1) lists k are.1)
 
 -- the county at a place, by its place
-pub county_at : {C : Type 0} (order : List ℕ) → ((c : ℕ) → often c order ≤ 1) → (test : C → ℕ → Bool) (set : C) (i c : ℕ) → i < length order → code_at order i ≡ c → has_county order test set c ≡ test set i
+pub county_at : {C : Type 0} (order : List ℕ) → ((c : ℕ) → count c order ≤ 1) → (test : C → ℕ → Bool) (set : C) (i c : ℕ) → i < length order → code_at order i ≡ c → has_county order test set c ≡ test set i
 county_at order once test set i c l e =
-    subst (λ z. (member order z && test set (place order z)) ≡ test set i) e
+    subst (λ z. (contains order z && test set (place order z)) ≡ test set i) e
     (ap (λ b. b && test set (place order (code_at order i))) (has_member order (code_at order i) (has_get order i 0 l)) ∙ ap (test set) (place_at order once i l))
 
 -- a county at no place
-pub county_nowhere : {C : Type 0} (order : List ℕ) (test : C → ℕ → Bool) (set : C) (c : ℕ) → member order c ≡ false → has_county order test set c ≡ false
+pub county_nowhere : {C : Type 0} (order : List ℕ) (test : C → ℕ → Bool) (set : C) (c : ℕ) → contains order c ≡ false → has_county order test set c ≡ false
 county_nowhere order test set c e = ap (λ b. b && test set (place order c)) e
 
 -- the lesser of two quotients

@@ -1,7 +1,7 @@
 -- What the weights of a count line give: 1 to each county of a group that fits and has the line's size, and 0 to each other one.
 use Rattle.std.proofs.Common.{◌≡◌, ℕ, ◌+◌, ◌/◌, ◌≤◌, ◌<◌, Bool, true, false, cond, min, ◌==◌, List, [], ◌∷◌, map, filter, length, refl, sym, ap, ◌∙◌, subst, arith, inl, inr, ◌↔◌, AllPairs, Contains}
 use Rattle.std.proofs.lemmas.Bool.{false≢true, eqb-true, eq-eqb, ne_eqb}
-use Rattle.grouping_laws.specs.Sets.{digit, total, member}
+use Rattle.grouping_laws.specs.Sets.{indicator, sum_by, contains}
 use Rattle.grouping_laws.specs.Problem.{Problem, IsProblem}
 use Rattle.grouping_laws.specs.GroupsFrom.{IsOrder}
 use Rattle.grouping_laws.proofs.Elements.{Has, all_from_has, has_from_contains, contains_from_has}
@@ -17,7 +17,7 @@ use Rattle.certificate_data.specs.Tree.{Weight, Allowance, weigh}
 use Rattle.certificate_laws.specs.BoundLines.{weight_of, room_at, allowance, IsFair}
 use Rattle.certificate_laws.specs.Places.{IsRegionAt}
 use Rattle.certificate_laws.specs.Search.{IsInFittingGroup, IsCountLine}
-use Rattle.certificate_laws.proofs.Counting.{total-filter, length-filter}
+use Rattle.certificate_laws.proofs.Counting.{sum_by-filter, length-filter}
 use Rattle.certificate_laws.proofs.Kept.{head_before, tail_pairs, cons_pairs, filter_pairs, filter_has}
 use Rattle.certificate_laws.proofs.Places.{places_serve}
 
@@ -40,7 +40,7 @@ weight_once (x ∷ ws) up w (inr h) =
     let later : x.county < w.county = head_before (λ (y z : Weight). y.county < z.county) x ws up w h in
     omega (arith, ap (λ b. cond b x.weight 0) (ne_eqb x.county w.county (λ e. omega (arith, later, e))), weight_once ws (tail_pairs (λ (y z : Weight). y.county < z.county) x ws up) w h)
 
-total_each_one : (f : ℕ → ℕ) (xs : List ℕ) → ((x : ℕ) → Has xs x → f x ≡ 1) → total f xs ≡ length xs
+total_each_one : (f : ℕ → ℕ) (xs : List ℕ) → ((x : ℕ) → Has xs x → f x ≡ 1) → sum_by f xs ≡ length xs
 total_each_one f [] one = refl
 total_each_one f (x ∷ xs) one = omega (arith, one x (inl refl), total_each_one f xs (λ y h. one y (inr h)))
 
@@ -83,25 +83,25 @@ module _ (language : Language) (p : Problem) (s : State) (i : ℕ) (line : Allow
   pub count_fair : 1 ≤ i → IsFair language p s i line
   count_fair some = subst (IsFair language p s i) (sym is.is) (
     some,
-    all_from_has (λ w. member p.counties w.county ≡ true) is.weights (λ w h. let k = ((is.each w).0 (contains_from_has is.weights w h)).1 in k.1.lawful.listed w.county k.3),
+    all_from_has (λ w. contains p.counties w.county ≡ true) is.weights (λ w h. let k = ((is.each w).0 (contains_from_has is.weights w h)).1 in k.1.lawful.listed w.county k.3),
     λ g fits size. omega (arith, size, total_each_one (weight_of is.weights) g (λ c h. one_each c (g, fits, size, has_member g c h))),
   )
 
   module _ (order : List ℕ) (region places : ℕ → Bool) (law : IsProblem p) (whole : IsOrder p order) (at : IsRegionAt order region places) (tests : (c : ℕ) → (region c ≡ true) ↔ IsInFittingGroup language p s i c) where
-    shared_out : (c : ℕ) → cond (open_to s i c) (weight_of is.weights c) 0 ≡ digit (region c)
+    shared_out : (c : ℕ) → cond (open_to s i c) (weight_of is.weights c) 0 ≡ indicator (region c)
     shared_out c = go (region c) refl (open_to s i c) refl
       where
-        go : (a : Bool) → region c ≡ a → (b : Bool) → open_to s i c ≡ b → cond b (weight_of is.weights c) 0 ≡ digit a
+        go : (a : Bool) → region c ≡ a → (b : Bool) → open_to s i c ≡ b → cond b (weight_of is.weights c) 0 ≡ indicator a
         go true e true k = one_each c ((tests c).0 e)
         go true e false k = let h = (tests c).0 e in absurd (false≢true (sym k ∙ subst (λ n. open_to s n c ≡ true) h.2 (h.1.inside c h.3)))
         go false e true k = none_else c (λ h. false≢true (sym e ∙ (tests c).1 h))
         go false e false k = refl
 
     -- the open counties weigh as much as there are counted places
-    open_weight : total (weight_of is.weights) (listed p (open_to s i)) ≡ length (places_of (length order) places)
+    open_weight : sum_by (weight_of is.weights) (listed p (open_to s i)) ≡ length (places_of (length order) places)
     open_weight =
-        total-filter (weight_of is.weights) (open_to s i) p.counties
-        ∙ (total_same (λ c. cond (open_to s i c) (weight_of is.weights c) 0) (λ c. digit (region c)) p.counties shared_out
+        sum_by-filter (weight_of is.weights) (open_to s i) p.counties
+        ∙ (total_same (λ c. cond (open_to s i c) (weight_of is.weights c) 0) (λ c. indicator (region c)) p.counties shared_out
         ∙ (sym (length-filter region p.counties)
         ∙ (sym (total_ones (filter region p.counties))
         ∙ (places_serve.sums p order region places (λ c. 1) law whole at ∙ total_ones (places_of (length order) places)))))

@@ -2,7 +2,7 @@
 use Rattle.std.proofs.Common.{◌≡◌, ℕ, ◌≤◌, ◌<◌, Bool, true, false, ◌||◌, ◌&&◌, List, [], ◌∷◌, filter, length, refl, sym, ap, ◌∙◌, subst, inl, inr, ◌↔◌}
 use Rattle.std.specs.List.{list_any}
 use Rattle.std.proofs.lemmas.Bool.{false≢true, and_parts}
-use Rattle.grouping_laws.specs.Sets.{often, member}
+use Rattle.grouping_laws.specs.Sets.{count, contains}
 use Rattle.grouping_laws.specs.Problem.{Problem}
 use Rattle.grouping_laws.specs.GroupsFrom.{IsOrder, place}
 use Rattle.grouping_laws.specs.PlaceProblem.{code_at}
@@ -39,7 +39,7 @@ any_from_has q (y ∷ ys) x (inr h) e = ap (λ b. q y || b) (any_from_has q ys x
     either false = refl
 
 module _ (C : Type 0) (test : C → ℕ → Bool) (order : List ℕ) (p : Problem) (whole : IsOrder p order) where
-  once : (c : ℕ) → often c order ≤ 1
+  once : (c : ℕ) → count c order ≤ 1
   once = order_once p order whole
 
   both_true : (a b : Bool) → a ≡ true → b ≡ true → (a && b) ≡ true
@@ -50,25 +50,25 @@ module _ (C : Type 0) (test : C → ℕ → Bool) (order : List ℕ) (p : Proble
   region_of_set set below = record {
     same = λ i l. sym (ap (λ z. z && test set (place order (code_at order i))) (has_member order (code_at order i) (has_get order i 0 l)) ∙ ap (test set) (place_at order once i l));
     below = below;
-    known = λ c e. (and_parts (member order c) (test set (place order c)) e).0;
+    known = λ c e. (and_parts (contains order c) (test set (place order c)) e).0;
   }
 
   set_below : (set : C) → Below (length order) (places_of (length order) (test set))
   set_below set x h = placed_below (length order) x (test set) (has_member (places_of (length order) (test set)) x h)
 
   -- a county is in the codes of a set exactly where its place is in the set
-  pub codes_have : (set : C) (c : ℕ) → has_county order test set c ≡ true → member (codes_of_set order test set) c ≡ true
+  pub codes_have : (set : C) (c : ℕ) → has_county order test set c ≡ true → contains (codes_of_set order test set) c ≡ true
   codes_have set c e =
-      let r = and_parts (member order c) (test set (place order c)) e in
+      let r = and_parts (contains order c) (test set (place order c)) e in
       let at = places_are_codes.there order c r.0 in
-      subst (λ z. member (codes_of_set order test set) z ≡ true) at.1
+      subst (λ z. contains (codes_of_set order test set) z ≡ true) at.1
       (member_code order once (places_of (length order) (test set)) (set_below set) (place order c) at.0 ∙ placed (length order) (place order c) (test set) at.0 r.1)
 
-  pub has_codes : (set : C) (c : ℕ) → member (codes_of_set order test set) c ≡ true → has_county order test set c ≡ true
+  pub has_codes : (set : C) (c : ℕ) → contains (codes_of_set order test set) c ≡ true → has_county order test set c ≡ true
   has_codes set c e =
       let r = code_place order once (places_of (length order) (test set)) (set_below set) c e in
-      both_true (member order c) (test set (place order c))
-      (subst (λ z. member order z ≡ true) r.2 (has_member order (code_at order (place order c)) (has_get order (place order c) 0 r.0)))
+      both_true (contains order c) (test set (place order c))
+      (subst (λ z. contains order z ≡ true) r.2 (has_member order (code_at order (place order c)) (has_get order (place order c) 0 r.0)))
       (placed_test (length order) (place order c) (test set) r.1)
 
   module _ (round : Round) (e : round.order ≡ order) (s : State) (i : ℕ) (sets : List C) (are : IsListOf test order p round s i sets) (all : C) (together : (x : ℕ) → test all x ≡ list_any (λ g. test g x) sets) where
@@ -79,20 +79,20 @@ module _ (C : Type 0) (test : C → ℕ → Bool) (order : List ℕ) (p : Proble
 
     counted_there : (c : ℕ) → has_county order test all c ≡ true → IsInFittingGroup round.language p s i c
     counted_there c h =
-        let k = and_parts (member order c) (test all (place order c)) h in
+        let k = and_parts (contains order c) (test all (place order c)) h in
         let r = any_has (λ g. test g (place order c)) sets (sym (together (place order c)) ∙ k.1) in
         let g = codes_of_set order test r.0 in
         let is = (are.groups.each g).0 (contains_from_has (codes_of_sets order test sets) g (mapped_has (codes_of_set order test) sets r.0 r.1)) in
-        (g, is.fits, is.size, codes_have r.0 c (both_true (member order c) (test r.0 (place order c)) k.0 r.2))
+        (g, is.fits, is.size, codes_have r.0 c (both_true (contains order c) (test r.0 (place order c)) k.0 r.2))
 
     counted_back : (c : ℕ) → IsInFittingGroup round.language p s i c → has_county order test all c ≡ true
     counted_back c h =
-        let k = filter (member h.0) round.order in
+        let k = filter (contains h.0) round.order in
         let found = listed_alike p round s i (codes_of_sets order test sets) (subst (IsOrder p) (sym e) whole) are.groups h.0 h.1 h.2 in
         let r : (set : C) × Has sets set × (codes_of_set order test set ≡ k) = has_mapped (codes_of_set order test) sets k found.1 in
-        let there : has_county order test r.0 c ≡ true = has_codes r.0 c (subst (λ z. member z c ≡ true) (sym r.2) (member_alike h.0 k found.0 c h.3)) in
-        let parts = and_parts (member order c) (test r.0 (place order c)) there in
-        both_true (member order c) (test all (place order c)) parts.0 (together (place order c) ∙ any_from_has (λ g. test g (place order c)) sets r.0 r.1 parts.1)
+        let there : has_county order test r.0 c ≡ true = has_codes r.0 c (subst (λ z. contains z c ≡ true) (sym r.2) (member_alike h.0 k found.0 c h.3)) in
+        let parts = and_parts (contains order c) (test r.0 (place order c)) there in
+        both_true (contains order c) (test all (place order c)) parts.0 (together (place order c) ∙ any_from_has (λ g. test g (place order c)) sets r.0 r.1 parts.1)
 
     -- a county is counted exactly where its place is in some set
     pub counted_tests : (c : ℕ) → (has_county order test all c ≡ true) ↔ IsInFittingGroup round.language p s i c

@@ -1,7 +1,7 @@
 -- Lists of the groups of each size that fit a state, by places, and the bound leaves of count lines that the lists
 -- give.
 use Rattle.std.specs.Prelude.{ℕ, ◌+◌, ◌≡◌, ◌≤◌, Bool, ◌&&◌, List, [], ◌∷◌, length, ⊤}
-use Rattle.grouping_laws.specs.Sets.{member}
+use Rattle.grouping_laws.specs.Sets.{contains}
 use Rattle.grouping_laws.specs.Problem.{Problem}
 use Rattle.grouping_laws.specs.GroupsFrom.{place}
 use Rattle.connected_laws.specs.Listing.{AreBelow}
@@ -15,7 +15,7 @@ use Rattle.state_groups.specs.PlacedValues.{codes_of_sets}
 
 -- whether a set of places has the county's
 abbrev pub has_county : {C : Type 0} → List ℕ → (C → ℕ → Bool) → C → ℕ → Bool
-has_county order test set c = member order c && test set (place order c)
+has_county order test set c = contains order c && test set (place order c)
 
 -- the groups of i counties that fit, each as a set of places of the order
 pub record IsListOf {C : Type 0} (test : C → ℕ → Bool) (order : List ℕ) (p : Problem) (round : Round) (s : State)

@@ -3,7 +3,7 @@ use Rattle.std.proofs.Common.{◌≡◌, ℕ, ◌≤◌, List, [], ◌∷◌, �
 use Rattle.std.specs.List.{AllByRecursion}
 use Rattle.place_laws.proofs.AllLists.{all_append}
 use Rattle.grouping_laws.specs.Problem.{Problem}
-use Rattle.grouping_laws.specs.Sets.{member}
+use Rattle.grouping_laws.specs.Sets.{contains}
 use Rattle.grouping_laws.specs.Grouping.{Grouping, sets_of}
 use Rattle.grouping_laws.specs.GroupsFrom.{IsBefore}
 use Rattle.certificate_data.specs.Round.{Round}
@@ -104,5 +104,5 @@ take_step p round s groups group ts t are is = record {
         (e.0, all_append (FitsInTree round.language) (items_of_tree (tree_of tree)) (items_of_takes (list_of_takes (us ++ t ∷ []))) parts.0 (lines_behind us parts.1))
 
 -- groups that stand in one order stand in an equal one
-pub sorted_as : (order other : List ℕ) (groups : Grouping) → order ≡ other → AllPairs (IsBefore order) (sets_of groups) → All (λ m. filter (member m.codes) order ≡ m.codes) groups → IsSorted other groups
+pub sorted_as : (order other : List ℕ) (groups : Grouping) → order ≡ other → AllPairs (IsBefore order) (sets_of groups) → All (λ m. filter (contains m.codes) order ≡ m.codes) groups → IsSorted other groups
 sorted_as order other groups same turn codes = subst (λ o. IsSorted o groups) same (record { in_turn = turn; in_order = codes })

@@ -4,7 +4,7 @@ use Rattle.std.specs.List.Sorted.{IsStrictlyIncreasing}
 use Rattle.std.proofs.lemmas.Bool.{eqb-true, eq-eqb, false≢true}
 use Rattle.std.proofs.lemmas.List.Kept.{AllPairs-from_increasing, IsStrictlyIncreasing-filter}
 use Rattle.county_codes.specs.declared.group.Group.{Group}
-use Rattle.grouping_laws.specs.Sets.{member}
+use Rattle.grouping_laws.specs.Sets.{contains}
 use Rattle.grouping_laws.specs.Grouping.{Grouping, sets_of}
 use Rattle.grouping_laws.specs.GroupsFrom.{place, IsLesser, IsBefore}
 use Rattle.grouping_laws.proofs.Elements.{Has, has_all, has_get, all_from_has, has-map}
@@ -45,13 +45,13 @@ module _ (order : List ℕ) (ascending : IsStrictlyIncreasing order) where
   before_codes g h inside within (inr r) = inr (r.0, lesser_codes g h inside within r.1)
 
   -- codes in the order of places are codes of the order
-  codes_inside : (g : List ℕ) → filter (member g) order ≡ g → (c : ℕ) → Has g c → Has order c
-  codes_inside g e c h = (has-filter (member g) order c (subst (λ z. Has z c) (sym e) h)).0
+  codes_inside : (g : List ℕ) → filter (contains g) order ≡ g → (c : ℕ) → Has g c → Has order c
+  codes_inside g e c h = (has-filter (contains g) order c (subst (λ z. Has z c) (sym e) h)).0
 
   sets_inside : (groups : Grouping) → IsSorted order groups → (set : List ℕ) → Has (sets_of groups) set → (c : ℕ) → Has set c → Has order c
   sets_inside groups sorted set h =
       let m = has-map groups set h in
-      codes_inside set (subst (λ z. filter (member z) order ≡ z) m.2 (has_all (λ (x : Group). filter (member x.codes) order ≡ x.codes) groups sorted.in_order m.0 m.1))
+      codes_inside set (subst (λ z. filter (contains z) order ≡ z) m.2 (has_all (λ (x : Group). filter (contains x.codes) order ≡ x.codes) groups sorted.in_order m.0 m.1))
 
   pub stands_in_order : (groups : Grouping) → IsSorted order groups → StandsInOrder groups
   stands_in_order groups sorted = record {
@@ -61,5 +61,5 @@ module _ (order : List ℕ) (ascending : IsStrictlyIncreasing order) where
         (sets_inside groups sorted (get_or (sets_of groups) j d) (has_get (sets_of groups) j d m))
         (sorted.in_turn i j d l m);
     codes = all_from_has (λ (x : Group). IsStrictlyIncreasing x.codes) groups
-        (λ x h. subst IsStrictlyIncreasing (has_all (λ (y : Group). filter (member y.codes) order ≡ y.codes) groups sorted.in_order x h) (IsStrictlyIncreasing-filter (member x.codes) order ascending));
+        (λ x h. subst IsStrictlyIncreasing (has_all (λ (y : Group). filter (contains y.codes) order ≡ y.codes) groups sorted.in_order x h) (IsStrictlyIncreasing-filter (contains x.codes) order ascending));
   }

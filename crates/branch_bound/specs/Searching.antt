@@ -4,7 +4,7 @@ use Rattle.std.specs.Prelude.{MatchOption, ⊤}
 use Rattle.std.specs.List.{AllByRecursion}
 use Rattle.county_codes.specs.Limits.{most_counties}
 use Rattle.county_codes.specs.declared.group.Grouping.{Grouping as GroupingHeld}
-use Rattle.grouping_laws.specs.Sets.{member}
+use Rattle.grouping_laws.specs.Sets.{contains}
 use Rattle.grouping_laws.specs.Problem.{Problem}
 use Rattle.grouping_laws.specs.Grouping.{Grouping, sets_of}
 use Rattle.grouping_laws.specs.GroupsFrom.{IsBefore}
@@ -87,7 +87,7 @@ pub record IsPositionAt {C : Type 0} (test : C → ℕ → Bool) (g : SearchInpu
 -- the groups stand by size and then by places, and the codes of each in the order of places
 pub record IsSorted (order : List ℕ) (g : Grouping) : Type 0 where
   pub in_turn : AllPairs (IsBefore order) (sets_of g)
-  pub in_order : All (λ m. filter (member m.codes) order ≡ m.codes) g
+  pub in_order : All (λ m. filter (contains m.codes) order ≡ m.codes) g
 
 -- A leaf that is valid, its numbers in the ranges of its lines. It is complete if the target fits the limit.
 abbrev pub IsEnd : Problem → Round → State → Leaf → Type 0
@@ -141,7 +141,7 @@ pub record IsChoice {C : Type 0} (test : C → ℕ → Bool) (order : List ℕ) 
   pub below : place < length order
   pub group : List ℕ
   pub known : Contains (codes_of_sets order test groups) group
-  pub has : member group (code_at order place) ≡ true
+  pub has : contains group (code_at order place) ≡ true
 
 -- a leaf that is valid, a grouping that is better, or a county to branch at
 abbrev pub IsNextMove : {C : Type 0} → (C → ℕ → Bool) → SearchInput C → State → Move C → Type 0

@@ -3,11 +3,11 @@ use Rattle.std.proofs.Common.{◌≡◌, ℕ, ◌+◌, ◌-◌, ◌*◌, ◌≤�
 use Rattle.std.proofs.lemmas.Bool.{eqb-true, eq-eqb, false≢true, lt-leb}
 use Rattle.std.proofs.lemmas.List.Elements.{All-push}
 use Rattle.county_codes.specs.declared.group.Group.{Group}
-use Rattle.grouping_laws.specs.Sets.{digit, often, member, Inside, SameSet}
+use Rattle.grouping_laws.specs.Sets.{indicator, count, contains, Inside, SameSet}
 use Rattle.grouping_laws.specs.Problem.{Problem, LawfulGroup}
 use Rattle.grouping_laws.specs.Grouping.{Grouping, Lawful}
 use Rattle.grouping_laws.specs.GroupsFrom.{IsOrder}
-use Rattle.place_laws.proofs.Sums.{total-append, total_le, total_times, total_ones, digit_one}
+use Rattle.place_laws.proofs.Sums.{sum_by-append, total_le, total_times, total_ones, digit_one}
 use Rattle.grouping_laws.proofs.Elements.{Has, has_all, all_from_has, has_left, has_right, has_append, contains_from_has}
 use Rattle.grouping_laws.proofs.Digits.{true_digit}
 use Rattle.grouping_laws.proofs.Alike.{member_same}
@@ -23,7 +23,7 @@ use Rattle.certificate_laws.specs.Proving.{CanBranch, GoesInOrder}
 use Rattle.certificate_laws.specs.Groups.{IsGroupAt}
 use Rattle.certificate_laws.specs.Branching.{BranchKeepsState, steps_left, turns_left}
 use Rattle.certificate_laws.proofs.Completion.{open_rest, open_least, is_open, rest_listed}
-use Rattle.certificate_laws.proofs.Counting.{not_longer, total-filter, total_less, length-filter, fewer_kept}
+use Rattle.certificate_laws.proofs.Counting.{not_longer, sum_by-filter, total_less, length-filter, fewer_kept}
 use Rattle.certificate_laws.proofs.Steps.{find_small}
 use Rattle.certificate_laws.proofs.WithoutGroup.{split_one, without_in, without_not}
 use Rattle.certificate_laws.proofs.Heart.{group_there}
@@ -36,11 +36,11 @@ fits_rest language p s g fits x e = open_rest s (length g) x (fits.inside x e)
 
 closed_state : (p : Problem) (round : Round) (s : State) (g : List ℕ) → IsState p round s → Fits round.language p s g → length g ≤ round.limit → IsState p round (close g s)
 closed_state p round s g state fits small = record {
-  once = λ x. omega (arith, state.once x, split_one s.rest g fits.lawful.once (fits_rest round.language p s g fits) x, total-append (often x) s.closed (g ∷ []));
+  once = λ x. omega (arith, state.once x, split_one s.rest g fits.lawful.once (fits_rest round.language p s g fits) x, sum_by-append (count x) s.closed (g ∷ []));
   lawful = All-push (LawfulGroup p) s.closed g state.lawful fits.lawful;
   small = All-push (λ k. length k ≤ round.limit) s.closed g state.small small;
-  sizes = λ x. size x (member g x);
-  settled = λ x e. settle x (member g x) e;
+  sizes = λ x. size x (contains g x);
+  settled = λ x e. settle x (contains g x) e;
 }
   where
     size : (x : ℕ) → (b : Bool) → IsLeastSize round.language round.limit (cond b 0 (s.least x))
@@ -79,13 +79,13 @@ raised_state p round s c j state can = record {
 closed_agrees : (language : Language) (p : Problem) (s : State) (k : List ℕ) (g : Grouping) → Fits language p s k → Agrees (close k s) g → Agrees s g
 closed_agrees language p s k g fits a = record {
   closed = all_from_has (λ k. (m : Group) × Contains g m × SameSet m.codes k) s.closed (λ x h. settled x (has_left s.closed (k ∷ []) x h));
-  large = λ x e. go x e (member k x) refl;
+  large = λ x e. go x e (contains k x) refl;
 }
   where
     settled : (x : List ℕ) → Has (s.closed ++ k ∷ []) x → (m : Group) × Contains g m × SameSet m.codes x
     settled x h = has_all (λ k. (m : Group) × Contains g m × SameSet m.codes k) (s.closed ++ k ∷ []) a.closed x h
 
-    go : (x : ℕ) → s.rest x ≡ true → (b : Bool) → member k x ≡ b → (m : Group) × Contains g m × (member m.codes x ≡ true) × (s.least x ≤ length m.codes)
+    go : (x : ℕ) → s.rest x ≡ true → (b : Bool) → contains k x ≡ b → (m : Group) × Contains g m × (contains m.codes x ≡ true) × (s.least x ≤ length m.codes)
     go x e true n =
         let r = settled k (has_right s.closed (k ∷ []) k (inl refl)) in
         (r.0, r.1, r.2 x ∙ n, omega (arith, not_longer k r.0.codes fits.lawful.once (λ y i. r.2 y ∙ i), open_least s (length k) x (fits.inside x n)))
@@ -106,10 +106,10 @@ some_agrees p round s c j g order state there lawful a = ⊎_elim small large (f
     rest : Peeled p s.closed g
     rest = peeled p round s state g lawful a
 
-    small : ((m : Group) × Has rest.opens m × (member m.codes c ≡ true) × (length m.codes ≤ j)) → ((k : List ℕ) × IsGroupAt p round s c j k × Agrees (close k s) g) ⊎ Agrees (raise c j s) g
+    small : ((m : Group) × Has rest.opens m × (contains m.codes c ≡ true) × (length m.codes ≤ j)) → ((k : List ℕ) × IsGroupAt p round s c j k × Agrees (close k s) g) ⊎ Agrees (raise c j s) g
     small r =
         let at = group_there p round s order state.once rest.opens (peeled_completes p round s state g lawful a) c j r.0 r.1 r.2 r.3 in
-        let k = filter (member r.0.codes) round.order in
+        let k = filter (contains r.0.codes) round.order in
         inl (
           k,
           at.1,
@@ -117,9 +117,9 @@ some_agrees p round s c j g order state there lawful a = ⊎_elim small large (f
             closed = all_from_has (λ k. (m : Group) × Contains g m × SameSet m.codes k) (s.closed ++ k ∷ []) (λ x h.
                 ⊎_elim
                 (λ i. has_all (λ k. (m : Group) × Contains g m × SameSet m.codes k) s.closed a.closed x i)
-                (λ i. (r.0, contains_from_has g r.0 (rest.among r.0 r.1), λ y. member_same r.0.codes k at.0 y ∙ ap (λ z. member z y) (only x k i)))
+                (λ i. (r.0, contains_from_has g r.0 (rest.among r.0 r.1), λ y. member_same r.0.codes k at.0 y ∙ ap (λ z. contains z y) (only x k i)))
                 (has_append s.closed (k ∷ []) x h));
-            large = λ x e. let q = a.large x (without_in k s.rest x e) in (q.0, q.1, q.2, lower x (length q.0.codes) q.3 (member k x));
+            large = λ x e. let q = a.large x (without_in k s.rest x e) in (q.0, q.1, q.2, lower x (length q.0.codes) q.3 (contains k x));
           },
         )
       where
@@ -131,21 +131,21 @@ some_agrees p round s c j g order state there lawful a = ⊎_elim small large (f
         lower x n l true = omega arith
         lower x n l false = l
 
-    large : ((m : Group) → Has rest.opens m → member m.codes c ≡ true → j < length m.codes) → ((k : List ℕ) × IsGroupAt p round s c j k × Agrees (close k s) g) ⊎ Agrees (raise c j s) g
+    large : ((m : Group) → Has rest.opens m → contains m.codes c ≡ true → j < length m.codes) → ((k : List ℕ) × IsGroupAt p round s c j k × Agrees (close k s) g) ⊎ Agrees (raise c j s) g
     large l = inr (record { closed = a.closed; large = λ x e. go x e (x == c) refl })
       where
-        go : (x : ℕ) → s.rest x ≡ true → (b : Bool) → (x == c) ≡ b → (m : Group) × Contains g m × (member m.codes x ≡ true) × (cond b (j + 1) (s.least x) ≤ length m.codes)
+        go : (x : ℕ) → s.rest x ≡ true → (b : Bool) → (x == c) ≡ b → (m : Group) × Contains g m × (contains m.codes x ≡ true) × (cond b (j + 1) (s.least x) ≤ length m.codes)
         go x e true k =
             let m = has_from_stands c rest.opens (omega (arith, (peeled_completes p round s state g lawful a).once c, true_digit (s.rest c) (open_rest s j c there))) in
-            (m.0, contains_from_has g m.0 (rest.among m.0 m.1), ap (member m.0.codes) (eqb-true x c k) ∙ m.2, omega (arith, l m.0 m.1 m.2))
+            (m.0, contains_from_has g m.0 (rest.among m.0 m.1), ap (contains m.0.codes) (eqb-true x c k) ∙ m.2, omega (arith, l m.0 m.1 m.2))
         go x e false k = a.large x e
 
 closed_fewer : (p : Problem) (round : Round) (s : State) (c j : ℕ) (g : List ℕ) → CanBranch round s c j → IsGroupAt p round s c j g → steps_left p round.limit (close g s) < steps_left p round.limit s
 closed_fewer p round s c j g can from =
-    let less = total_less (λ x. cond (without g s.rest x) (round.limit + 1 - cond (member g x) 0 (s.least x)) 0) (λ x. cond (s.rest x) (round.limit + 1 - s.least x) 0) p.counties c (from.fits.lawful.listed c from.has) here (λ x. each (s.rest x) (member g x) (s.least x)) in
-    omega (arith, less, total-filter (λ x. round.limit + 1 - cond (member g x) 0 (s.least x)) (without g s.rest) p.counties, total-filter (λ x. round.limit + 1 - s.least x) s.rest p.counties)
+    let less = total_less (λ x. cond (without g s.rest x) (round.limit + 1 - cond (contains g x) 0 (s.least x)) 0) (λ x. cond (s.rest x) (round.limit + 1 - s.least x) 0) p.counties c (from.fits.lawful.listed c from.has) here (λ x. each (s.rest x) (contains g x) (s.least x)) in
+    omega (arith, less, sum_by-filter (λ x. round.limit + 1 - cond (contains g x) 0 (s.least x)) (without g s.rest) p.counties, sum_by-filter (λ x. round.limit + 1 - s.least x) s.rest p.counties)
   where
-    here : cond (without g s.rest c) (round.limit + 1 - cond (member g c) 0 (s.least c)) 0 < cond (s.rest c) (round.limit + 1 - s.least c) 0
+    here : cond (without g s.rest c) (round.limit + 1 - cond (contains g c) 0 (s.least c)) 0 < cond (s.rest c) (round.limit + 1 - s.least c) 0
     here = rw (from.has, open_rest s j c can.is_open) (omega (arith, open_least s j c can.is_open, can.small))
 
     each : (a b : Bool) (n : ℕ) → cond (a && not b) (round.limit + 1 - cond b 0 n) 0 ≤ cond a (round.limit + 1 - n) 0
@@ -156,7 +156,7 @@ closed_fewer p round s c j g can from =
 raised_fewer : (p : Problem) (round : Round) (s : State) (c j : ℕ) → IsState p round s → CanBranch round s c j → steps_left p round.limit (raise c j s) < steps_left p round.limit s
 raised_fewer p round s c j state can =
     let less = total_less (λ x. cond (s.rest x) (round.limit + 1 - cond (x == c) (j + 1) (s.least x)) 0) (λ x. cond (s.rest x) (round.limit + 1 - s.least x) 0) p.counties c (rest_listed p s state.once c (open_rest s j c can.is_open)) here (λ x. each x (x == c) refl (s.rest x)) in
-    omega (arith, less, total-filter (λ x. round.limit + 1 - cond (x == c) (j + 1) (s.least x)) s.rest p.counties, total-filter (λ x. round.limit + 1 - s.least x) s.rest p.counties)
+    omega (arith, less, sum_by-filter (λ x. round.limit + 1 - cond (x == c) (j + 1) (s.least x)) s.rest p.counties, sum_by-filter (λ x. round.limit + 1 - s.least x) s.rest p.counties)
   where
     here : cond (s.rest c) (round.limit + 1 - cond (c == c) (j + 1) (s.least c)) 0 < cond (s.rest c) (round.limit + 1 - s.least c) 0
     here = rw (open_rest s j c can.is_open, eq-eqb c c refl) (omega (arith, open_least s j c can.is_open, can.small))
@@ -170,7 +170,7 @@ few_steps : (p : Problem) (limit : ℕ) (s : State) → steps_left p limit s ≤
 few_steps p limit s =
     omega (
       arith,
-      total-filter (λ x. limit + 1 - s.least x) s.rest p.counties,
+      sum_by-filter (λ x. limit + 1 - s.least x) s.rest p.counties,
       total_le (λ x. cond (s.rest x) (limit + 1 - s.least x) 0) (λ x. 1 * (limit + 1)) p.counties (λ x. each (s.rest x) (s.least x)),
       total_times (λ x. 1) (limit + 1) p.counties,
       ap (λ z. z * (limit + 1)) (total_ones p.counties),
@@ -190,16 +190,16 @@ closed_open s g i x e = is_open s i x (without_in g s.rest x (open_rest (close g
 pub raised_open : (s : State) (c j : ℕ) → s.least c ≤ j + 1 → (i x : ℕ) → open_to (raise c j s) i x ≡ true → open_to s i x ≡ true
 raised_open s c j under i x e = is_open s i x (open_rest (raise c j s) i x e) (omega (arith, open_least (raise c j s) i x e, raised_more s c j under x (x == c) refl))
 
-pub settled_shut : (s : State) (g : List ℕ) (i c : ℕ) → member g c ≡ true → open_to (close g s) i c ≡ false
-settled_shut s g i c m = shut (s.rest c) (member g c) m
+pub settled_shut : (s : State) (g : List ℕ) (i c : ℕ) → contains g c ≡ true → open_to (close g s) i c ≡ false
+settled_shut s g i c m = shut (s.rest c) (contains g c) m
   where
     shut : (a b : Bool) → b ≡ true → ((a && not b) && nat_le (cond b 0 (s.least c)) i) ≡ false
     shut true true e = refl
     shut true false e = absurd (false≢true e)
     shut false b e = refl
 
-pub settled_out : (s : State) (g : List ℕ) (c : ℕ) → member g c ≡ true → (close g s).rest c ≡ false
-settled_out s g c m = out (s.rest c) (member g c) m
+pub settled_out : (s : State) (g : List ℕ) (c : ℕ) → contains g c ≡ true → (close g s).rest c ≡ false
+settled_out s g c m = out (s.rest c) (contains g c) m
   where
     out : (a b : Bool) → b ≡ true → (a && not b) ≡ false
     out true true e = refl
@@ -228,7 +228,7 @@ raised_turns p round s c j plainly state can =
     (subst (λ i. open_to (raise c j s) i c ≡ false) (plain_limit round.language round s c j plainly can.in_turn) (raised_shut s c j)) (open_above s j round.limit c can.small can.is_open)
 
 few_turns : (p : Problem) (limit : ℕ) (s : State) → turns_left p limit s ≤ length p.counties
-few_turns p limit s = omega (arith, length-filter (open_to s limit) p.counties, total_le (λ x. digit (open_to s limit x)) (λ x. 1) p.counties (λ x. digit_one (open_to s limit x)), total_ones p.counties)
+few_turns p limit s = omega (arith, length-filter (open_to s limit) p.counties, total_le (λ x. indicator (open_to s limit x)) (λ x. 1) p.counties (λ x. digit_one (open_to s limit x)), total_ones p.counties)
 
 pub branch_keeps_state : BranchKeepsState
 branch_keeps_state = record {

@@ -2,12 +2,12 @@
 use Rattle.std.proofs.Common.{◌≡◌, ◌≤◌, length, ℕ, ◌<◌, Bool, true, List, [], ◌∷◌, ◌++◌, map, refl, sym, ap, ◌∙◌, subst, arith, ◌⊎◌, inl, inr, ⊎_elim, AllPairs, All, Contains, filter}
 use Rattle.std.specs.List.{AllZip}
 use Rattle.std.proofs.lemmas.List.Elements.{filter_agree}
-use Rattle.grouping_laws.specs.Sets.{total, stands, member, SameSet}
+use Rattle.grouping_laws.specs.Sets.{sum_by, count_in, contains, SameSet}
 use Rattle.grouping_laws.specs.Problem.{Problem, Suits, people_of}
 use Rattle.grouping_laws.specs.Parts.{IsPart, AreParts}
 use Rattle.grouping_laws.specs.Ranges.{IsLeast, IsMost, SuitAll, seated}
 use Rattle.grouping_laws.specs.GroupsFrom.{IsLesser, IsBefore, place, IsOrder}
-use Rattle.place_laws.proofs.Sums.{total-append, total_alike, digit_one}
+use Rattle.place_laws.proofs.Sums.{sum_by-append, total_alike, digit_one}
 use Rattle.grouping_laws.proofs.Elements.{Has, has_all, has_from_contains, contains_from_has}
 use Rattle.grouping_laws.proofs.Digits.{true_digit}
 use Rattle.grouping_laws.proofs.Alike.{Alike, length_alike, alike_from_same, in_order_alike, member_same, member_alike, lawful_alike}
@@ -97,10 +97,10 @@ sizes_same p round s i xs ys a b =
     (λ g h. has_from_contains ys g ((b.each g).1 ((a.each g).0 (contains_from_has xs g h))))
     (λ g h. has_from_contains xs g ((a.each g).1 ((b.each g).0 (contains_from_has ys g h))))
 
-part_within : (p : Problem) (region : ℕ → Bool) (xs ys : List ℕ) (c : ℕ) → IsPart p region xs → IsPart p region ys → member xs c ≡ true → member ys c ≡ true → (y : ℕ) → member ys y ≡ true → member xs y ≡ true
+part_within : (p : Problem) (region : ℕ → Bool) (xs ys : List ℕ) (c : ℕ) → IsPart p region xs → IsPart p region ys → contains xs c ≡ true → contains ys c ≡ true → (y : ℕ) → contains ys y ≡ true → contains xs y ≡ true
 part_within p region xs ys c a b m n = within_part p region xs ys a b.inside b.connected (has_hit xs ys c n m)
 
-pub part_same : (p : Problem) (region : ℕ → Bool) (xs ys : List ℕ) (c : ℕ) → IsPart p region xs → IsPart p region ys → member xs c ≡ true → member ys c ≡ true → SameSet xs ys
+pub part_same : (p : Problem) (region : ℕ → Bool) (xs ys : List ℕ) (c : ℕ) → IsPart p region xs → IsPart p region ys → contains xs c ≡ true → contains ys c ≡ true → SameSet xs ys
 part_same p region xs ys c a b m n = same_from xs ys (part_within p region xs ys c a b m n) (part_within p region ys xs c b a n m)
 
 -- what a set of counties can't be filled for is no matter of their order
@@ -109,12 +109,12 @@ cannot_same p s xs ys same sets (inl none) = inl (λ k t. none k (subst (λ z. S
 cannot_same p s xs ys same sets (inr few) = inr (few.0, sets few.0 ∙ few.1, omega (arith, few.2, length_alike ys xs same))
 
 -- two parts of a region that have a county in common
-pub cannot_either : (p : Problem) (s : State) (region : ℕ → Bool) (xs ys : List ℕ) (c : ℕ) → IsPart p region xs → IsPart p region ys → member xs c ≡ true → member ys c ≡ true → CannotFill p s ys → CannotFill p s xs
+pub cannot_either : (p : Problem) (s : State) (region : ℕ → Bool) (xs ys : List ℕ) (c : ℕ) → IsPart p region xs → IsPart p region ys → contains xs c ≡ true → contains ys c ≡ true → CannotFill p s ys → CannotFill p s xs
 cannot_either p s region xs ys c a b m n cannot =
     let sets = part_same p region xs ys c a b m n in
     cannot_same p s ys xs (alike_from_same xs ys a.once b.once sets) sets cannot
 
-stuck_by_part : (p : Problem) (s : State) (xs : List ℕ) (c : ℕ) → IsPart p s.rest xs → member xs c ≡ true → IsStuck p s c → CannotFill p s xs
+stuck_by_part : (p : Problem) (s : State) (xs : List ℕ) (c : ℕ) → IsPart p s.rest xs → contains xs c ≡ true → IsStuck p s c → CannotFill p s xs
 stuck_by_part p s xs c part m v = cannot_either p s s.rest xs v.part c part v.is_part m v.around v.cannot_fill
 
 dead_by_parts : (p : Problem) (s : State) (g : List ℕ) (parts : List (List ℕ)) → AreParts p (without g s.rest) parts → IsDead p s g → (part : List ℕ) × Contains parts part × CannotFill p s part
@@ -135,14 +135,14 @@ closed_dead : (p : Problem) (s : State) (g : List ℕ) → (c : ℕ) × IsStuck 
 closed_dead p s g r = record { part = r.1.part; is_part = r.1.is_part; stuck = cannot_before p s g r.1.part r.1.cannot_fill }
 
 -- one list of the parts, seated, fills the region, so another list can be seated with the same sum
-moved_seats : (p : Problem) (region : ℕ → Bool) (parts others : List (List ℕ)) (ks : List ℕ) → AreParts p region parts → AreParts p region others → SuitAll p parts ks → (js : List ℕ) × SuitAll p others js × (total (λ k. k) js ≡ total (λ k. k) ks)
+moved_seats : (p : Problem) (region : ℕ → Bool) (parts others : List (List ℕ)) (ks : List ℕ) → AreParts p region parts → AreParts p region others → SuitAll p parts ks → (js : List ℕ) × SuitAll p others js × (sum_by (λ k. k) js ≡ sum_by (λ k. k) ks)
 moved_seats p region parts others ks a b suit =
     let fill : FillRegion p region (seated parts ks) = record {
       inside = λ m h. (has_all (IsPart p region) parts a.each m.codes (seated_has p parts ks suit m h).0).inside;
       connected = λ m h. (has_all (IsPart p region) parts a.each m.codes (seated_has p parts ks suit m h).0).connected;
       suits = λ m h. (seated_has p parts ks suit m h).1;
     } in
-    let r = parts_seated p region others (seated parts ks) fill (has_all (IsPart p region) others b.each) (λ c. ap (stands c) (seated_sets p parts ks suit) ∙ (a.once c ∙ sym (b.once c))) (λ c. omega (arith, b.once c, digit_one (region c))) in
+    let r = parts_seated p region others (seated parts ks) fill (has_all (IsPart p region) others b.each) (λ c. ap (count_in c) (seated_sets p parts ks suit) ∙ (a.once c ∙ sym (b.once c))) (λ c. omega (arith, b.once c, digit_one (region c))) in
     (r.0, r.1, r.2 ∙ seated_seats p parts ks suit)
 
 zip_split : {A B : Type 0} (R : A → B → Type 0) (xs us : List A) (zs : List B) → AllZip R (xs ++ us) zs → (ys : List B) × (vs : List B) × (zs ≡ ys ++ vs) × AllZip R xs ys × AllZip R us vs
@@ -164,18 +164,18 @@ most_suits p (x ∷ sets) (y ∷ highs) h = (h.0.suits, most_suits p sets highs 
 
 -- seats for the settled groups and one list of the parts give seats with the same sum for another list of the parts
 moved_all : (p : Problem) (s : State) (parts others : List (List ℕ)) (ks : List ℕ) → AreParts p s.rest parts → AreParts p s.rest others → SuitAll p (s.closed ++ parts) ks
-    → (js : List ℕ) × SuitAll p (s.closed ++ others) js × (total (λ k. k) js ≡ total (λ k. k) ks)
+    → (js : List ℕ) × SuitAll p (s.closed ++ others) js × (sum_by (λ k. k) js ≡ sum_by (λ k. k) ks)
 moved_all p s parts others ks a b suit =
     let r = zip_split (λ codes k. Suits p (people_of p codes) k) s.closed parts ks suit in
     let moved = moved_seats p s.rest parts others r.1 a b r.4 in (
       r.0 ++ moved.0,
       AllZip-append (λ codes k. Suits p (people_of p codes) k) s.closed r.0 others moved.0 r.3 moved.1,
-      omega (arith, total-append (λ k. k) r.0 moved.0, moved.2, total-append (λ k. k) r.0 r.1, ap (total (λ k. k)) r.2),
+      omega (arith, sum_by-append (λ k. k) r.0 moved.0, moved.2, sum_by-append (λ k. k) r.0 r.1, ap (sum_by (λ k. k)) r.2),
     )
 
 seats_by_parts : (p : Problem) (s : State) (parts : List (List ℕ)) → AreParts p s.rest parts → IsOffSeats p s
     → ((ks : List ℕ) × SuitAll p parts ks)
-    × ((lows highs : List ℕ) → AllZip (IsLeast p) (s.closed ++ parts) lows → AllZip (IsMost p) (s.closed ++ parts) highs → (p.seats_left < total (λ k. k) lows) ⊎ (total (λ k. k) highs < p.seats_left))
+    × ((lows highs : List ℕ) → AllZip (IsLeast p) (s.closed ++ parts) lows → AllZip (IsMost p) (s.closed ++ parts) highs → (p.seats_left < sum_by (λ k. k) lows) ⊎ (sum_by (λ k. k) highs < p.seats_left))
 seats_by_parts p s parts are v = (own, λ lows highs l h. ⊎_elim (λ o. inl (above lows l o)) (λ o. inr (below highs h o)) v.off)
   where
     theirs : AreParts p s.rest v.parts
@@ -190,12 +190,12 @@ seats_by_parts p s parts are v = (own, λ lows highs l h. ⊎_elim (λ o. inl (a
         let moved = moved_seats p s.rest v.parts parts r.1 theirs are r.4 in
         (moved.0, moved.1)
 
-    above : (lows : List ℕ) → AllZip (IsLeast p) (s.closed ++ parts) lows → AllZip (IsLeast p) (s.closed ++ v.parts) v.ranges × (p.seats_left < total (λ k. k) v.ranges) → p.seats_left < total (λ k. k) lows
+    above : (lows : List ℕ) → AllZip (IsLeast p) (s.closed ++ parts) lows → AllZip (IsLeast p) (s.closed ++ v.parts) v.ranges × (p.seats_left < sum_by (λ k. k) v.ranges) → p.seats_left < sum_by (λ k. k) lows
     above lows l o =
         let moved = moved_all p s parts v.parts lows are theirs (least_suits p (s.closed ++ parts) lows l) in
         omega (arith, o.1, least_sum p (s.closed ++ v.parts) v.ranges moved.0 o.0 moved.1, moved.2)
 
-    below : (highs : List ℕ) → AllZip (IsMost p) (s.closed ++ parts) highs → AllZip (IsMost p) (s.closed ++ v.parts) v.ranges × (total (λ k. k) v.ranges < p.seats_left) → total (λ k. k) highs < p.seats_left
+    below : (highs : List ℕ) → AllZip (IsMost p) (s.closed ++ parts) highs → AllZip (IsMost p) (s.closed ++ v.parts) v.ranges × (sum_by (λ k. k) v.ranges < p.seats_left) → sum_by (λ k. k) highs < p.seats_left
     below highs h o =
         let moved = moved_all p s parts v.parts highs are theirs (most_suits p (s.closed ++ parts) highs h) in
         omega (arith, o.1, most_sum p (s.closed ++ v.parts) v.ranges moved.0 o.0 moved.1, moved.2)
@@ -217,23 +217,23 @@ fits_alike language p s g k same f = record {
 
 -- so it is one of the list of its size
 pub listed_alike : (p : Problem) (round : Round) (s : State) (i : ℕ) (groups : List (List ℕ)) → IsOrder p round.order → AreGroupsOf p round s i groups → (g : List ℕ) → Fits round.language p s g → length g ≡ i
-    → Alike g (filter (member g) round.order) × Has groups (filter (member g) round.order)
+    → Alike g (filter (contains g) round.order) × Has groups (filter (contains g) round.order)
 listed_alike p round s i groups order are g fits e =
-    let k = filter (member g) round.order in
+    let k = filter (contains g) round.order in
     let same : Alike g k = in_order_alike round.order p.counties g order fits.lawful.once fits.lawful.listed in (
       same,
       has_from_contains groups k ((are.each k).1 (record {
         fits = fits_alike round.language p s g k same fits;
-        in_order = filter_agree (member k) (member g) (λ x. sym (member_same g k same x)) round.order;
+        in_order = filter_agree (contains k) (contains g) (λ x. sym (member_same g k same x)) round.order;
         size = omega (arith, e, length_alike g k same);
       })),
     )
 
-fair_by_list : (p : Problem) (round : Round) (s : State) (i quota : ℕ) (w : ℕ → ℕ) (groups : List (List ℕ)) → IsOrder p round.order → AreGroupsOf p round s i groups → All (λ g. quota ≤ total w g) groups
-    → (g : List ℕ) → Fits round.language p s g → length g ≡ i → quota ≤ total w g
+fair_by_list : (p : Problem) (round : Round) (s : State) (i quota : ℕ) (w : ℕ → ℕ) (groups : List (List ℕ)) → IsOrder p round.order → AreGroupsOf p round s i groups → All (λ g. quota ≤ sum_by w g) groups
+    → (g : List ℕ) → Fits round.language p s g → length g ≡ i → quota ≤ sum_by w g
 fair_by_list p round s i quota w groups order are heavy g fits e =
     let r = listed_alike p round s i groups order are g fits e in
-    omega (arith, has_all (λ g. quota ≤ total w g) groups heavy (filter (member g) round.order) r.1, total_alike w g (filter (member g) round.order) r.0)
+    omega (arith, has_all (λ g. quota ≤ sum_by w g) groups heavy (filter (contains g) round.order) r.1, total_alike w g (filter (contains g) round.order) r.0)
 
 pub leaves_are_decided : LeavesAreDecided
 leaves_are_decided = record {

@@ -1,7 +1,7 @@
 -- How deep proof trees are.
 use Rattle.std.proofs.Common.{◌≡◌, ℕ, ◌+◌, ◌-◌, ◌*◌, ◌≤◌, ◌<◌, Bool, true, false, cond, not, ◌&&◌, ◌==◌, List, [], ◌∷◌, filter, length, max, refl, ap, subst, arith, inl, inr}
 use Rattle.std.proofs.lemmas.Bool.{eqb-true, eq-eqb}
-use Rattle.grouping_laws.specs.Sets.{total, member}
+use Rattle.grouping_laws.specs.Sets.{sum_by, contains}
 use Rattle.grouping_laws.specs.Problem.{Problem}
 use Rattle.grouping_laws.specs.GroupsFrom.{IsOrder}
 use Rattle.place_laws.proofs.Sums.{member_from_often, total_le, total_times, total_ones}
@@ -20,7 +20,7 @@ use Rattle.certificate_laws.specs.Branching.{steps_left}
 use Rattle.certificate_laws.specs.Depth.{IsWithin, EachWithin, after_raise, branches_on, branches_in, HasLimits, EachHasLimits, TreesAreShallow}
 use Rattle.certificate_laws.proofs.Completion.{open_rest, open_least, rest_listed}
 use Rattle.certificate_laws.proofs.WithoutGroup.{without_in}
-use Rattle.certificate_laws.proofs.Counting.{fewer_kept, no_more_kept, total-filter, total_less}
+use Rattle.certificate_laws.proofs.Counting.{fewer_kept, no_more_kept, sum_by-filter, total_less}
 use Rattle.certificate_laws.proofs.Branches.{branch_keeps_state, open_above, closed_open, raised_open, settled_shut, raised_shut, settled_out}
 
 -- how many counties a path can still use up, in order: of the rest, in a plain round of those open to groups of at most the limit
@@ -28,21 +28,21 @@ abbrev depth_left : Language → Round → State → ℕ
 depth_left Plain round s = length (filter (open_to s round.limit) round.order)
 depth_left Wide round s = length (filter s.rest round.order)
 
-in_order : (p : Problem) (order : List ℕ) → IsOrder p order → (c : ℕ) → member p.counties c ≡ true → member order c ≡ true
-in_order p order whole c m = member_from_often c order (omega (arith, whole c, true_digit (member p.counties c) m))
+in_order : (p : Problem) (order : List ℕ) → IsOrder p order → (c : ℕ) → contains p.counties c ≡ true → contains order c ≡ true
+in_order p order whole c m = member_from_often c order (omega (arith, whole c, true_digit (contains p.counties c) m))
 
 module _ (p : Problem) (round : Round) (order : IsOrder p round.order) (s : State) (state : IsState p round s) (c j : ℕ) (can : CanBranch round s c j) where
-  here : member round.order c ≡ true
+  here : contains round.order c ≡ true
   here = in_order p round.order order c (rest_listed p s state.once c (open_rest s j c can.is_open))
 
-  closed_depth : (language : Language) (g : List ℕ) → member g c ≡ true → depth_left language round (close g s) < depth_left language round s
+  closed_depth : (language : Language) (g : List ℕ) → contains g c ≡ true → depth_left language round (close g s) < depth_left language round s
   closed_depth Plain g m = fewer_kept (open_to (close g s) round.limit) (open_to s round.limit) round.order c (closed_open s g round.limit) here (settled_shut s g round.limit c m) (open_above s j round.limit c can.small can.is_open)
   closed_depth Wide g m = fewer_kept (close g s).rest s.rest round.order c (without_in g s.rest) here (settled_out s g c m) (open_rest s j c can.is_open)
 
   some_depth : (language : Language) → 1 ≤ depth_left language round s
   some_depth language = omega (arith, closed_depth language (c ∷ []) (head c))
     where
-      head : (c : ℕ) → member (c ∷ []) c ≡ true
+      head : (c : ℕ) → contains (c ∷ []) c ≡ true
       head c = member_head c []
 
   raised_depth : (language : Language) (n : ℕ) → GoesInOrder language round s c j → depth_left language round s ≤ n → depth_left language round (raise c j s) ≤ after_raise language n
@@ -118,15 +118,15 @@ mutual
 
 -- where limits are at least 1, a least size of 0 is as good as 1
 abbrev spare : Problem → ℕ → State → ℕ
-spare p limit s = total (λ c. limit - (s.least c - 1)) (listed p s.rest)
+spare p limit s = sum_by (λ c. limit - (s.least c - 1)) (listed p s.rest)
 
 module _ (p : Problem) (round : Round) (s : State) (state : IsState p round s) (c j : ℕ) (can : CanBranch round s c j) (some : 1 ≤ j) where
   closed_spare : (g : List ℕ) → IsGroupAt p round s c j g → spare p round.limit (close g s) < spare p round.limit s
   closed_spare g from =
-      let less = total_less (λ x. cond (without g s.rest x) (round.limit - (cond (member g x) 0 (s.least x) - 1)) 0) (λ x. cond (s.rest x) (round.limit - (s.least x - 1)) 0) p.counties c (from.fits.lawful.listed c from.has) fewer (λ x. each (s.rest x) (member g x) (s.least x)) in
-      omega (arith, less, total-filter (λ x. round.limit - (cond (member g x) 0 (s.least x) - 1)) (without g s.rest) p.counties, total-filter (λ x. round.limit - (s.least x - 1)) s.rest p.counties)
+      let less = total_less (λ x. cond (without g s.rest x) (round.limit - (cond (contains g x) 0 (s.least x) - 1)) 0) (λ x. cond (s.rest x) (round.limit - (s.least x - 1)) 0) p.counties c (from.fits.lawful.listed c from.has) fewer (λ x. each (s.rest x) (contains g x) (s.least x)) in
+      omega (arith, less, sum_by-filter (λ x. round.limit - (cond (contains g x) 0 (s.least x) - 1)) (without g s.rest) p.counties, sum_by-filter (λ x. round.limit - (s.least x - 1)) s.rest p.counties)
     where
-      fewer : cond (without g s.rest c) (round.limit - (cond (member g c) 0 (s.least c) - 1)) 0 < cond (s.rest c) (round.limit - (s.least c - 1)) 0
+      fewer : cond (without g s.rest c) (round.limit - (cond (contains g c) 0 (s.least c) - 1)) 0 < cond (s.rest c) (round.limit - (s.least c - 1)) 0
       fewer = rw (from.has, open_rest s j c can.is_open) (omega (arith, open_least s j c can.is_open, can.small, some))
 
       each : (a b : Bool) (k : ℕ) → cond (a && not b) (round.limit - (cond b 0 k - 1)) 0 ≤ cond a (round.limit - (k - 1)) 0
@@ -137,7 +137,7 @@ module _ (p : Problem) (round : Round) (s : State) (state : IsState p round s) (
   raised_spare : spare p round.limit (raise c j s) < spare p round.limit s
   raised_spare =
       let less = total_less (λ x. cond (s.rest x) (round.limit - (cond (x == c) (j + 1) (s.least x) - 1)) 0) (λ x. cond (s.rest x) (round.limit - (s.least x - 1)) 0) p.counties c (rest_listed p s state.once c (open_rest s j c can.is_open)) fewer (λ x. each x (x == c) refl (s.rest x)) in
-      omega (arith, less, total-filter (λ x. round.limit - (cond (x == c) (j + 1) (s.least x) - 1)) s.rest p.counties, total-filter (λ x. round.limit - (s.least x - 1)) s.rest p.counties)
+      omega (arith, less, sum_by-filter (λ x. round.limit - (cond (x == c) (j + 1) (s.least x) - 1)) s.rest p.counties, sum_by-filter (λ x. round.limit - (s.least x - 1)) s.rest p.counties)
     where
       fewer : cond (s.rest c) (round.limit - (cond (c == c) (j + 1) (s.least c) - 1)) 0 < cond (s.rest c) (round.limit - (s.least c - 1)) 0
       fewer = rw (open_rest s j c can.is_open, eq-eqb c c refl) (omega (arith, open_least s j c can.is_open, can.small, some))
@@ -151,7 +151,7 @@ few_spare : (p : Problem) (limit : ℕ) (s : State) → spare p limit s ≤ leng
 few_spare p limit s =
     omega (
       arith,
-      total-filter (λ x. limit - (s.least x - 1)) s.rest p.counties,
+      sum_by-filter (λ x. limit - (s.least x - 1)) s.rest p.counties,
       total_le (λ x. cond (s.rest x) (limit - (s.least x - 1)) 0) (λ x. 1 * limit) p.counties (λ x. each (s.rest x) (s.least x)),
       total_times (λ x. 1) limit p.counties,
       ap (λ z. z * limit) (total_ones p.counties),

@@ -3,12 +3,12 @@ use Rattle.std.proofs.Common.{◌≡◌, ℕ, zero, suc, ◌+◌, ◌*◌, ◌�
 use Rattle.std.specs.List.{AllZip}
 use Rattle.std.proofs.lemmas.Bool.{cases_order, cases_lt, eqb-true, and_from, false≢true}
 use Rattle.county_codes.specs.declared.group.Group.{Group}
-use Rattle.grouping_laws.specs.Sets.{digit, total, often, stands, member, SameSet}
+use Rattle.grouping_laws.specs.Sets.{indicator, sum_by, count, count_in, contains, SameSet}
 use Rattle.grouping_laws.specs.Problem.{Problem, Suits, people_of, Connected, LawfulGroup}
 use Rattle.grouping_laws.specs.Grouping.{Grouping, counts, sets_of}
 use Rattle.grouping_laws.specs.Parts.{IsPart, AreParts}
 use Rattle.grouping_laws.specs.Ranges.{IsLeast, IsMost, HasRange, seated, SuitAll}
-use Rattle.place_laws.proofs.Sums.{total-append}
+use Rattle.place_laws.proofs.Sums.{sum_by-append}
 use Rattle.grouping_laws.proofs.Elements.{Has, has_all, all_from_has, contains_from_has, has_append, has_left, has_right}
 use Rattle.grouping_laws.proofs.Digits.{true_digit}
 use Rattle.grouping_laws.proofs.Ranges.{seats_to}
@@ -28,7 +28,7 @@ use Rattle.certificate_laws.proofs.Completion.{rest_listed, is_open}
 use Rattle.certificate_laws.proofs.WithoutGroup.{without_in, without_not}
 use Rattle.certificate_laws.proofs.Decided.{part_same, cannot_either}
 
-none_weigh : (xs : List ℕ) → total (weight_of []) xs ≡ 0
+none_weigh : (xs : List ℕ) → sum_by (weight_of []) xs ≡ 0
 none_weigh [] = refl
 none_weigh (x ∷ xs) = omega (arith, none_weigh xs)
 
@@ -36,7 +36,7 @@ counts_none : (sets : List (List ℕ)) (j : ℕ) → ((g : List ℕ) → Has set
 counts_none [] j h = refl
 counts_none (g ∷ sets) j h = go (length g == j) refl (counts_none sets j (λ x i. h x (inr i)))
   where
-    go : (b : Bool) → (length g == j) ≡ b → counts sets j ≡ 0 → digit b + counts sets j ≡ 0
+    go : (b : Bool) → (length g == j) ≡ b → counts sets j ≡ 0 → indicator b + counts sets j ≡ 0
     go true e k = absurd (h g (inl refl) (eqb-true (length g) j e))
     go false e k = omega (arith, k)
 
@@ -63,19 +63,19 @@ module _ (p : Problem) (round : Round) (s : State) (parts : List (List ℕ)) (ra
       some r = (r.0, r.1, record { suits = r.2; least = λ j t. (r.4 j t).0 }, record { suits = r.3; most = λ j t. (r.4 j t).1 })
 
   -- no county of a part asks for a group larger than the part
-  part_fills : (xs : List ℕ) → Has parts xs → (c : ℕ) → member xs c ≡ true → s.least c ≤ length xs
+  part_fills : (xs : List ℕ) → Has parts xs → (c : ℕ) → contains xs c ≡ true → s.least c ≤ length xs
   part_fills xs h c m = ⊎_elim (λ small. absurd (no_leaf.no_stuck c (record { part = xs; is_part = is_part xs h; around = m; cannot_fill = inr (c, m, small) }))) (λ l. l) (cases_lt (length xs) (s.least c))
 
   -- two parts with a county in common have the same counties, so the others are parts of what one leaves
-  other_part : (xs zs : List ℕ) → Has parts xs → Has parts zs → (c : ℕ) → member zs c ≡ true → member xs c ≡ false → IsPart p (without xs s.rest) zs
+  other_part : (xs zs : List ℕ) → Has parts xs → Has parts zs → (c : ℕ) → contains zs c ≡ true → contains xs c ≡ false → IsPart p (without xs s.rest) zs
   other_part xs zs h k c m off = record {
     once = (is_part zs k).once;
     connected = (is_part zs k).connected;
-    inside = λ y e. and_from (s.rest y) (not (member xs y)) ((is_part zs k).inside y e) (ap not (apart y e (member xs y) refl));
+    inside = λ y e. and_from (s.rest y) (not (contains xs y)) ((is_part zs k).inside y e) (ap not (apart y e (contains xs y) refl));
     whole = λ x y e r t. (is_part zs k).whole x y e (without_in xs s.rest y r) t;
   }
     where
-      apart : (y : ℕ) → member zs y ≡ true → (b : Bool) → member xs y ≡ b → b ≡ false
+      apart : (y : ℕ) → contains zs y ≡ true → (b : Bool) → contains xs y ≡ b → b ≡ false
       apart y e true i = absurd (false≢true (sym off ∙ (part_same p s.rest xs zs y (is_part xs h) (is_part zs k) i e c ∙ m)))
       apart y e false i = refl
 
@@ -120,19 +120,19 @@ module _ (p : Problem) (round : Round) (s : State) (parts : List (List ℕ)) (ra
       let next = all_ranges sets (λ x i. h x (inr i)) in
       (r.0 ∷ next.0, r.1 ∷ next.1, (r.2, next.2), (r.3, next.3))
 
-  some_seats : (ks : List ℕ) × SuitAll p (s.closed ++ parts) ks × (total (λ k. k) ks ≡ p.seats_left)
+  some_seats : (ks : List ℕ) × SuitAll p (s.closed ++ parts) ks × (sum_by (λ k. k) ks ≡ p.seats_left)
   some_seats =
       let r = all_ranges (s.closed ++ parts) set_range in
       seats_to p (s.closed ++ parts) r.0 r.1 p.seats_left r.2 r.3 (not_above r.0 r.2) (not_below r.1 r.3)
     where
-      not_above : (lows : List ℕ) → AllZip (IsLeast p) (s.closed ++ parts) lows → total (λ k. k) lows ≤ p.seats_left
-      not_above lows h = ⊎_elim (λ l. absurd (no_leaf.no_seats (record { parts = parts; are_parts = are; ranges = lows; off = inl (h, l) }))) (λ l. l) (cases_lt p.seats_left (total (λ k. k) lows))
+      not_above : (lows : List ℕ) → AllZip (IsLeast p) (s.closed ++ parts) lows → sum_by (λ k. k) lows ≤ p.seats_left
+      not_above lows h = ⊎_elim (λ l. absurd (no_leaf.no_seats (record { parts = parts; are_parts = are; ranges = lows; off = inl (h, l) }))) (λ l. l) (cases_lt p.seats_left (sum_by (λ k. k) lows))
 
-      not_below : (highs : List ℕ) → AllZip (IsMost p) (s.closed ++ parts) highs → p.seats_left ≤ total (λ k. k) highs
-      not_below highs h = ⊎_elim (λ l. absurd (no_leaf.no_seats (record { parts = parts; are_parts = are; ranges = highs; off = inr (h, l) }))) (λ l. l) (cases_lt (total (λ k. k) highs) p.seats_left)
+      not_below : (highs : List ℕ) → AllZip (IsMost p) (s.closed ++ parts) highs → p.seats_left ≤ sum_by (λ k. k) highs
+      not_below highs h = ⊎_elim (λ l. absurd (no_leaf.no_seats (record { parts = parts; are_parts = are; ranges = highs; off = inr (h, l) }))) (λ l. l) (cases_lt (sum_by (λ k. k) highs) p.seats_left)
 
-  all_once : (c : ℕ) → stands c (s.closed ++ parts) ≡ digit (member p.counties c)
-  all_once c = omega (arith, total-append (often c) s.closed parts, are.once c, state.once c)
+  all_once : (c : ℕ) → count_in c (s.closed ++ parts) ≡ indicator (contains p.counties c)
+  all_once c = omega (arith, sum_by-append (count c) s.closed parts, are.once c, state.once c)
 
   all_connected : (g : List ℕ) → Has (s.closed ++ parts) g → Connected p g
   all_connected g h = ⊎_elim (λ k. (has_all (LawfulGroup p) s.closed state.lawful g k).connected) (λ k. (is_part g k).connected) (has_append s.closed parts g h)
@@ -141,11 +141,11 @@ module _ (p : Problem) (round : Round) (s : State) (parts : List (List ℕ)) (ra
   agrees_with ks suit = record {
     closed = all_from_has (λ k. (m : Group) × Contains (seated (s.closed ++ parts) ks) m × SameSet m.codes k) s.closed (λ k h.
         let r = seated_find p (s.closed ++ parts) ks suit k (has_left s.closed parts k h) in
-        (r.0, contains_from_has (seated (s.closed ++ parts) ks) r.0 r.1, λ c. ap (λ z. member z c) r.2));
+        (r.0, contains_from_has (seated (s.closed ++ parts) ks) r.0 r.1, λ c. ap (λ z. contains z c) r.2));
     large = λ c e.
         let g = set_from_stands c parts (omega (arith, are.once c, true_digit (s.rest c) e)) in
         let r = seated_find p (s.closed ++ parts) ks suit g.0 (has_right s.closed parts g.0 g.1) in
-        (r.0, contains_from_has (seated (s.closed ++ parts) ks) r.0 r.1, ap (λ z. member z c) r.2 ∙ g.2, rw r.2 (part_fills g.0 g.1 c g.2));
+        (r.0, contains_from_has (seated (s.closed ++ parts) ks) r.0 r.1, ap (λ z. contains z c) r.2 ∙ g.2, rw r.2 (part_fills g.0 g.1 c g.2));
   }
 
   -- the line for size i where no group of that size fits
@@ -167,7 +167,7 @@ module _ (p : Problem) (round : Round) (s : State) (parts : List (List ℕ)) (ra
   }
 
   no_allowance : (i : ℕ) → allowance p s i 0 (line_of i) ≡ 0
-  no_allowance i = omega (arith, none_weigh (listed p (open_to s i)), div-le_self (total (weight_of []) (listed p (open_to s i))) i)
+  no_allowance i = omega (arith, none_weigh (listed p (open_to s i)), div-le_self (sum_by (weight_of []) (listed p (open_to s i))) i)
 
   -- some size at which the closed groups are more than wanted
   find_more : (wanted : ℕ → ℕ) (n i : ℕ) → i + n ≡ round.limit + 1 → 1 ≤ i → ((lines : List Allowance) → AreCountLines round.language p s i lines → Bounds round.language p round.limit s wanted i 0 lines → ⊥)
@@ -206,8 +206,8 @@ module _ (p : Problem) (round : Round) (s : State) (parts : List (List ℕ)) (ra
       record {
         size = r.0;
         some_county = r.1;
-        same_before = λ j a b. omega (arith, total-append (λ g. digit (length g == j)) s.closed parts, no_part_at j (omega (arith, r.2)), r.3 j a b);
-        more = omega (arith, total-append (λ g. digit (length g == r.0)) s.closed parts, r.4);
+        same_before = λ j a b. omega (arith, sum_by-append (λ g. indicator (length g == j)) s.closed parts, no_part_at j (omega (arith, r.2)), r.3 j a b);
+        more = omega (arith, sum_by-append (λ g. indicator (length g == r.0)) s.closed parts, r.4);
       }
 
   pub finished_beats : FinishedBeats p round s parts

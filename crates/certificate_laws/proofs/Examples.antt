@@ -2,7 +2,7 @@
 use Rattle.std.proofs.Common.{◌≡◌, ℕ, ◌+◌, ◌*◌, ◌≤◌, Bool, true, false, cond, ◌||◌, ◌&&◌, List, [], ◌∷◌, filter, length, ◌==◌, refl, sym, ap, ◌∙◌, subst, arith, ◌⊎◌, inl, inr, ⊎_elim, lit≤}
 use Rattle.std.proofs.lemmas.Bool.{eqb-true, false≢true, and_from}
 use Rattle.std.proofs.lemmas.Bool.Decides.{nat_tests}
-use Rattle.grouping_laws.specs.Sets.{digit, total, often, member}
+use Rattle.grouping_laws.specs.Sets.{indicator, sum_by, count, contains}
 use Rattle.grouping_laws.specs.Problem.{Connected, HasBorder, LawfulGroup, Suits, people_of, IsProblem}
 use Rattle.grouping_laws.specs.Grouping.{Lawful}
 use Rattle.grouping_laws.specs.Parts.{IsPart}
@@ -20,7 +20,7 @@ use Rattle.certificate_laws.specs.Certificate.{IsCertificate, TargetFits}
 use Rattle.certificate_laws.specs.Examples.{path, linked, stranding, together, plain_round, plain_tree, wide_round, wide_tree, lone_leaf}
 use Rattle.certificate_laws.proofs.WithoutGroup.{without_same}
 
-path_once : (c : ℕ) → often c path ≤ 1
+path_once : (c : ℕ) → count c path ≤ 1
 path_once c = grind (arith, nat_tests)
 
 swapped : (a b : Bool) → (a || b) ≡ true → (b || a) ≡ true
@@ -49,7 +49,7 @@ lawful = record {
   seats = refl;
 }
 
-order : (c : ℕ) → often c path ≡ digit (member path c)
+order : (c : ℕ) → count c path ≡ indicator (contains path c)
 order c = often_member path c (path_once c)
 
 target : TargetFits stranding 3 plain_round.target
@@ -73,11 +73,11 @@ abbrev chosen : Bool → Bool → Bool → List ℕ
 chosen a b c = cond a (37001 ∷ cond b (37003 ∷ cond c (37005 ∷ []) []) (cond c (37005 ∷ []) [])) (cond b (37003 ∷ cond c (37005 ∷ []) []) (cond c (37005 ∷ []) []))
 
 -- the lawful groups, in order: all three counties, or the middle one
-lawful_ones : (g : List ℕ) → LawfulGroup stranding g → (filter (member g) path ≡ path) ⊎ (filter (member g) path ≡ 37003 ∷ [])
-lawful_ones g l = go (member g 37001) (member g 37003) (member g 37005) kept
+lawful_ones : (g : List ℕ) → LawfulGroup stranding g → (filter (contains g) path ≡ path) ⊎ (filter (contains g) path ≡ 37003 ∷ [])
+lawful_ones g l = go (contains g 37001) (contains g 37003) (contains g 37005) kept
   where
-    kept : LawfulGroup stranding (filter (member g) path)
-    kept = lawful_alike stranding g (filter (member g) path) (in_order_alike path path g order l.once l.listed) l
+    kept : LawfulGroup stranding (filter (contains g) path)
+    kept = lawful_alike stranding g (filter (contains g) path) (in_order_alike path path g order l.once l.listed) l
 
     go : (a b c : Bool) → LawfulGroup stranding (chosen a b c) → (chosen a b c ≡ path) ⊎ (chosen a b c ≡ 37003 ∷ [])
     go true true true k = inl refl
@@ -91,7 +91,7 @@ lawful_ones g l = go (member g 37001) (member g 37003) (member g 37005) kept
 
 -- the plain certificate
 all_fit : Fits Plain stranding (empty_state stranding) path
-all_fit = record { lawful = lawful_group; inside = λ c e. and_from (member path c) true e refl; kept = tt }
+all_fit = record { lawful = lawful_group; inside = λ c e. and_from (contains path c) true e refl; kept = tt }
 
 at_first : IsGroupAt stranding plain_round (empty_state stranding) 37001 3 path
 at_first = record { fits = all_fit; in_order = refl; has = refl; small = lit≤ tt }
@@ -100,7 +100,7 @@ only_first : (g : List ℕ) → IsGroupAt stranding plain_round (empty_state str
 only_first g f =
     ⊎_elim
     (λ e. sym e ∙ f.in_order)
-    (λ e. absurd (false≢true (ap (λ z. member z 37001) (sym e ∙ f.in_order) ∙ f.has)))
+    (λ e. absurd (false≢true (ap (λ z. contains z 37001) (sym e ∙ f.in_order) ∙ f.has)))
     (lawful_ones g f.fits.lawful)
 
 firsts : AreGroupsAt stranding plain_round (empty_state stranding) 37001 3 (path ∷ [])
@@ -109,7 +109,7 @@ firsts = record {
   sorted = λ i j d a b. absurd (omega arith);
 }
 
-whole_part : IsPart stranding (member path) path
+whole_part : IsPart stranding (contains path) path
 whole_part = record { once = path_once; connected = connected; inside = λ c e. e; whole = λ x y m r t. r }
 
 pub plain_certificate : IsCertificate stranding plain_round plain_tree
@@ -127,21 +127,21 @@ plain_certificate = record {
 }
 
 -- the wide certificate: the middle county alone is dead
-end_once : (c : ℕ) → often c (37001 ∷ []) ≤ 1
+end_once : (c : ℕ) → count c (37001 ∷ []) ≤ 1
 end_once c = grind (arith, nat_tests)
 
-end_part : IsPart stranding (without (37003 ∷ []) (member path)) (37001 ∷ [])
+end_part : IsPart stranding (without (37003 ∷ []) (contains path)) (37001 ∷ [])
 end_part = record {
   once = end_once;
   connected = one stranding 37001;
-  inside = λ c e. ⊎_elim (λ k. ap (λ z. without (37003 ∷ []) (member path) z) (sym k)) (λ k. absurd (false≢true k)) (member_cases 37001 [] c e);
+  inside = λ c e. ⊎_elim (λ k. ap (λ z. without (37003 ∷ []) (contains path) z) (sym k)) (λ k. absurd (false≢true k)) (member_cases 37001 [] c e);
   whole = λ x y m r t. ⊎_elim (λ k. absurd (alone y (y == 37003) refl (y == 37001) (y == 37005) r (ap (λ z. stranding.adjacent z y) k ∙ t))) (λ k. absurd (false≢true k)) (member_cases 37001 [] x m);
 }
   where
-    gone : (y : ℕ) → y ≡ 37003 → without (37003 ∷ []) (member path) y ≡ true → ⊥
-    gone y e r = false≢true (ap (without (37003 ∷ []) (member path)) (sym e) ∙ r)
+    gone : (y : ℕ) → y ≡ 37003 → without (37003 ∷ []) (contains path) y ≡ true → ⊥
+    gone y e r = false≢true (ap (without (37003 ∷ []) (contains path)) (sym e) ∙ r)
 
-    alone : (y : ℕ) → (b : Bool) → (y == 37003) ≡ b → (a c : Bool) → without (37003 ∷ []) (member path) y ≡ true → ((b || false) || ((a && false) || (b && false))) ≡ true → ⊥
+    alone : (y : ℕ) → (b : Bool) → (y == 37003) ≡ b → (a c : Bool) → without (37003 ∷ []) (contains path) y ≡ true → ((b || false) || ((a && false) || (b && false))) ≡ true → ⊥
     alone y true e a c r t = gone y (eqb-true y 37003 e) r
     alone y false e true c r t = false≢true t
     alone y false e false c r t = false≢true t
@@ -165,18 +165,18 @@ raised = raise 37003 1 (empty_state stranding)
 
 none_fit : (g : List ℕ) (i : ℕ) → Fits Wide stranding raised g → length g ≡ i → i ≤ 2 → ⊥
 none_fit g i f e small =
-    let same : Alike g (filter (member g) path) = in_order_alike path path g order f.lawful.once f.lawful.listed in
-    let long = length_alike g (filter (member g) path) same in
+    let same : Alike g (filter (contains g) path) = in_order_alike path path g order f.lawful.once f.lawful.listed in
+    let long = length_alike g (filter (contains g) path) same in
     ⊎_elim
     (λ k. omega (arith, e, small, long, ap length k))
-    (λ k. let m : member g 37003 ≡ true = member_same g (filter (member g) path) same 37003 ∙ ap (λ z. member z 37003) k in
+    (λ k. let m : contains g 37003 ≡ true = member_same g (filter (contains g) path) same 37003 ∙ ap (λ z. contains z 37003) k in
     too_small (length g) (omega (arith, long, ap length k)) (f.inside 37003 m))
     (lawful_ones g f.lawful)
   where
     too_small : (n : ℕ) → n ≡ 1 → open_to raised n 37003 ≡ true → ⊥
     too_small n e h = false≢true (ap (λ z. open_to raised z 37003) (sym e) ∙ h)
 
-fair : (i : ℕ) → i ≤ 2 → (g : List ℕ) → Fits Wide stranding raised g → length g ≡ i → 1 ≤ total (weight_of []) g
+fair : (i : ℕ) → i ≤ 2 → (g : List ℕ) → Fits Wide stranding raised g → length g ≡ i → 1 ≤ sum_by (weight_of []) g
 fair i small g f e = absurd (none_fit g i f e small)
 
 pub wide_certificate : IsCertificate stranding wide_round wide_tree
@@ -196,16 +196,16 @@ wide_certificate = record {
 -- a leaf alone, in the wide language
 none_at_first : (g : List ℕ) (i : ℕ) → Fits Wide stranding (empty_state stranding) g → length g ≡ i → i ≤ 2 → ⊥
 none_at_first g i f e small =
-    let same : Alike g (filter (member g) path) = in_order_alike path path g order f.lawful.once f.lawful.listed in
-    let long = length_alike g (filter (member g) path) same in
+    let same : Alike g (filter (contains g) path) = in_order_alike path path g order f.lawful.once f.lawful.listed in
+    let long = length_alike g (filter (contains g) path) same in
     ⊎_elim
     (λ k. omega (arith, e, small, long, ap length k))
     (λ k.
-    let dead : IsDead stranding (empty_state stranding) (filter (member g) path) = subst (IsDead stranding (empty_state stranding)) (sym k) middle_dead in
-    f.kept (record { part = dead.part; is_part = without_same stranding (member path) g (filter (member g) path) dead.part (λ x. member_same g (filter (member g) path) same x) dead.is_part; stuck = dead.stuck }))
+    let dead : IsDead stranding (empty_state stranding) (filter (contains g) path) = subst (IsDead stranding (empty_state stranding)) (sym k) middle_dead in
+    f.kept (record { part = dead.part; is_part = without_same stranding (contains path) g (filter (contains g) path) dead.part (λ x. member_same g (filter (contains g) path) same x) dead.is_part; stuck = dead.stuck }))
     (lawful_ones g f.lawful)
 
-fair_at_first : (i : ℕ) → i ≤ 2 → (g : List ℕ) → Fits Wide stranding (empty_state stranding) g → length g ≡ i → 1 ≤ total (weight_of []) g
+fair_at_first : (i : ℕ) → i ≤ 2 → (g : List ℕ) → Fits Wide stranding (empty_state stranding) g → length g ≡ i → 1 ≤ sum_by (weight_of []) g
 fair_at_first i small g f e = absurd (none_at_first g i f e small)
 
 pub lone_certificate : IsCertificate stranding wide_round lone_leaf
@@ -221,7 +221,7 @@ middle_fits : Fits Plain stranding (empty_state stranding) (37003 ∷ [])
 middle_fits = record {
   lawful = record {
     once = λ c. at_most c (37003 == c);
-    listed = λ c e. ⊎_elim (λ k. ap (member path) (sym k)) (λ k. absurd (false≢true k)) (member_cases 37003 [] c e);
+    listed = λ c e. ⊎_elim (λ k. ap (contains path) (sym k)) (λ k. absurd (false≢true k)) (member_cases 37003 [] c e);
     connected = one stranding 37003;
     seats = 1;
     suits = record { some_seat = omega arith; enough = lit≤ tt; not_more = lit≤ tt };
@@ -230,7 +230,7 @@ middle_fits = record {
   kept = tt;
 }
   where
-    at_most : (c : ℕ) → (b : Bool) → digit b + 0 ≤ 1
+    at_most : (c : ℕ) → (b : Bool) → indicator b + 0 ≤ 1
     at_most c true = omega arith
     at_most c false = omega arith
 

@@ -2,7 +2,7 @@
 use Rattle.std.proofs.Common.{◌≡◌, ℕ, ◌≤◌, true, List, filter, length, sym, subst, arith, inl, inr, ⊎_elim, All}
 use Rattle.std.proofs.lemmas.List.Elements.{filter_agree}
 use Rattle.county_codes.specs.declared.group.Group.{Group}
-use Rattle.grouping_laws.specs.Sets.{member}
+use Rattle.grouping_laws.specs.Sets.{contains}
 use Rattle.grouping_laws.specs.Problem.{Problem}
 use Rattle.grouping_laws.specs.Grouping.{Grouping, Lawful, counts, sets_of, IsGreater}
 use Rattle.grouping_laws.specs.GroupsFrom.{IsOrder}
@@ -37,16 +37,16 @@ leaf_excludes p round s whole fits seats v opens c beats = seats_fit p s whole o
 leaf_excludes p round s whole fits (bound lines) v opens c beats = bound_excludes p round s whole fits lines v opens c beats
 
 -- a completing group of at most so many counties, in the order of places, is a group of the branch
-pub group_there : (p : Problem) (round : Round) (s : State) → IsOrder p round.order → (whole : IsWhole p s) (opens : Grouping) (c : Completes p s opens) (county limit : ℕ) (m : Group) → Has opens m → member m.codes county ≡ true → length m.codes ≤ limit
-    → Alike m.codes (filter (member m.codes) round.order) × IsGroupAt p round s county limit (filter (member m.codes) round.order)
+pub group_there : (p : Problem) (round : Round) (s : State) → IsOrder p round.order → (whole : IsWhole p s) (opens : Grouping) (c : Completes p s opens) (county limit : ℕ) (m : Group) → Has opens m → contains m.codes county ≡ true → length m.codes ≤ limit
+    → Alike m.codes (filter (contains m.codes) round.order) × IsGroupAt p round s county limit (filter (contains m.codes) round.order)
 group_there p round s order whole opens c county limit m h has small =
     let lawful = group_lawful p s whole opens c m h in
-    let g = filter (member m.codes) round.order in
+    let g = filter (contains m.codes) round.order in
     let same : Alike m.codes g = in_order_alike round.order p.counties m.codes order lawful.once lawful.listed in (
       same,
       record {
         fits = group_fits p s whole opens c round.language m h g same;
-        in_order = filter_agree (member g) (member m.codes) (λ x. sym (member_same m.codes g same x)) round.order;
+        in_order = filter_agree (contains g) (contains m.codes) (λ x. sym (member_same m.codes g same x)) round.order;
         has = member_alike m.codes g same county has;
         small = omega (arith, length_alike m.codes g same);
       },
@@ -58,7 +58,7 @@ mutual
   no_greater (leaf l) p round s order fits whole v opens c beats = leaf_excludes p round s whole fits l v opens c beats
   no_greater (branch county limit takes raised) p round s order fits whole v opens c beats =
       ⊎_elim
-      (λ r. let g = filter (member r.0.codes) round.order in
+      (λ r. let g = filter (contains r.0.codes) round.order in
       let there = group_there p round s order whole opens c county (limit_of round limit) r.0 r.1 r.2 r.3 in
       none_greater_at takes p round s order fits v.3 g (has_from_contains (groups_of takes) g ((v.2.each g).1 there.1))
       (close_whole p s whole opens c r.0 r.1 g there.0)

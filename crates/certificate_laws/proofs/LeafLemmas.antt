@@ -1,10 +1,10 @@
 -- At a state that can be completed no part of the rest is stuck, and the seats are not off.
 use Rattle.std.proofs.Common.{◌≡◌, ℕ, true, List, ◌++◌, sym, ◌∙◌, arith, inl, inr, ⊎_elim}
-use Rattle.grouping_laws.specs.Sets.{stands, member}
+use Rattle.grouping_laws.specs.Sets.{count_in, contains}
 use Rattle.grouping_laws.specs.Problem.{Problem, Suits, people_of}
 use Rattle.grouping_laws.specs.Grouping.{Grouping, sets_of, seats_of}
 use Rattle.grouping_laws.specs.Parts.{IsPart}
-use Rattle.place_laws.proofs.Sums.{total-append, digit_one}
+use Rattle.place_laws.proofs.Sums.{sum_by-append, digit_one}
 use Rattle.grouping_laws.proofs.Elements.{has_all}
 use Rattle.grouping_laws.proofs.Digits.{true_digit}
 use Rattle.grouping_laws.proofs.Parts.{FillRegion, inner, part_suits, has_from_stands, has_hit, within_part}
@@ -23,7 +23,7 @@ module _ (p : Problem) (s : State) (whole : IsWhole p s) (opens : Grouping) (c :
     suits = c.suits;
   }
 
-  covered : (xs : List ℕ) → IsPart p s.rest xs → (x : ℕ) → member xs x ≡ true → stands x (sets_of opens) ≡ 1
+  covered : (xs : List ℕ) → IsPart p s.rest xs → (x : ℕ) → contains xs x ≡ true → count_in x (sets_of opens) ≡ 1
   covered xs part x e = omega (arith, c.once x, true_digit (s.rest x) (part.inside x e))
 
   pub part_is_filled : (xs : List ℕ) → IsPart p s.rest xs → CannotFill p s xs → ⊥
@@ -42,7 +42,7 @@ module _ (p : Problem) (s : State) (whole : IsWhole p s) (opens : Grouping) (c :
       let own = parts_seated p s.rest v.parts opens fill (has_all (IsPart p s.rest) v.parts v.are_parts.each)
       (λ x. c.once x ∙ sym (v.are_parts.once x)) (λ x. omega (arith, v.are_parts.once x, digit_one (s.rest x))) in
       let both = AllZip-append (λ xs k. Suits p (people_of p xs) k) s.closed c.seats v.parts own.0 c.closed_suits own.1 in
-      let sum = total-append (λ k. k) c.seats own.0 in
+      let sum = sum_by-append (λ k. k) c.seats own.0 in
       ⊎_elim
       (λ h. omega (arith, h.1, least_sum p (s.closed ++ v.parts) v.ranges (c.seats ++ own.0) h.0 both, sum, own.2, c.all_seats))
       (λ h. omega (arith, h.1, most_sum p (s.closed ++ v.parts) v.ranges (c.seats ++ own.0) h.0 both, sum, own.2, c.all_seats))

@@ -1,6 +1,6 @@
 -- A search that keeps a list of groups for each size has all that a branch and an end need.
 use Rattle.std.proofs.Common.{◌≡◌, ℕ, zero, suc, ◌≤◌, ◌<◌, Bool, true, List, [], ◌∷◌, ◌++◌, filter, length, refl, sym, ap, ◌∙◌, subst, arith, ◌⊎◌, inl, ⊎_elim, AllPairs, Contains, ◌↔◌}
-use Rattle.grouping_laws.specs.Sets.{member}
+use Rattle.grouping_laws.specs.Sets.{contains}
 use Rattle.grouping_laws.specs.Problem.{Problem}
 use Rattle.grouping_laws.specs.GroupsFrom.{IsBefore, IsOrder}
 use Rattle.grouping_laws.proofs.Elements.{Has, has_from_contains, contains_from_has, has_append, has_left, has_right}
@@ -103,20 +103,20 @@ module _ (p : Problem) (round : Round) (s : State) (lists : ℕ → List (List �
       pairs_append (IsBefore round.order) (up_to n lists) (lists (suc n)) (up_to_sorted n (λ i a b. are i a (omega arith))) (are (suc n) (omega arith) (omega arith)).sorted
       (λ x h y k. let r = up_to_has n lists x h in inl (omega (arith, r.2, listed_size (suc n) r.0 are r.1 (omega (arith, r.2)) x r.3, listed_size (suc n) (suc n) are (omega arith) (omega arith) y k)))
 
-  takes : (c j : ℕ) → AreLists p round s j lists → AreGroupsAt p round s c j (filter (λ g. member g c) (up_to j lists))
+  takes : (c j : ℕ) → AreLists p round s j lists → AreGroupsAt p round s c j (filter (λ g. contains g c) (up_to j lists))
   takes c j are = record {
     each = λ g. (
       λ h.
-          let r = has-filter (λ k. member k c) (up_to j lists) g (has_from_contains (filter (λ k. member k c) (up_to j lists)) g h) in
+          let r = has-filter (λ k. contains k c) (up_to j lists) g (has_from_contains (filter (λ k. contains k c) (up_to j lists)) g h) in
           let i = up_to_has j lists g r.0 in
           let f = ((are i.0 i.1 i.2).each g).0 (contains_from_has (lists i.0) g i.3) in
           record { fits = f.fits; in_order = f.in_order; has = r.1; small = omega (arith, f.size, i.2) },
       λ f.
           let some = f.fits.lawful.connected.some_county in
           let here = has_from_contains (lists (length g)) g (((are (length g) some f.small).each g).1 (record { fits = f.fits; in_order = f.in_order; size = refl })) in
-          contains_from_has (filter (λ k. member k c) (up_to j lists)) g (filter_has (λ k. member k c) (up_to j lists) g (has_up_to j lists (length g) g some f.small here) f.has),
+          contains_from_has (filter (λ k. contains k c) (up_to j lists)) g (filter_has (λ k. contains k c) (up_to j lists) g (has_up_to j lists (length g) g some f.small here) f.has),
     );
-    sorted = filter_pairs (IsBefore round.order) (λ g. member g c) (up_to j lists) (up_to_sorted j are);
+    sorted = filter_pairs (IsBefore round.order) (λ g. contains g c) (up_to j lists) (up_to_sorted j are);
   }
 
   only_last : (j : ℕ) → 1 ≤ j → ((i : ℕ) → 1 ≤ i → i < j → lists i ≡ []) → up_to j lists ≡ lists j
@@ -127,10 +127,10 @@ module _ (p : Problem) (round : Round) (s : State) (lists : ℕ → List (List �
       all_empty zero h = refl
       all_empty (suc n) h = ap (λ z. z ++ lists (suc n)) (all_empty n (λ i a b. h i a (omega arith))) ∙ h (suc n) (omega arith) (omega arith)
 
-  takes_of_least : (c j : ℕ) → 1 ≤ j → ((i : ℕ) → 1 ≤ i → i < j → lists i ≡ []) → AreLists p round s j lists → AreGroupsAt p round s c j (filter (λ g. member g c) (lists j))
-  takes_of_least c j some empty are = subst (λ z. AreGroupsAt p round s c j (filter (λ g. member g c) z)) (only_last j some empty) (takes c j are)
+  takes_of_least : (c j : ℕ) → 1 ≤ j → ((i : ℕ) → 1 ≤ i → i < j → lists i ≡ []) → AreLists p round s j lists → AreGroupsAt p round s c j (filter (λ g. contains g c) (lists j))
+  takes_of_least c j some empty are = subst (λ z. AreGroupsAt p round s c j (filter (λ g. contains g c) z)) (only_last j some empty) (takes c j are)
 
-can : (p : Problem) (round : Round) (s : State) (c j : ℕ) (g : List ℕ) → round.language ≡ Wide → IsGroupOf p round s j g → member g c ≡ true → j ≤ round.limit → CanBranch round s c j
+can : (p : Problem) (round : Round) (s : State) (c j : ℕ) (g : List ℕ) → round.language ≡ Wide → IsGroupOf p round s j g → contains g c ≡ true → j ≤ round.limit → CanBranch round s c j
 can p round s c j g widely f has small = record {
   small = small;
   is_open = subst (λ n. open_to s n c ≡ true) f.size (f.fits.inside c has);
@@ -142,7 +142,7 @@ none : (p : Problem) (round : Round) (s : State) (lists : ℕ → List (List ℕ
 none p round s lists order are empty g fits small =
     let some = fits.lawful.connected.some_county in
     let r = listed_alike p round s (length g) (lists (length g)) order (are (length g) some small) g fits refl in
-    nothing (lists (length g)) (filter (member g) round.order) (empty (length g) some small) r.1
+    nothing (lists (length g)) (filter (contains g) round.order) (empty (length g) some small) r.1
   where
     nothing : (xs : List (List ℕ)) (k : List ℕ) → xs ≡ [] → Has xs k → ⊥
     nothing [] k e h = h

@@ -1,7 +1,7 @@
 -- Each group of a completion fits: closed, it leaves a state that can be completed, at which no part is stuck.
 use Rattle.std.proofs.Common.{◌≡◌, ℕ, ◌<◌, Bool, true, false, cond, List, length, refl, sym, subst, arith, inl, inr}
 use Rattle.county_codes.specs.declared.group.Group.{Group}
-use Rattle.grouping_laws.specs.Sets.{member}
+use Rattle.grouping_laws.specs.Sets.{contains}
 use Rattle.grouping_laws.specs.Problem.{Problem}
 use Rattle.grouping_laws.specs.Grouping.{Grouping, sets_of}
 use Rattle.grouping_laws.proofs.Elements.{Has, has-map}
@@ -17,13 +17,13 @@ use Rattle.certificate_laws.proofs.Steps.{others_of, close_whole, close_complete
 use Rattle.certificate_laws.proofs.WithoutGroup.{without_not}
 
 -- a set off a group that no groups can fill can't be filled once the group is closed, and the other way round
-pub cannot_once_closed : (p : Problem) (s : State) (g xs : List ℕ) → ((x : ℕ) → member xs x ≡ true → member g x ≡ false) → CannotFill p s xs → CannotFill p (close g s) xs
+pub cannot_once_closed : (p : Problem) (s : State) (g xs : List ℕ) → ((x : ℕ) → contains xs x ≡ true → contains g x ≡ false) → CannotFill p s xs → CannotFill p (close g s) xs
 cannot_once_closed p s g xs off (inl none) = inl none
 cannot_once_closed p s g xs off (inr few) = inr (few.0, few.1, rw (off few.0 few.1) few.2)
 
 pub cannot_before : (p : Problem) (s : State) (g xs : List ℕ) → CannotFill p (close g s) xs → CannotFill p s xs
 cannot_before p s g xs (inl none) = inl none
-cannot_before p s g xs (inr few) = inr (few.0, few.1, go (member g few.0) few.2)
+cannot_before p s g xs (inr few) = inr (few.0, few.1, go (contains g few.0) few.2)
   where
     go : (b : Bool) → length xs < cond b 0 (s.least few.0) → length xs < s.least few.0
     go true h = absurd (omega arith)

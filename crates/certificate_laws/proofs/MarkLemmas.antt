@@ -4,11 +4,11 @@ use Rattle.std.proofs.lemmas.Bool.{eqb-true, false≢true, le-leb, lt-leb}
 use Rattle.std.proofs.lemmas.List.Elements.{All-push}
 use mathlib.Core.Path.{fun_ext}
 use Rattle.county_codes.specs.declared.group.Group.{Group}
-use Rattle.grouping_laws.specs.Sets.{digit, total, often, member, Inside}
+use Rattle.grouping_laws.specs.Sets.{indicator, sum_by, count, contains, Inside}
 use Rattle.grouping_laws.specs.Problem.{Problem, LawfulGroup, Suits, people_of}
 use Rattle.grouping_laws.specs.Grouping.{Grouping, Lawful, counts, sets_of}
 use Rattle.grouping_laws.specs.GroupsFrom.{BeginsWith, IsGroupFrom, AreGroupsFrom, IsSetFrom}
-use Rattle.place_laws.proofs.Sums.{total-append, digit_one}
+use Rattle.place_laws.proofs.Sums.{sum_by-append, digit_one}
 use Rattle.grouping_laws.proofs.Elements.{Has, contains_from_has}
 use Rattle.grouping_laws.proofs.Digits.{true_digit}
 use Rattle.grouping_laws.proofs.Alike.{begins, head_same}
@@ -63,7 +63,7 @@ module _ (p : Problem) (limit : ℕ) (s : MarkedState) (is : IsMarkedState p lim
   apart c e = go (s.rest c) refl
     where
       go : (b : Bool) → s.rest c ≡ b → b ≡ false
-      go true k = absurd (omega (arith, is.once c, true_digit (s.marked c) e, true_digit (s.rest c) k, digit_one (member p.counties c)))
+      go true k = absurd (omega (arith, is.once c, true_digit (s.marked c) e, true_digit (s.rest c) k, digit_one (contains p.counties c)))
       go false k = refl
 
   not_marked : (c : ℕ) → s.rest c ≡ true → s.marked c ≡ false
@@ -93,8 +93,8 @@ module _ (p : Problem) (limit : ℕ) (s : MarkedState) (is : IsMarkedState p lim
   same_allowance : (line : Allowance) (i left used : ℕ) → i ≤ limit → left ≡ length (listed p s.rest) - used → allowance p sized i used line ≡ rest_allowance p s i left line
   same_allowance room i left used b e = ap (λ r. (length (listed p r) - used) / i) (region_same i b) ∙ ap (λ z. z / i) (sym e)
   same_allowance (weigh q ws) i left used b e =
-      ap (λ r. min ((length (listed p r) - used) / i) (total (weight_of ws) (listed p r) / q)) (region_same i b)
-      ∙ ap (λ z. min (z / i) (total (weight_of ws) (listed p s.rest) / q)) (sym e)
+      ap (λ r. min ((length (listed p r) - used) / i) (sum_by (weight_of ws) (listed p r) / q)) (region_same i b)
+      ∙ ap (λ z. min (z / i) (sum_by (weight_of ws) (listed p s.rest) / q)) (sym e)
 
   fair_to : (line : Allowance) (i : ℕ) → i ≤ limit → IsRestFair p s i line → IsFair Plain p sized i line
   fair_to room i b f = tt
@@ -154,14 +154,14 @@ module _ (p : Problem) (limit : ℕ) (s : MarkedState) (is : IsMarkedState p lim
       least_one false false = refl
 
   close_same : (g : List ℕ) → Inside s.rest g → as_state limit (close_group g s) ≡ close g sized
-  close_same g inside = same_state (as_state limit (close_group g s)) (close g sized) refl (λ x. rest_one x (s.marked x) refl (member g x) refl) (λ x. least_one x (s.marked x) refl (member g x) refl)
+  close_same g inside = same_state (as_state limit (close_group g s)) (close g sized) refl (λ x. rest_one x (s.marked x) refl (contains g x) refl) (λ x. least_one x (s.marked x) refl (contains g x) refl)
     where
-      rest_one : (x : ℕ) → (a : Bool) → s.marked x ≡ a → (b : Bool) → member g x ≡ b → (a || (s.rest x && not b)) ≡ ((a || s.rest x) && not b)
+      rest_one : (x : ℕ) → (a : Bool) → s.marked x ≡ a → (b : Bool) → contains g x ≡ b → (a || (s.rest x && not b)) ≡ ((a || s.rest x) && not b)
       rest_one x true e true m = absurd (false≢true (sym (apart x e) ∙ inside x m))
       rest_one x true e false m = refl
       rest_one x false e b m = refl
 
-      least_one : (x : ℕ) → (a : Bool) → s.marked x ≡ a → (b : Bool) → member g x ≡ b → cond a (limit + 1) 0 ≡ cond b 0 (cond a (limit + 1) 0)
+      least_one : (x : ℕ) → (a : Bool) → s.marked x ≡ a → (b : Bool) → contains g x ≡ b → cond a (limit + 1) 0 ≡ cond b 0 (cond a (limit + 1) 0)
       least_one x true e true m = absurd (false≢true (sym (apart x e) ∙ inside x m))
       least_one x false e true m = refl
       least_one x a e false m = refl
@@ -169,7 +169,7 @@ module _ (p : Problem) (limit : ℕ) (s : MarkedState) (is : IsMarkedState p lim
   mark_marked : (c : ℕ) → s.rest c ≡ true → IsMarkedState p limit (mark c s)
   mark_marked c here = record { once = λ x. omega (arith, is.once x, one x (x == c) refl (s.marked x) refl (s.rest x) refl); lawful = is.lawful; small = is.small }
     where
-      one : (x : ℕ) → (b : Bool) → (x == c) ≡ b → (d : Bool) → s.marked x ≡ d → (e : Bool) → s.rest x ≡ e → digit (d || b) + digit (e && not b) ≡ digit d + digit e
+      one : (x : ℕ) → (b : Bool) → (x == c) ≡ b → (d : Bool) → s.marked x ≡ d → (e : Bool) → s.rest x ≡ e → indicator (d || b) + indicator (e && not b) ≡ indicator d + indicator e
       one x true k d l false r = absurd (false≢true (sym r ∙ (ap s.rest (eqb-true x c k) ∙ here)))
       one x true k true l true r = absurd (false≢true (sym (apart x l) ∙ r))
       one x true k false l true r = refl
@@ -180,7 +180,7 @@ module _ (p : Problem) (limit : ℕ) (s : MarkedState) (is : IsMarkedState p lim
 
   close_marked : (g : List ℕ) → LawfulGroup p g → length g ≤ limit → Inside s.rest g → IsMarkedState p limit (close_group g s)
   close_marked g lawful small inside = record {
-    once = λ x. omega (arith, is.once x, split_one s.rest g lawful.once inside x, total-append (often x) s.closed (g ∷ []));
+    once = λ x. omega (arith, is.once x, split_one s.rest g lawful.once inside x, sum_by-append (count x) s.closed (g ∷ []));
     lawful = All-push (LawfulGroup p) s.closed g is.lawful lawful;
     small = All-push (λ k. length k ≤ limit) s.closed g is.small small;
   }
@@ -195,9 +195,9 @@ module _ (p : Problem) (limit : ℕ) (s : MarkedState) (is : IsMarkedState p lim
   stuck_from county v = record { part = v.part; is_part = v.is_part; around = v.around; wrong = ⊎_elim (λ h. inl h) (λ h. go h.0 h.1 h.2 (s.marked h.0) refl) v.cannot_fill }
     where
       Wrong : Type 0
-      Wrong = ((k : ℕ) → Suits p (people_of p v.part) k → ⊥) ⊎ ((c : ℕ) × (member v.part c ≡ true) × (s.marked c ≡ true) × (length v.part ≤ limit))
+      Wrong = ((k : ℕ) → Suits p (people_of p v.part) k → ⊥) ⊎ ((c : ℕ) × (contains v.part c ≡ true) × (s.marked c ≡ true) × (length v.part ≤ limit))
 
-      go : (c : ℕ) → member v.part c ≡ true → length v.part < cond (s.marked c) (limit + 1) 0 → (b : Bool) → s.marked c ≡ b → Wrong
+      go : (c : ℕ) → contains v.part c ≡ true → length v.part < cond (s.marked c) (limit + 1) 0 → (b : Bool) → s.marked c ≡ b → Wrong
       go c m l true e = inr (c, m, e, omega (arith, l, ap (λ z. cond z (limit + 1) 0) e))
       go c m l false e = absurd (omega (arith, l, ap (λ z. cond z (limit + 1) 0) e))
 
@@ -238,7 +238,7 @@ module _ (p : Problem) (round : Round) (s : MarkedState) (is : IsMarkedState p r
     group_back g f = record {
       lawful = f.fits.lawful;
       in_order = f.in_order;
-      first = subst (BeginsWith c) f.in_order (begins s.rest (member g) c round.order inner f.has first);
+      first = subst (BeginsWith c) f.in_order (begins s.rest (contains g) c round.order inner f.has first);
       small = f.small;
       inside = inner;
     }
@@ -317,7 +317,7 @@ mutual
 agrees_to : (p : Problem) (limit : ℕ) (s : MarkedState) (g : Grouping) → IsMarkedState p limit s → Lawful p g → AgreesAbove limit s g → Agrees (as_state limit s) g
 agrees_to p limit s g is lawful a = record { closed = a.closed; large = λ c e. go c (s.marked c) refl e }
   where
-    go : (c : ℕ) → (b : Bool) → s.marked c ≡ b → (b || s.rest c) ≡ true → (m : Group) × Contains g m × (member m.codes c ≡ true) × (cond b (limit + 1) 0 ≤ length m.codes)
+    go : (c : ℕ) → (b : Bool) → s.marked c ≡ b → (b || s.rest c) ≡ true → (m : Group) × Contains g m × (contains m.codes c ≡ true) × (cond b (limit + 1) 0 ≤ length m.codes)
     go c true e o = let r = a.marked c e in (r.0, r.1, r.2, omega (arith, r.3))
     go c false e o = let r = has_from_stands c g (omega (arith, lawful.once c, is.once c, true_digit (s.rest c) o)) in (r.0, contains_from_has g r.0 r.1, r.2, omega arith)
 
@@ -333,8 +333,8 @@ states p round s e is = record {
   settled = λ c k. settle (s.marked c) (s.rest c) k;
 }
   where
-    one : (c : ℕ) → (a : Bool) → s.marked c ≡ a → (b : Bool) → s.rest c ≡ b → digit (a || b) ≡ digit a + digit b
-    one c true k true l = absurd (omega (arith, is.once c, true_digit (s.marked c) k, true_digit (s.rest c) l, digit_one (member p.counties c)))
+    one : (c : ℕ) → (a : Bool) → s.marked c ≡ a → (b : Bool) → s.rest c ≡ b → indicator (a || b) ≡ indicator a + indicator b
+    one c true k true l = absurd (omega (arith, is.once c, true_digit (s.marked c) k, true_digit (s.rest c) l, digit_one (contains p.counties c)))
     one c true k false l = omega arith
     one c false k b l = omega arith
 
@@ -349,7 +349,7 @@ states p round s e is = record {
 marked_once : (p : Problem) (round : Round) (s : State) → IsState p round s → IsMarkedState p round.limit (as_marked round.limit s)
 marked_once p round s is = record { once = λ c. omega (arith, is.once c, split (s.rest c) (nat_le (s.least c) round.limit)); lawful = is.lawful; small = is.small }
   where
-    split : (r b : Bool) → digit (r && not b) + digit (r && b) ≡ digit r
+    split : (r b : Bool) → indicator (r && not b) + indicator (r && b) ≡ indicator r
     split true true = refl
     split true false = refl
     split false b = refl
@@ -411,7 +411,7 @@ takes_same p round s c gs e is first = (
     back = marked_back p round s e is
 
 sets_begin : (p : Problem) (order : List ℕ) (s : State) (c limit : ℕ) (g : List ℕ) → BeginsWith c (filter (open_to s limit) order) → IsSetAt p order s c limit g → IsSetFrom p order limit c g
-sets_begin p order s c limit g first f = record { connected = f.connected; in_order = f.in_order; first = subst (BeginsWith c) f.in_order (begins (open_to s limit) (member g) c order f.inside f.has first); small = f.small }
+sets_begin p order s c limit g first f = record { connected = f.connected; in_order = f.in_order; first = subst (BeginsWith c) f.in_order (begins (open_to s limit) (contains g) c order f.inside f.has first); small = f.small }
 
 pub plain_is_marked : PlainIsMarked
 plain_is_marked = record {

@@ -2,7 +2,7 @@
 use Rattle.std.proofs.Common.{◌≡◌, ℕ, ◌+◌, ◌≤◌, ◌<◌, Bool, true, false, cond, not, ◌&&◌, List, [], ◌∷◌, length, ◌==◌, refl, sym, ap, ◌∙◌, subst, arith, ◌⊎◌, inl, inr, ⊎_elim}
 use Rattle.std.proofs.lemmas.Bool.{and_from, false≢true, eqb-true}
 use Rattle.county_codes.specs.declared.group.Group.{Group}
-use Rattle.grouping_laws.specs.Sets.{stands, member, Inside}
+use Rattle.grouping_laws.specs.Sets.{count_in, contains, Inside}
 use Rattle.grouping_laws.specs.Problem.{Problem, Suits, people_of, Connected, LawfulGroup, IsProblem}
 use Rattle.grouping_laws.specs.Grouping.{Grouping, sets_of, seats_of}
 use Rattle.grouping_laws.specs.Parts.{IsPart, AreParts}
@@ -35,22 +35,22 @@ all_suit p is (xs ∷ sets) =
     (people_have_ranges p is.some_people is.tolerated (people_of p xs))
 
 module _ (p : Problem) (is : IsProblem p) (s : State) (h g : List ℕ) (lawful : LawfulGroup p h) (h_open : Inside (open_to s (length h)) h)
-    (g_off : (x : ℕ) → member h x ≡ true → member g x ≡ false) (listed : (x : ℕ) → s.rest x ≡ true → member p.counties x ≡ true) (d : IsDead p s g) where
+    (g_off : (x : ℕ) → contains h x ≡ true → contains g x ≡ false) (listed : (x : ℕ) → s.rest x ≡ true → contains p.counties x ≡ true) (d : IsDead p s g) where
   -- what is left when both are closed
   abbrev after : ℕ → Bool
   after = without g (close h s).rest
 
-  both_from : (x : ℕ) → without g s.rest x ≡ true → member h x ≡ false → after x ≡ true
-  both_from x e o = and_from (s.rest x && not (member h x)) (not (member g x)) (and_from (s.rest x) (not (member h x)) (without_in g s.rest x e) (ap not o)) (ap not (without_not g s.rest x e))
+  both_from : (x : ℕ) → without g s.rest x ≡ true → contains h x ≡ false → after x ≡ true
+  both_from x e o = and_from (s.rest x && not (contains h x)) (not (contains g x)) (and_from (s.rest x) (not (contains h x)) (without_in g s.rest x e) (ap not o)) (ap not (without_not g s.rest x e))
 
   both_in : (x : ℕ) → after x ≡ true → without g s.rest x ≡ true
-  both_in x e = and_from (s.rest x) (not (member g x)) (without_in h s.rest x (without_in g (close h s).rest x e)) (ap not (without_not g (close h s).rest x e))
+  both_in x e = and_from (s.rest x) (not (contains g x)) (without_in h s.rest x (without_in g (close h s).rest x e)) (ap not (without_not g (close h s).rest x e))
 
-  both_off : (x : ℕ) → after x ≡ true → member h x ≡ false
+  both_off : (x : ℕ) → after x ≡ true → contains h x ≡ false
   both_off x e = without_not h s.rest x (without_in g (close h s).rest x e)
 
   -- the stuck part is apart from the closed group
-  dead_apart : ((x : ℕ) → member d.part x ≡ true → member h x ≡ false) → IsDead p (close h s) g
+  dead_apart : ((x : ℕ) → contains d.part x ≡ true → contains h x ≡ false) → IsDead p (close h s) g
   dead_apart off = record {
     part = d.part;
     is_part = record {
@@ -63,36 +63,36 @@ module _ (p : Problem) (is : IsProblem p) (s : State) (h g : List ℕ) (lawful :
   }
 
   h_left : Inside (without g s.rest) h
-  h_left x e = and_from (s.rest x) (not (member g x)) (open_rest s (length h) x (h_open x e)) (ap not (g_off x e))
+  h_left x e = and_from (s.rest x) (not (contains g x)) (open_rest s (length h) x (h_open x e)) (ap not (g_off x e))
 
-  module _ (within : (x : ℕ) → member h x ≡ true → member d.part x ≡ true) where
+  module _ (within : (x : ℕ) → contains h x ≡ true → contains d.part x ≡ true) where
     -- what the closed group leaves of the stuck part
     abbrev left : ℕ → Bool
-    left = without h (member d.part)
+    left = without h (contains d.part)
 
     part_after : (ys : List ℕ) → IsPart p left ys → IsPart p after ys
     part_after ys a = record {
       once = a.once;
       connected = a.connected;
-      inside = λ x e. both_from x (d.is_part.inside x (without_in h (member d.part) x (a.inside x e))) (without_not h (member d.part) x (a.inside x e));
-      whole = λ x y m r t. a.whole x y m (and_from (member d.part y) (not (member h y)) (d.is_part.whole x y (without_in h (member d.part) x (a.inside x m)) (both_in y r) t) (ap not (both_off y r))) t;
+      inside = λ x e. both_from x (d.is_part.inside x (without_in h (contains d.part) x (a.inside x e))) (without_not h (contains d.part) x (a.inside x e));
+      whole = λ x y m r t. a.whole x y m (and_from (contains d.part y) (not (contains h y)) (d.is_part.whole x y (without_in h (contains d.part) x (a.inside x m)) (both_in y r) t) (ap not (both_off y r))) t;
     }
 
-    left_listed : (x : ℕ) → left x ≡ true → member p.counties x ≡ true
-    left_listed x e = listed x (without_in g s.rest x (d.is_part.inside x (without_in h (member d.part) x e)))
+    left_listed : (x : ℕ) → left x ≡ true → contains p.counties x ≡ true
+    left_listed x e = listed x (without_in g s.rest x (d.is_part.inside x (without_in h (contains d.part) x e)))
 
-    asks_still : (n c : ℕ) → n < s.least c → member h c ≡ false → n < cond (member h c) 0 (s.least c)
+    asks_still : (n c : ℕ) → n < s.least c → contains h c ≡ false → n < cond (contains h c) 0 (s.least c)
     asks_still n c l e = rw e l
 
     -- the stuck part is too small for a county
-    dead_small : (c : ℕ) → member d.part c ≡ true → length d.part < s.least c → (b : Bool) → member h c ≡ b → IsDead p (close h s) g
+    dead_small : (c : ℕ) → contains d.part c ≡ true → length d.part < s.least c → (b : Bool) → contains h c ≡ b → IsDead p (close h s) g
     dead_small c m small true e = absurd (omega (arith, open_least s (length h) c (h_open c e), not_longer h d.part lawful.once within, small))
     dead_small c m small false e =
-        let r = part_around p is left left_listed c (and_from (member d.part c) (not (member h c)) m (ap not e)) in
+        let r = part_around p is left left_listed c (and_from (contains d.part c) (not (contains h c)) m (ap not e)) in
         record {
           part = r.0;
           is_part = part_after r.0 r.1;
-          stuck = inr (c, r.2, asks_still (length r.0) c (omega (arith, small, not_longer r.0 d.part (r.1).once (λ x k. without_in h (member d.part) x ((r.1).inside x k)))) e);
+          stuck = inr (c, r.2, asks_still (length r.0) c (omega (arith, small, not_longer r.0 d.part (r.1).once (λ x k. without_in h (contains d.part) x ((r.1).inside x k)))) e);
         }
 
     module _ (parts : List (List ℕ)) (are : AreParts p left parts) (ks : List ℕ) (suit : SuitAll p parts ks) where
@@ -105,13 +105,13 @@ module _ (p : Problem) (is : IsProblem p) (s : State) (h g : List ℕ) (lawful :
 
       fill : FillRegion p (without g s.rest) opens
       fill = record {
-        inside = λ m. elim [ inl e ↦ subst (λ (z : Group). Inside (without g s.rest) z.codes) e h_left | inr i ↦ λ x k. d.is_part.inside x (without_in h (member d.part) x ((at m i).inside x k)) ];
+        inside = λ m. elim [ inl e ↦ subst (λ (z : Group). Inside (without g s.rest) z.codes) e h_left | inr i ↦ λ x k. d.is_part.inside x (without_in h (contains d.part) x ((at m i).inside x k)) ];
         connected = λ m. elim [ inl e ↦ subst (λ (z : Group). Connected p z.codes) e lawful.connected | inr i ↦ (at m i).connected ];
         suits = λ m. elim [ inl e ↦ subst (λ (z : Group). Suits p (people_of p z.codes) z.seats) e lawful.suits | inr i ↦ (seated_has p parts ks suit m i).1 ];
       }
 
-      covered : (c : ℕ) → member d.part c ≡ true → stands c (sets_of opens) ≡ 1
-      covered c m = omega (arith, split_one (member d.part) h lawful.once within c, are.once c, ap (stands c) (seated_sets p parts ks suit), true_digit (member d.part c) m)
+      covered : (c : ℕ) → contains d.part c ≡ true → count_in c (sets_of opens) ≡ 1
+      covered c m = omega (arith, split_one (contains d.part) h lawful.once within c, are.once c, ap (count_in c) (seated_sets p parts ks suit), true_digit (contains d.part c) m)
 
       suits_some : Suits p (people_of p d.part) (seats_of (inner p (without g s.rest) d.part d.is_part opens fill))
       suits_some = part_suits p (without g s.rest) d.part d.is_part opens fill covered
@@ -127,43 +127,43 @@ module _ (p : Problem) (is : IsProblem p) (s : State) (h g : List ℕ) (lawful :
 
     dead_around : CannotFill p s d.part → IsDead p (close h s) g
     dead_around (inl none) = dead_people none
-    dead_around (inr few) = dead_small few.0 few.1 few.2 (member h few.0) refl
+    dead_around (inr few) = dead_small few.0 few.1 few.2 (contains h few.0) refl
 
   pub still_dead : IsDead p (close h s) g
   still_dead = go (hits d.part h) refl
     where
-      apart : hits d.part h ≡ false → (x : ℕ) → member d.part x ≡ true → (b : Bool) → member h x ≡ b → b ≡ false
+      apart : hits d.part h ≡ false → (x : ℕ) → contains d.part x ≡ true → (b : Bool) → contains h x ≡ b → b ≡ false
       apart e x m true k = absurd (false≢true (sym e ∙ has_hit d.part h x k m))
       apart e x m false k = refl
 
       go : (b : Bool) → hits d.part h ≡ b → IsDead p (close h s) g
       go true e = dead_around (within_part p (without g s.rest) d.part h d.is_part h_left lawful.connected e) d.stuck
-      go false e = dead_apart (λ x m. apart e x m (member h x) refl)
+      go false e = dead_apart (λ x m. apart e x m (contains h x) refl)
 
 -- a group that fits once another is closed fitted before
-pub closing_narrows : (language : Language) (p : Problem) (s : State) (h : List ℕ) → IsProblem p → ((x : ℕ) → s.rest x ≡ true → member p.counties x ≡ true) → Fits language p s h → Narrows language p s (close h s)
+pub closing_narrows : (language : Language) (p : Problem) (s : State) (h : List ℕ) → IsProblem p → ((x : ℕ) → s.rest x ≡ true → contains p.counties x ≡ true) → Fits language p s h → Narrows language p s (close h s)
 closing_narrows language p s h is listed fits g f = record {
   lawful = f.lawful;
   inside = λ x e. is_open s (length g) x (without_in h s.rest x (in_rest x e)) (before x (off x e) (open_least (close h s) (length g) x (f.inside x e)));
   kept = left language fits f;
 }
   where
-    in_rest : (x : ℕ) → member g x ≡ true → (close h s).rest x ≡ true
+    in_rest : (x : ℕ) → contains g x ≡ true → (close h s).rest x ≡ true
     in_rest x e = open_rest (close h s) (length g) x (f.inside x e)
 
-    off : (x : ℕ) → member g x ≡ true → member h x ≡ false
+    off : (x : ℕ) → contains g x ≡ true → contains h x ≡ false
     off x e = without_not h s.rest x (in_rest x e)
 
-    before : (x : ℕ) → member h x ≡ false → cond (member h x) 0 (s.least x) ≤ length g → s.least x ≤ length g
+    before : (x : ℕ) → contains h x ≡ false → cond (contains h x) 0 (s.least x) ≤ length g → s.least x ≤ length g
     before x e l = omega (arith, l, ap (λ b. cond b 0 (s.least x)) e)
 
-    g_off : (x : ℕ) → member h x ≡ true → (b : Bool) → member g x ≡ b → b ≡ false
+    g_off : (x : ℕ) → contains h x ≡ true → (b : Bool) → contains g x ≡ b → b ≡ false
     g_off x e true k = absurd (false≢true (sym (off x k) ∙ e))
     g_off x e false k = refl
 
     left : (language : Language) → Fits language p s h → Fits language p (close h s) g → IsKept language p s g
     left Plain a b = tt
-    left Wide a b = λ d. b.kept (still_dead p is s h g a.lawful a.inside (λ x e. g_off x e (member g x) refl) listed d)
+    left Wide a b = λ d. b.kept (still_dead p is s h g a.lawful a.inside (λ x e. g_off x e (contains g x) refl) listed d)
 
 -- a group that fits once a county is raised fitted before
 pub raising_narrows : (language : Language) (p : Problem) (s : State) (c j : ℕ) → s.least c ≤ j + 1 → Narrows language p s (raise c j s)

@@ -2,14 +2,14 @@
 use Rattle.std.proofs.Common.{◌≡◌, ℕ, ◌≤◌, ◌<◌, Bool, true, false, cond, not, ◌&&◌, List, [], ◌∷◌, map, filter, length, refl, sym, ap, ◌∙◌, subst, arith, inl, inr, Contains}
 use Rattle.std.proofs.lemmas.Bool.{false≢true}
 use Rattle.std.proofs.lemmas.List.{length-map}
-use Rattle.grouping_laws.specs.Sets.{digit, total, often, stands, member}
+use Rattle.grouping_laws.specs.Sets.{indicator, sum_by, count, count_in, contains}
 use Rattle.grouping_laws.specs.Problem.{Problem, IsProblem}
 use Rattle.grouping_laws.specs.Parts.{IsPart, AreParts}
 use Rattle.grouping_laws.specs.GroupsFrom.{IsOrder, IsBefore, place}
 use Rattle.grouping_laws.specs.Places.{places_below, codes_at}
 use Rattle.place_laws.specs.PlaceSets.{places_of}
 use Rattle.county_problem.specs.OrderedValue.{code_at, at_places}
-use Rattle.place_laws.proofs.Sums.{often_none, often_some, member_from_often, total_alike, total-map}
+use Rattle.place_laws.proofs.Sums.{often_none, often_some, member_from_often, total_alike, sum_by-map}
 use Rattle.grouping_laws.proofs.Elements.{Has, has_get, has_all, all_from_has, has_from_contains, contains_from_has}
 use Rattle.grouping_laws.proofs.Digits.{digit_true, often_member}
 use Rattle.grouping_laws.proofs.Places.{has_member, places_are_codes, filter_members}
@@ -30,14 +30,14 @@ use Rattle.certificate_laws.proofs.Completion.{open_rest, open_least, is_open}
 use Rattle.certificate_laws.proofs.WithoutGroup.{without_in}
 
 -- codes of an order are the codes at their places
-codes_back : (order : List ℕ) (ys : List ℕ) → ((c : ℕ) → Has ys c → member order c ≡ true) → codes_at order (map (place order) ys) ≡ ys
+codes_back : (order : List ℕ) (ys : List ℕ) → ((c : ℕ) → Has ys c → contains order c ≡ true) → codes_at order (map (place order) ys) ≡ ys
 codes_back order [] known = refl
 codes_back order (y ∷ ys) known = both (places_are_codes.there order y (known y (inl refl))).1 (codes_back order ys (λ c h. known c (inr h)))
   where
     both : code_at order (place order y) ≡ y → codes_at order (map (place order) ys) ≡ ys → code_at order (place order y) ∷ codes_at order (map (place order) ys) ≡ y ∷ ys
     both e k = cc
 
-places_inside : (order : List ℕ) (ys : List ℕ) → ((c : ℕ) → Has ys c → member order c ≡ true) → Below (length order) (map (place order) ys)
+places_inside : (order : List ℕ) (ys : List ℕ) → ((c : ℕ) → Has ys c → contains order c ≡ true) → Below (length order) (map (place order) ys)
 places_inside order ys known i h =
     let r : (c : ℕ) × Has ys c × (place order c ≡ i) = has_mapped (place order) ys i h in
     subst (λ z. z < length order) r.2 (places_are_codes.there order r.0 (known r.0 r.1)).0
@@ -46,20 +46,20 @@ module _ (p : Problem) (order : List ℕ) (whole : IsOrder p order) where
   abbrev n : ℕ
   n = length order
 
-  once : (c : ℕ) → often c order ≤ 1
+  once : (c : ℕ) → count c order ≤ 1
   once = order_once p order whole
 
-  once_codes : (xs : List ℕ) → Below n xs → ((i : ℕ) → often i xs ≤ 1) → (c : ℕ) → often c (codes_at order xs) ≤ 1
-  once_codes xs below single c = go (member (codes_at order xs) c) refl
+  once_codes : (xs : List ℕ) → Below n xs → ((i : ℕ) → count i xs ≤ 1) → (c : ℕ) → count c (codes_at order xs) ≤ 1
+  once_codes xs below single c = go (contains (codes_at order xs) c) refl
     where
-      go : (b : Bool) → member (codes_at order xs) c ≡ b → often c (codes_at order xs) ≤ 1
-      go true e = let r = code_place order once xs below c e in subst (λ z. often z (codes_at order xs) ≤ 1) r.2 (omega (arith, often_code order once xs below (place order c) r.0, single (place order c)))
+      go : (b : Bool) → contains (codes_at order xs) c ≡ b → count c (codes_at order xs) ≤ 1
+      go true e = let r = code_place order once xs below c e in subst (λ z. count z (codes_at order xs) ≤ 1) r.2 (omega (arith, often_code order once xs below (place order c) r.0, single (place order c)))
       go false e = omega (arith, often_none c (codes_at order xs) e)
 
-  once_places : (xs : List ℕ) → Below n xs → ((c : ℕ) → often c (codes_at order xs) ≤ 1) → (i : ℕ) → often i xs ≤ 1
-  once_places xs below single i = go (member xs i) refl
+  once_places : (xs : List ℕ) → Below n xs → ((c : ℕ) → count c (codes_at order xs) ≤ 1) → (i : ℕ) → count i xs ≤ 1
+  once_places xs below single i = go (contains xs i) refl
     where
-      go : (b : Bool) → member xs i ≡ b → often i xs ≤ 1
+      go : (b : Bool) → contains xs i ≡ b → count i xs ≤ 1
       go true e = omega (arith, often_code order once xs below i (below i (member_has xs i e)), single (code_at order i))
       go false e = omega (arith, often_none i xs e)
 
@@ -70,13 +70,13 @@ module _ (p : Problem) (order : List ℕ) (whole : IsOrder p order) where
         agree : (c : ℕ) → Has order c → places (place order c) ≡ region c
         agree c h = let r = places_are_codes.there order c (has_member order c h) in at.same (place order c) r.0 ∙ ap region r.1
 
-    sums_codes : (f : ℕ → ℕ) → IsProblem p → total f (listed p region) ≡ total (λ i. f (code_at order i)) (places_of n places)
-    sums_codes f is = total_alike f (listed p region) (filter region order) alike ∙ (ap (total f) (sym kept_codes) ∙ total-map f (code_at order) (places_of n places))
+    sums_codes : (f : ℕ → ℕ) → IsProblem p → sum_by f (listed p region) ≡ sum_by (λ i. f (code_at order i)) (places_of n places)
+    sums_codes f is = total_alike f (listed p region) (filter region order) alike ∙ (ap (sum_by f) (sym kept_codes) ∙ sum_by-map f (code_at order) (places_of n places))
       where
-        alike : (c : ℕ) → often c (listed p region) ≡ often c (filter region order)
+        alike : (c : ℕ) → count c (listed p region) ≡ count c (filter region order)
         alike c = omega (arith, often_tested c region p.counties, often_tested c region order, ap (λ k. cond (region c) k 0) (often_member p.counties c (is.once c) ∙ sym (whole c)))
 
-    inside_below : (xs : List ℕ) → ((i : ℕ) → member xs i ≡ true → places i ≡ true) → Below n xs
+    inside_below : (xs : List ℕ) → ((i : ℕ) → contains xs i ≡ true → places i ≡ true) → Below n xs
     inside_below xs inside i h = at.below i (inside i (has_member xs i h))
 
     -- a county of the region is at its place
@@ -95,7 +95,7 @@ module _ (p : Problem) (order : List ℕ) (whole : IsOrder p order) where
           let j = place_of y r in
           let touch : p.adjacent (code_at order (place order x)) (code_at order (place order y)) ≡ true = ap (λ z. p.adjacent z (code_at order (place order y))) i.2 ∙ (ap (p.adjacent x) j.1 ∙ t) in
           let h = a.whole (place order x) (place order y) i.1 j.2 touch in
-          ap (member (codes_at order xs)) (sym j.1) ∙ (member_code order once xs below (place order y) j.0 ∙ h);
+          ap (contains (codes_at order xs)) (sym j.1) ∙ (member_code order once xs below (place order y) j.0 ∙ h);
     }
       where
         below : Below n xs
@@ -115,7 +115,7 @@ module _ (p : Problem) (order : List ℕ) (whole : IsOrder p order) where
     -- what a group leaves of a region
     without_at : (g : List ℕ) → Below n g → IsRegionAt order (without (codes_at order g) region) (without g places)
     without_at g below = record {
-      same = λ i l. ap (λ b. b && not (member g i)) (at.same i l) ∙ ap (λ b. region (code_at order i) && not b) (sym (member_code order once g below i l));
+      same = λ i l. ap (λ b. b && not (contains g i)) (at.same i l) ∙ ap (λ b. region (code_at order i) && not b) (sym (member_code order once g below i l));
       below = λ i e. at.below i (without_in g places i e);
       known = λ c e. at.known c (without_in (codes_at order g) region c e);
     }
@@ -125,38 +125,38 @@ module _ (p : Problem) (order : List ℕ) (whole : IsOrder p order) where
       each = all_from_has (IsPart p region) (map (codes_at order) parts) (λ xs h.
           let r : (g : List ℕ) × Has parts g × (codes_at order g ≡ xs) = has_mapped (codes_at order) parts xs h in
           subst (IsPart p region) r.2 (part_codes r.0 (part r.0 r.1)));
-      once = λ c. go c (member order c) refl;
+      once = λ c. go c (contains order c) refl;
     }
       where
         part : (xs : List ℕ) → Has parts xs → IsPart (at_places p order) places xs
         part = has_all (IsPart (at_places p order) places) parts are.each
 
-        stand : (sets : List (List ℕ)) → ((g : List ℕ) → Has sets g → Below n g) → (i : ℕ) → i < n → stands (code_at order i) (map (codes_at order) sets) ≡ stands i sets
+        stand : (sets : List (List ℕ)) → ((g : List ℕ) → Has sets g → Below n g) → (i : ℕ) → i < n → count_in (code_at order i) (map (codes_at order) sets) ≡ count_in i sets
         stand [] below i l = refl
         stand (g ∷ sets) below i l = omega (arith, often_code order once g (below g (inl refl)) i l, stand sets (λ x h. below x (inr h)) i l)
 
-        stand_none : (sets : List (List ℕ)) → ((g : List ℕ) → Has sets g → Below n g) → (c : ℕ) → member order c ≡ false → stands c (map (codes_at order) sets) ≡ 0
+        stand_none : (sets : List (List ℕ)) → ((g : List ℕ) → Has sets g → Below n g) → (c : ℕ) → contains order c ≡ false → count_in c (map (codes_at order) sets) ≡ 0
         stand_none [] below c e = refl
-        stand_none (g ∷ sets) below c e = omega (arith, often_none c (codes_at order g) (off (member (codes_at order g) c) refl), stand_none sets (λ x h. below x (inr h)) c e)
+        stand_none (g ∷ sets) below c e = omega (arith, often_none c (codes_at order g) (off (contains (codes_at order g) c) refl), stand_none sets (λ x h. below x (inr h)) c e)
           where
-            off : (b : Bool) → member (codes_at order g) c ≡ b → b ≡ false
+            off : (b : Bool) → contains (codes_at order g) c ≡ b → b ≡ false
             off true k =
                 let r = code_place order once g (below g (inl refl)) c k in
-                absurd (false≢true (sym e ∙ subst (λ z. member order z ≡ true) r.2 (has_member order (code_at order (place order c)) (has_get order (place order c) 0 r.0))))
+                absurd (false≢true (sym e ∙ subst (λ z. contains order z ≡ true) r.2 (has_member order (code_at order (place order c)) (has_get order (place order c) 0 r.0))))
             off false k = refl
 
         below : (g : List ℕ) → Has parts g → Below n g
         below g h = inside_below g (part g h).inside
 
-        outside : (c : ℕ) → member order c ≡ false → (b : Bool) → region c ≡ b → b ≡ false
+        outside : (c : ℕ) → contains order c ≡ false → (b : Bool) → region c ≡ b → b ≡ false
         outside c e true k = absurd (false≢true (sym e ∙ at.known c k))
         outside c e false k = refl
 
-        go : (c : ℕ) → (b : Bool) → member order c ≡ b → stands c (map (codes_at order) parts) ≡ digit (region c)
+        go : (c : ℕ) → (b : Bool) → contains order c ≡ b → count_in c (map (codes_at order) parts) ≡ indicator (region c)
         go c true e =
             let r = places_are_codes.there order c e in
-            ap (λ z. stands z (map (codes_at order) parts)) (sym r.1) ∙ (stand parts below (place order c) r.0 ∙ (are.once (place order c) ∙ ap digit (at.same (place order c) r.0 ∙ ap region r.1)))
-        go c false e = stand_none parts below c e ∙ sym (ap digit (outside c e (region c) refl))
+            ap (λ z. count_in z (map (codes_at order) parts)) (sym r.1) ∙ (stand parts below (place order c) r.0 ∙ (are.once (place order c) ∙ ap indicator (at.same (place order c) r.0 ∙ ap region r.1)))
+        go c false e = stand_none parts below c e ∙ sym (ap indicator (outside c e (region c) refl))
 
   module _ (s t : State) (at : IsStateAt order s t) where
     cannot_codes : (xs : List ℕ) → Below n xs → CannotFill (at_places p order) t xs → CannotFill p s (codes_at order xs)
@@ -187,7 +187,7 @@ module _ (p : Problem) (order : List ℕ) (whole : IsOrder p order) where
       stuck = cannot_places xs low (subst (CannotFill p s) (sym same) d.stuck);
     }
       where
-        known : (c : ℕ) → Has d.part c → member order c ≡ true
+        known : (c : ℕ) → Has d.part c → contains order c ≡ true
         known c h = at.rest.known c (without_in (codes_at order g) s.rest c (d.is_part.inside c (has_member d.part c h)))
 
         xs : List ℕ
@@ -203,7 +203,7 @@ module _ (p : Problem) (order : List ℕ) (whole : IsOrder p order) where
     fits_codes language g below f = record {
       lawful = record {
         once = once_codes g below f.lawful.once;
-        listed = λ c e. let r = code_place order once g below c e in in_order c (subst (λ z. member order z ≡ true) r.2 (has_member order (code_at order (place order c)) (has_get order (place order c) 0 r.0)));
+        listed = λ c e. let r = code_place order once g below c e in in_order c (subst (λ z. contains order z ≡ true) r.2 (has_member order (code_at order (place order c)) (has_get order (place order c) 0 r.0)));
         connected = connected_codes p order once g below f.lawful.connected;
         seats = f.lawful.seats;
         suits = suits_codes p order g f.lawful.seats f.lawful.suits;
@@ -217,8 +217,8 @@ module _ (p : Problem) (order : List ℕ) (whole : IsOrder p order) where
       kept = left language f.kept;
     }
       where
-        in_order : (c : ℕ) → member order c ≡ true → member p.counties c ≡ true
-        in_order c e = digit_true (member p.counties c) (omega (arith, whole c, often_some c order e))
+        in_order : (c : ℕ) → contains order c ≡ true → contains p.counties c ≡ true
+        in_order c e = digit_true (contains p.counties c) (omega (arith, whole c, often_some c order e))
 
         left : (language : Language) → IsKept language (at_places p order) t g → IsKept language p s (codes_at order g)
         left Plain k = tt
@@ -248,10 +248,10 @@ module _ (p : Problem) (order : List ℕ) (whole : IsOrder p order) where
 
 module _ (p : Problem) (round : Round) (whole : IsOrder p round.order) (s t : State) (at : IsStateAt round.order s t) where
   -- a list of groups by places has all that there are by codes
-  to_places : (h : List ℕ) → Fits round.language p s h → filter (member h) round.order ≡ h → (g : List ℕ) × (codes_at round.order g ≡ h) × Below (length round.order) g × Fits round.language (at_places p round.order) t g × (filter (member g) (places_below (length round.order)) ≡ g)
+  to_places : (h : List ℕ) → Fits round.language p s h → filter (contains h) round.order ≡ h → (g : List ℕ) × (codes_at round.order g ≡ h) × Below (length round.order) g × Fits round.language (at_places p round.order) t g × (filter (contains g) (places_below (length round.order)) ≡ g)
   to_places h f ordered =
       let same = codes_for p round.order (order_once p round.order whole) h ordered in
-      let kept = places_ordered (length round.order) (λ i. member h (code_at round.order i)) in
+      let kept = places_ordered (length round.order) (λ i. contains h (code_at round.order i)) in
       let g = places_for p round.order (order_once p round.order whole) h in
       let below = below_ordered (length round.order) g kept in
       (g, same, below, fits_places p round.order whole s t at round.language g below (subst (Fits round.language p s) (sym same) f), kept)
@@ -289,7 +289,7 @@ module _ (p : Problem) (round : Round) (whole : IsOrder p round.order) (s t : St
           let g : IsGroupAt (at_places p round.order) (round_at round) t i j r.0 = record {
             fits = r.3;
             in_order = r.4;
-            has = sym (member_code round.order (order_once p round.order whole) r.0 r.2 i l) ∙ (ap (λ z. member z (code_at round.order i)) r.1 ∙ x.has);
+            has = sym (member_code round.order (order_once p round.order whole) r.0 r.2 i l) ∙ (ap (λ z. contains z (code_at round.order i)) r.1 ∙ x.has);
             small = omega (arith, x.small, size_same r.0, ap length r.1);
           } in
           contains_from_has (map (codes_at round.order) groups) h (subst (Has (map (codes_at round.order) groups)) r.1 (mapped_has (codes_at round.order) groups r.0 (has_from_contains groups r.0 ((are.each r.0).1 g))))

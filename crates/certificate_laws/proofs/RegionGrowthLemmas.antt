@@ -5,7 +5,7 @@ use Rattle.std.specs.Ordering.{nat_cmp, is_lt}
 use Rattle.std.specs.List.Sorted.{IsSortedBy, IsPermutation}
 use Rattle.std.proofs.lemmas.Bool.{and_from, and_parts, eqb-true, eq-eqb, ltb-true, lt-ltb, leb-true, le-leb}
 use Rattle.std.proofs.lemmas.List.Sorted.{Contains-permutation, IsPermutation-sym}
-use Rattle.grouping_laws.specs.Sets.{member, Inside}
+use Rattle.grouping_laws.specs.Sets.{contains, Inside}
 use Rattle.grouping_laws.specs.Problem.{Problem, Connected}
 use Rattle.grouping_laws.specs.Places.{places_below}
 use Rattle.grouping_laws.specs.GroupsFrom.{BeginsWith, IsBefore}
@@ -23,8 +23,8 @@ use Rattle.certificate_laws.proofs.Lists.{kept_at}
 -- a connected list of places of a region, ascending, that has a place and isn't too long
 record IsSetIn (p : Problem) (n limit at : ℕ) (region : ℕ → Bool) (g : List ℕ) : Type 0 where
   pub connected : Connected p g
-  pub in_order : filter (member g) (places_below n) ≡ g
-  pub has : member g at ≡ true
+  pub in_order : filter (contains g) (places_below n) ≡ g
+  pub has : contains g at ≡ true
   pub small : length g ≤ limit
   pub inside : Inside region g
 
@@ -32,8 +32,8 @@ or_second : (a b : Bool) → b ≡ true → (a || b) ≡ true
 or_second true b e = refl
 or_second false b e = e
 
-here : (n : ℕ) (g : List ℕ) → filter (member g) (places_below n) ≡ g → (c : ℕ) → member g c ≡ true → c < n
-here n g order c e = placed_below n c (member g) (subst (λ z. member z c ≡ true) (sym order) e)
+here : (n : ℕ) (g : List ℕ) → filter (contains g) (places_below n) ≡ g → (c : ℕ) → contains g c ≡ true → c < n
+here n g order c e = placed_below n c (contains g) (subst (λ z. contains z c ≡ true) (sym order) e)
 
 module _ (p : Problem) (n limit at : ℕ) (region set free : ℕ → Bool) (start : IsStartIn n at region set free) where
   set_at : set at ≡ true
@@ -87,11 +87,11 @@ module _ (p : Problem) (n limit at : ℕ) (region set free : ℕ → Bool) (star
     in_order = x.in_order;
     connected = x.connected;
     small = x.small;
-    has = λ c e. subst (λ z. member g z ≡ true) (sym (eqb-true c at (sym (start.set_is c) ∙ e))) x.has;
+    has = λ c e. subst (λ z. contains g z ≡ true) (sym (eqb-true c at (sym (start.set_is c) ∙ e))) x.has;
     within = λ c e. cases c e (c == at) refl;
   }
     where
-      cases : (c : ℕ) → member g c ≡ true → (b : Bool) → (c == at) ≡ b → (set c || free c) ≡ true
+      cases : (c : ℕ) → contains g c ≡ true → (b : Bool) → (c == at) ≡ b → (set c || free c) ≡ true
       cases c e true k = ap (λ z. z || free c) (start.set_is c ∙ k)
       cases c e false k = or_second (set c) (free c) (start.free_is c ∙ and_from (region c) (not (c == at)) (x.inside c e) (ap not k))
 
@@ -109,10 +109,10 @@ module _ (p : Problem) (n limit at : ℕ) (s : State) (set free : ℕ → Bool) 
       there e =
           let x = into p n limit at (from_place at (open_to s limit)) set free start g e in (
             record { connected = x.connected; in_order = x.in_order; small = x.small; inside = λ c m. (and_parts (open_to s limit c) (nat_le at c) (x.inside c m)).0 },
-            subst (λ z. BeginsWith at z) x.in_order (begins_least n at (member g) (start.below at start.there) x.has (λ c l. before c l (member g c) refl (x.inside c))),
+            subst (λ z. BeginsWith at z) x.in_order (begins_least n at (contains g) (start.below at start.there) x.has (λ c l. before c l (contains g c) refl (x.inside c))),
           )
         where
-          before : (c : ℕ) → c < at → (b : Bool) → member g c ≡ b → (member g c ≡ true → from_place at (open_to s limit) c ≡ true) → b ≡ false
+          before : (c : ℕ) → c < at → (b : Bool) → contains g c ≡ b → (contains g c ≡ true → from_place at (open_to s limit) c ≡ true) → b ≡ false
           before c l false m i = refl
           before c l true m i = absurd (omega (arith, l, leb-true at c (and_parts (open_to s limit c) (nat_le at c) (i m)).1))
 
@@ -120,14 +120,14 @@ module _ (p : Problem) (n limit at : ℕ) (s : State) (set free : ℕ → Bool) 
       from x first = record {
         connected = x.connected;
         in_order = x.in_order;
-        has = subst (λ z. member z at ≡ true) (sym first.1) (ap (λ b. b || member first.0 at) (eq-eqb at at refl));
+        has = subst (λ z. contains z at ≡ true) (sym first.1) (ap (λ b. b || contains first.0 at) (eq-eqb at at refl));
         small = x.small;
-        inside = λ c e. and_from (open_to s limit c) (nat_le at c) (x.inside c e) (le-leb at c (least_begins n at (member g) (subst (λ z. BeginsWith at z) (sym x.in_order) first) c (here n g x.in_order c e) e));
+        inside = λ c e. and_from (open_to s limit c) (nat_le at c) (x.inside c e) (le-leb at c (least_begins n at (contains g) (subst (λ z. BeginsWith at z) (sym x.in_order) first) c (here n g x.in_order c e) e));
       }
 
 begins : (p : Problem) (n i : ℕ) (s : State) (g : List ℕ) → IsSetWithin p (places_below n) s i g → (at : ℕ) × BeginsWith at g × (open_to s i at ≡ true)
 begins p n i s [] x = absurd (omega (arith, x.connected.some_county))
-begins p n i s (c ∷ cs) x = (c, (cs, refl), x.inside c (ap (λ b. b || member cs c) (eq-eqb c c refl)))
+begins p n i s (c ∷ cs) x = (c, (cs, refl), x.inside c (ap (λ b. b || contains cs c) (eq-eqb c c refl)))
 
 groups_at : (p : Problem) (round : Round) (n limit at : ℕ) (s : State) (set free : ℕ → Bool) (keep : List ℕ → Bool) (sets groups : List (List ℕ)) → round.order ≡ places_below n
     → IsStartIn n at (open_to s limit) set free → ((g : List ℕ) → IsSetAt p (places_below n) s at limit g → (keep g ≡ true) ↔ Fits round.language p s g)

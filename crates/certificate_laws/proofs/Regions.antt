@@ -1,7 +1,7 @@
 -- Every region of a problem has connected parts: they are found by growing.
 use Rattle.std.proofs.Common.{◌≡◌, ℕ, zero, suc, ◌+◌, ◌≤◌, Bool, true, false, not, ◌&&◌, List, [], ◌∷◌, length, filter, ◌==◌, refl, sym, ap, ◌∙◌, subst, arith, ◌⊎◌, inl, inr, ⊎_elim}
 use Rattle.std.proofs.lemmas.Bool.{and_parts, and_from, false≢true, eqb-true}
-use Rattle.grouping_laws.specs.Sets.{digit, often, member, Inside}
+use Rattle.grouping_laws.specs.Sets.{indicator, count, contains, Inside}
 use Rattle.grouping_laws.specs.Problem.{Problem, Connected, IsProblem}
 use Rattle.grouping_laws.specs.Parts.{IsPart, AreParts}
 use Rattle.place_laws.proofs.Sums.{often_none}
@@ -14,49 +14,49 @@ use Rattle.certificate_laws.proofs.WithoutGroup.{split_one, without_not, without
 use Rattle.certificate_laws.proofs.Counting.{fewer_kept}
 
 -- a member that passes the test, or none does
-find_or_none : (q : ℕ → Bool) (ys : List ℕ) → ((y : ℕ) × (member ys y ≡ true) × (q y ≡ true)) ⊎ ((y : ℕ) → member ys y ≡ true → q y ≡ false)
+find_or_none : (q : ℕ → Bool) (ys : List ℕ) → ((y : ℕ) × (contains ys y ≡ true) × (q y ≡ true)) ⊎ ((y : ℕ) → contains ys y ≡ true → q y ≡ false)
 find_or_none q [] = inr (λ y h. absurd (false≢true h))
 find_or_none q (z ∷ zs) = go (q z) refl (find_or_none q zs)
   where
-    go : (b : Bool) → q z ≡ b → ((y : ℕ) × (member zs y ≡ true) × (q y ≡ true)) ⊎ ((y : ℕ) → member zs y ≡ true → q y ≡ false) → ((y : ℕ) × (member (z ∷ zs) y ≡ true) × (q y ≡ true)) ⊎ ((y : ℕ) → member (z ∷ zs) y ≡ true → q y ≡ false)
+    go : (b : Bool) → q z ≡ b → ((y : ℕ) × (contains zs y ≡ true) × (q y ≡ true)) ⊎ ((y : ℕ) → contains zs y ≡ true → q y ≡ false) → ((y : ℕ) × (contains (z ∷ zs) y ≡ true) × (q y ≡ true)) ⊎ ((y : ℕ) → contains (z ∷ zs) y ≡ true → q y ≡ false)
     go true e r = inl (z, member_head z zs, e)
     go false e (inl r) = inl (r.0, member_tail z zs r.0 r.1, r.2)
     go false e (inr n) = inr (λ y h. ⊎_elim (λ k. ap q (sym k) ∙ e) (n y) (member_cases z zs y h))
 
 -- two members that pass the test, or none do
-pair_or_none : (q : ℕ → ℕ → Bool) (ws ys : List ℕ) → ((x : ℕ) × (y : ℕ) × (member ws x ≡ true) × (member ys y ≡ true) × (q x y ≡ true)) ⊎ ((x y : ℕ) → member ws x ≡ true → member ys y ≡ true → q x y ≡ false)
+pair_or_none : (q : ℕ → ℕ → Bool) (ws ys : List ℕ) → ((x : ℕ) × (y : ℕ) × (contains ws x ≡ true) × (contains ys y ≡ true) × (q x y ≡ true)) ⊎ ((x y : ℕ) → contains ws x ≡ true → contains ys y ≡ true → q x y ≡ false)
 pair_or_none q [] ys = inr (λ x y h. absurd (false≢true h))
 pair_or_none q (w ∷ ws) ys = go (find_or_none (q w) ys) (pair_or_none q ws ys)
   where
     Pair : List ℕ → Type 0
-    Pair zs = (x : ℕ) × (y : ℕ) × (member zs x ≡ true) × (member ys y ≡ true) × (q x y ≡ true)
+    Pair zs = (x : ℕ) × (y : ℕ) × (contains zs x ≡ true) × (contains ys y ≡ true) × (q x y ≡ true)
 
     None : List ℕ → Type 0
-    None zs = (x y : ℕ) → member zs x ≡ true → member ys y ≡ true → q x y ≡ false
+    None zs = (x y : ℕ) → contains zs x ≡ true → contains ys y ≡ true → q x y ≡ false
 
-    go : ((y : ℕ) × (member ys y ≡ true) × (q w y ≡ true)) ⊎ ((y : ℕ) → member ys y ≡ true → q w y ≡ false) → Pair ws ⊎ None ws → Pair (w ∷ ws) ⊎ None (w ∷ ws)
+    go : ((y : ℕ) × (contains ys y ≡ true) × (q w y ≡ true)) ⊎ ((y : ℕ) → contains ys y ≡ true → q w y ≡ false) → Pair ws ⊎ None ws → Pair (w ∷ ws) ⊎ None (w ∷ ws)
     go (inl r) next = inl (w, r.0, member_head w ws, r.1, r.2)
     go (inr n) (inl r) = inl (r.0, r.1, member_tail w ws r.0 r.2, r.3, r.4)
     go (inr n) (inr m) = inr (λ x y h k. ⊎_elim (λ e. subst (λ z. q z y ≡ false) e (n y k)) (λ i. m x y i k) (member_cases w ws x h))
 
-module _ (p : Problem) (is : IsProblem p) (region : ℕ → Bool) (known : (c : ℕ) → region c ≡ true → member p.counties c ≡ true) where
+module _ (p : Problem) (is : IsProblem p) (region : ℕ → Bool) (known : (c : ℕ) → region c ≡ true → contains p.counties c ≡ true) where
   -- a connected list inside the region that has a county
   record Around (c : ℕ) (xs : List ℕ) : Type 0 where
-    pub once : (x : ℕ) → often x xs ≤ 1
+    pub once : (x : ℕ) → count x xs ≤ 1
     pub connected : Connected p xs
     pub inside : Inside region xs
-    pub has : member xs c ≡ true
+    pub has : contains xs c ≡ true
 
   -- a county of the region that isn't in the list and is adjacent to a county
   abbrev joins : List ℕ → ℕ → ℕ → Bool
-  joins xs x y = region y && (p.adjacent x y && not (member xs y))
+  joins xs x y = region y && (p.adjacent x y && not (contains xs y))
 
-  joined : (c : ℕ) (xs : List ℕ) → Around c xs → (x y : ℕ) → member xs x ≡ true → joins xs x y ≡ true → Around c (y ∷ xs)
+  joined : (c : ℕ) (xs : List ℕ) → Around c xs → (x y : ℕ) → contains xs x ≡ true → joins xs x y ≡ true → Around c (y ∷ xs)
   joined c xs a x y m j =
-      let in_region = (and_parts (region y) (p.adjacent x y && not (member xs y)) j).0 in
-      let touch = (and_parts (p.adjacent x y) (not (member xs y)) (and_parts (region y) (p.adjacent x y && not (member xs y)) j).1) in
+      let in_region = (and_parts (region y) (p.adjacent x y && not (contains xs y)) j).0 in
+      let touch = (and_parts (p.adjacent x y) (not (contains xs y)) (and_parts (region y) (p.adjacent x y && not (contains xs y)) j).1) in
       record {
-        once = λ z. once_with (is_off (member xs y) touch.1) z (y == z) refl;
+        once = λ z. once_with (is_off (contains xs y) touch.1) z (y == z) refl;
         connected = grown p is.symmetric xs x y a.connected m touch.0;
         inside = λ z e. ⊎_elim (λ k. subst (λ w. region w ≡ true) k in_region) (a.inside z) (member_cases y xs z e);
         has = member_tail y xs c a.has;
@@ -66,8 +66,8 @@ module _ (p : Problem) (is : IsProblem p) (region : ℕ → Bool) (known : (c : 
       is_off true h = absurd (false≢true h)
       is_off false h = refl
 
-      once_with : member xs y ≡ false → (z : ℕ) → (b : Bool) → (y == z) ≡ b → digit b + often z xs ≤ 1
-      once_with off z true e = omega (arith, often_none y xs off, ap (λ w. often w xs) (eqb-true y z e))
+      once_with : contains xs y ≡ false → (z : ℕ) → (b : Bool) → (y == z) ≡ b → indicator b + count z xs ≤ 1
+      once_with off z true e = omega (arith, often_none y xs off, ap (λ w. count w xs) (eqb-true y z e))
       once_with off z false e = omega (arith, a.once z)
 
   -- one more county joins, or the list is a connected part
@@ -75,14 +75,14 @@ module _ (p : Problem) (is : IsProblem p) (region : ℕ → Bool) (known : (c : 
   more_or_whole c xs a =
       ⊎_elim
       (λ r. inl (r.1, joined c xs a r.0 r.1 r.2 r.4))
-      (λ none. inr (record { once = a.once; connected = a.connected; inside = a.inside; whole = λ x y m r t. found none x y m r t (member xs y) refl }))
+      (λ none. inr (record { once = a.once; connected = a.connected; inside = a.inside; whole = λ x y m r t. found none x y m r t (contains xs y) refl }))
       (pair_or_none (joins xs) xs p.counties)
     where
-      found : ((x y : ℕ) → member xs x ≡ true → member p.counties y ≡ true → joins xs x y ≡ false) → (x y : ℕ) → member xs x ≡ true → region y ≡ true → p.adjacent x y ≡ true → (b : Bool) → member xs y ≡ b → b ≡ true
+      found : ((x y : ℕ) → contains xs x ≡ true → contains p.counties y ≡ true → joins xs x y ≡ false) → (x y : ℕ) → contains xs x ≡ true → region y ≡ true → p.adjacent x y ≡ true → (b : Bool) → contains xs y ≡ b → b ≡ true
       found none x y m r t true e = refl
-      found none x y m r t false e = absurd (false≢true (sym (none x y m (known y r)) ∙ and_from (region y) (p.adjacent x y && not (member xs y)) r (and_from (p.adjacent x y) (not (member xs y)) t (ap not e))))
+      found none x y m r t false e = absurd (false≢true (sym (none x y m (known y r)) ∙ and_from (region y) (p.adjacent x y && not (contains xs y)) r (and_from (p.adjacent x y) (not (contains xs y)) t (ap not e))))
 
-  grow : (n c : ℕ) (xs : List ℕ) → Around c xs → length p.counties ≤ n + length xs → (ys : List ℕ) × IsPart p region ys × (member ys c ≡ true)
+  grow : (n c : ℕ) (xs : List ℕ) → Around c xs → length p.counties ≤ n + length xs → (ys : List ℕ) × IsPart p region ys × (contains ys c ≡ true)
   grow zero c xs a long =
       ⊎_elim
       (λ r. absurd (omega (arith, few_codes p.counties (r.0 ∷ xs) r.1.once (λ z e. known z (r.1.inside z e)), long)))
@@ -91,10 +91,10 @@ module _ (p : Problem) (is : IsProblem p) (region : ℕ → Bool) (known : (c : 
   grow (suc n) c xs a long = ⊎_elim (λ r. grow n c (r.0 ∷ xs) r.1 (omega (arith, long))) (λ w. (xs, w, a.has)) (more_or_whole c xs a)
 
   -- the connected part around a county of the region
-  pub part_around : (c : ℕ) → region c ≡ true → (ys : List ℕ) × IsPart p region ys × (member ys c ≡ true)
+  pub part_around : (c : ℕ) → region c ≡ true → (ys : List ℕ) × IsPart p region ys × (contains ys c ≡ true)
   part_around c r = grow (length p.counties) c (c ∷ []) (record { once = λ x. at_most x (c == x); connected = one p c; inside = λ x e. subst (λ w. region w ≡ true) (⊎_elim (λ k. k) (λ n. absurd (false≢true n)) (member_cases c [] x e)) r; has = member_head c [] }) (omega arith)
     where
-      at_most : (x : ℕ) → (b : Bool) → digit b + 0 ≤ 1
+      at_most : (x : ℕ) → (b : Bool) → indicator b + 0 ≤ 1
       at_most x true = omega arith
       at_most x false = omega arith
 
@@ -104,21 +104,21 @@ part_of_rest p symmetric region xs ys a b = record {
   once = b.once;
   connected = b.connected;
   inside = λ x e. without_in xs region x (b.inside x e);
-  whole = λ x y m r t. go x y m r t (member xs y) refl;
+  whole = λ x y m r t. go x y m r t (contains xs y) refl;
 }
   where
-    go : (x y : ℕ) → member ys x ≡ true → region y ≡ true → p.adjacent x y ≡ true → (d : Bool) → member xs y ≡ d → member ys y ≡ true
+    go : (x y : ℕ) → contains ys x ≡ true → region y ≡ true → p.adjacent x y ≡ true → (d : Bool) → contains xs y ≡ d → contains ys y ≡ true
     go x y m r t true e = absurd (false≢true (sym (without_not xs region x (b.inside x m)) ∙ a.whole y x e (without_in xs region x (b.inside x m)) (symmetric x y t)))
-    go x y m r t false e = b.whole x y m (and_from (region y) (not (member xs y)) r (ap not e)) t
+    go x y m r t false e = b.whole x y m (and_from (region y) (not (contains xs y)) r (ap not e)) t
 
 -- a part around a county, and the parts of what it leaves
-parts_with : (p : Problem) → IsProblem p → (n : ℕ) (region : ℕ → Bool) → ((c : ℕ) → region c ≡ true → member p.counties c ≡ true) → length (filter region p.counties) ≤ suc n
-    → (c : ℕ) → member p.counties c ≡ true → region c ≡ true
-    → ((other : ℕ → Bool) → ((x : ℕ) → other x ≡ true → member p.counties x ≡ true) → length (filter other p.counties) ≤ n → (parts : List (List ℕ)) × AreParts p other parts)
+parts_with : (p : Problem) → IsProblem p → (n : ℕ) (region : ℕ → Bool) → ((c : ℕ) → region c ≡ true → contains p.counties c ≡ true) → length (filter region p.counties) ≤ suc n
+    → (c : ℕ) → contains p.counties c ≡ true → region c ≡ true
+    → ((other : ℕ → Bool) → ((x : ℕ) → other x ≡ true → contains p.counties x ≡ true) → length (filter other p.counties) ≤ n → (parts : List (List ℕ)) × AreParts p other parts)
     → (parts : List (List ℕ)) × AreParts p region parts
 parts_with p is n region known few c m r next =
     let first = part_around p is region known c r in
-    let fewer = fewer_kept (without first.0 region) region p.counties c (without_in first.0 region) m (off (region c) (member first.0 c) first.2) r in
+    let fewer = fewer_kept (without first.0 region) region p.counties c (without_in first.0 region) m (off (region c) (contains first.0 c) first.2) r in
     let others = next (without first.0 region) (λ x e. known x (without_in first.0 region x e)) (omega (arith, fewer, few)) in (
       first.0 ∷ others.0,
       record {
@@ -132,14 +132,14 @@ parts_with p is n region known few c m r next =
     off true false e = absurd (false≢true e)
     off false b e = refl
 
-no_parts : (p : Problem) (region : ℕ → Bool) → ((c : ℕ) → region c ≡ true → member p.counties c ≡ true) → ((y : ℕ) → member p.counties y ≡ true → region y ≡ false) → AreParts p region []
+no_parts : (p : Problem) (region : ℕ → Bool) → ((c : ℕ) → region c ≡ true → contains p.counties c ≡ true) → ((y : ℕ) → contains p.counties y ≡ true → region y ≡ false) → AreParts p region []
 no_parts p region known none = record { each = λ k d h. absurd (omega arith); once = λ c. empty c (region c) refl }
   where
-    empty : (c : ℕ) → (b : Bool) → region c ≡ b → 0 ≡ digit b
+    empty : (c : ℕ) → (b : Bool) → region c ≡ b → 0 ≡ indicator b
     empty c true e = absurd (false≢true (sym (none c (known c e)) ∙ e))
     empty c false e = refl
 
-parts_of : (p : Problem) → IsProblem p → (n : ℕ) (region : ℕ → Bool) → ((c : ℕ) → region c ≡ true → member p.counties c ≡ true) → length (filter region p.counties) ≤ n → (parts : List (List ℕ)) × AreParts p region parts
+parts_of : (p : Problem) → IsProblem p → (n : ℕ) (region : ℕ → Bool) → ((c : ℕ) → region c ≡ true → contains p.counties c ≡ true) → length (filter region p.counties) ≤ n → (parts : List (List ℕ)) × AreParts p region parts
 parts_of p is zero region known few =
     ⊎_elim
     (λ r. absurd (omega (arith, few, fewer_kept (λ x. false) region p.counties r.0 (λ x e. absurd (false≢true e)) r.1 refl r.2)))
@@ -152,5 +152,5 @@ parts_of p is (suc n) region known few =
     (find_or_none region p.counties)
 
 -- every region of counties has a list of its connected parts
-pub parts_exist : (p : Problem) → IsProblem p → (region : ℕ → Bool) → ((c : ℕ) → region c ≡ true → member p.counties c ≡ true) → (parts : List (List ℕ)) × AreParts p region parts
+pub parts_exist : (p : Problem) → IsProblem p → (region : ℕ → Bool) → ((c : ℕ) → region c ≡ true → contains p.counties c ≡ true) → (parts : List (List ℕ)) × AreParts p region parts
 parts_exist p is region known = parts_of p is (length (filter region p.counties)) region known (omega arith)

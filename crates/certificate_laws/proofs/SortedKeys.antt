@@ -5,7 +5,7 @@ use Rattle.std.specs.Ordering.{nat_cmp, is_lt}
 use Rattle.std.specs.List.Sorted.{IsSortedBy, IsPermutation}
 use Rattle.std.proofs.lemmas.List.Sorted.{Contains-permutation, IsPermutation-sym, length_permutation}
 use Rattle.std.proofs.lemmas.List.Elements.{Contains-get_or}
-use Rattle.grouping_laws.specs.Sets.{member}
+use Rattle.grouping_laws.specs.Sets.{contains}
 use Rattle.grouping_laws.specs.Places.{places_below}
 use Rattle.grouping_laws.specs.GroupsFrom.{IsBefore, IsLesser, place}
 use Rattle.grouping_laws.proofs.Elements.{has_from_contains, contains_from_has}
@@ -17,7 +17,7 @@ use Rattle.connected_laws.proofs.Sorting.{sorted_before}
 
 -- distinct lists of places, sorted by their keys, stand by size and then by lists of places
 pub keys_before : (n : ℕ) (sets groups : List (List ℕ)) → AllPairs (λ g h. g ≡ h → ⊥) sets → IsPermutation sets groups → IsSortedBy (λ g h. is_lt (slice_cmp nat_cmp (sort_key g) (sort_key h))) groups
-    → ((g : List ℕ) → Contains groups g → filter (member g) (places_below n) ≡ g) → AllPairs (IsBefore (places_below n)) groups
+    → ((g : List ℕ) → Contains groups g → filter (contains g) (places_below n) ≡ g) → AllPairs (IsBefore (places_below n)) groups
 keys_before n sets groups once moved sorted ordered = λ i j d l m. before (get_or groups i d) (get_or groups j d) (below (get_or groups i d) (Contains-get_or groups i d (omega arith))) (below (get_or groups j d) (Contains-get_or groups j d m)) (sorted_before groups sorted distinct i j d l m)
   where
     distinct : Distinct groups

@@ -2,7 +2,7 @@
 -- counties that are open to them, and share what weights give to these. The form of the lines is the project's own.
 use Rattle.std.specs.Prelude.{ℕ, ◌+◌, ◌-◌, ◌*◌, ◌/◌, ◌≡◌, ◌≤◌, ◌<◌, min, cond, true, List, [], ◌∷◌, length, ◌==◌, All}
 use Rattle.std.specs.Prelude.{Some, ◌⊎◌, ⊤}
-use Rattle.grouping_laws.specs.Sets.{total, member}
+use Rattle.grouping_laws.specs.Sets.{sum_by, contains}
 use Rattle.grouping_laws.specs.Problem.{Problem}
 use Rattle.grouping_laws.specs.Grouping.{Grouping, counts, sets_of}
 use Rattle.certificate_data.specs.declared.language.Language.{Language}
@@ -14,7 +14,7 @@ use Rattle.certificate_data.specs.Tree.{Weight, Allowance, room, weigh}
 
 -- what the weights give to a county
 abbrev pub weight_of : List Weight → ℕ → ℕ
-weight_of ws c = total (λ w. cond (w.county == c) w.weight 0) ws
+weight_of ws c = sum_by (λ w. cond (w.county == c) w.weight 0) ws
 
 -- how many counties are open to a group of i, less those that smaller groups use up
 abbrev pub room_at : Problem → State → ℕ → ℕ → ℕ
@@ -24,15 +24,15 @@ room_at p s i used = length (listed p (open_to s i)) - used
 abbrev pub allowance : Problem → State → ℕ → ℕ → Allowance → ℕ
 allowance p s i used room = room_at p s i used / i
 allowance p s i used (weigh quota ws) =
-    min (room_at p s i used / i) (total (weight_of ws) (listed p (open_to s i)) / quota)
+    min (room_at p s i used / i) (sum_by (weight_of ws) (listed p (open_to s i)) / quota)
 
 -- the weights are those of counties of the problem, and each group of i counties that fits weighs at least the quota
 abbrev pub IsFair : Language → Problem → State → ℕ → Allowance → Type 0
 IsFair language p s i room = ⊤
 IsFair language p s i (weigh quota ws) =
     (1 ≤ quota)
-    × All (λ w. member p.counties w.county ≡ true) ws
-    × ((g : List ℕ) → Fits language p s g → length g ≡ i → quota ≤ total (weight_of ws) g)
+    × All (λ w. contains p.counties w.county ≡ true) ws
+    × ((g : List ℕ) → Fits language p s g → length g ≡ i → quota ≤ sum_by (weight_of ws) g)
 
 -- From size i on, where smaller groups use up so many counties, closed groups and allowances give the target's counts,
 -- up to a size at which they give fewer, or to the limit.

@@ -1,6 +1,6 @@
 -- What a branch does to a state.
 use Rattle.std.specs.Prelude.{ℕ, ◌+◌, ◌-◌, ◌*◌, ◌≡◌, ◌≤◌, ◌<◌, true, List, length, ◌⊎◌}
-use Rattle.grouping_laws.specs.Sets.{total}
+use Rattle.grouping_laws.specs.Sets.{sum_by}
 use Rattle.grouping_laws.specs.Problem.{Problem, IsProblem}
 use Rattle.grouping_laws.specs.Grouping.{Grouping, Lawful}
 use Rattle.grouping_laws.specs.GroupsFrom.{IsOrder}
@@ -16,7 +16,7 @@ use Rattle.certificate_laws.specs.Groups.{IsGroupAt}
 
 -- how far the least sizes of the rest are from one more than the limit, added up
 abbrev pub steps_left : Problem → ℕ → State → ℕ
-steps_left p limit s = total (λ c. limit + 1 - s.least c) (listed p s.rest)
+steps_left p limit s = sum_by (λ c. limit + 1 - s.least c) (listed p s.rest)
 
 -- how many counties may lie in a group of at most the limit
 abbrev pub turns_left : Problem → ℕ → State → ℕ

@@ -1,7 +1,7 @@
 -- Lists of the groups that fit a state: at a county, for a branch, and of one size, for a search or a weigh line. The
 -- groups are sorted by size and then by places, so that there is one list.
 use Rattle.std.specs.Prelude.{ℕ, ◌≡◌, ◌≤◌, true, List, length, AllPairs, Contains, filter, ◌↔◌}
-use Rattle.grouping_laws.specs.Sets.{member, Inside}
+use Rattle.grouping_laws.specs.Sets.{contains, Inside}
 use Rattle.grouping_laws.specs.Problem.{Problem, Connected}
 use Rattle.grouping_laws.specs.GroupsFrom.{IsBefore}
 use Rattle.certificate_data.specs.Round.{Round}
@@ -11,8 +11,8 @@ use Rattle.certificate_laws.specs.Fitting.{Fits}
 -- a group that fits, has the county and has at most so many counties, its codes in the order of places
 pub record IsGroupAt (p : Problem) (round : Round) (s : State) (county limit : ℕ) (g : List ℕ) : Type 0 where
   pub fits : Fits round.language p s g
-  pub in_order : filter (member g) round.order ≡ g
-  pub has : member g county ≡ true
+  pub in_order : filter (contains g) round.order ≡ g
+  pub has : contains g county ≡ true
   pub small : length g ≤ limit
 
 -- all of them, sorted by size and then by lists of places
@@ -24,7 +24,7 @@ pub record AreGroupsAt (p : Problem) (round : Round) (s : State) (county limit :
 -- a group of i counties that fits, its codes in the order of places
 pub record IsGroupOf (p : Problem) (round : Round) (s : State) (i : ℕ) (g : List ℕ) : Type 0 where
   pub fits : Fits round.language p s g
-  pub in_order : filter (member g) round.order ≡ g
+  pub in_order : filter (contains g) round.order ≡ g
   pub size : length g ≡ i
 
 -- all of them, sorted by lists of places
@@ -36,8 +36,8 @@ pub record AreGroupsOf (p : Problem) (round : Round) (s : State) (i : ℕ) (grou
 -- counties and lie among those open to groups of so many.
 pub record IsSetAt (p : Problem) (order : List ℕ) (s : State) (county limit : ℕ) (g : List ℕ) : Type 0 where
   pub connected : Connected p g
-  pub in_order : filter (member g) order ≡ g
-  pub has : member g county ≡ true
+  pub in_order : filter (contains g) order ≡ g
+  pub has : contains g county ≡ true
   pub small : length g ≤ limit
   pub inside : Inside (open_to s limit) g
 
@@ -45,6 +45,6 @@ pub record IsSetAt (p : Problem) (order : List ℕ) (s : State) (county limit : 
 -- open to groups of i counties.
 pub record IsSetWithin (p : Problem) (order : List ℕ) (s : State) (i : ℕ) (g : List ℕ) : Type 0 where
   pub connected : Connected p g
-  pub in_order : filter (member g) order ≡ g
+  pub in_order : filter (contains g) order ≡ g
   pub small : length g ≤ i
   pub inside : Inside (open_to s i) g

@@ -1,7 +1,7 @@
 -- Lists of groups by size, and how a search keeps them.
 use Rattle.std.specs.Prelude.{ℕ, zero, suc, ◌≡◌, ◌≤◌, ◌<◌, Bool, true, List, [], filter, ◌++◌, length, AllPairs}
 use Rattle.std.specs.Prelude.{Contains, ◌↔◌}
-use Rattle.grouping_laws.specs.Sets.{member}
+use Rattle.grouping_laws.specs.Sets.{contains}
 use Rattle.grouping_laws.specs.Problem.{Problem}
 use Rattle.grouping_laws.specs.GroupsFrom.{IsOrder, IsBefore}
 use Rattle.certificate_data.specs.declared.language.Language.TheVariants.{Wide}
@@ -46,14 +46,14 @@ pub record ListsServe : Type 0 where
       → AreGroupsOf p round s i groups → AreGroupsOf p round t i (filter keep groups)
   -- the takes of a branch are the groups of the lists that have the county
   pub takes : (p : Problem) (round : Round) (s : State) (c j : ℕ) (lists : ℕ → List (List ℕ))
-      → AreLists p round s j lists → AreGroupsAt p round s c j (filter (λ g. member g c) (up_to j lists))
+      → AreLists p round s j lists → AreGroupsAt p round s c j (filter (λ g. contains g c) (up_to j lists))
   -- where the smaller lists are empty, those of one list
   pub takes_of_least : (p : Problem) (round : Round) (s : State) (c j : ℕ) (lists : ℕ → List (List ℕ)) → 1 ≤ j
       → ((i : ℕ) → 1 ≤ i → i < j → lists i ≡ []) → AreLists p round s j lists
-      → AreGroupsAt p round s c j (filter (λ g. member g c) (lists j))
+      → AreGroupsAt p round s c j (filter (λ g. contains g c) (lists j))
   -- in a wide round one may branch at each county of a listed group
   pub can : (p : Problem) (round : Round) (s : State) (c j : ℕ) (g : List ℕ) → round.language ≡ Wide
-      → IsGroupOf p round s j g → member g c ≡ true → j ≤ round.limit → CanBranch round s c j
+      → IsGroupOf p round s j g → contains g c ≡ true → j ≤ round.limit → CanBranch round s c j
   -- where all lists are empty no group fits
   pub none : (p : Problem) (round : Round) (s : State) (lists : ℕ → List (List ℕ)) → IsOrder p round.order
       → AreLists p round s round.limit lists

@@ -3,7 +3,7 @@
 use Rattle.std.specs.Prelude.{ℕ, ◌+◌, ◌-◌, ◌*◌, ◌/◌, ◌≡◌, ◌≤◌, ◌<◌, min, cond, Bool, true, false, not, nat_le, ◌&&◌}
 use Rattle.std.specs.Prelude.{◌||◌, List, [], ◌∷◌, ◌++◌, length, ◌==◌, All, Contains, filter, Some, None, ◌⊎◌, ◌↔◌, ⊤}
 use Rattle.county_codes.specs.declared.group.Group.{Group}
-use Rattle.grouping_laws.specs.Sets.{digit, total, stands, member, Inside, SameSet}
+use Rattle.grouping_laws.specs.Sets.{indicator, sum_by, count_in, contains, Inside, SameSet}
 use Rattle.grouping_laws.specs.Problem.{Problem, Suits, people_of, LawfulGroup}
 use Rattle.grouping_laws.specs.Grouping.{Grouping, Lawful, counts, sets_of}
 use Rattle.grouping_laws.specs.Parts.{IsPart, AreParts}
@@ -30,13 +30,13 @@ pub record MarkedState : Type 0 where
 
 -- lawful groups of at most the limit, marked counties and the rest make up the counties, each county once
 pub record IsMarkedState (p : Problem) (limit : ℕ) (s : MarkedState) : Type 0 where
-  pub once : (c : ℕ) → stands c s.closed + digit (s.marked c) + digit (s.rest c) ≡ digit (member p.counties c)
+  pub once : (c : ℕ) → count_in c s.closed + indicator (s.marked c) + indicator (s.rest c) ≡ indicator (contains p.counties c)
   pub lawful : All (LawfulGroup p) s.closed
   pub small : All (λ g. length g ≤ limit) s.closed
 
 -- all counties in the rest
 abbrev pub none_marked : Problem → MarkedState
-none_marked p = record { closed = []; marked = λ c. false; rest = member p.counties }
+none_marked p = record { closed = []; marked = λ c. false; rest = contains p.counties }
 
 -- one more group is closed
 abbrev pub close_group : List ℕ → MarkedState → MarkedState
@@ -54,16 +54,16 @@ unsettled s c = s.marked c || s.rest c
 pub record AgreesAbove (limit : ℕ) (s : MarkedState) (g : Grouping) : Type 0 where
   pub closed : All (λ k. (m : Group) × Contains g m × SameSet m.codes k) s.closed
   pub marked : (c : ℕ) → s.marked c ≡ true
-      → (m : Group) × Contains g m × (member m.codes c ≡ true) × (limit < length m.codes)
+      → (m : Group) × Contains g m × (contains m.codes c ≡ true) × (limit < length m.codes)
 
 -- The connected part around the county suits no number of seats, or holds a marked county and has at most as many
 -- counties as the limit.
 pub record IsMarkedStuck (p : Problem) (limit : ℕ) (s : MarkedState) (county : ℕ) : Type 0 where
   pub part : List ℕ
   pub is_part : IsPart p (unsettled s) part
-  pub around : member part county ≡ true
+  pub around : contains part county ≡ true
   pub wrong : ((k : ℕ) → ¬ Suits p (people_of p part) k)
-      ⊎ ((c : ℕ) × (member part c ≡ true) × (s.marked c ≡ true) × (length part ≤ limit))
+      ⊎ ((c : ℕ) × (contains part c ≡ true) × (s.marked c ≡ true) × (length part ≤ limit))
 
 -- Each connected part suits some number of seats, and the least numbers over closed groups and parts add up to more
 -- than the seats left, or the greatest to less.
@@ -71,21 +71,21 @@ pub record IsMarkedOff (p : Problem) (s : MarkedState) : Type 0 where
   pub parts : List (List ℕ)
   pub are_parts : AreParts p (unsettled s) parts
   pub ranges : List ℕ
-  pub off : (AllZip (IsLeast p) (s.closed ++ parts) ranges × (p.seats_left < total (λ k. k) ranges))
-      ⊎ (AllZip (IsMost p) (s.closed ++ parts) ranges × (total (λ k. k) ranges < p.seats_left))
+  pub off : (AllZip (IsLeast p) (s.closed ++ parts) ranges × (p.seats_left < sum_by (λ k. k) ranges))
+      ⊎ (AllZip (IsMost p) (s.closed ++ parts) ranges × (sum_by (λ k. k) ranges < p.seats_left))
 
 -- how many groups of i counties the line allows inside the rest, where there is room for so many counties
 abbrev pub rest_allowance : Problem → MarkedState → ℕ → ℕ → Allowance → ℕ
 rest_allowance p s i left room = left / i
-rest_allowance p s i left (weigh quota ws) = min (left / i) (total (weight_of ws) (listed p s.rest) / quota)
+rest_allowance p s i left (weigh quota ws) = min (left / i) (sum_by (weight_of ws) (listed p s.rest) / quota)
 
 -- each lawful group of i counties inside the rest weighs at least the quota
 abbrev pub IsRestFair : Problem → MarkedState → ℕ → Allowance → Type 0
 IsRestFair p s i room = ⊤
 IsRestFair p s i (weigh quota ws) =
     (1 ≤ quota)
-    × All (λ w. member p.counties w.county ≡ true) ws
-    × ((g : List ℕ) → LawfulGroup p g → length g ≡ i → Inside s.rest g → quota ≤ total (weight_of ws) g)
+    × All (λ w. contains p.counties w.county ≡ true) ws
+    × ((g : List ℕ) → LawfulGroup p g → length g ≡ i → Inside s.rest g → quota ≤ sum_by (weight_of ws) g)
 
 -- from size i on, where there is room for so many counties
 abbrev pub RestBounds : Problem → ℕ → MarkedState → (ℕ → ℕ) → ℕ → ℕ → List Allowance → Type 0

@@ -1,6 +1,6 @@
 -- The language by the places of the round's order: what is found there holds of the codes.
 use Rattle.std.specs.Prelude.{ℕ, ◌≡◌, ◌≤◌, ◌<◌, Bool, true, ◌&&◌, cond, List, map, filter, length, ◌↔◌}
-use Rattle.grouping_laws.specs.Sets.{total, often, member}
+use Rattle.grouping_laws.specs.Sets.{sum_by, count, contains}
 use Rattle.grouping_laws.specs.Problem.{Problem, IsProblem}
 use Rattle.grouping_laws.specs.Parts.{IsPart, AreParts}
 use Rattle.grouping_laws.specs.GroupsFrom.{IsOrder, place}
@@ -18,7 +18,7 @@ use Rattle.certificate_laws.specs.Groups.{AreGroupsAt, AreGroupsOf}
 pub record IsRegionAt (order : List ℕ) (region places : ℕ → Bool) : Type 0 where
   pub same : (i : ℕ) → i < length order → places i ≡ region (code_at order i)
   pub below : (i : ℕ) → places i ≡ true → i < length order
-  pub known : (c : ℕ) → region c ≡ true → member order c ≡ true
+  pub known : (c : ℕ) → region c ≡ true → contains order c ≡ true
 
 -- a state, and a state by places with the same rest and the same least sizes
 pub record IsStateAt (order : List ℕ) (s t : State) : Type 0 where
@@ -29,8 +29,8 @@ pub record IsStateAt (order : List ℕ) (s t : State) : Type 0 where
 abbrev pub in_codes : List ℕ → State → State
 in_codes order t = record {
   closed = map (codes_at order) t.closed;
-  rest = λ c. member order c && t.rest (place order c);
-  least = λ c. cond (member order c) (t.least (place order c)) 0;
+  rest = λ c. contains order c && t.rest (place order c);
+  least = λ c. cond (contains order c) (t.least (place order c)) 0;
 }
 
 -- the round by places
@@ -44,17 +44,17 @@ pub record PlacesServe : Type 0 where
       → IsRegionAt order region places → codes_at order (places_of (length order) places) ≡ filter region order
   pub sums : (p : Problem) (order : List ℕ) (region places : ℕ → Bool) (f : ℕ → ℕ) → IsProblem p → IsOrder p order
       → IsRegionAt order region places
-      → total f (listed p region) ≡ total (λ i. f (code_at order i)) (places_of (length order) places)
+      → sum_by f (listed p region) ≡ sum_by (λ i. f (code_at order i)) (places_of (length order) places)
   pub part : (p : Problem) (order : List ℕ) (region places : ℕ → Bool) (xs : List ℕ) → IsOrder p order
       → IsRegionAt order region places → IsPart (at_places p order) places xs → IsPart p region (codes_at order xs)
   pub parts : (p : Problem) (order : List ℕ) (region places : ℕ → Bool) (parts : List (List ℕ)) → IsOrder p order
       → IsRegionAt order region places → AreParts (at_places p order) places parts
       → AreParts p region (map (codes_at order) parts)
   pub cannot_fill : (p : Problem) (order : List ℕ) (s t : State) (xs : List ℕ) → IsOrder p order → IsStateAt order s t
-      → ((i : ℕ) → member xs i ≡ true → i < length order)
+      → ((i : ℕ) → contains xs i ≡ true → i < length order)
       → CannotFill (at_places p order) t xs ↔ CannotFill p s (codes_at order xs)
   pub fits : (p : Problem) (round : Round) (s t : State) (g : List ℕ) → IsOrder p round.order
-      → IsStateAt round.order s t → ((i : ℕ) → member g i ≡ true → i < length round.order)
+      → IsStateAt round.order s t → ((i : ℕ) → contains g i ≡ true → i < length round.order)
       → Fits round.language (at_places p round.order) t g ↔ Fits round.language p s (codes_at round.order g)
   pub groups_at : (p : Problem) (round : Round) (s t : State) (i j : ℕ) (groups : List (List ℕ)) → IsOrder p round.order
       → IsStateAt round.order s t → i < length round.order
@@ -68,12 +68,12 @@ pub record PlacesServe : Type 0 where
 -- A state by places says a state by codes, and keeps saying it: at the beginning, where a group is closed and where a
 -- county is raised.
 pub record StatesHaveCodes : Type 0 where
-  pub there : (order : List ℕ) (t : State) → ((c : ℕ) → often c order ≤ 1)
+  pub there : (order : List ℕ) (t : State) → ((c : ℕ) → count c order ≤ 1)
       → ((i : ℕ) → t.rest i ≡ true → i < length order) → IsStateAt order (in_codes order t) t
   pub empty : (p : Problem) (order : List ℕ) → IsOrder p order
       → in_codes order (empty_state (at_places p order)) ≡ empty_state p
-  pub closed : (order : List ℕ) (t : State) (xs : List ℕ) → ((c : ℕ) → often c order ≤ 1)
-      → ((i : ℕ) → member xs i ≡ true → i < length order)
+  pub closed : (order : List ℕ) (t : State) (xs : List ℕ) → ((c : ℕ) → count c order ≤ 1)
+      → ((i : ℕ) → contains xs i ≡ true → i < length order)
       → in_codes order (close xs t) ≡ close (codes_at order xs) (in_codes order t)
-  pub raised : (order : List ℕ) (t : State) (i j : ℕ) → ((c : ℕ) → often c order ≤ 1) → i < length order
+  pub raised : (order : List ℕ) (t : State) (i j : ℕ) → ((c : ℕ) → count c order ≤ 1) → i < length order
       → in_codes order (raise i j t) ≡ raise (code_at order i) j (in_codes order t)

@@ -1,7 +1,7 @@
 -- How a search for a greater grouping ends: with a proof tree, or with the grouping.
 use Rattle.std.specs.Prelude.{ℕ, ◌+◌, ◌≡◌, ◌≤◌, ◌<◌, true, List, [], ◌∷◌, ◌++◌, length, All, AllPairs, Contains, ◌⊎◌}
 use Rattle.std.specs.Prelude.{◌↔◌, ⊤}
-use Rattle.grouping_laws.specs.Sets.{total, member}
+use Rattle.grouping_laws.specs.Sets.{sum_by, contains}
 use Rattle.grouping_laws.specs.Problem.{Problem, IsProblem}
 use Rattle.grouping_laws.specs.Grouping.{Grouping, Lawful, counts, sets_of, IsImpossible}
 use Rattle.grouping_laws.specs.Parts.{AreParts}
@@ -19,7 +19,7 @@ use Rattle.certificate_laws.specs.Certificate.{Beats}
 
 -- a county of some group of i counties that fits
 abbrev pub IsInFittingGroup : Language → Problem → State → ℕ → ℕ → Type 0
-IsInFittingGroup language p s i c = (g : List ℕ) × Fits language p s g × (length g ≡ i) × (member g c ≡ true)
+IsInFittingGroup language p s i c = (g : List ℕ) × Fits language p s g × (length g ≡ i) × (contains g c ≡ true)
 
 -- a count line, for size i: the quota is i, and each county of some group of i counties that fits has weight 1
 pub record IsCountLine (language : Language) (p : Problem) (s : State) (i : ℕ) (line : Allowance) : Type 0 where
@@ -43,8 +43,8 @@ pub record HasNoLeaf (p : Problem) (round : Round) (most : ℕ) (s : State) : Ty
 -- Some seats suit the closed groups and the connected parts of the rest and add up to the seats left, and whichever do
 -- so make a lawful grouping that agrees with the state and is greater than the target.
 pub record FinishedBeats (p : Problem) (round : Round) (s : State) (parts : List (List ℕ)) : Type 0 where
-  pub some : (ks : List ℕ) × SuitAll p (s.closed ++ parts) ks × (total (λ k. k) ks ≡ p.seats_left)
-  pub all : (ks : List ℕ) → SuitAll p (s.closed ++ parts) ks → total (λ k. k) ks ≡ p.seats_left
+  pub some : (ks : List ℕ) × SuitAll p (s.closed ++ parts) ks × (sum_by (λ k. k) ks ≡ p.seats_left)
+  pub all : (ks : List ℕ) → SuitAll p (s.closed ++ parts) ks → sum_by (λ k. k) ks ≡ p.seats_left
       → Lawful p (seated (s.closed ++ parts) ks) × Agrees s (seated (s.closed ++ parts) ks)
       × Beats round.target (counts (s.closed ++ parts))
   -- each part is above the limit, so where there is none all groups are within it

@@ -2,7 +2,7 @@
 -- the project's own. A search for the most small groups keeps that closed groups are lawful and small.
 use Rattle.std.specs.Prelude.{ℕ, ◌+◌, ◌≡◌, ◌≤◌, Bool, false, cond, nat_le, ◌&&◌, List, [], ◌∷◌, ◌++◌, length, ◌==◌}
 use Rattle.std.specs.Prelude.{All, ◌⊎◌, ⊤}
-use Rattle.grouping_laws.specs.Sets.{digit, stands, member}
+use Rattle.grouping_laws.specs.Sets.{indicator, count_in, contains}
 use Rattle.grouping_laws.specs.Problem.{Problem, LawfulGroup}
 use Rattle.certificate_data.specs.declared.language.Language.{Language}
 use Rattle.certificate_data.specs.declared.language.Language.TheVariants.{Plain, Wide}
@@ -22,12 +22,12 @@ open_to s i c = s.rest c && nat_le (s.least c) i
 
 -- all counties in the rest, each in a group of any size
 abbrev pub empty_state : Problem → State
-empty_state p = record { closed = []; rest = member p.counties; least = λ c. 0 }
+empty_state p = record { closed = []; rest = contains p.counties; least = λ c. 0 }
 
 -- the state in which one more group is closed; nothing is asked for its counties any more
 abbrev pub close : List ℕ → State → State
 close g s =
-    record { closed = s.closed ++ g ∷ []; rest = without g s.rest; least = λ c. cond (member g c) 0 (s.least c) }
+    record { closed = s.closed ++ g ∷ []; rest = without g s.rest; least = λ c. cond (contains g c) 0 (s.least c) }
 
 -- the state in which the county is raised past j: it lies in a group of more than j counties
 abbrev pub raise : ℕ → ℕ → State → State
@@ -41,7 +41,7 @@ IsLeastSize Wide limit n = ⊤
 -- lawful groups of at most the limit and the rest make up the counties, each county once, and only the rest asks for
 -- sizes
 pub record IsState (p : Problem) (round : Round) (s : State) : Type 0 where
-  pub once : (c : ℕ) → stands c s.closed + digit (s.rest c) ≡ digit (member p.counties c)
+  pub once : (c : ℕ) → count_in c s.closed + indicator (s.rest c) ≡ indicator (contains p.counties c)
   pub lawful : All (LawfulGroup p) s.closed
   pub small : All (λ g. length g ≤ round.limit) s.closed
   pub sizes : (c : ℕ) → IsLeastSize round.language round.limit (s.least c)

@@ -1,6 +1,6 @@
 -- Which connected parts no groups can fill.
 use Rattle.std.specs.Prelude.{ℕ, ◌≡◌, ◌<◌, Bool, true, List, length, ◌⊎◌}
-use Rattle.grouping_laws.specs.Sets.{member}
+use Rattle.grouping_laws.specs.Sets.{contains}
 use Rattle.grouping_laws.specs.Problem.{Problem, Suits, people_of}
 use Rattle.grouping_laws.specs.Parts.{IsPart}
 use Rattle.certificate_laws.specs.State.{State}
@@ -10,7 +10,7 @@ use Rattle.certificate_laws.specs.State.{State}
 -- suits no number can't be divided.
 abbrev pub CannotFill : Problem → State → List ℕ → Type 0
 CannotFill p s codes =
-    ((k : ℕ) → ¬ Suits p (people_of p codes) k) ⊎ ((c : ℕ) × (member codes c ≡ true) × (length codes < s.least c))
+    ((k : ℕ) → ¬ Suits p (people_of p codes) k) ⊎ ((c : ℕ) × (contains codes c ≡ true) × (length codes < s.least c))
 
 -- a connected part of a region that is stuck
 pub record StuckPart (p : Problem) (s : State) (region : ℕ → Bool) : Type 0 where

@@ -2,7 +2,7 @@
 use Rattle.std.proofs.Common.{◌≡◌, ℕ, ◌+◌, ◌*◌, ◌≤◌, ◌<◌, true, false, List, [], ◌∷◌, length, Option, Some, None, refl, sym, ap, ◌∙◌, subst, arith, inl, inr}
 use Rattle.std.specs.Prelude.{⊤, ◌⊎◌}
 use Rattle.std.proofs.lemmas.Bool.{false≢true}
-use Rattle.grouping_laws.specs.Sets.{member}
+use Rattle.grouping_laws.specs.Sets.{contains}
 use Rattle.grouping_laws.specs.Problem.{Problem}
 use Rattle.grouping_laws.specs.Grouping.{Grouping, counts, sets_of}
 use Rattle.grouping_laws.proofs.Elements.{has_all, has_from_contains}
@@ -33,7 +33,7 @@ stuck_same p s c f g (inr h) (inr k) = h.0 ∙ sym k.0
 
 fair_not_foreign : (language : Language) (p : Problem) (s : State) (i : ℕ) (line : Allowance) → IsFair language p s i line → NamesForeign p line → ⊥
 fair_not_foreign language p s i room h k = k
-fair_not_foreign language p s i (weigh quota ws) h k = false≢true (sym k.2 ∙ has_all (λ w. member p.counties w.county ≡ true) ws h.1 k.0 (has_from_contains ws k.0 k.1))
+fair_not_foreign language p s i (weigh quota ws) h k = false≢true (sym k.2 ∙ has_all (λ w. contains p.counties w.county ≡ true) ws h.1 k.0 (has_from_contains ws k.0 k.1))
 
 fair_not_light : (language : Language) (p : Problem) (s : State) (i : ℕ) (line : Allowance) → IsFair language p s i line → HasLightGroup language p s i line → ⊥
 fair_not_light language p s i room h k = k

@@ -1,7 +1,7 @@
 -- Whatever kind of subsets of an order is meant, it can't be that no sorted list has them all.
 use Rattle.std.proofs.Common.{◌≡◌, ℕ, suc, Bool, true, false, cond, ◌==◌, List, [], ◌∷◌, ◌++◌, length, map, filter, refl, sym, ◌∙◌, subst, arith, ◌⊎◌, inl, inr, ⊎_elim, AllPairs, Contains, ◌↔◌}
 use Rattle.std.proofs.lemmas.Bool.{cases_order, eqb-true, eq-eqb, false≢true}
-use Rattle.grouping_laws.specs.Sets.{member}
+use Rattle.grouping_laws.specs.Sets.{contains}
 use Rattle.grouping_laws.specs.GroupsFrom.{IsLesser, IsBefore, place}
 use Rattle.grouping_laws.proofs.Elements.{Has, has_left, has_right, has_from_contains, contains_from_has}
 use Rattle.grouping_laws.proofs.Parts.{has-filter}
@@ -125,9 +125,9 @@ record Kept (order : List ℕ) (Kind : List ℕ → Type 0) (among : List (List 
   pub every : (g : List ℕ) → Kind g → Has among g → Has sets g
   pub sorted : AllPairs (IsBefore order) sets
 
-module _ (order : List ℕ) (Kind : List ℕ → Type 0) (ordered : (g : List ℕ) → Kind g → filter (member g) order ≡ g) where
+module _ (order : List ℕ) (Kind : List ℕ → Type 0) (ordered : (g : List ℕ) → Kind g → filter (contains g) order ≡ g) where
   kind_listed : (g : List ℕ) → Kind g → Listed order g
-  kind_listed g k c h = (has-filter (member g) order c (subst (λ z. Has z c) (sym (ordered g k)) h)).0
+  kind_listed g k c h = (has-filter (contains g) order c (subst (λ z. Has z c) (sym (ordered g k)) h)).0
 
   kept_more : (g : List ℕ) (among : List (List ℕ)) → Kept order Kind among → Kind g ⊎ (Kind g → ⊥) → Kept order Kind (g ∷ among)
   kept_more g among kept (inl k) =
@@ -168,10 +168,10 @@ pub record Listing (order : List ℕ) (Kind : List ℕ → Type 0) : Type 0 wher
   pub each : (g : List ℕ) → Contains sets g ↔ Kind g
   pub sorted : AllPairs (IsBefore order) sets
 
-pub listing : (order : List ℕ) (Kind : List ℕ → Type 0) → ((g : List ℕ) → Kind g → filter (member g) order ≡ g) → NotNone (Listing order Kind)
+pub listing : (order : List ℕ) (Kind : List ℕ → Type 0) → ((g : List ℕ) → Kind g → filter (contains g) order ≡ g) → NotNone (Listing order Kind)
 listing order Kind ordered =
     then_some (kept_all order Kind ordered (subsets order)) (λ kept. here (record {
       sets = kept.sets;
-      each = λ g. (λ h. kept.each g (has_from_contains kept.sets g h), λ k. contains_from_has kept.sets g (kept.every g k (subst (λ z. Has (subsets order) z) (ordered g k) (has_subset (member g) order))));
+      each = λ g. (λ h. kept.each g (has_from_contains kept.sets g h), λ k. contains_from_has kept.sets g (kept.every g k (subst (λ z. Has (subsets order) z) (ordered g k) (has_subset (contains g) order))));
       sorted = kept.sorted;
     }))

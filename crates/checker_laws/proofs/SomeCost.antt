@@ -1,6 +1,6 @@
 -- No text is without a cost.
 use Rattle.std.proofs.Common.{◌≡◌, ℕ, ◌+◌, ◌*◌, ◌≤◌, List, [], ◌∷◌, length, filter, Option, Some, None, refl, inl, inr, ⊎_elim}
-use Rattle.grouping_laws.specs.Sets.{member}
+use Rattle.grouping_laws.specs.Sets.{contains}
 use Rattle.grouping_laws.specs.Problem.{Problem}
 use Rattle.grouping_laws.specs.Grouping.{Grouping, counts, sets_of}
 use Rattle.grouping_laws.specs.GroupsFrom.{IsOrder}
@@ -28,7 +28,7 @@ use Rattle.checker_laws.proofs.Spelling.{either}
 abbrev Number : (ℕ → Type 0) → Type 0
 Number Kind = (n : ℕ) × Kind n
 
-so_many : (order : List ℕ) (Kind : List ℕ → Type 0) → ((g : List ℕ) → Kind g → filter (member g) order ≡ g) → NotNone (Number (AreSoMany order Kind))
+so_many : (order : List ℕ) (Kind : List ℕ → Type 0) → ((g : List ℕ) → Kind g → filter (contains g) order ≡ g) → NotNone (Number (AreSoMany order Kind))
 so_many order Kind ordered = then_some (listing order Kind ordered) (λ l. here (length l.sets, record { sets = l.sets; each = l.each; sorted = l.sorted; number = refl }))
 
 pub groups_there : (p : Problem) (round : Round) (s : State) (c j : ℕ) → NotNone ((groups : List (List ℕ)) × AreGroupsAt p round s c j groups)

@@ -1,7 +1,7 @@
 -- No text that spells a certificate is without a verdict.
 use Rattle.std.proofs.Common.{◌≡◌, ℕ, ◌+◌, ◌*◌, ◌≤◌, ◌<◌, Bool, true, false, List, [], ◌∷◌, length, Option, Some, None, refl, arith, ◌⊎◌, inl, inr, ⊎_elim, Contains}
 use Rattle.std.proofs.lemmas.Bool.{cases_order}
-use Rattle.grouping_laws.specs.Sets.{total, member}
+use Rattle.grouping_laws.specs.Sets.{sum_by, contains}
 use Rattle.grouping_laws.specs.Problem.{Problem}
 use Rattle.grouping_laws.specs.Grouping.{Grouping, counts, sets_of}
 use Rattle.grouping_laws.specs.GroupsFrom.{IsOrder}
@@ -58,10 +58,10 @@ module _ (First : End → Type 0) (Second : ℕ → End → Type 0) where
 
 -- a line of a bound leaf
 module _ (language : Language) (p : Problem) (s : State) (wanted : ℕ → ℕ) (i used : ℕ) where
-  known : (weights : List Weight) → ((w : Weight) × Contains weights w × (member p.counties w.county ≡ false) → ⊥) → (w : Weight) → Contains weights w → member p.counties w.county ≡ true
-  known weights never w h = go (member p.counties w.county) refl
+  known : (weights : List Weight) → ((w : Weight) × Contains weights w × (contains p.counties w.county ≡ false) → ⊥) → (w : Weight) → Contains weights w → contains p.counties w.county ≡ true
+  known weights never w h = go (contains p.counties w.county) refl
     where
-      go : (b : Bool) → member p.counties w.county ≡ b → member p.counties w.county ≡ true
+      go : (b : Bool) → contains p.counties w.county ≡ b → contains p.counties w.county ≡ true
       go true e = e
       go false e = absurd (never (w, h, e))
 
@@ -74,8 +74,8 @@ module _ (language : Language) (p : Problem) (s : State) (wanted : ℕ → ℕ) 
       (λ q. ⊎_elim (λ l. here (LightGroup, inr (inl (refl, l))))
       (λ heavy. absurd (never (
         formed.0,
-        all_from_has (λ w. member p.counties w.county ≡ true) weights (λ w h. known weights none w (contains_from_has weights w h)),
-        λ g f e. at_most quota (total (weight_of weights) g) (λ less. heavy (known weights none, (g, f, e, less))),
+        all_from_has (λ w. contains p.counties w.county ≡ true) weights (λ w h. known weights none w (contains_from_has weights w h)),
+        λ g f e. at_most quota (sum_by (weight_of weights) g) (λ less. heavy (known weights none, (g, f, e, less))),
       )))
       q))
       o)

@@ -4,7 +4,7 @@ use Rattle.std.proofs.lemmas.Bool.{cases_order}
 use Rattle.county_codes.specs.declared.group.Group.{Group}
 use Rattle.county_problem.specs.declared.grouping_fault.GroupingFault.{GroupingFault}
 use Rattle.county_problem.specs.declared.grouping_fault.GroupingFault.TheVariants.{EmptyGroup, UnknownCounty, Twice, Missing, NotConnected, OutOfWindow, SeatsTotal, Memory}
-use Rattle.grouping_laws.specs.Sets.{member}
+use Rattle.grouping_laws.specs.Sets.{contains}
 use Rattle.grouping_laws.specs.Problem.{Problem, Suits, people_of, Connected}
 use Rattle.grouping_laws.specs.Grouping.{Grouping, seats_of, Lawful}
 use Rattle.county_problem.specs.Building.{first_repeated}
@@ -71,12 +71,12 @@ module _ (p : Problem) (g : Grouping) where
   twice_or h (Some c) e = inr (Twice c, (h, e), λ k. cc)
 
   abbrev Unread : ℕ → Type 0
-  Unread c = (member p.counties c ≡ true) × (member (codes_read g) c ≡ false)
+  Unread c = (contains p.counties c ≡ true) × (contains (codes_read g) c ≡ false)
 
-  read_there : ((c : ℕ) × Unread c → ⊥) → (c : ℕ) → member p.counties c ≡ true → member (codes_read g) c ≡ true
-  read_there never c m = go (member (codes_read g) c) refl
+  read_there : ((c : ℕ) × Unread c → ⊥) → (c : ℕ) → contains p.counties c ≡ true → contains (codes_read g) c ≡ true
+  read_there never c m = go (contains (codes_read g) c) refl
     where
-      go : (b : Bool) → member (codes_read g) c ≡ b → member (codes_read g) c ≡ true
+      go : (b : Bool) → contains (codes_read g) c ≡ b → contains (codes_read g) c ≡ true
       go true e = e
       go false e = absurd (never (c, (m, e)))
 

@@ -1,7 +1,7 @@
 -- How leaves end.
 use Rattle.std.specs.Prelude.{ℕ, ◌+◌, ◌*◌, ◌≡◌, ◌≤◌, ◌<◌, true, false, List, [], ◌∷◌, length, Contains, Option, Some}
 use Rattle.std.specs.Prelude.{None, ⊤, ◌⊎◌}
-use Rattle.grouping_laws.specs.Sets.{total, member}
+use Rattle.grouping_laws.specs.Sets.{sum_by, contains}
 use Rattle.grouping_laws.specs.Problem.{Problem}
 use Rattle.grouping_laws.specs.Grouping.{Grouping, counts, sets_of}
 use Rattle.certificate_data.specs.declared.language.Language.{Language}
@@ -28,14 +28,14 @@ IsSeatsFault p s fault = (fault ≡ SeatsOpen) × (¬ IsOffSeats p s)
 -- some weight is that of no county of the problem
 abbrev pub NamesForeign : Problem → Allowance → Type 0
 NamesForeign p room = ⊥
-NamesForeign p (weigh quota weights) = (w : Weight) × Contains weights w × (member p.counties w.county ≡ false)
+NamesForeign p (weigh quota weights) = (w : Weight) × Contains weights w × (contains p.counties w.county ≡ false)
 
 -- the weights are those of counties, and a group of i counties that fits weighs less than the quota
 abbrev pub HasLightGroup : Language → Problem → State → ℕ → Allowance → Type 0
 HasLightGroup language p s i room = ⊥
 HasLightGroup language p s i (weigh quota weights) =
-    ((w : Weight) → Contains weights w → member p.counties w.county ≡ true)
-    × ((g : List ℕ) × Fits language p s g × (length g ≡ i) × (total (weight_of weights) g < quota))
+    ((w : Weight) → Contains weights w → contains p.counties w.county ≡ true)
+    × ((g : List ℕ) × Fits language p s g × (length g ≡ i) × (sum_by (weight_of weights) g < quota))
 
 -- how many groups of i counties there may be in all
 abbrev pub allowed : Problem → State → ℕ → ℕ → Allowance → ℕ

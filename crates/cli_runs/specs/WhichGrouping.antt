@@ -1,12 +1,12 @@
 -- The number of a grouping in a list of groupings, by its sets.
 use Rattle.std.specs.Prelude.{ℕ, ◌&&◌, Bool, List, ◌++◌, Option, Some, None, codes, decimal}
 use Rattle.std.specs.List.{list_all, list_any, position_from}
-use Rattle.grouping_laws.specs.Sets.{member}
+use Rattle.grouping_laws.specs.Sets.{contains}
 use Rattle.grouping_laws.specs.Grouping.{Grouping}
 
 -- two sets have the same counties
 abbrev pub have_same_counties : List ℕ → List ℕ → Bool
-have_same_counties s t = list_all (member t) s && list_all (member s) t
+have_same_counties s t = list_all (contains t) s && list_all (contains s) t
 
 -- each set of the first grouping is a set of the second
 abbrev pub has_sets_of : Grouping → Grouping → Bool

@@ -2,7 +2,7 @@
 
 ghost use Rattle.std.specs.Prelude.{◌≡◌, ◌++◌, OnOk, map};
 ghost use Rattle.std.specs.List.{list_all, list_any};
-ghost use Rattle.grouping_laws.specs.Sets.{member};
+ghost use Rattle.grouping_laws.specs.Sets.{contains};
 ghost use Rattle.list_groupings.specs.Walking.{sets_held};
 ghost use Rattle.cli_runs.specs.WhichGrouping.{have_same_counties as are_same_counties, has_sets_of as has_its_sets};
 ghost use Rattle.cli_runs.specs.WhichGrouping.{have_same_sets as are_same_sets, number_in_list as listed_number};
@@ -14,7 +14,7 @@ use std::alloc::AllocError;
 
 /// Returns whether `set` has each of the counties in `codes`.
 fn has_each(set: &[CountyCode], codes: &[CountyCode]) -> bool
-    ensures { result ≡ list_all (member set.now) codes.now }
+    ensures { result ≡ list_all (contains set.now) codes.now }
 {
     codes.iter().all(|code| has_code(set, *code))
 }

@@ -5,7 +5,7 @@ use Rattle.std.specs.Ordering.{nat_cmp, is_lt}
 use Rattle.std.specs.List.Sorted.{IsSortedBy, IsPermutation}
 use Rattle.std.proofs.lemmas.List.Sorted.{Contains-permutation, IsPermutation-sym, length_permutation}
 use Rattle.std.proofs.lemmas.List.Elements.{Contains-get_or}
-use Rattle.grouping_laws.specs.Sets.{member}
+use Rattle.grouping_laws.specs.Sets.{contains}
 use Rattle.grouping_laws.specs.Problem.{Problem}
 use Rattle.grouping_laws.specs.Places.{places_below}
 use Rattle.grouping_laws.specs.GroupsFrom.{IsGroupFrom, AreGroupsFrom, IsBefore, IsLesser, place}
@@ -18,7 +18,7 @@ use Rattle.connected_laws.proofs.Starts.{group_from, from_group}
 use Rattle.connected_laws.proofs.Sorting.{sorted_before}
 
 -- the definition of the list of groups from a place, met
-pub are_groups : (p : Problem) (n limit at : ℕ) (set free : ℕ → Bool) (keep : List ℕ → Bool) (sets groups : List (List ℕ)) → ((x : ℕ) → x < n → member p.counties x ≡ true) → IsStart n at set free
+pub are_groups : (p : Problem) (n limit at : ℕ) (set free : ℕ → Bool) (keep : List ℕ → Bool) (sets groups : List (List ℕ)) → ((x : ℕ) → x < n → contains p.counties x ≡ true) → IsStart n at set free
     → TestsSuiting p keep → AreKept p n limit keep set free sets → IsPermutation sets groups
     → IsSortedBy (λ g h. is_lt (slice_cmp nat_cmp (sort_key g) (sort_key h))) groups → AreGroupsFrom p (places_below n) limit at (λ x. true) groups
 are_groups p n limit at set free keep sets groups known start test are moved sorted = record {

@@ -1,13 +1,13 @@
 -- What a search by growing sets finds: at its leaves, at its forks, and where it stops early.
 use Rattle.std.proofs.Common.{◌≡◌, ℕ, ◌≤◌, ◌<◌, Bool, true, false, ◌||◌, ◌&&◌, not, ◌==◌, List, [], ◌∷◌, ◌++◌, length, refl, sym, ap, ◌∙◌, subst, arith, ◌⊎◌, inl, inr, ⊎_elim}
 use Rattle.std.proofs.lemmas.Bool.{eqb-true, eq-eqb, ne_eqb, false≢true}
-use Rattle.grouping_laws.specs.Sets.{digit, often, member}
+use Rattle.grouping_laws.specs.Sets.{indicator, count, contains}
 use Rattle.grouping_laws.specs.Problem.{Problem, HasBorder}
 use Rattle.grouping_laws.specs.Places.{places_below}
 use Rattle.place_laws.specs.PlaceSets.{places_of}
 use Rattle.place_laws.proofs.Sums.{often_none, often_some, total_within, total_ones}
 use Rattle.grouping_laws.proofs.Alike.{connected_alike, length_alike}
-use Rattle.grouping_laws.proofs.Sizes.{often-filter}
+use Rattle.grouping_laws.proofs.Sizes.{count-filter}
 use Rattle.grouping_laws.proofs.Fill.{grown}
 use Rattle.grouping_laws.proofs.Elements.{Has, has_from_contains, contains_from_has, has_left, has_right, has_append}
 use Rattle.place_laws.proofs.PlaceSets.{often_in, often_out, places_same}
@@ -29,7 +29,7 @@ or_second false b e = e
 -- the set itself is an extension
 itself : (p : Problem) (n limit : ℕ) (set free : ℕ → Bool) → IsGrowth p n limit set free → IsExtension p n limit set free (places_of n set)
 itself p n limit set free h = record {
-  in_order = places_same n set (member (places_of n set)) (λ c. same_tests (member (places_of n set) c) (set c) (placed_test n c set) (λ e. placed n c set (h.below c e) e));
+  in_order = places_same n set (contains (places_of n set)) (λ c. same_tests (contains (places_of n set) c) (set c) (placed_test n c set) (λ e. placed n c set (h.below c e) e));
   connected = h.connected;
   small = h.small;
   has = λ c e. placed n c set (h.below c e) e;
@@ -37,16 +37,16 @@ itself p n limit set free h = record {
 }
 
 -- an extension with no place outside the set is the set
-equal_set : (p : Problem) (n limit : ℕ) (set free : ℕ → Bool) → (g : List ℕ) → IsExtension p n limit set free g → ((y : ℕ) → member g y ≡ true → set y ≡ true) → places_of n set ≡ g
-equal_set p n limit set free g x h = places_same n (member g) set (λ c. same_tests (set c) (member g c) (x.has c) (h c)) ∙ x.in_order
+equal_set : (p : Problem) (n limit : ℕ) (set free : ℕ → Bool) → (g : List ℕ) → IsExtension p n limit set free g → ((y : ℕ) → contains g y ≡ true → set y ≡ true) → places_of n set ≡ g
+equal_set p n limit set free g x h = places_same n (contains g) set (λ c. same_tests (set c) (contains g c) (x.has c) (h c)) ∙ x.in_order
 
 -- where the set is whole, no extension has a place outside it
-no_more : (p : Problem) (n limit : ℕ) (set free : ℕ → Bool) → IsGrowth p n limit set free → IsWhole p n limit set free → (g : List ℕ) → IsExtension p n limit set free g → (y : ℕ) → member g y ≡ true → set y ≡ true
+no_more : (p : Problem) (n limit : ℕ) (set free : ℕ → Bool) → IsGrowth p n limit set free → IsWhole p n limit set free → (g : List ℕ) → IsExtension p n limit set free g → (y : ℕ) → contains g y ≡ true → set y ≡ true
 no_more p n limit set free h whole g x y m = go (set y) refl
   where
     closed : set y ≡ false → ((x y : ℕ) → set x ≡ true → free y ≡ true → p.adjacent x y ≡ false) → ⊥
     closed e w =
-        let s : (c : ℕ) × (member (places_of n set) c ≡ true) = some_member (places_of n set) h.connected.some_county in
+        let s : (c : ℕ) × (contains (places_of n set) c ≡ true) = some_member (places_of n set) h.connected.some_county in
         let t : set s.0 ≡ true = placed_test n s.0 set s.1 in
         let r : HasBorder p g set = x.connected.joined set s.0 y (x.has s.0 t) t m e in
         ⊎_elim (λ k. false≢true (sym r.5 ∙ k)) (λ k. false≢true (sym (w r.0 r.1 r.4 k) ∙ r.6)) (or_cases (set r.1) (free r.1) (x.within r.1 r.3))
@@ -54,26 +54,26 @@ no_more p n limit set free h whole g x y m = go (set y) refl
     full : set y ≡ false → length (places_of n set) ≡ limit → ⊥
     full e l = omega (arith, l, x.small, total_within (λ z. 1) (y ∷ places_of n set) g more, total_ones (places_of n set), total_ones g)
       where
-        more : (c : ℕ) → often c (y ∷ places_of n set) ≤ often c g
+        more : (c : ℕ) → count c (y ∷ places_of n set) ≤ count c g
         more c = by (y == c) refl (set c) refl
           where
-            by : (a : Bool) → (y == c) ≡ a → (b : Bool) → set c ≡ b → often c (y ∷ places_of n set) ≤ often c g
+            by : (a : Bool) → (y == c) ≡ a → (b : Bool) → set c ≡ b → count c (y ∷ places_of n set) ≤ count c g
             by true i true j = absurd (false≢true (sym e ∙ (ap set (eqb-true y c i) ∙ j)))
-            by true i false j = omega (arith, ap digit i, often_none c (places_of n set) (none j), often_some c g (subst (λ z. member g z ≡ true) (eqb-true y c i) m))
+            by true i false j = omega (arith, ap indicator i, often_none c (places_of n set) (none j), often_some c g (subst (λ z. contains g z ≡ true) (eqb-true y c i) m))
               where
-                none : set c ≡ false → member (places_of n set) c ≡ false
-                none j = stays (member (places_of n set) c) refl
+                none : set c ≡ false → contains (places_of n set) c ≡ false
+                none j = stays (contains (places_of n set) c) refl
                   where
-                    stays : (d : Bool) → member (places_of n set) c ≡ d → d ≡ false
+                    stays : (d : Bool) → contains (places_of n set) c ≡ d → d ≡ false
                     stays true k = absurd (false≢true (sym j ∙ placed_test n c set k))
                     stays false k = refl
-            by false i true j = omega (arith, ap digit i, often_placed n c set, often_some c g (x.has c j))
-            by false i false j = omega (arith, ap digit i, often_none c (places_of n set) (none j))
+            by false i true j = omega (arith, ap indicator i, often_placed n c set, often_some c g (x.has c j))
+            by false i false j = omega (arith, ap indicator i, often_none c (places_of n set) (none j))
               where
-                none : set c ≡ false → member (places_of n set) c ≡ false
-                none j = stays (member (places_of n set) c) refl
+                none : set c ≡ false → contains (places_of n set) c ≡ false
+                none j = stays (contains (places_of n set) c) refl
                   where
-                    stays : (d : Bool) → member (places_of n set) c ≡ d → d ≡ false
+                    stays : (d : Bool) → contains (places_of n set) c ≡ d → d ≡ false
                     stays true k = absurd (false≢true (sym j ∙ placed_test n c set k))
                     stays false k = refl
 
@@ -168,16 +168,16 @@ grown_growth p n limit set free more less c symmetric h k small m = record {
     outside : set c ≡ false
     outside = not_true (set c) (λ e. false≢true (sym (h.apart c e) ∙ k.is_free))
 
-    alike : (x : ℕ) → often x (c ∷ places_of n set) ≡ often x (places_of n more)
+    alike : (x : ℕ) → count x (c ∷ places_of n set) ≡ count x (places_of n more)
     alike x = go (c == x) refl (set x) refl
       where
-        go : (a : Bool) → (c == x) ≡ a → (b : Bool) → set x ≡ b → often x (c ∷ places_of n set) ≡ often x (places_of n more)
+        go : (a : Bool) → (c == x) ≡ a → (b : Bool) → set x ≡ b → count x (c ∷ places_of n set) ≡ count x (places_of n more)
         go true i b e =
             let same : c ≡ x = eqb-true c x i in
-            omega (arith, ap digit i, often_out n x set (ap set (sym same) ∙ outside), often_in n x more (subst (λ z. z < n) same (h.free_below c k.is_free)) (ap more (sym same) ∙ more_here set free more less c m))
-        go false i true e = omega (arith, ap digit i, often-filter x set (places_below n) e, often-filter x more (places_below n) (more_set set free more less c m x e))
+            omega (arith, ap indicator i, often_out n x set (ap set (sym same) ∙ outside), often_in n x more (subst (λ z. z < n) same (h.free_below c k.is_free)) (ap more (sym same) ∙ more_here set free more less c m))
+        go false i true e = omega (arith, ap indicator i, count-filter x set (places_below n) e, count-filter x more (places_below n) (more_set set free more less c m x e))
         go false i false e =
-            omega (arith, ap digit i, often_out n x set e, often_out n x more (not_true (more x) (λ l. ⊎_elim (λ j. false≢true (sym e ∙ j)) (λ j. false≢true (sym i ∙ eq-eqb c x (sym j))) (more_cases set free more less c m x l))))
+            omega (arith, ap indicator i, often_out n x set e, often_out n x more (not_true (more x) (λ l. ⊎_elim (λ j. false≢true (sym e ∙ j)) (λ j. false≢true (sym i ∙ eq-eqb c x (sym j))) (more_cases set free more less c m x l))))
 
 -- a free place is out for good: the search stands somewhere again
 pub skipped_growth : (p : Problem) (n limit : ℕ) (set free more less : ℕ → Bool) (c : ℕ) → IsGrowth p n limit set free → IsMove set free more less c → IsGrowth p n limit set less
@@ -192,15 +192,15 @@ skipped_growth p n limit set free more less c h m = record {
 length_one_fewer : (n : ℕ) (free less : ℕ → Bool) (c : ℕ) → c < n → free c ≡ true → less c ≡ false → ((x : ℕ) → less x ≡ true → free x ≡ true) → length (places_of n less) < length (places_of n free)
 length_one_fewer n free less c l is out h = omega (arith, total_within (λ z. 1) (c ∷ places_of n less) (places_of n free) more, total_ones (places_of n less), total_ones (places_of n free))
   where
-    more : (x : ℕ) → often x (c ∷ places_of n less) ≤ often x (places_of n free)
+    more : (x : ℕ) → count x (c ∷ places_of n less) ≤ count x (places_of n free)
     more x = by (c == x) refl (less x) refl
       where
-        by : (a : Bool) → (c == x) ≡ a → (b : Bool) → less x ≡ b → often x (c ∷ places_of n less) ≤ often x (places_of n free)
+        by : (a : Bool) → (c == x) ≡ a → (b : Bool) → less x ≡ b → count x (c ∷ places_of n less) ≤ count x (places_of n free)
         by true i b j =
             let same : c ≡ x = eqb-true c x i in
-            omega (arith, ap digit i, often_out n x less (ap less (sym same) ∙ out), often_in n x free (subst (λ z. z < n) same l) (ap free (sym same) ∙ is))
-        by false i true j = omega (arith, ap digit i, often-filter x less (places_below n) j, often-filter x free (places_below n) (h x j))
-        by false i false j = omega (arith, ap digit i, often_out n x less j)
+            omega (arith, ap indicator i, often_out n x less (ap less (sym same) ∙ out), often_in n x free (subst (λ z. z < n) same l) (ap free (sym same) ∙ is))
+        by false i true j = omega (arith, ap indicator i, count-filter x less (places_below n) j, count-filter x free (places_below n) (h x j))
+        by false i false j = omega (arith, ap indicator i, often_out n x less j)
 
 -- with the place gone, fewer places are free
 pub fewer_free : (p : Problem) (n limit : ℕ) (set free more less : ℕ → Bool) (c : ℕ) → IsGrowth p n limit set free → free c ≡ true → IsMove set free more less c → length (places_of n less) < length (places_of n free)
@@ -232,12 +232,12 @@ parts_differ p n limit set free more less c h is_free m g x y =
     ⊎_elim (λ k. false≢true (sym (h.apart c k) ∙ is_free)) (λ k. false≢true (sym (less_here set free more less c m) ∙ k)) (or_cases (set c) (less c) (y.within c (x.has c (more_here set free more less c m))))
 
 -- an extension with the place is one of the set with it
-with_taken : (p : Problem) (n limit : ℕ) (set free more less : ℕ → Bool) (c : ℕ) → IsMove set free more less c → (g : List ℕ) → IsExtension p n limit set free g → member g c ≡ true → IsExtension p n limit more less g
+with_taken : (p : Problem) (n limit : ℕ) (set free more less : ℕ → Bool) (c : ℕ) → IsMove set free more less c → (g : List ℕ) → IsExtension p n limit set free g → contains g c ≡ true → IsExtension p n limit more less g
 with_taken p n limit set free more less c m g x e = record {
   in_order = x.in_order;
   connected = x.connected;
   small = x.small;
-  has = λ y k. ⊎_elim (x.has y) (λ i. ap (member g) i ∙ e) (more_cases set free more less c m y k);
+  has = λ y k. ⊎_elim (x.has y) (λ i. ap (contains g) i ∙ e) (more_cases set free more less c m y k);
   within = λ y k. ⊎_elim (λ i. or_first (more y) (less y) (more_set set free more less c m y i)) (λ i. free_or y i (y == c) refl) (or_cases (set y) (free y) (x.within y k));
 }
   where
@@ -246,13 +246,13 @@ with_taken p n limit set free more less c m g x e = record {
     free_or y i false k = or_second (more y) (less y) (less_other set free more less c m y i (λ j. false≢true (sym k ∙ eq-eqb y c j)))
 
 -- and one without it one of what is left
-without_taken : (p : Problem) (n limit : ℕ) (set free more less : ℕ → Bool) (c : ℕ) → IsMove set free more less c → (g : List ℕ) → IsExtension p n limit set free g → member g c ≡ false → IsExtension p n limit set less g
+without_taken : (p : Problem) (n limit : ℕ) (set free more less : ℕ → Bool) (c : ℕ) → IsMove set free more less c → (g : List ℕ) → IsExtension p n limit set free g → contains g c ≡ false → IsExtension p n limit set less g
 without_taken p n limit set free more less c m g x e = record {
   in_order = x.in_order;
   connected = x.connected;
   small = x.small;
   has = x.has;
-  within = λ y k. ⊎_elim (λ i. or_first (set y) (less y) i) (λ i. or_second (set y) (less y) (less_other set free more less c m y i (λ j. false≢true (sym e ∙ (ap (member g) (sym j) ∙ k))))) (or_cases (set y) (free y) (x.within y k));
+  within = λ y k. ⊎_elim (λ i. or_first (set y) (less y) i) (λ i. or_second (set y) (less y) (less_other set free more less c m y i (λ j. false≢true (sym e ∙ (ap (contains g) (sym j) ∙ k))))) (or_cases (set y) (free y) (x.within y k));
 }
 
 -- those that pass the test are those with the place and those without it
@@ -264,7 +264,7 @@ fork_kept p n limit keep set free more less c xs ys h is_free m taken left =
     (λ k. let s = taken_sound g k in (extension_taken p n limit set free more less c is_free m g s.0, s.1))
     (λ k. let s = left_sound g k in (extension_left p n limit set free more less c m g s.0, s.1))
     (has_append xs ys g i))
-    (λ g x e. go g x e (member g c) refl)
+    (λ g x e. go g x e (contains g c) refl)
     (distinct_append xs ys (distinct_from_pairs xs taken.once) (distinct_from_pairs ys left.once) (λ g i j. parts_differ p n limit set free more less c h is_free m g (taken_sound g i).0 (left_sound g j).0))
   where
     taken_sound : (g : List ℕ) → Has xs g → IsExtension p n limit more less g × (keep g ≡ true)
@@ -273,6 +273,6 @@ fork_kept p n limit keep set free more less c xs ys h is_free m taken left =
     left_sound : (g : List ℕ) → Has ys g → IsExtension p n limit set less g × (keep g ≡ true)
     left_sound = kept_sound p n limit keep set less ys left
 
-    go : (g : List ℕ) → IsExtension p n limit set free g → keep g ≡ true → (b : Bool) → member g c ≡ b → Has (xs ++ ys) g
+    go : (g : List ℕ) → IsExtension p n limit set free g → keep g ≡ true → (b : Bool) → contains g c ≡ b → Has (xs ++ ys) g
     go g x e true i = has_left xs ys g (kept_complete p n limit keep more less xs taken g (with_taken p n limit set free more less c m g x i) e)
     go g x e false i = has_right xs ys g (kept_complete p n limit keep set less ys left g (without_taken p n limit set free more less c m g x i) e)

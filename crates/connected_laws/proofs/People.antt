@@ -1,7 +1,7 @@
 -- The people of a set that grows, and sets that are passed over, since they stay below the fewest people that suit a seat.
 use Rattle.std.proofs.Common.{◌≡◌, ℕ, ◌+◌, ◌-◌, ◌*◌, ◌≤◌, ◌<◌, Bool, true, false, nat_lt, ◌||◌, List, [], ◌∷◌, length, refl, sym, ap, ◌∙◌, arith}
 use Rattle.std.proofs.lemmas.Bool.{false≢true, ltb-true}
-use Rattle.grouping_laws.specs.Sets.{member}
+use Rattle.grouping_laws.specs.Sets.{contains}
 use Rattle.grouping_laws.specs.Problem.{Problem, Suits, people_of, IsProblem}
 use Rattle.grouping_laws.specs.SeatWindow.{people_bounds}
 use Rattle.place_laws.specs.PlaceSets.{places_of}
@@ -21,7 +21,7 @@ small_none p n limit most people least keep set free problem suiting few sum bou
     below : people_of p (places_of n set) + (limit - length (places_of n set)) * most < (people_bounds p 1).0
     below = omega (arith, ltb-true (people + (limit - length (places_of n set)) * most) least short, sum, bound)
 
-    free_of : (g : List ℕ) → IsExtension p n limit set free g → (c : ℕ) → member g c ≡ true → set c ≡ false → p.people c ≤ most
+    free_of : (g : List ℕ) → IsExtension p n limit set free g → (c : ℕ) → contains g c ≡ true → set c ≡ false → p.people c ≤ most
     free_of g x c m out = few c (ap (λ b. b || free c) (sym out) ∙ x.within c m)
 
     none : (g : List ℕ) → IsExtension p n limit set free g → keep g ≡ false

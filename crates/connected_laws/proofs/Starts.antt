@@ -1,7 +1,7 @@
 -- Where the sets from a place begin, and what the extensions of that beginning are.
 use Rattle.std.proofs.Common.{◌≡◌, ℕ, zero, suc, ◌≤◌, ◌<◌, Bool, true, false, cond, nat_lt, List, [], ◌∷◌, map, filter, length, refl, sym, ap, ◌∙◌, subst, arith, ◌||◌, ◌==◌}
 use Rattle.std.proofs.lemmas.Bool.{eqb-true, eq-eqb, false≢true, ltb-true, ltb-false}
-use Rattle.grouping_laws.specs.Sets.{digit, often, member}
+use Rattle.grouping_laws.specs.Sets.{indicator, count, contains}
 use Rattle.grouping_laws.specs.Problem.{Problem, Suits, people_of}
 use Rattle.grouping_laws.specs.Places.{places_below}
 use Rattle.place_laws.specs.PlaceSets.{places_of}
@@ -40,14 +40,14 @@ least_begins (suc n) at t b x l e = go (λ z r. least_begins n z (λ i. t (suc i
     go hyp false d h zero k f = absurd (false≢true (sym d ∙ f))
     go hyp false d h (suc y) k f = later hyp (filter (λ i. t (suc i)) (places_below n)) refl h y (omega arith) f
 
-pub start_alike : (n at : ℕ) (set free : ℕ → Bool) → IsStart n at set free → (x : ℕ) → often x (at ∷ []) ≡ often x (places_of n set)
+pub start_alike : (n at : ℕ) (set free : ℕ → Bool) → IsStart n at set free → (x : ℕ) → count x (at ∷ []) ≡ count x (places_of n set)
 start_alike n at set free h x = go (at == x) refl
   where
-    go : (b : Bool) → (at == x) ≡ b → often x (at ∷ []) ≡ often x (places_of n set)
+    go : (b : Bool) → (at == x) ≡ b → count x (at ∷ []) ≡ count x (places_of n set)
     go true e =
         let same : at ≡ x = eqb-true at x e in
-        omega (arith, ap digit e, often_in n x set (subst (λ z. z < n) same h.there) (ap set (sym same) ∙ h.set_has))
-    go false e = omega (arith, ap digit e, often_out n x set (not_here (set x) refl))
+        omega (arith, ap indicator e, often_in n x set (subst (λ z. z < n) same h.there) (ap set (sym same) ∙ h.set_has))
+    go false e = omega (arith, ap indicator e, often_out n x set (not_here (set x) refl))
       where
         not_here : (d : Bool) → set x ≡ d → d ≡ false
         not_here false k = refl
@@ -71,11 +71,11 @@ pub set_from : (p : Problem) (n limit at : ℕ) (set free : ℕ → Bool) → Is
 set_from p n limit at set free h g x = record {
   connected = x.connected;
   in_order = x.in_order;
-  first = subst (λ z. BeginsWith at z) x.in_order (begins_least n at (member g) h.there (x.has at h.set_has) (λ c l. before c l (member g c) refl));
+  first = subst (λ z. BeginsWith at z) x.in_order (begins_least n at (contains g) h.there (x.has at h.set_has) (λ c l. before c l (contains g c) refl));
   small = x.small;
 }
   where
-    before : (c : ℕ) → c < at → (b : Bool) → member g c ≡ b → b ≡ false
+    before : (c : ℕ) → c < at → (b : Bool) → contains g c ≡ b → b ≡ false
     before c l false e = refl
     before c l true e = absurd (cases (set c) refl (free c) refl (x.within c e))
       where
@@ -85,18 +85,18 @@ set_from p n limit at set free h g x = record {
         cases false i false j o = false≢true o
 
 -- and a group from it where it suits some number of seats
-pub group_from : (p : Problem) (n limit at : ℕ) (set free : ℕ → Bool) → ((x : ℕ) → x < n → member p.counties x ≡ true) → IsStart n at set free → (g : List ℕ) → IsExtension p n limit set free g → (k : ℕ) → Suits p (people_of p g) k
+pub group_from : (p : Problem) (n limit at : ℕ) (set free : ℕ → Bool) → ((x : ℕ) → x < n → contains p.counties x ≡ true) → IsStart n at set free → (g : List ℕ) → IsExtension p n limit set free g → (k : ℕ) → Suits p (people_of p g) k
     → IsGroupFrom p (places_below n) limit at (λ x. true) g
 group_from p n limit at set free known h g x k s = record {
-  lawful = record { once = λ c. subst (λ z. often c z ≤ 1) x.in_order (often_placed n c (member g)); listed = λ c e. known c (here c e); connected = x.connected; seats = k; suits = s };
+  lawful = record { once = λ c. subst (λ z. count c z ≤ 1) x.in_order (often_placed n c (contains g)); listed = λ c e. known c (here c e); connected = x.connected; seats = k; suits = s };
   in_order = x.in_order;
   first = (set_from p n limit at set free h g x).first;
   small = x.small;
   inside = λ c e. refl;
 }
   where
-    here : (c : ℕ) → member g c ≡ true → c < n
-    here c e = placed_below n c (member g) (subst (λ z. member z c ≡ true) (sym x.in_order) e)
+    here : (c : ℕ) → contains g c ≡ true → c < n
+    here c e = placed_below n c (contains g) (subst (λ z. contains z c ≡ true) (sym x.in_order) e)
 
 -- and each group from the place is one
 pub from_group : (p : Problem) (n limit at : ℕ) (set free : ℕ → Bool) → IsStart n at set free → (g : List ℕ) → IsGroupFrom p (places_below n) limit at (λ x. true) g → IsExtension p n limit set free g
@@ -104,24 +104,24 @@ from_group p n limit at set free h g x = record {
   in_order = x.in_order;
   connected = x.lawful.connected;
   small = x.small;
-  has = λ c e. subst (λ z. member g z ≡ true) (sym (h.set_is c e)) (head_member g at x.first);
+  has = λ c e. subst (λ z. contains g z ≡ true) (sym (h.set_is c e)) (head_member g at x.first);
   within = λ c e. cases c e (at == c) refl;
 }
   where
-    head_member : (g : List ℕ) (c : ℕ) → BeginsWith c g → member g c ≡ true
-    head_member g c b = subst (λ z. member z c ≡ true) (sym b.1) (ap (λ d. d || member b.0 c) (eq-eqb c c refl))
+    head_member : (g : List ℕ) (c : ℕ) → BeginsWith c g → contains g c ≡ true
+    head_member g c b = subst (λ z. contains z c ≡ true) (sym b.1) (ap (λ d. d || contains b.0 c) (eq-eqb c c refl))
 
-    here : (c : ℕ) → member g c ≡ true → c < n
-    here c e = placed_below n c (member g) (subst (λ z. member z c ≡ true) (sym x.in_order) e)
+    here : (c : ℕ) → contains g c ≡ true → c < n
+    here c e = placed_below n c (contains g) (subst (λ z. contains z c ≡ true) (sym x.in_order) e)
 
-    from : (c : ℕ) → member g c ≡ true → at ≤ c
-    from c e = least_begins n at (member g) (subst (λ z. BeginsWith at z) (sym x.in_order) x.first) c (here c e) e
+    from : (c : ℕ) → contains g c ≡ true → at ≤ c
+    from c e = least_begins n at (contains g) (subst (λ z. BeginsWith at z) (sym x.in_order) x.first) c (here c e) e
 
     or_right : (a b : Bool) → b ≡ true → (a || b) ≡ true
     or_right true b e = refl
     or_right false b e = e
 
-    cases : (c : ℕ) → member g c ≡ true → (b : Bool) → (at == c) ≡ b → (set c || free c) ≡ true
+    cases : (c : ℕ) → contains g c ≡ true → (b : Bool) → (at == c) ≡ b → (set c || free c) ≡ true
     cases c e true k = ap (λ z. z || free c) (ap set (sym (eqb-true at c k)) ∙ h.set_has)
     cases c e false k = or_right (set c) (free c) (h.later_free c (after (nat_lt at c) refl) (here c e))
       where

@@ -1,7 +1,7 @@
 -- How the connected sets of places that have given ones are found: free places join a set one after another.
 use Rattle.std.specs.Prelude.{ℕ, ◌≡◌, ◌≢◌, ◌≤◌, ◌<◌, Bool, true, false, ◌||◌, ◌&&◌, not, ◌==◌, nat_lt, List, filter}
 use Rattle.std.specs.Prelude.{length, AllPairs, Contains, ◌⊎◌, ◌↔◌}
-use Rattle.grouping_laws.specs.Sets.{member}
+use Rattle.grouping_laws.specs.Sets.{contains}
 use Rattle.grouping_laws.specs.Problem.{Problem, Suits, people_of, Connected}
 use Rattle.grouping_laws.specs.Places.{places_below}
 use Rattle.place_laws.specs.PlaceSets.{places_of}
@@ -9,11 +9,11 @@ pub use Rattle.place_laws.specs.PlaceSets.{sort_key}
 
 -- a connected list of places, ascending, that has all of a set, else only free places, and is not too long
 pub record IsExtension (p : Problem) (n limit : ℕ) (set free : ℕ → Bool) (g : List ℕ) : Type 0 where
-  pub in_order : filter (member g) (places_below n) ≡ g
+  pub in_order : filter (contains g) (places_below n) ≡ g
   pub connected : Connected p g
   pub small : length g ≤ limit
-  pub has : (c : ℕ) → set c ≡ true → member g c ≡ true
-  pub within : (c : ℕ) → member g c ≡ true → (set c || free c) ≡ true
+  pub has : (c : ℕ) → set c ≡ true → contains g c ≡ true
+  pub within : (c : ℕ) → contains g c ≡ true → (set c || free c) ≡ true
 
 -- all of them that pass a test, each once
 pub record AreKept (p : Problem) (n limit : ℕ) (keep : List ℕ → Bool) (set free : ℕ → Bool)

@@ -3,7 +3,7 @@ use Rattle.std.specs.Prelude.{ℕ, ◌≡◌, ◌<◌, Bool, true, false, List, 
 use Rattle.std.specs.Cmp.Lexicographic.{slice_cmp}
 use Rattle.std.specs.Ordering.{nat_cmp, is_lt}
 use Rattle.std.specs.List.Sorted.{IsSortedBy, IsPermutation}
-use Rattle.grouping_laws.specs.Sets.{member}
+use Rattle.grouping_laws.specs.Sets.{contains}
 use Rattle.grouping_laws.specs.Problem.{Problem}
 use Rattle.grouping_laws.specs.Places.{places_below}
 use Rattle.place_laws.specs.PlaceSets.{places_of}
@@ -36,7 +36,7 @@ NothingIsLost =
 abbrev pub KeptAreGroups : Type 0
 KeptAreGroups =
     (p : Problem) (n limit at : ℕ) (set free : ℕ → Bool) (keep : List ℕ → Bool) (sets groups : List (List ℕ))
-    → ((x : ℕ) → x < n → member p.counties x ≡ true) → IsStart n at set free
+    → ((x : ℕ) → x < n → contains p.counties x ≡ true) → IsStart n at set free
     → TestsSuiting p keep → AreKept p n limit keep set free sets → IsPermutation sets groups
     → IsSortedBy (λ g h. is_lt (slice_cmp nat_cmp (sort_key g) (sort_key h))) groups
     → AreGroupsFrom p (places_below n) limit at (λ x. true) groups

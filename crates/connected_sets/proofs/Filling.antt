@@ -5,7 +5,7 @@ use Rattle.std.proofs.lemmas.List.{length-map}
 use Rattle.place_laws.specs.Lists.{places_below}
 use Rattle.place_laws.specs.PlaceSets.{places_of}
 use Rattle.place_laws.proofs.Sums.{total_ones}
-use Rattle.grouping_laws.specs.Sets.{member}
+use Rattle.grouping_laws.specs.Sets.{contains}
 use Rattle.grouping_laws.specs.Problem.{Problem}
 use Rattle.grouping_laws.specs.Parts.{IsPart}
 use Rattle.connected_laws.specs.Growing.{IsGrowth, IsCandidate, IsMove, IsFront, IsStart}
@@ -100,6 +100,6 @@ filled_part p n region part rest front h none = record {
   whole = λ x y e k t. whole x y (placed_test n x part e) k t (part y) refl;
 }
   where
-    whole : (x y : ℕ) → part x ≡ true → region y ≡ true → p.adjacent x y ≡ true → (s : Bool) → part y ≡ s → member (places_of n part) y ≡ true
+    whole : (x y : ℕ) → part x ≡ true → region y ≡ true → p.adjacent x y ≡ true → (s : Bool) → part y ≡ s → contains (places_of n part) y ≡ true
     whole x y e k t true i = placed n y part (h.growth.below y i) i
     whole x y e k t false i = absurd (false≢true (sym (empty_front p part rest front h.fringe none x y e (h.left y ∙ and_from (region y) (not (part y)) k (ap not i))) ∙ t))

@@ -1,7 +1,7 @@
 //! Questions about lists of county codes: membership, the first repeated code, the first unlisted code.
 
 ghost use Rattle.std.specs.Prelude.{◌≡◌, ℕ, IfOk};
-ghost use Rattle.place_laws.specs.Lists.{member};
+ghost use Rattle.place_laws.specs.Lists.{contains};
 ghost use Rattle.county_codes.specs.CodeLists.{first_repeated, first_unlisted};
 ghost use Rattle.county_codes.specs.Counties.{codes_of};
 
@@ -11,7 +11,7 @@ use std::alloc::{AllocError, Global};
 
 /// Whether the code stands in the list.
 pub fn has_code(codes: &[CountyCode], code: CountyCode) -> bool
-    ensures { result ≡ member codes.now code }
+    ensures { result ≡ contains codes.now code }
 {
     codes.iter().any(|c| *c == code)
 }

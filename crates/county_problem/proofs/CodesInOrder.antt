@@ -3,7 +3,7 @@ use Rattle.std.proofs.Common.{◌≡◌, ℕ, ◌+◌, ◌<◌, Bool, true, fals
 use Rattle.std.proofs.lemmas.List.{map-append}
 use Rattle.place_laws.specs.PlaceSets.{places_of}
 use Rattle.place_laws.proofs.PlaceSums.{places_step}
-use Rattle.grouping_laws.specs.Sets.{member}
+use Rattle.grouping_laws.specs.Sets.{contains}
 use Rattle.grouping_laws.specs.GroupsFrom.{place}
 use Rattle.grouping_laws.specs.Places.{codes_at}
 use Rattle.grouping_laws.specs.PlaceProblem.{code_at}
@@ -24,9 +24,9 @@ codes_out order t i olds has e =
     e ∙ sym (ap (codes_at order) (places_step t i ∙ (ap (λ b. places_of i t ++ cond b (i ∷ []) []) has ∙ append-nil (places_of i t))))
 
 -- a code that stands at no place is no code of the order
-pub at_no_place : (order : List ℕ) (c : ℕ) → ((k : ℕ) → k < length order → code_at order k ≡ c → ⊥) → member order c ≡ false
-at_no_place order c none = go (member order c) refl
+pub at_no_place : (order : List ℕ) (c : ℕ) → ((k : ℕ) → k < length order → code_at order k ≡ c → ⊥) → contains order c ≡ false
+at_no_place order c none = go (contains order c) refl
   where
-    go : (b : Bool) → member order c ≡ b → b ≡ false
+    go : (b : Bool) → contains order c ≡ b → b ≡ false
     go false e = refl
     go true e = let r = places_are_codes.there order c e in absurd (none (place order c) r.0 r.1)

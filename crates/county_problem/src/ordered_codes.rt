@@ -2,7 +2,7 @@
 
 ghost use Rattle.std.specs.Prelude.{◌≡◌, false, ◌<◌, ◌≤◌, length, All, IfOk, MatchOption};
 ghost use Rattle.std.specs.List.{AllByRecursion};
-ghost use Rattle.grouping_laws.specs.Sets.{member};
+ghost use Rattle.grouping_laws.specs.Sets.{contains};
 ghost use Rattle.county_problem.specs.OrderedValue.{code_at};
 ghost use Rattle.county_problem.specs.OrderCodes.{codes_of_set};
 
@@ -45,7 +45,7 @@ impl Ordered<'_> {
 
     /// The place of the county with the code, `None` if the order has no such county.
     pub fn place_of(&self, code: CountyCode) -> Option<u16>
-        ensures { MatchOption result (member self.now.order code ≡ false) (λ place. (place < length self.now.order)
+        ensures { MatchOption result (contains self.now.order code ≡ false) (λ place. (place < length self.now.order)
             × (code_at self.now.order place ≡ code)) }
     {
         for place in 0..self.places() {

@@ -1,6 +1,6 @@
 -- What the groups of a grouping are together.
 use Rattle.std.proofs.Common.{◌≡◌, ℕ, ◌≤◌, Bool, true, false, List, [], ◌∷◌, length, refl, arith}
-use Rattle.grouping_laws.specs.Sets.{digit, total, often, stands, member}
+use Rattle.grouping_laws.specs.Sets.{indicator, sum_by, count, count_in, contains}
 use Rattle.grouping_laws.specs.Problem.{Problem, Suits, people_of, IsProblem}
 use Rattle.grouping_laws.specs.Grouping.{sets_of}
 use Rattle.grouping_laws.specs.Totals.{WindowsAddUp, SizesAddUp, GroupsFit}
@@ -11,19 +11,19 @@ use Rattle.grouping_laws.proofs.Windows.{suits_sum}
 use Rattle.grouping_laws.proofs.Digits.{often_member}
 
 -- sets that have each county of the problem once have as many counties together
-pub sizes : (p : Problem) → IsProblem p → (sets : List (List ℕ)) → ((c : ℕ) → stands c sets ≡ digit (member p.counties c)) → total length sets ≡ length p.counties
+pub sizes : (p : Problem) → IsProblem p → (sets : List (List ℕ)) → ((c : ℕ) → count_in c sets ≡ indicator (contains p.counties c)) → sum_by length sets ≡ length p.counties
 sizes p is sets once =
-    let same : (c : ℕ) → stands c sets ≡ stands c (p.counties ∷ []) = λ c. omega (arith, once c, often_member p.counties c (is.once c)) in
+    let same : (c : ℕ) → count_in c sets ≡ count_in c (p.counties ∷ []) = λ c. omega (arith, once c, often_member p.counties c (is.once c)) in
     omega (arith, same_sizes sets (p.counties ∷ []) same)
 
 -- listed codes, each once, are no more than those of the list
-pub few_codes : (listed codes : List ℕ) → ((c : ℕ) → often c codes ≤ 1) → ((c : ℕ) → member codes c ≡ true → member listed c ≡ true) → length codes ≤ length listed
+pub few_codes : (listed codes : List ℕ) → ((c : ℕ) → count c codes ≤ 1) → ((c : ℕ) → contains codes c ≡ true → contains listed c ≡ true) → length codes ≤ length listed
 few_codes listed codes once known = omega (arith, total_within (λ x. 1) codes listed within, total_ones codes, total_ones listed)
   where
-    within : (c : ℕ) → often c codes ≤ often c listed
-    within c = go (member codes c) refl
+    within : (c : ℕ) → count c codes ≤ count c listed
+    within c = go (contains codes c) refl
       where
-        go : (b : Bool) → member codes c ≡ b → often c codes ≤ often c listed
+        go : (b : Bool) → contains codes c ≡ b → count c codes ≤ count c listed
         go true e = omega (arith, once c, often_some c listed (known c e))
         go false e = omega (arith, often_none c codes e)
 

@@ -1,7 +1,7 @@
 -- Greater orders counts.
 use Rattle.std.proofs.Common.{◌≡◌, ℕ, zero, suc, ◌+◌, ◌*◌, ◌≤◌, ◌<◌, List, length, refl, sym, ◌∙◌, subst, arith, ◌⊎◌, inl, inr, ⊎_elim}
 use Rattle.std.proofs.lemmas.Bool.{cases_order}
-use Rattle.grouping_laws.specs.Sets.{total}
+use Rattle.grouping_laws.specs.Sets.{sum_by}
 use Rattle.grouping_laws.specs.Grouping.{counts, IsGreater}
 use Rattle.grouping_laws.specs.Order.{GreaterIsIrreflexive, GreaterIsTransitive, GreaterIsTotal}
 use Rattle.grouping_laws.proofs.Sizes.{below-le}
@@ -41,7 +41,7 @@ compared (suc n) f g = ⊎_elim inl (λ o. ⊎_elim (λ h. inr (inl h)) next o) 
         equal : f (suc n) ≡ g (suc n) → IsGreater f g ⊎ (IsGreater g f ⊎ SameUpTo (suc n) f g)
         equal h = inr (inr (λ i a b. ⊎_elim (λ e. subst (λ z. f z ≡ g z) (sym e) h) (λ o. ⊎_elim (λ l. same i a (omega arith)) (λ l. absurd (omega arith)) o) (cases_order i (suc n))))
 
-pub no_larger : (sets : List (List ℕ)) (i : ℕ) → total length sets < i → counts sets i ≡ 0
+pub no_larger : (sets : List (List ℕ)) (i : ℕ) → sum_by length sets < i → counts sets i ≡ 0
 no_larger sets i h = ⊎_elim (λ e. e) (λ o. absurd (o)) (none_or (counts sets i) i (omega (arith, below-le 0 i sets (omega arith))))
   where
     none_or : (x d : ℕ) → x * d < d → (x ≡ 0) ⊎ ⊥
@@ -49,7 +49,7 @@ no_larger sets i h = ⊎_elim (λ e. e) (λ o. absurd (o)) (none_or (counts sets
     none_or (suc x) d l = inr (omega arith)
 
 pub greater_total : GreaterIsTotal
-greater_total xs ys = ⊎_elim inl (λ o. inr (⊎_elim inl (λ same. inr (λ i a. ⊎_elim (λ b. same i a b) (λ b. no_larger xs i (omega arith) ∙ sym (no_larger ys i (omega arith))) (within i (total length xs + total length ys)))) o)) (compared (total length xs + total length ys) (counts xs) (counts ys))
+greater_total xs ys = ⊎_elim inl (λ o. inr (⊎_elim inl (λ same. inr (λ i a. ⊎_elim (λ b. same i a b) (λ b. no_larger xs i (omega arith) ∙ sym (no_larger ys i (omega arith))) (within i (sum_by length xs + sum_by length ys)))) o)) (compared (sum_by length xs + sum_by length ys) (counts xs) (counts ys))
   where
     within : (i n : ℕ) → (i ≤ n) ⊎ (n < i)
     within i n = grind arith

@@ -2,7 +2,7 @@
 use Rattle.std.proofs.Common.{◌≡◌, ℕ, zero, suc, ◌≤◌, ◌<◌, Bool, true, false, cond, ◌||◌, ◌==◌, List, [], ◌∷◌, map, length, refl, sym, ap, ◌∙◌, subst, arith, inl, inr}
 use Rattle.std.proofs.lemmas.Bool.{eqb-true, eq-eqb, ne_eqb, false≢true}
 use Rattle.std.proofs.lemmas.Bool.Decides.{nat_tests}
-use Rattle.grouping_laws.specs.Sets.{digit, often, member}
+use Rattle.grouping_laws.specs.Sets.{indicator, count, contains}
 use Rattle.grouping_laws.specs.GroupsFrom.{place}
 use Rattle.grouping_laws.specs.Places.{places_below, codes_at}
 use Rattle.grouping_laws.specs.PlaceProblem.{code_at}
@@ -13,11 +13,11 @@ use Rattle.grouping_laws.proofs.Places.{has_member, place_at, places_are_codes}
 abbrev pub Below : ℕ → List ℕ → Type 0
 Below n g = (i : ℕ) → Has g i → i < n
 
-pub member_has : (xs : List ℕ) (c : ℕ) → member xs c ≡ true → Has xs c
+pub member_has : (xs : List ℕ) (c : ℕ) → contains xs c ≡ true → Has xs c
 member_has [] c e = absurd (false≢true e)
 member_has (x ∷ xs) c e = go (x == c) refl e (member_has xs c)
   where
-    go : (b : Bool) → (x == c) ≡ b → (b || member xs c) ≡ true → (member xs c ≡ true → Has xs c) → Has (x ∷ xs) c
+    go : (b : Bool) → (x == c) ≡ b → (b || contains xs c) ≡ true → (contains xs c ≡ true → Has xs c) → Has (x ∷ xs) c
     go true k o next = inl (eqb-true x c k)
     go false k o next = inr (next o)
 
@@ -52,7 +52,7 @@ places_here n (x ∷ g) h = both (place_here n x (h x (inl refl))) (places_here 
     both : place (places_below n) x ≡ x → map (place (places_below n)) g ≡ g → place (places_below n) x ∷ map (place (places_below n)) g ≡ x ∷ g
     both e k = cc
 
-module _ (order : List ℕ) (once : (c : ℕ) → often c order ≤ 1) where
+module _ (order : List ℕ) (once : (c : ℕ) → count c order ≤ 1) where
   -- two places of the order have one code exactly where they are one place
   same_code : (i j : ℕ) → i < length order → j < length order → (code_at order i == code_at order j) ≡ (i == j)
   same_code i j l m = go (i == j) refl
@@ -61,20 +61,20 @@ module _ (order : List ℕ) (once : (c : ℕ) → often c order ≤ 1) where
       go true e = eq-eqb (code_at order i) (code_at order j) (ap (code_at order) (eqb-true i j e))
       go false e = ne_eqb (code_at order i) (code_at order j) (λ k. false≢true (sym e ∙ eq-eqb i j (sym (place_at order once i l) ∙ (ap (place order) k ∙ place_at order once j m))))
 
-  pub often_code : (g : List ℕ) → Below (length order) g → (i : ℕ) → i < length order → often (code_at order i) (codes_at order g) ≡ often i g
+  pub often_code : (g : List ℕ) → Below (length order) g → (i : ℕ) → i < length order → count (code_at order i) (codes_at order g) ≡ count i g
   often_code [] below i l = refl
-  often_code (x ∷ g) below i l = omega (arith, ap digit (same_code x i (below x (inl refl)) l), often_code g (λ y h. below y (inr h)) i l)
+  often_code (x ∷ g) below i l = omega (arith, ap indicator (same_code x i (below x (inl refl)) l), often_code g (λ y h. below y (inr h)) i l)
 
-  pub member_code : (g : List ℕ) → Below (length order) g → (i : ℕ) → i < length order → member (codes_at order g) (code_at order i) ≡ member g i
+  pub member_code : (g : List ℕ) → Below (length order) g → (i : ℕ) → i < length order → contains (codes_at order g) (code_at order i) ≡ contains g i
   member_code [] below i l = refl
-  member_code (x ∷ g) below i l = ap (λ b. b || member (codes_at order g) (code_at order i)) (same_code x i (below x (inl refl)) l) ∙ ap (λ b. (x == i) || b) (member_code g (λ y h. below y (inr h)) i l)
+  member_code (x ∷ g) below i l = ap (λ b. b || contains (codes_at order g) (code_at order i)) (same_code x i (below x (inl refl)) l) ∙ ap (λ b. (x == i) || b) (member_code g (λ y h. below y (inr h)) i l)
 
   -- a code of the list stands at its place, which is a place of the list
-  pub code_place : (g : List ℕ) → Below (length order) g → (c : ℕ) → member (codes_at order g) c ≡ true → (place order c < length order) × (member g (place order c) ≡ true) × (code_at order (place order c) ≡ c)
+  pub code_place : (g : List ℕ) → Below (length order) g → (c : ℕ) → contains (codes_at order g) c ≡ true → (place order c < length order) × (contains g (place order c) ≡ true) × (code_at order (place order c) ≡ c)
   code_place g below c e =
       let r : (i : ℕ) × Has g i × (code_at order i ≡ c) = has_mapped (code_at order) g c (member_has (codes_at order g) c e) in
       let at : place order c ≡ r.0 = sym (ap (place order) r.2) ∙ place_at order once r.0 (below r.0 r.1) in
-      (subst (λ z. z < length order) (sym at) (below r.0 r.1), ap (member g) at ∙ has_member g r.0 r.1, ap (code_at order) at ∙ r.2)
+      (subst (λ z. z < length order) (sym at) (below r.0 r.1), ap (contains g) at ∙ has_member g r.0 r.1, ap (code_at order) at ∙ r.2)
 
   pub places_back : (g : List ℕ) → Below (length order) g → map (place order) (codes_at order g) ≡ g
   places_back g below = places_are_codes.back order once g (all_from_has (λ i. i < length order) g below)

@@ -2,7 +2,7 @@
 use Rattle.std.proofs.Common.{◌≡◌, ℕ, ◌≤◌, ◌<◌, ◌≢◌, Bool, true, false, List, [], map, filter, length, get_or, refl, sym, ap, ◌∙◌, subst, arith, inl, inr, ⊎_elim, Contains, AllPairs}
 use Rattle.std.proofs.lemmas.List.{length-map, get_or-map}
 use Rattle.std.proofs.lemmas.List.Elements.{Contains-get_or}
-use Rattle.grouping_laws.specs.Sets.{digit, often, member}
+use Rattle.grouping_laws.specs.Sets.{indicator, count, contains}
 use Rattle.grouping_laws.specs.Problem.{Problem, Suits, people_of}
 use Rattle.grouping_laws.specs.GroupsFrom.{IsOrder, place, IsLesser, IsBefore, IsGroupFrom, AreGroupsFrom, IsSetFrom}
 use Rattle.grouping_laws.specs.Places.{places_below, codes_at}
@@ -16,7 +16,7 @@ use Rattle.grouping_laws.proofs.PlaceCodes.{Below, member_has, mapped_has, has_m
 use Rattle.grouping_laws.proofs.PlaceProblem.{below_ordered, often_kept, below_once, order_once, people_codes, suits_codes, suits_places, ordered_codes, places_for, codes_for, set_codes, set_places}
 
 -- The order of sets, and lists of sets that stand once, stay through the codes.
-module _ (order : List ℕ) (once : (c : ℕ) → often c order ≤ 1) where
+module _ (order : List ℕ) (once : (c : ℕ) → count c order ≤ 1) where
   pub before_codes : (g h : List ℕ) → Below (length order) g → Below (length order) h → IsBefore (places_below (length order)) g h → IsBefore order (codes_at order g) (codes_at order h)
   before_codes g h below within =
       ⊎_elim
@@ -50,37 +50,37 @@ module _ (order : List ℕ) (once : (c : ℕ) → often c order ≤ 1) where
       subst (Has groups) (codes_injective order once r.0 g (below r.0 r.1) within r.2) r.1
 
 module _ (p : Problem) (order : List ℕ) (whole : IsOrder p order) where
-  once : (c : ℕ) → often c order ≤ 1
+  once : (c : ℕ) → count c order ≤ 1
   once = order_once p order whole
 
-  listed_codes : (g : List ℕ) → Below (length order) g → (c : ℕ) → member (codes_at order g) c ≡ true → member p.counties c ≡ true
+  listed_codes : (g : List ℕ) → Below (length order) g → (c : ℕ) → contains (codes_at order g) c ≡ true → contains p.counties c ≡ true
   listed_codes g below c e =
       let x = code_place order once g below c e in
-      let here : member order c ≡ true = has_member order c (subst (Has order) x.2 (has_get order (place order c) 0 x.0)) in
-      digit_true (member p.counties c) (omega (arith, whole c, often_some c order here))
+      let here : contains order c ≡ true = has_member order c (subst (Has order) x.2 (has_get order (place order c) 0 x.0)) in
+      digit_true (contains p.counties c) (omega (arith, whole c, often_some c order here))
 
-  listed_places : (g : List ℕ) → Below (length order) g → (i : ℕ) → member g i ≡ true → member (places_below (length order)) i ≡ true
+  listed_places : (g : List ℕ) → Below (length order) g → (i : ℕ) → contains g i ≡ true → contains (places_below (length order)) i ≡ true
   listed_places g below i e = member_from_often i (places_below (length order)) (omega (arith, often_below (length order) i (below i (member_has g i e))))
 
   -- a list of places has no more people than all counties
-  pub people_places : (g : List ℕ) → filter (member g) (places_below (length order)) ≡ g → people_of (at_places p order) g ≤ people_of p p.counties
+  pub people_places : (g : List ℕ) → filter (contains g) (places_below (length order)) ≡ g → people_of (at_places p order) g ≤ people_of p p.counties
   people_places g e = omega (arith, people_codes p order g, total_within p.people (codes_at order g) p.counties few)
     where
-      known : (c : ℕ) → digit (member p.counties c) ≤ often c p.counties
-      known c = go (member p.counties c) refl
+      known : (c : ℕ) → indicator (contains p.counties c) ≤ count c p.counties
+      known c = go (contains p.counties c) refl
         where
-          go : (b : Bool) → member p.counties c ≡ b → digit b ≤ often c p.counties
+          go : (b : Bool) → contains p.counties c ≡ b → indicator b ≤ count c p.counties
           go true k = often_some c p.counties k
           go false k = omega arith
 
-      few : (c : ℕ) → often c (codes_at order g) ≤ often c p.counties
-      few c = omega (arith, ap (often c) (ordered_codes p order once g e), often_kept c (member (codes_at order g)) order, whole c, known c)
+      few : (c : ℕ) → count c (codes_at order g) ≤ count c p.counties
+      few c = omega (arith, ap (count c) (ordered_codes p order once g e), often_kept c (contains (codes_at order g)) order, whole c, known c)
 
   -- a group of places from a place is a group of codes from the code there
   pub group_codes : (limit at : ℕ) (g : List ℕ) → IsGroupFrom (at_places p order) (places_below (length order)) limit at (λ x. true) g → IsGroupFrom p order limit (code_at order at) (λ x. true) (codes_at order g)
   group_codes limit at g x = record {
     lawful = record {
-      once = λ c. subst (λ z. often c z ≤ 1) set.in_order (omega (arith, once c, often_kept c (member (codes_at order g)) order));
+      once = λ c. subst (λ z. count c z ≤ 1) set.in_order (omega (arith, once c, often_kept c (contains (codes_at order g)) order));
       listed = listed_codes g (below_ordered (length order) g x.in_order);
       connected = set.connected;
       seats = x.lawful.seats;
@@ -112,7 +112,7 @@ module _ (p : Problem) (order : List ℕ) (whole : IsOrder p order) where
       group : IsGroupFrom (at_places p order) (places_below (length order)) limit at (λ x. true) g
       group = record {
         lawful = record {
-          once = λ i. subst (λ z. often i z ≤ 1) set.in_order (omega (arith, below_once (length order) i, often_kept i (member g) (places_below (length order))));
+          once = λ i. subst (λ z. count i z ≤ 1) set.in_order (omega (arith, below_once (length order) i, often_kept i (contains g) (places_below (length order))));
           listed = listed_places g (below_ordered (length order) g set.in_order);
           connected = set.connected;
           seats = x.lawful.seats;

@@ -2,19 +2,19 @@
 use Rattle.std.proofs.Common.{◌≡◌, ℕ, ◌≤◌, ◌<◌, Bool, true, false, cond, nat_lt, ◌&&◌, List, [], ◌∷◌, filter, length, refl, sym, ap, ◌∙◌, subst, arith, inl}
 use Rattle.std.proofs.lemmas.Bool.{ltb-true, ltb-false}
 use Rattle.std.proofs.lemmas.List.{length-map}
-use Rattle.grouping_laws.specs.Sets.{often, member}
+use Rattle.grouping_laws.specs.Sets.{count, contains}
 use Rattle.grouping_laws.specs.Problem.{Problem, Suits, people_of, Connected, HasBorder, IsProblem}
 use Rattle.grouping_laws.specs.GroupsFrom.{IsOrder, place, BeginsWith, IsSetFrom}
 use Rattle.grouping_laws.specs.Places.{places_below, codes_at}
 use Rattle.place_laws.specs.PlaceSets.{places_of}
 use Rattle.grouping_laws.specs.PlaceProblem.{code_at, at_places}
-use Rattle.place_laws.proofs.Sums.{often_some, digit_one, total-map}
+use Rattle.place_laws.proofs.Sums.{often_some, digit_one, sum_by-map}
 use Rattle.grouping_laws.proofs.Digits.{often_member}
 use Rattle.grouping_laws.proofs.Alike.{head_same}
 use Rattle.grouping_laws.proofs.Elements.{Has}
 use Rattle.grouping_laws.proofs.Places.{has_member, filter_members, place_at, places_are_codes}
 use Rattle.grouping_laws.proofs.Parts.{has-filter}
-use Rattle.place_laws.proofs.PlaceSets.{often_below, often_above, often_tested, member-places_of}
+use Rattle.place_laws.proofs.PlaceSets.{often_below, often_above, often_tested, contains-places_of}
 use Rattle.grouping_laws.proofs.PlaceCodes.{Below, member_has, mapped_has, member_code, code_place}
 
 -- the places below n, and what a list in their order has
@@ -25,12 +25,12 @@ place_below n i h = go (nat_lt i n) refl
     go true e = ltb-true i n e
     go false e = absurd (omega (arith, often_above n i (ltb-false i n e), often_some i (places_below n) (has_member (places_below n) i h)))
 
-pub below_ordered : (n : ℕ) (g : List ℕ) → filter (member g) (places_below n) ≡ g → Below n g
-below_ordered n g e i h = place_below n i (has-filter (member g) (places_below n) i (subst (λ z. Has z i) (sym e) h)).0
+pub below_ordered : (n : ℕ) (g : List ℕ) → filter (contains g) (places_below n) ≡ g → Below n g
+below_ordered n g e i h = place_below n i (has-filter (contains g) (places_below n) i (subst (λ z. Has z i) (sym e) h)).0
 
 -- the places that a test keeps stand in their order
-pub places_ordered : (n : ℕ) (t : ℕ → Bool) → filter (member (places_of n t)) (places_below n) ≡ places_of n t
-places_ordered n t = filter_members (member (places_of n t)) t (places_below n) (λ i h. member-places_of n i t ∙ below i (place_below n i h))
+pub places_ordered : (n : ℕ) (t : ℕ → Bool) → filter (contains (places_of n t)) (places_below n) ≡ places_of n t
+places_ordered n t = filter_members (contains (places_of n t)) t (places_below n) (λ i h. contains-places_of n i t ∙ below i (place_below n i h))
   where
     below : (i : ℕ) → i < n → (nat_lt i n && t i) ≡ t i
     below i l = go (nat_lt i n) refl
@@ -40,31 +40,31 @@ places_ordered n t = filter_members (member (places_of n t)) t (places_below n) 
         go false e = absurd (omega (arith, l, ltb-false i n e))
 
 -- a test keeps none more often
-pub often_kept : (c : ℕ) (q : ℕ → Bool) (xs : List ℕ) → often c (filter q xs) ≤ often c xs
+pub often_kept : (c : ℕ) (q : ℕ → Bool) (xs : List ℕ) → count c (filter q xs) ≤ count c xs
 often_kept c q xs = go (q c) (often_tested c q xs)
   where
-    go : (b : Bool) → often c (filter q xs) ≡ cond b (often c xs) 0 → often c (filter q xs) ≤ often c xs
+    go : (b : Bool) → count c (filter q xs) ≡ cond b (count c xs) 0 → count c (filter q xs) ≤ count c xs
     go true e = omega (arith, e)
     go false e = omega (arith, e)
 
 -- each place below n stands at most once
-pub below_once : (n i : ℕ) → often i (places_below n) ≤ 1
+pub below_once : (n i : ℕ) → count i (places_below n) ≤ 1
 below_once n i = go (nat_lt i n) refl
   where
-    go : (b : Bool) → nat_lt i n ≡ b → often i (places_below n) ≤ 1
+    go : (b : Bool) → nat_lt i n ≡ b → count i (places_below n) ≤ 1
     go true e = omega (arith, often_below n i (ltb-true i n e))
     go false e = omega (arith, often_above n i (ltb-false i n e))
 
 -- an order names each code at most once
-pub order_once : (p : Problem) (order : List ℕ) → IsOrder p order → (c : ℕ) → often c order ≤ 1
-order_once p order whole c = omega (arith, whole c, digit_one (member p.counties c))
+pub order_once : (p : Problem) (order : List ℕ) → IsOrder p order → (c : ℕ) → count c order ≤ 1
+order_once p order whole c = omega (arith, whole c, digit_one (contains p.counties c))
 
-codes_member : (order g : List ℕ) (i : ℕ) → member g i ≡ true → member (codes_at order g) (code_at order i) ≡ true
+codes_member : (order g : List ℕ) (i : ℕ) → contains g i ≡ true → contains (codes_at order g) (code_at order i) ≡ true
 codes_member order g i e = has_member (codes_at order g) (code_at order i) (mapped_has (code_at order) g i (member_has g i e))
 
 -- the people of places are those of their codes, and the same numbers of seats suit them
 pub people_codes : (p : Problem) (order g : List ℕ) → people_of p (codes_at order g) ≡ people_of (at_places p order) g
-people_codes p order g = total-map p.people (code_at order) g
+people_codes p order g = sum_by-map p.people (code_at order) g
 
 pub suits_codes : (p : Problem) (order g : List ℕ) (k : ℕ) → Suits (at_places p order) (people_of (at_places p order) g) k → Suits p (people_of p (codes_at order g)) k
 suits_codes p order g k s = subst (λ z. Suits p z k) (sym (people_codes p order g)) (record { some_seat = s.some_seat; enough = s.enough; not_more = s.not_more })
@@ -85,7 +85,7 @@ places_problem p order is = record {
 pub places_order : (p : Problem) (order : List ℕ) → IsOrder (at_places p order) (places_below (length order))
 places_order p order c = often_member (places_below (length order)) c (below_once (length order) c)
 
-module _ (p : Problem) (order : List ℕ) (once : (c : ℕ) → often c order ≤ 1) where
+module _ (p : Problem) (order : List ℕ) (once : (c : ℕ) → count c order ≤ 1) where
   pub connected_codes : (g : List ℕ) → Below (length order) g → Connected (at_places p order) g → Connected p (codes_at order g)
   connected_codes g below h = record {
     some_county = subst (λ z. 1 ≤ z) (sym (length-map g (code_at order))) h.some_county;
@@ -100,7 +100,7 @@ module _ (p : Problem) (order : List ℕ) (once : (c : ℕ) → often c order �
   connected_places g below h = record {
     some_county = subst (λ z. 1 ≤ z) (length-map g (code_at order)) h.some_county;
     joined = λ part i j mi pi mj pj.
-        let here = λ (k : ℕ) (m : member g k ≡ true). place_at order once k (below k (member_has g k m)) in
+        let here = λ (k : ℕ) (m : contains g k ≡ true). place_at order once k (below k (member_has g k m)) in
         let r : HasBorder p (codes_at order g) (λ c. part (place order c)) =
         h.joined (λ c. part (place order c)) (code_at order i) (code_at order j) (codes_member order g i mi) (ap part (here i mi) ∙ pi) (codes_member order g j mj) (ap part (here j mj) ∙ pj) in
         let x = code_place order once g below r.0 r.2 in
@@ -109,23 +109,23 @@ module _ (p : Problem) (order : List ℕ) (once : (c : ℕ) → often c order �
   }
 
   -- a list in the order of places stands in the order of codes
-  pub ordered_codes : (g : List ℕ) → filter (member g) (places_below (length order)) ≡ g → filter (member (codes_at order g)) order ≡ codes_at order g
-  ordered_codes g e = filter_members (member (codes_at order g)) (λ c. member g (place order c)) order agree ∙ (sym (places_are_codes.kept order once (member g)) ∙ ap (codes_at order) e)
+  pub ordered_codes : (g : List ℕ) → filter (contains g) (places_below (length order)) ≡ g → filter (contains (codes_at order g)) order ≡ codes_at order g
+  ordered_codes g e = filter_members (contains (codes_at order g)) (λ c. contains g (place order c)) order agree ∙ (sym (places_are_codes.kept order once (contains g)) ∙ ap (codes_at order) e)
     where
-      agree : (c : ℕ) → Has order c → member (codes_at order g) c ≡ member g (place order c)
+      agree : (c : ℕ) → Has order c → contains (codes_at order g) c ≡ contains g (place order c)
       agree c h =
           let t = places_are_codes.there order c (has_member order c h) in
-          ap (member (codes_at order g)) (sym t.1) ∙ member_code order once g (below_ordered (length order) g e) (place order c) t.0
+          ap (contains (codes_at order g)) (sym t.1) ∙ member_code order once g (below_ordered (length order) g e) (place order c) t.0
 
   -- the places of a list in the order of codes
   abbrev pub places_for : List ℕ → List ℕ
-  places_for h = places_of (length order) (λ i. member h (code_at order i))
+  places_for h = places_of (length order) (λ i. contains h (code_at order i))
 
-  pub codes_for : (h : List ℕ) → filter (member h) order ≡ h → codes_at order (places_for h) ≡ h
-  codes_for h e = places_are_codes.kept order once (λ i. member h (code_at order i)) ∙ (filter_members (λ c. member h (code_at order (place order c))) (member h) order agree ∙ e)
+  pub codes_for : (h : List ℕ) → filter (contains h) order ≡ h → codes_at order (places_for h) ≡ h
+  codes_for h e = places_are_codes.kept order once (λ i. contains h (code_at order i)) ∙ (filter_members (λ c. contains h (code_at order (place order c))) (contains h) order agree ∙ e)
     where
-      agree : (c : ℕ) → Has order c → member h (code_at order (place order c)) ≡ member h c
-      agree c i = ap (member h) (places_are_codes.there order c (has_member order c i)).1
+      agree : (c : ℕ) → Has order c → contains h (code_at order (place order c)) ≡ contains h c
+      agree c i = ap (contains h) (places_are_codes.there order c (has_member order c i)).1
 
   begins_place : (at : ℕ) (g : List ℕ) → at < length order → Below (length order) g → BeginsWith (code_at order at) (codes_at order g) → BeginsWith at g
   begins_place at [] l below b = let e = b.1 in cc
@@ -154,8 +154,8 @@ module _ (p : Problem) (order : List ℕ) (once : (c : ℕ) → often c order �
       same : codes_at order (places_for h) ≡ h
       same = codes_for h s.in_order
 
-      ordered : filter (member (places_for h)) (places_below (length order)) ≡ places_for h
-      ordered = places_ordered (length order) (λ i. member h (code_at order i))
+      ordered : filter (contains (places_for h)) (places_below (length order)) ≡ places_for h
+      ordered = places_ordered (length order) (λ i. contains h (code_at order i))
 
       below : Below (length order) (places_for h)
       below = below_ordered (length order) (places_for h) ordered

@@ -1,6 +1,6 @@
 -- When a set can grow into no lawful group: with the people of as many more places as may join it stays too small for one seat.
 use Rattle.std.proofs.Common.{◌≡◌, ℕ, ◌+◌, ◌-◌, ◌*◌, ◌≤◌, ◌<◌, Bool, true, false, cond, nat_lt, ◌&&◌, not, List, [], ◌∷◌, filter, length, refl, sym, ap, ◌∙◌, arith, inl, inr, mul-le-mul_right, mul-le-mul_left}
-use Rattle.grouping_laws.specs.Sets.{digit, total, often, member}
+use Rattle.grouping_laws.specs.Sets.{indicator, sum_by, count, contains}
 use Rattle.grouping_laws.specs.Problem.{Problem, Suits, people_of}
 use Rattle.grouping_laws.specs.Places.{places_below}
 use Rattle.place_laws.specs.PlaceSets.{places_of}
@@ -8,42 +8,42 @@ use Rattle.grouping_laws.specs.SeatWindow.{people_bounds}
 use Rattle.place_laws.proofs.Sums.{total_alike, total_ones}
 use Rattle.grouping_laws.proofs.Elements.{Has}
 use Rattle.grouping_laws.proofs.Places.{has_member}
-use Rattle.grouping_laws.proofs.Parts.{has-filter, total-split}
-use Rattle.place_laws.proofs.PlaceSets.{often_tested, often-places_of}
+use Rattle.grouping_laws.proofs.Parts.{has-filter, sum_by-split}
+use Rattle.place_laws.proofs.PlaceSets.{often_tested, count-places_of}
 use Rattle.grouping_laws.proofs.WindowLemmas.{above_quotient}
 
 -- a sum over a list in which nothing has more than a bound
-pub total_most : (f : ℕ → ℕ) (most : ℕ) (xs : List ℕ) → ((x : ℕ) → Has xs x → f x ≤ most) → total f xs ≤ length xs * most
+pub total_most : (f : ℕ → ℕ) (most : ℕ) (xs : List ℕ) → ((x : ℕ) → Has xs x → f x ≤ most) → sum_by f xs ≤ length xs * most
 total_most f most [] h = omega arith
 total_most f most (x ∷ xs) h = omega (arith, h x (inl refl), total_most f most xs (λ y i. h y (inr i)))
 
-module _ (n : ℕ) (set : ℕ → Bool) (g : List ℕ) (in_order : filter (member g) (places_below n) ≡ g) (inside : (c : ℕ) → set c ≡ true → member g c ≡ true) where
+module _ (n : ℕ) (set : ℕ → Bool) (g : List ℕ) (in_order : filter (contains g) (places_below n) ≡ g) (inside : (c : ℕ) → set c ≡ true → contains g c ≡ true) where
   -- the places of the list that are in the set are the set's
-  kept_set : (f : ℕ → ℕ) → total f (filter set g) ≡ total f (places_of n set)
+  kept_set : (f : ℕ → ℕ) → sum_by f (filter set g) ≡ sum_by f (places_of n set)
   kept_set f = total_alike f (filter set g) (places_of n set) each
     where
-      count : (c : ℕ) → often c g ≡ digit (nat_lt c n && member g c)
-      count c = ap (often c) (sym in_order) ∙ often-places_of n c (member g)
+      counted : (c : ℕ) → count c g ≡ indicator (nat_lt c n && contains g c)
+      counted c = ap (count c) (sym in_order) ∙ count-places_of n c (contains g)
 
-      each : (c : ℕ) → often c (filter set g) ≡ often c (places_of n set)
-      each c = often_tested c set g ∙ (go (set c) refl ∙ sym (often-places_of n c set))
+      each : (c : ℕ) → count c (filter set g) ≡ count c (places_of n set)
+      each c = often_tested c set g ∙ (go (set c) refl ∙ sym (count-places_of n c set))
         where
-          none : (a : Bool) → 0 ≡ digit (a && false)
+          none : (a : Bool) → 0 ≡ indicator (a && false)
           none true = refl
           none false = refl
 
-          go : (b : Bool) → set c ≡ b → cond b (often c g) 0 ≡ digit (nat_lt c n && set c)
-          go true e = count c ∙ ap (λ z. digit (nat_lt c n && z)) (inside c e ∙ sym e)
-          go false e = none (nat_lt c n) ∙ ap (λ z. digit (nat_lt c n && z)) (sym e)
+          go : (b : Bool) → set c ≡ b → cond b (count c g) 0 ≡ indicator (nat_lt c n && set c)
+          go true e = counted c ∙ ap (λ z. indicator (nat_lt c n && z)) (inside c e ∙ sym e)
+          go false e = none (nat_lt c n) ∙ ap (λ z. indicator (nat_lt c n && z)) (sym e)
 
   -- the people of a list of places, over those of a set inside it
-  pub people_most : (p : Problem) (limit most : ℕ) → length g ≤ limit → ((c : ℕ) → member g c ≡ true → set c ≡ false → p.people c ≤ most) → people_of p g ≤ people_of p (places_of n set) + (limit - length (places_of n set)) * most
+  pub people_most : (p : Problem) (limit most : ℕ) → length g ≤ limit → ((c : ℕ) → contains g c ≡ true → set c ≡ false → p.people c ≤ most) → people_of p g ≤ people_of p (places_of n set) + (limit - length (places_of n set)) * most
   people_most p limit most small few =
       let rest : List ℕ = filter (λ x. not (set x)) g in
-      let size : length g ≡ length (places_of n set) + length rest = sym (total_ones g) ∙ (total-split (λ x. 1) set g ∙ split) in
-      omega (arith, total-split p.people set g, kept_set p.people, total_most p.people most rest each, mul-le-mul_right most (fits size))
+      let size : length g ≡ length (places_of n set) + length rest = sym (total_ones g) ∙ (sum_by-split (λ x. 1) set g ∙ split) in
+      omega (arith, sum_by-split p.people set g, kept_set p.people, total_most p.people most rest each, mul-le-mul_right most (fits size))
     where
-      split : total (λ x. 1) (filter set g) + total (λ x. 1) (filter (λ x. not (set x)) g) ≡ length (places_of n set) + length (filter (λ x. not (set x)) g)
+      split : sum_by (λ x. 1) (filter set g) + sum_by (λ x. 1) (filter (λ x. not (set x)) g) ≡ length (places_of n set) + length (filter (λ x. not (set x)) g)
       split = omega (arith, kept_set (λ x. 1), total_ones (places_of n set), total_ones (filter (λ x. not (set x)) g))
 
       fits : length g ≡ length (places_of n set) + length (filter (λ x. not (set x)) g) → length (filter (λ x. not (set x)) g) ≤ limit - length (places_of n set)
@@ -74,7 +74,7 @@ below_bounds p some_scale some_seats people few k s =
 -- So nothing that grows from the set to at most the limit suits any number of seats.
 pub stays_small : (p : Problem) → 1 ≤ p.scale → 1 ≤ p.chamber → (n limit most : ℕ) (set : ℕ → Bool) (g : List ℕ)
     → people_of p (places_of n set) + (limit - length (places_of n set)) * most < (people_bounds p 1).0
-    → filter (member g) (places_below n) ≡ g → ((c : ℕ) → set c ≡ true → member g c ≡ true) → length g ≤ limit → ((c : ℕ) → member g c ≡ true → set c ≡ false → p.people c ≤ most)
+    → filter (contains g) (places_below n) ≡ g → ((c : ℕ) → set c ≡ true → contains g c ≡ true) → length g ≤ limit → ((c : ℕ) → contains g c ≡ true → set c ≡ false → p.people c ≤ most)
     → (k : ℕ) → Suits p (people_of p g) k → ⊥
 stays_small p some_scale some_seats n limit most set g short in_order inside small few =
     below_bounds p some_scale some_seats (people_of p g) (omega (arith, short, people_most n set g in_order inside p limit most small few))

@@ -1,6 +1,6 @@
 -- The numbers of seats that suit are a run, and sets can be seated to any sum between their ends.
 use Rattle.std.proofs.Common.{◌≡◌, ℕ, zero, suc, ◌+◌, ◌-◌, ◌*◌, ◌≤◌, ◌<◌, List, [], ◌∷◌, min, subst, arith, ◌⊎◌, inl, inr, ⊎_elim, mul-le-mul_right, mul-le-mul_left}
-use Rattle.grouping_laws.specs.Sets.{total}
+use Rattle.grouping_laws.specs.Sets.{sum_by}
 use Rattle.grouping_laws.specs.Problem.{Problem, Suits, people_of}
 use Rattle.grouping_laws.specs.Ranges.{IsLeast, IsMost, SuitAll, PeopleHaveRanges}
 use Rattle.std.specs.List.{AllZip}
@@ -67,7 +67,7 @@ people_have_ranges p some fits people =
     (λ r. inr (r.0, r.1, r.2, r.3, λ k s. r.5 k (seats_bounded p some fits people k s) s))
     (range_below p people (suc (p.scale * p.chamber * people)))
 
-low_high : (p : Problem) (sets : List (List ℕ)) (lows highs : List ℕ) → AllZip (IsLeast p) sets lows → AllZip (IsMost p) sets highs → total (λ k. k) lows ≤ total (λ k. k) highs
+low_high : (p : Problem) (sets : List (List ℕ)) (lows highs : List ℕ) → AllZip (IsLeast p) sets lows → AllZip (IsMost p) sets highs → sum_by (λ k. k) lows ≤ sum_by (λ k. k) highs
 low_high p [] [] [] l h = omega arith
 low_high p [] (x ∷ lows) highs l h = absurd l
 low_high p [] [] (y ∷ highs) l h = absurd h
@@ -76,15 +76,15 @@ low_high p (g ∷ sets) (x ∷ lows) [] l h = absurd h
 low_high p (g ∷ sets) (x ∷ lows) (y ∷ highs) l h = omega (arith, low_high p sets lows highs l.1 h.1, l.0.least y h.0.suits)
 
 -- Where the least seats of sets add up to no more than a number, and the greatest to no less, some seats add up to it.
-pub seats_to : (p : Problem) (sets : List (List ℕ)) (lows highs : List ℕ) (n : ℕ) → AllZip (IsLeast p) sets lows → AllZip (IsMost p) sets highs → total (λ k. k) lows ≤ n → n ≤ total (λ k. k) highs
-    → (ks : List ℕ) × SuitAll p sets ks × (total (λ k. k) ks ≡ n)
+pub seats_to : (p : Problem) (sets : List (List ℕ)) (lows highs : List ℕ) (n : ℕ) → AllZip (IsLeast p) sets lows → AllZip (IsMost p) sets highs → sum_by (λ k. k) lows ≤ n → n ≤ sum_by (λ k. k) highs
+    → (ks : List ℕ) × SuitAll p sets ks × (sum_by (λ k. k) ks ≡ n)
 seats_to p [] [] [] n l h a b = ([], tt, omega arith)
 seats_to p [] (x ∷ lows) highs n l h a b = absurd l
 seats_to p [] [] (y ∷ highs) n l h a b = absurd h
 seats_to p (g ∷ sets) [] highs n l h a b = absurd l
 seats_to p (g ∷ sets) (x ∷ lows) [] n l h a b = absurd h
 seats_to p (g ∷ sets) (x ∷ lows) (y ∷ highs) n l h a b =
-    let rest = min (n - x) (total (λ k. k) highs) in
+    let rest = min (n - x) (sum_by (λ k. k) highs) in
     let low = low_high p sets lows highs l.1 h.1 in
     let next = seats_to p sets lows highs rest l.1 h.1 (omega arith) (omega arith) in
     ((n - rest) ∷ next.0, (suits_between p (people_of p g) x (n - rest) y l.0.suits h.0.suits (omega arith) (omega (arith, l.0.least y h.0.suits)), next.1), omega (arith, next.2))

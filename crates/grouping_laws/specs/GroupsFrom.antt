@@ -1,12 +1,12 @@
 -- The lawful groups from a place of an order of the counties.
 use Rattle.std.specs.Prelude.{ℕ, suc, ◌≡◌, ◌≤◌, ◌<◌, cond, Bool, List, [], ◌∷◌, map, length, ◌==◌, AllPairs, Contains}
 use Rattle.std.specs.Prelude.{filter, ◌⊎◌, ◌↔◌}
-use Rattle.grouping_laws.specs.Sets.{digit, often, member, Inside}
+use Rattle.grouping_laws.specs.Sets.{indicator, count, contains, Inside}
 use Rattle.grouping_laws.specs.Problem.{Problem, Connected, LawfulGroup}
 
 -- the order names each county of the problem once
 abbrev pub IsOrder : Problem → List ℕ → Type 0
-IsOrder p order = (c : ℕ) → often c order ≡ digit (member p.counties c)
+IsOrder p order = (c : ℕ) → count c order ≡ indicator (contains p.counties c)
 
 -- where a county stands in the order, from 0
 abbrev pub place : List ℕ → ℕ → ℕ
@@ -31,7 +31,7 @@ BeginsWith c codes = (others : List ℕ) × (codes ≡ c ∷ others)
 -- of places
 pub record IsGroupFrom (p : Problem) (order : List ℕ) (limit county : ℕ) (region : ℕ → Bool) (g : List ℕ) : Type 0 where
   pub lawful : LawfulGroup p g
-  pub in_order : filter (member g) order ≡ g
+  pub in_order : filter (contains g) order ≡ g
   pub first : BeginsWith county g
   pub small : length g ≤ limit
   pub inside : Inside region g
@@ -45,6 +45,6 @@ pub record AreGroupsFrom (p : Problem) (order : List ℕ) (limit county : ℕ) (
 -- a connected set whose first place is the county's, of size at most the limit, its codes in the order of places
 pub record IsSetFrom (p : Problem) (order : List ℕ) (limit county : ℕ) (g : List ℕ) : Type 0 where
   pub connected : Connected p g
-  pub in_order : filter (member g) order ≡ g
+  pub in_order : filter (contains g) order ≡ g
   pub first : BeginsWith county g
   pub small : length g ≤ limit

@@ -1,7 +1,7 @@
 -- Which numbers of seats suit sets of counties, and sets with seats.
 use Rattle.std.specs.Prelude.{ℕ, ◌≡◌, ◌≤◌, ◌<◌, List, [], ◌∷◌, ◌⊎◌}
 use Rattle.std.specs.List.{AllZip}
-use Rattle.grouping_laws.specs.Sets.{total, member}
+use Rattle.grouping_laws.specs.Sets.{sum_by, contains}
 use Rattle.grouping_laws.specs.Problem.{Problem, Suits, people_of}
 use Rattle.grouping_laws.specs.Grouping.{Grouping, Lawful}
 use Rattle.grouping_laws.specs.Parts.{AreParts}
@@ -39,5 +39,5 @@ PeopleHaveRanges = (p : Problem) → 1 ≤ p.total_people → p.tolerance < p.sc
 -- Where some grouping is lawful, the connected parts of the problem make one with some seats.
 abbrev pub PartsAreLawful : Type 0
 PartsAreLawful =
-    (p : Problem) (parts : List (List ℕ)) → AreParts p (member p.counties) parts → (g : Grouping) → Lawful p g
-    → (ks : List ℕ) × SuitAll p parts ks × (total (λ k. k) ks ≡ p.seats_left) × Lawful p (seated parts ks)
+    (p : Problem) (parts : List (List ℕ)) → AreParts p (contains p.counties) parts → (g : Grouping) → Lawful p g
+    → (ks : List ℕ) × SuitAll p parts ks × (sum_by (λ k. k) ks ≡ p.seats_left) × Lawful p (seated parts ks)

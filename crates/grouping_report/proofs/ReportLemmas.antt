@@ -3,7 +3,7 @@ use Rattle.std.proofs.Common.{◌≡◌, ℕ, suc, ◌+◌, ◌<◌, ◌==◌, B
 use Rattle.std.specs.List.{count_by}
 use Rattle.std.proofs.lemmas.List.Recursion.{is_count_by}
 use Rattle.county_codes.specs.declared.group.Group.{Group}
-use Rattle.grouping_laws.specs.Sets.{digit, often, stands}
+use Rattle.grouping_laws.specs.Sets.{indicator, count, count_in}
 use Rattle.grouping_laws.specs.Problem.{Problem, people_of}
 use Rattle.grouping_laws.specs.Grouping.{Grouping, sets_of, counts}
 use Rattle.grouping_report.specs.Report.{group_line, group_lines}
@@ -21,10 +21,10 @@ lines_at p g i n s inside is = ap (group_lines p n) (rest_at g i s inside is)
 
 -- and how often a code stands from there on
 pub stands_at : (g : Grouping) (i : ℕ) (s : Group) (c : ℕ) → i < length g → s ≡ get_or g i s
-    → stands c (sets_of (drop i g)) ≡ often c s.codes + stands c (sets_of (drop (i + 1) g))
-stands_at g i s c inside is = ap (λ z. stands c (sets_of z)) (rest_at g i s inside is)
+    → count_in c (sets_of (drop i g)) ≡ count c s.codes + count_in c (sets_of (drop (i + 1) g))
+stands_at g i s c inside is = ap (λ z. count_in c (sets_of z)) (rest_at g i s inside is)
 
-digit_more : (b : Bool) (n : ℕ) → digit b + n ≡ cond b (1 + n) n
+digit_more : (b : Bool) (n : ℕ) → indicator b + n ≡ cond b (1 + n) n
 digit_more true n = refl
 digit_more false n = omega arith
 

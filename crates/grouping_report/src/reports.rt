@@ -1,7 +1,7 @@
 //! The report of a problem and what was found of it.
 
 ghost use Rattle.std.specs.Prelude.{◌≡◌, ℕ, ◌++◌, ◌≤◌, OnOk, IfOk, codes};
-ghost use Rattle.grouping_laws.specs.Sets.{stands};
+ghost use Rattle.grouping_laws.specs.Sets.{count_in};
 ghost use Rattle.county_problem.specs.ProblemValue.{problem_of};
 ghost use Rattle.grouping_laws.specs.Grouping.{Lawful, sets_of, counts as counts_by_size};
 ghost use Rattle.grouping_report.specs.Report.{head_lines, answer_line, longest_size, numbers_to, counts_line};
@@ -97,7 +97,7 @@ fn push_group(out: &mut Vec<u8>, number: u64, people: u64, group: &Group) -> Res
 
 /// Appends the lines of the groups.
 fn push_groups(out: &mut Vec<u8>, problem: &Problem, groups: &[Group]) -> Result<(), AllocError>
-    requires { (c : ℕ) → stands c (sets_of groups.now) ≤ 1 }
+    requires { (c : ℕ) → count_in c (sets_of groups.now) ≤ 1 }
     ensures { OnOk result (out.new.items ≡ out.old.items ++ group_lines (problem_of problem.now) 1 groups.now) }
 {
     for (i, group) in groups.iter().enumerate() {

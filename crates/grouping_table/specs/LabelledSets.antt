@@ -1,6 +1,6 @@
 -- Withdrawn sets and groups, as the table labels them.
 use Rattle.std.specs.Prelude.{ℕ, ◌+◌, List, [], ◌∷◌, ◌++◌, Option, filter, find, codes, decimal}
-use Rattle.place_laws.specs.Lists.{member}
+use Rattle.place_laws.specs.Lists.{contains}
 use Rattle.county_codes.specs.Counties.{people_in}
 use Rattle.county_codes.specs.declared.county.County.{County}
 use Rattle.county_codes.specs.declared.group.Group.{Group}
@@ -15,7 +15,7 @@ pub record SetValue : Type 0 where
 
 -- the people of the listed counties in a set
 abbrev pub people_of_set : List County → List ℕ → ℕ
-people_of_set listed county_codes = people_in (filter (λ k. member county_codes k.code) listed)
+people_of_set listed county_codes = people_in (filter (λ k. contains county_codes k.code) listed)
 
 -- a set under a label
 abbrev pub set_under : List County → List ℕ → ℕ → List ℕ → SetValue
@@ -39,4 +39,4 @@ labelled_sets listed withdrawn groups = numbered_withdrawn listed 1 withdrawn ++
 
 -- the first set that has the county of a code
 abbrev pub set_of_code : List SetValue → ℕ → Option SetValue
-set_of_code sets code = find (λ s. member s.codes code) sets
+set_of_code sets code = find (λ s. contains s.codes code) sets

@@ -2,11 +2,11 @@
 use Rattle.std.proofs.Common.{◌≡◌, ℕ, ◌+◌, ◌≤◌, ◌<◌, Bool, true, false, cond, not, ◌&&◌, ◌==◌, nat_le, List, [], ◌∷◌, ◌++◌, map, filter, take, length, get_or, refl, sym, ap, ◌∙◌, arith, inl, inr}
 use Rattle.std.proofs.lemmas.Bool.Decides.{nat_tests}
 use Rattle.std.proofs.lemmas.List.{length-map}
-use Rattle.grouping_laws.specs.Sets.{total, member}
+use Rattle.grouping_laws.specs.Sets.{sum_by, contains}
 use Rattle.grouping_laws.specs.Problem.{Problem}
 use Rattle.grouping_laws.proofs.Elements.{Has}
 use Rattle.grouping_laws.proofs.Places.{has_member}
-use Rattle.place_laws.proofs.Sums.{total-map, total-append, total_ones}
+use Rattle.place_laws.proofs.Sums.{sum_by-map, sum_by-append, total_ones}
 use Rattle.certificate_laws.specs.State.{State, close, raise, open_to}
 use Rattle.certificate_laws.specs.Regions.{without, listed}
 use Rattle.certificate_data.proofs.ListLaws.{taken_more}
@@ -24,33 +24,33 @@ kept_all : (t : ℕ → Bool) (xs : List ℕ) → ((x : ℕ) → Has xs x → t 
 kept_all t [] all = refl
 kept_all t (x ∷ xs) all = rw (all x (inl refl)) (ap (λ l. x ∷ l) (kept_all t xs (λ y h. all y (inr h))))
 
-pub kept_own : (xs : List ℕ) → filter (member xs) xs ≡ xs
-kept_own xs = kept_all (member xs) xs (has_member xs)
+pub kept_own : (xs : List ℕ) → filter (contains xs) xs ≡ xs
+kept_own xs = kept_all (contains xs) xs (has_member xs)
 
 pub mapped_codes : {X : Type 0} (code : X → ℕ) (least : ℕ → ℕ) (xs : List X) → map (λ x. waiting least (code x)) xs ≡ map (waiting least) (map code xs)
 mapped_codes code least [] = refl
 mapped_codes code least (x ∷ xs) = ap (λ l. waiting least (code x) ∷ l) (mapped_codes code least xs)
 
 close_rest : (g : List ℕ) (least : ℕ → ℕ) (t : ℕ → Bool) (cs : List ℕ)
-    → filter (λ w. not (member g w.code)) (map (waiting least) (filter t cs)) ≡ map (waiting (λ c. cond (member g c) 0 (least c))) (filter (without g t) cs)
+    → filter (λ w. not (contains g w.code)) (map (waiting least) (filter t cs)) ≡ map (waiting (λ c. cond (contains g c) 0 (least c))) (filter (without g t) cs)
 close_rest g least t [] = refl
-close_rest g least t (c ∷ cs) = go (t c) (member g c) refl refl (close_rest g least t cs)
+close_rest g least t (c ∷ cs) = go (t c) (contains g c) refl refl (close_rest g least t cs)
   where
-    go : (a b : Bool) → t c ≡ a → member g c ≡ b → filter (λ w. not (member g w.code)) (map (waiting least) (filter t cs)) ≡ map (waiting (λ c. cond (member g c) 0 (least c))) (filter (without g t) cs)
-        → filter (λ w. not (member g w.code)) (map (waiting least) (filter t (c ∷ cs))) ≡ map (waiting (λ c. cond (member g c) 0 (least c))) (filter (without g t) (c ∷ cs))
+    go : (a b : Bool) → t c ≡ a → contains g c ≡ b → filter (λ w. not (contains g w.code)) (map (waiting least) (filter t cs)) ≡ map (waiting (λ c. cond (contains g c) 0 (least c))) (filter (without g t) cs)
+        → filter (λ w. not (contains g w.code)) (map (waiting least) (filter t (c ∷ cs))) ≡ map (waiting (λ c. cond (contains g c) 0 (least c))) (filter (without g t) (c ∷ cs))
     go true true e f h = rw (e, f) h
     go true false e f h =
         rw (e, f)
         (ap (λ l. waiting least c ∷ l) h
-        ∙ ap (λ b. waiting (λ x. cond b 0 (least x)) c ∷ map (waiting (λ x. cond (member g x) 0 (least x))) (filter (without g t) cs)) (sym f))
+        ∙ ap (λ b. waiting (λ x. cond b 0 (least x)) c ∷ map (waiting (λ x. cond (contains g x) 0 (least x))) (filter (without g t) cs)) (sym f))
     go false true e f h = rw (e) h
     go false false e f h = rw (e) h
 
-pub closed_position : (p : Problem) (s : State) (g : List ℕ) (old new : Position) → IsPosition p s old → new.closed.items ≡ old.closed.items ++ g ∷ [] → new.rest.items ≡ filter (λ w. not (member g w.code)) old.rest.items
+pub closed_position : (p : Problem) (s : State) (g : List ℕ) (old new : Position) → IsPosition p s old → new.closed.items ≡ old.closed.items ++ g ∷ [] → new.rest.items ≡ filter (λ w. not (contains g w.code)) old.rest.items
     → IsPosition p (close g s) new
 closed_position p s g old new h closed rest = record {
   closed = closed ∙ ap (λ l. l ++ g ∷ []) h.closed;
-  rest = rest ∙ (ap (filter (λ w. not (member g w.code))) h.rest ∙ close_rest g s.least s.rest p.counties);
+  rest = rest ∙ (ap (filter (λ w. not (contains g w.code))) h.rest ∙ close_rest g s.least s.rest p.counties);
 }
 
 raise_rest : (county j : ℕ) (least : ℕ → ℕ) (xs : List ℕ) → map (raised_past county j) (map (waiting least) xs) ≡ map (waiting (λ c. cond (c == county) (j + 1) (least c))) xs
@@ -82,10 +82,10 @@ are_open p s position i h = ap (λ l. map (λ w. w.code) (filter (λ w. nat_le w
 pub open_number : (p : Problem) (s : State) (position : Position) (i : ℕ) → IsPosition p s position → length (filter (λ w. nat_le w.least i) position.rest.items) ≡ length (listed p (open_to s i))
 open_number p s position i h = sym (length-map (filter (λ w. nat_le w.least i) position.rest.items) (λ (w : Waiting). w.code)) ∙ ap length (are_open p s position i h)
 
-pub open_total : (f : ℕ → ℕ) (p : Problem) (s : State) (position : Position) (i : ℕ) → IsPosition p s position → total (λ w. f w.code) (filter (λ w. nat_le w.least i) position.rest.items) ≡ total f (listed p (open_to s i))
-open_total f p s position i h = sym (total-map f (λ (w : Waiting). w.code) (filter (λ w. nat_le w.least i) position.rest.items)) ∙ ap (total f) (are_open p s position i h)
+pub open_total : (f : ℕ → ℕ) (p : Problem) (s : State) (position : Position) (i : ℕ) → IsPosition p s position → sum_by (λ w. f w.code) (filter (λ w. nat_le w.least i) position.rest.items) ≡ sum_by f (listed p (open_to s i))
+open_total f p s position i h = sym (sum_by-map f (λ (w : Waiting). w.code) (filter (λ w. nat_le w.least i) position.rest.items)) ∙ ap (sum_by f) (are_open p s position i h)
 
-pub kept_number : {X : Type 0} (q : X → Bool) (xs : List X) → total (λ x. 1) (filter q xs) ≡ length (filter q xs)
+pub kept_number : {X : Type 0} (q : X → Bool) (xs : List X) → sum_by (λ x. 1) (filter q xs) ≡ length (filter q xs)
 kept_number q xs = total_ones (filter q xs)
 
 filter_append : {X : Type 0} (q : X → Bool) (xs ys : List X) → filter q (xs ++ ys) ≡ filter q xs ++ filter q ys
@@ -97,12 +97,12 @@ filter_append {X = X} q (x ∷ xs) ys = go (q x) refl (filter_append q xs ys)
     go false e h = rw (e) h
 
 -- one more of a list whose kept elements are added up
-pub kept_more : {X : Type 0} (q : X → Bool) (f : X → ℕ) (xs : List X) (i : ℕ) (x : X) → x ≡ get_or xs i x → i < length xs → total f (filter q (take (i + 1) xs)) ≡ total f (filter q (take i xs)) + cond (q x) (f x) 0
+pub kept_more : {X : Type 0} (q : X → Bool) (f : X → ℕ) (xs : List X) (i : ℕ) (x : X) → x ≡ get_or xs i x → i < length xs → sum_by f (filter q (take (i + 1) xs)) ≡ sum_by f (filter q (take i xs)) + cond (q x) (f x) 0
 kept_more {X = X} q f xs i x is inside =
-    ap (λ l. total f (filter q l)) (taken_more xs i x is inside)
-    ∙ (ap (total f) (filter_append q (take i xs) (x ∷ []))
-    ∙ (total-append f (filter q (take i xs)) (filter q (x ∷ [])) ∙ ap (λ n. total f (filter q (take i xs)) + n) (one (q x) refl)))
+    ap (λ l. sum_by f (filter q l)) (taken_more xs i x is inside)
+    ∙ (ap (sum_by f) (filter_append q (take i xs) (x ∷ []))
+    ∙ (sum_by-append f (filter q (take i xs)) (filter q (x ∷ [])) ∙ ap (λ n. sum_by f (filter q (take i xs)) + n) (one (q x) refl)))
   where
-    one : (b : Bool) → q x ≡ b → total f (filter q (x ∷ [])) ≡ cond b (f x) 0
+    one : (b : Bool) → q x ≡ b → sum_by f (filter q (x ∷ [])) ≡ cond b (f x) 0
     one true e = rw (e) (omega arith)
     one false e = rw (e) refl

@@ -3,10 +3,10 @@ use Rattle.std.proofs.Common.{◌≡◌, ℕ, zero, suc, ◌+◌, ◌-◌, ◌*�
 use Rattle.std.proofs.lemmas.Bool.Decides.{nat_tests}
 use Rattle.std.proofs.lemmas.List.{length-map, map-append}
 use Rattle.county_codes.specs.Limits.{most_counties}
-use Rattle.grouping_laws.specs.Sets.{digit, total}
+use Rattle.grouping_laws.specs.Sets.{indicator, sum_by}
 use Rattle.grouping_laws.specs.Problem.{Problem}
 use Rattle.grouping_laws.specs.Grouping.{counts}
-use Rattle.place_laws.proofs.Sums.{total-append}
+use Rattle.place_laws.proofs.Sums.{sum_by-append}
 use Rattle.certificate_data.specs.declared.language.Language.{Language}
 use Rattle.certificate_laws.specs.State.{State, open_to}
 use Rattle.certificate_laws.specs.Regions.{listed}
@@ -26,18 +26,18 @@ use Rattle.list_laws.specs.Shortfalls.{still_wanted}
 use Rattle.list_laws.proofs.Told.{told}
 
 -- one more of the groups
-pub counts_more : (sets : List (List ℕ)) (i j : ℕ) (g : List ℕ) → g ≡ get_or sets i g → i < length sets → counts (take (i + 1) sets) j ≡ counts (take i sets) j + digit (length g == j)
+pub counts_more : (sets : List (List ℕ)) (i j : ℕ) (g : List ℕ) → g ≡ get_or sets i g → i < length sets → counts (take (i + 1) sets) j ≡ counts (take i sets) j + indicator (length g == j)
 counts_more sets i j g is inside =
     ap (λ (l : List (List ℕ)). counts l j) (taken_more sets i g is inside)
-    ∙ (total-append (λ (x : List ℕ). digit (length x == j)) (take i sets) (g ∷ []) ∙ one)
+    ∙ (sum_by-append (λ (x : List ℕ). indicator (length x == j)) (take i sets) (g ∷ []) ∙ one)
   where
-    one : counts (take i sets) j + (digit (length g == j) + 0) ≡ counts (take i sets) j + digit (length g == j)
+    one : counts (take i sets) j + (indicator (length g == j) + 0) ≡ counts (take i sets) j + indicator (length g == j)
     one = omega arith
 
-pub is_size : (a b : ℕ) → a ≡ b → digit (a == b) ≡ 1
+pub is_size : (a b : ℕ) → a ≡ b → indicator (a == b) ≡ 1
 is_size a b e = grind (arith, nat_tests)
 
-pub no_size : (a b : ℕ) → (a ≡ b → ⊥) → digit (a == b) ≡ 0
+pub no_size : (a b : ℕ) → (a ≡ b → ⊥) → indicator (a == b) ≡ 0
 no_size a b e = grind (arith, nat_tests)
 
 pub still_more : (s : State) (f : ℕ → ℕ) (n : ℕ) → still_wanted s f (n + 1) ≡ still_wanted s f n + (n + 1) * (f (n + 1) - counts s.closed (n + 1))
@@ -111,6 +111,6 @@ fewer_allowed closed all wanted missing e = grind (arith, nat_tests)
 pub small_product : (a b : ℕ) → a ≤ most_counties → b ≤ 65535 → a * b ≤ 16776960
 small_product a b x y = grind (arith, mul-le-mul)
 
-pub allowed_weigh : (p : Problem) (s : State) (i used quota : ℕ) (ws : List WeightHeld) (openings left weight all : ℕ) → openings ≡ length (listed p (open_to s i)) → left ≡ openings - used → weight ≡ total (county_weight ws) (listed p (open_to s i))
+pub allowed_weigh : (p : Problem) (s : State) (i used quota : ℕ) (ws : List WeightHeld) (openings left weight all : ℕ) → openings ≡ length (listed p (open_to s i)) → left ≡ openings - used → weight ≡ sum_by (county_weight ws) (listed p (open_to s i))
     → all ≡ min (left / i) (weight / quota) → all ≡ allowance p s i used (allowance_of (Weigh quota ws))
 allowed_weigh p s i used quota ws openings left weight all a b d e = e ∙ (ap (λ z. min (z / i) (weight / quota)) (b ∙ ap (λ z. z - used) a) ∙ ap (λ z. min (room_at p s i used / i) (z / quota)) d)

@@ -5,7 +5,7 @@ use Rattle.std.proofs.lemmas.Bool.{false≢true}
 use Rattle.std.proofs.lemmas.List.{length-map, map-append}
 use Rattle.std.proofs.lemmas.List.Elements.{All-append}
 use Rattle.county_codes.specs.declared.group.Grouping.{Grouping as GroupingHeld}
-use Rattle.grouping_laws.specs.Sets.{digit, often, stands, member}
+use Rattle.grouping_laws.specs.Sets.{indicator, count, count_in, contains}
 use Rattle.grouping_laws.specs.Problem.{Problem}
 use Rattle.grouping_laws.specs.Grouping.{Grouping, Lawful, sets_of}
 use Rattle.grouping_laws.proofs.Digits.{false_digit}
@@ -110,20 +110,20 @@ none_left p round s position state h e c = go (s.rest c) refl
     none : length (filter s.rest p.counties) ≡ 0
     none = map_empty (waiting s.least) (filter s.rest p.counties) (sym (ap (λ (l : List Waiting). length l) h.rest) ∙ e)
 
-    nothing : (xs : List ℕ) → length xs ≡ 0 → often c xs ≡ 0
+    nothing : (xs : List ℕ) → length xs ≡ 0 → count c xs ≡ 0
     nothing [] l = refl
     nothing (x ∷ xs) l = absurd (omega (arith, l))
 
     go : (b : Bool) → s.rest c ≡ b → s.rest c ≡ false
     go false f = f
-    go true f = absurd (there (member p.counties c) refl)
+    go true f = absurd (there (contains p.counties c) refl)
       where
-        tested : often c (filter s.rest p.counties) ≡ often c p.counties
-        tested = often_tested c s.rest p.counties ∙ ap (λ b. cond b (often c p.counties) 0) f
+        tested : count c (filter s.rest p.counties) ≡ count c p.counties
+        tested = often_tested c s.rest p.counties ∙ ap (λ b. cond b (count c p.counties) 0) f
 
-        there : (b : Bool) → member p.counties c ≡ b → ⊥
+        there : (b : Bool) → contains p.counties c ≡ b → ⊥
         there true m = omega (arith, tested, nothing (filter s.rest p.counties) none, often_some c p.counties m)
-        there false m = omega (arith, state.once c, ap digit f, ap digit m)
+        there false m = omega (arith, state.once c, ap indicator f, ap indicator m)
 
 pub some_left : (p : Problem) (s : State) (position : Position) → IsPosition p s position → 1 ≤ length position.rest.items → (c : ℕ) × (s.rest c ≡ true)
 some_left p s position h l =
@@ -134,7 +134,7 @@ some_left p s position h l =
     first [] l = absurd (omega (arith, l))
     first (x ∷ xs) l = (x, inl refl)
 
-pub covered : (p : Problem) (round : Round) (s : State) → IsState p round s → ((c : ℕ) → s.rest c ≡ false) → (c : ℕ) → stands c s.closed ≡ digit (member p.counties c)
+pub covered : (p : Problem) (round : Round) (s : State) → IsState p round s → ((c : ℕ) → s.rest c ≡ false) → (c : ℕ) → count_in c s.closed ≡ indicator (contains p.counties c)
 covered p round s state none c = omega (arith, state.once c, false_digit (s.rest c) (none c))
 
 -- bound lines, with the counts of the round's target

@@ -1,7 +1,7 @@
 -- Where a tree isn't complete: its first bound leaf that comes to the target's counts at a state that isn't filled, and
 -- the leaf's line.
 use Rattle.std.specs.Prelude.{ℕ, ◌+◌, ◌≡◌, ◌≢◌, true, false, List, [], ◌∷◌, ◌⊎◌}
-use Rattle.grouping_laws.specs.Sets.{total}
+use Rattle.grouping_laws.specs.Sets.{sum_by}
 use Rattle.grouping_laws.specs.Problem.{Problem}
 use Rattle.grouping_laws.specs.Ranges.{SuitAll}
 use Rattle.certificate_data.specs.Round.{Round}
@@ -19,7 +19,7 @@ use Rattle.list_groupings.specs.declared.gap.Gap.TheVariants.{CountiesLeft, Seat
 abbrev pub IsGap : Problem → State → Gap → Type 0
 IsGap p s CountiesLeft = (c : ℕ) × (s.rest c ≡ true)
 IsGap p s SeatsOff =
-    ((c : ℕ) → s.rest c ≡ false) × ((ks : List ℕ) → SuitAll p s.closed ks → total (λ k. k) ks ≢ p.seats_left)
+    ((c : ℕ) → s.rest c ≡ false) × ((ks : List ℕ) → SuitAll p s.closed ks → sum_by (λ k. k) ks ≢ p.seats_left)
 
 -- a leaf that has the closed groups as an end, at a state that isn't filled
 abbrev pub IsLeafGap : Leaf → Problem → Round → State → Gap → Type 0

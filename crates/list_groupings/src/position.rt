@@ -3,7 +3,7 @@
 ghost use Rattle.std.specs.Prelude.{◌≡◌, ℕ, ◌+◌, ◌≤◌, ◌==◌, not, cond, length, map, filter, nat_le, true, IfOk};
 ghost use Rattle.county_codes.specs.Limits.{most_counties};
 ghost use Rattle.grouping_laws.specs.Problem.{Problem as ProblemOf};
-ghost use Rattle.grouping_laws.specs.Sets.{total, member};
+ghost use Rattle.grouping_laws.specs.Sets.{sum_by, contains};
 ghost use Rattle.county_problem.specs.ProblemValue.{problem_of};
 ghost use Rattle.certificate_laws.specs.State.{State, empty_state, close, raise, open_to};
 ghost use Rattle.certificate_laws.specs.Regions.{listed};
@@ -50,7 +50,7 @@ fn outside(
     rest: &[Waiting],
     codes: &[CountyCode],
 ) -> Result<Vec<Waiting>, AllocError>
-    ensures { IfOk result (λ v. v.items ≡ filter (λ w. not (member codes.now w.code)) rest.now) }
+    ensures { IfOk result (λ v. v.items ≡ filter (λ w. not (contains codes.now w.code)) rest.now) }
 {
     rest.iter()
         .filter(|waiting| !has_code(codes, waiting.code))
@@ -165,7 +165,7 @@ impl Position {
         requires few { length self.now.rest.items ≤ most_counties }
         requires ascend { ascend weights.now ≡ true }
         ensures { (p : ProblemOf) (s : State) → IsPosition p s self.now
-            → result ≡ total (county_weight weights.now) (listed p (open_to s size)) }
+            → result ≡ sum_by (county_weight weights.now) (listed p (open_to s size)) }
     {
         let mut weight = 0;
         for waiting in &self.rest {

@@ -1,7 +1,7 @@
 //! The grouping of closed groups that have each county.
 
 ghost use Rattle.std.specs.Prelude.{◌≡◌, ◌≢◌, ℕ, ◌≤◌, List, map, filter, length, All, IfOk, IfSome, MatchOption};
-ghost use Rattle.grouping_laws.specs.Sets.{digit, total, often, stands, member};
+ghost use Rattle.grouping_laws.specs.Sets.{indicator, sum_by, count, count_in, contains};
 ghost use Rattle.grouping_laws.specs.Problem.{LawfulGroup, people_of};
 ghost use Rattle.grouping_laws.specs.Grouping.{Lawful, sets_of};
 ghost use Rattle.grouping_laws.specs.Ranges.{SuitAll, seated};
@@ -21,7 +21,7 @@ fn ascending(
     problem: &Problem,
     codes: &[CountyCode],
 ) -> Result<Vec<CountyCode>, AllocError>
-    ensures { IfOk result (λ v. v.items ≡ filter (member codes.now) (problem_of problem.now).counties) }
+    ensures { IfOk result (λ v. v.items ≡ filter (contains codes.now) (problem_of problem.now).counties) }
 {
     let mut found = Vec::new(alloc);
     for county in problem.counties() {
@@ -38,7 +38,7 @@ fn ascending_sets(
     problem: &Problem,
     closed: &[Codes],
 ) -> Result<Vec<Codes>, AllocError>
-    ensures { IfOk result (λ v. v.items ≡ map (λ g. filter (member g) (problem_of problem.now).counties) closed.now) }
+    ensures { IfOk result (λ v. v.items ≡ map (λ g. filter (contains g) (problem_of problem.now).counties) closed.now) }
 {
     let mut sets = Vec::new(alloc);
     for codes in closed {
@@ -49,7 +49,7 @@ fn ascending_sets(
 
 /// The people of each set.
 fn people_of_sets(alloc: Global, problem: &Problem, sets: &[Codes]) -> Result<Vec<u64>, AllocError>
-    requires once { All (λ g. (c : ℕ) → often c g ≤ 1) sets.now }
+    requires once { All (λ g. (c : ℕ) → count c g ≤ 1) sets.now }
     ensures { IfOk result (λ v. v.items ≡ map (people_of (problem_of problem.now)) sets.now) }
 {
     let mut people = Vec::new(alloc);
@@ -81,10 +81,10 @@ pub(crate) fn seated_grouping(
     problem: &Problem,
     closed: &[Codes],
 ) -> Result<Option<Grouping>, AllocError>
-    requires once { (c : ℕ) → stands c closed.now ≡ digit (member (problem_of problem.now).counties c) }
+    requires once { (c : ℕ) → count_in c closed.now ≡ indicator (contains (problem_of problem.now).counties c) }
     requires lawful { All (LawfulGroup (problem_of problem.now)) closed.now }
     ensures lawful { IfOk result (λ o. MatchOption o ((ks : List ℕ) → SuitAll (problem_of problem.now) closed.now ks
-        → total (λ k. k) ks ≢ (problem_of problem.now).seats_left) (λ g. Lawful (problem_of problem.now) g.groups.items)) }
+        → sum_by (λ k. k) ks ≢ (problem_of problem.now).seats_left) (λ g. Lawful (problem_of problem.now) g.groups.items)) }
     ensures filled { IfOk result (λ o. IfSome o (λ _. CanSeat (problem_of problem.now) closed.now)) }
     ensures sets { IfOk result (λ o. IfSome o (λ g. SameSets (sets_of g.groups.items) closed.now)) }
     ensures in_order { IfOk result (λ o. IfSome o (λ g. IsInOrder g.groups.items)) }

@@ -3,13 +3,13 @@ use Rattle.std.proofs.Common.{◌≡◌, ℕ, ◌+◌, ◌≤◌, Bool, true, fa
 use Rattle.std.proofs.lemmas.Bool.{eq-eqb}
 use Rattle.std.proofs.lemmas.List.Elements.{filter_agree}
 use Rattle.county_codes.specs.declared.group.Group.{Group}
-use Rattle.grouping_laws.specs.Sets.{stands, member, SameSet}
+use Rattle.grouping_laws.specs.Sets.{count_in, contains, SameSet}
 use Rattle.grouping_laws.specs.Problem.{Problem}
 use Rattle.grouping_laws.specs.Grouping.{Grouping, Lawful, sets_of}
 use Rattle.grouping_laws.specs.GroupsFrom.{IsBefore, IsLesser, place}
 use Rattle.place_laws.proofs.Sums.{digit_one}
 use Rattle.grouping_laws.proofs.Elements.{Has, has_all, has_right, has_from_contains, contains_from_has, has_set}
-use Rattle.grouping_laws.proofs.Sizes.{often-le-stands}
+use Rattle.grouping_laws.proofs.Sizes.{count-le-count_in}
 use Rattle.certificate_data.specs.Round.{Round}
 use Rattle.certificate_laws.specs.State.{State, IsState, close, raise}
 use Rattle.certificate_laws.specs.Agreement.{Agrees}
@@ -40,8 +40,8 @@ abbrev pub Differ : List (List ℕ) → List (List ℕ) → Type 0
 Differ j k = ¬ SameSets j k
 
 module _ (p : Problem) (round : Round) (s : State) (county limit : ℕ) (g : Grouping) (lawful : Lawful p g) where
-  once_in : (c : ℕ) → stands c (sets_of g) ≤ 1
-  once_in c = omega (arith, lawful.once c, digit_one (member p.counties c))
+  once_in : (c : ℕ) → count_in c (sets_of g) ≤ 1
+  once_in c = omega (arith, lawful.once c, digit_one (contains p.counties c))
 
   -- the set of the grouping that is a closed group
   closed_set : (a : List ℕ) → Agrees (close a s) g → (m : Group) × Has g m × SameSet m.codes a
@@ -55,7 +55,7 @@ module _ (p : Problem) (round : Round) (s : State) (county limit : ℕ) (g : Gro
       let m = closed_set a x in
       let n = closed_set b y in
       let one = one_group county g m.0 n.0 m.1 n.1 (m.2 county ∙ at.has) (n.2 county ∙ bt.has) (once_in county) in
-      sym at.in_order ∙ (filter_agree (member a) (member b) (λ c. sym (m.2 c) ∙ (ap (λ (z : Group). member z.codes c) one ∙ n.2 c)) round.order ∙ bt.in_order)
+      sym at.in_order ∙ (filter_agree (contains a) (contains b) (λ c. sym (m.2 c) ∙ (ap (λ (z : Group). contains z.codes c) one ∙ n.2 c)) round.order ∙ bt.in_order)
 
   -- if the county is raised, none of them is closed
   not_raised : (a : List ℕ) → CanBranch round s county limit → IsGroupAt p round s county limit a → Agrees (close a s) g → Agrees (raise county limit s) g → ⊥
@@ -63,7 +63,7 @@ module _ (p : Problem) (round : Round) (s : State) (county limit : ℕ) (g : Gro
       let m = closed_set a x in
       let n = y.large county (open_rest s limit county can.is_open) in
       let one = one_group county g m.0 n.0 m.1 (has_from_contains g n.0 n.1) (m.2 county ∙ at.has) n.2 (once_in county) in
-      let few = not_longer m.0.codes a (λ c. omega (arith, often-le-stands c (sets_of g) m.0.codes (has_set g m.0 m.1), once_in c)) (λ c e. sym (m.2 c) ∙ e) in
+      let few = not_longer m.0.codes a (λ c. omega (arith, count-le-count_in c (sets_of g) m.0.codes (has_set g m.0 m.1), once_in c)) (λ c e. sym (m.2 c) ∙ e) in
       omega (arith, few, at.small, n.3, ap (λ b. cond b (limit + 1) (s.least county)) (eq-eqb county county refl), ap (λ (z : Group). length z.codes) one)
 
 module _ (p : Problem) (round : Round) (t : Grouping) (is_target : round.target ≡ Some t) (fits : TargetFits p round.limit round.target) where

@@ -1,7 +1,7 @@
 -- If no county is left and the bound lines don't fall short, the closed groups have the counts that are wanted.
 use Rattle.std.proofs.Common.{◌≡◌, ℕ, zero, suc, ◌+◌, ◌*◌, ◌/◌, ◌≤◌, ◌<◌, Bool, true, false, nat_lt, ◌||◌, List, [], ◌∷◌, filter, length, ◌==◌, refl, sym, ◌∙◌, subst, arith, ◌⊎◌, inl, inr, le-div_iff_mul-le}
 use Rattle.std.proofs.lemmas.Bool.{eqb-true, lt-ltb, false≢true, cases_order}
-use Rattle.grouping_laws.specs.Sets.{digit}
+use Rattle.grouping_laws.specs.Sets.{indicator}
 use Rattle.grouping_laws.specs.Problem.{Problem}
 use Rattle.grouping_laws.specs.Grouping.{counts}
 use Rattle.grouping_laws.proofs.Elements.{Has}
@@ -24,7 +24,7 @@ pub none_above : (limit i : ℕ) (sets : List (List ℕ)) → ((g : List ℕ) �
 none_above limit i [] small above = refl
 none_above limit i (g ∷ sets) small above = go (length g == i) refl (none_above limit i sets (λ k h. small k (inr h)) above)
   where
-    go : (b : Bool) → (length g == i) ≡ b → counts sets i ≡ 0 → digit b + counts sets i ≡ 0
+    go : (b : Bool) → (length g == i) ≡ b → counts sets i ≡ 0 → indicator b + counts sets i ≡ 0
     go true e h = absurd (omega (arith, small g (inl refl), eqb-true (length g) i e))
     go false e h = omega (arith, h)
 

@@ -1,7 +1,7 @@
 -- The one best grouping of three counties whose middle one strands its neighbours.
 use Rattle.std.proofs.Common.{◌≡◌, Bool, true, false, not, ◌&&◌, [], ◌∷◌, refl, sym, ◌∙◌, arith, lit≤}
 use Rattle.std.proofs.lemmas.Bool.{false≢true}
-use Rattle.grouping_laws.specs.Sets.{member}
+use Rattle.grouping_laws.specs.Sets.{contains}
 use Rattle.grouping_laws.specs.Grouping.{sets_of}
 use Rattle.certificate_laws.specs.State.{empty_state, close}
 use Rattle.certificate_laws.specs.Examples.{path, stranding, together, plain_round, plain_tree, wide_round, lone_leaf}
@@ -14,7 +14,7 @@ use Rattle.list_laws.proofs.Certified.{all_best}
 
 filled : IsFilled stranding (close path (empty_state stranding))
 filled = record {
-  none_left = λ c. gone (member path c);
+  none_left = λ c. gone (contains path c);
   seats_of_closed = 2 ∷ [];
   suit = (record { some_seat = omega arith; enough = lit≤ tt; not_more = lit≤ tt }, tt);
   add_up = refl;

@@ -2,7 +2,7 @@
 use Rattle.std.proofs.Common.{◌≡◌, ℕ, ◌≤◌, false, List, [], ◌∷◌, length, refl, sym, ap, ◌∙◌, subst, arith, inl, Contains}
 use Rattle.std.proofs.lemmas.Bool.{false≢true}
 use Rattle.county_codes.specs.declared.group.Group.{Group}
-use Rattle.grouping_laws.specs.Sets.{digit, stands, member, SameSet}
+use Rattle.grouping_laws.specs.Sets.{indicator, count_in, contains, SameSet}
 use Rattle.grouping_laws.specs.Problem.{Problem, Connected, LawfulGroup}
 use Rattle.grouping_laws.specs.Grouping.{Grouping, Lawful, counts, sets_of}
 use Rattle.grouping_laws.specs.Ranges.{seated}
@@ -20,14 +20,14 @@ use Rattle.list_laws.specs.Completeness.{IsFilled}
 use Rattle.list_laws.proofs.Same.{same_self}
 
 -- groups that no county lies in
-no_counts : (j : ℕ) (opens : Grouping) → ((m : Group) → Has opens m → 1 ≤ length m.codes) → ((c : ℕ) → stands c (sets_of opens) ≡ 0) → counts (sets_of opens) j ≡ 0
+no_counts : (j : ℕ) (opens : Grouping) → ((m : Group) → Has opens m → 1 ≤ length m.codes) → ((c : ℕ) → count_in c (sets_of opens) ≡ 0) → counts (sets_of opens) j ≡ 0
 no_counts j [] some none = refl
 no_counts j (m ∷ opens) some none =
     let y = first_code m.codes (some m (inl refl)) in
     absurd (omega (arith, none y.0, stands_some y.0 (sets_of (m ∷ opens)) m.codes (has_set (m ∷ opens) m (inl refl)) y.1))
 
 module _ (p : Problem) (round : Round) (s : State) (state : IsState p round s) (none_left : (c : ℕ) → s.rest c ≡ false) where
-  closed_cover : (c : ℕ) → stands c s.closed ≡ digit (member p.counties c)
+  closed_cover : (c : ℕ) → count_in c s.closed ≡ indicator (contains p.counties c)
   closed_cover c = omega (arith, state.once c, false_digit (s.rest c) (none_left c))
 
   module _ (g : Grouping) (lawful : Lawful p g) where
@@ -39,7 +39,7 @@ module _ (p : Problem) (round : Round) (s : State) (state : IsState p round s) (
       closed = all_from_has (λ k. (m : Group) × Contains g m × SameSet m.codes k) s.closed (λ k h.
           let r = has_all (HasSet (sets_of g)) s.closed same.back k h in
           let m = has-map g r.0 (has_from_contains (sets_of g) r.0 r.1) in
-          (m.0, contains_from_has g m.0 m.1, λ c. ap (λ z. member z c) m.2 ∙ r.2 c));
+          (m.0, contains_from_has g m.0 m.1, λ c. ap (λ z. contains z c) m.2 ∙ r.2 c));
       large = λ c e. absurd (false≢true (sym (none_left c) ∙ e));
     }
 
@@ -56,8 +56,8 @@ module _ (p : Problem) (round : Round) (s : State) (state : IsState p round s) (
             let y = first_code m.codes (some_county m h) in
             let k = set_from_stands y.0 s.closed (omega (arith, closed_cover y.0, lawful.once y.0, stands_some y.0 (sets_of g) m.codes (has_set g m h) y.1)) in
             let r = has_all (λ k. (m : Group) × Contains g m × SameSet m.codes k) s.closed agrees.closed k.0 k.1 in
-            let one = one_group y.0 g m r.0 h (has_from_contains g r.0 r.1) y.1 (r.2 y.0 ∙ k.2) (omega (arith, lawful.once y.0, digit_one (member p.counties y.0))) in
-            (k.0, contains_from_has s.closed k.0 k.1, λ c. sym (r.2 c) ∙ (ap (λ (z : Group). member z.codes c) (sym one) ∙ ap (λ z. member z c) e))
+            let one = one_group y.0 g m r.0 h (has_from_contains g r.0 r.1) y.1 (r.2 y.0 ∙ k.2) (omega (arith, lawful.once y.0, digit_one (contains p.counties y.0))) in
+            (k.0, contains_from_has s.closed k.0 k.1, λ c. sym (r.2 c) ∙ (ap (λ (z : Group). contains z.codes c) (sym one) ∙ ap (λ z. contains z c) e))
 
     pub counts_same : Agrees s g → (j : ℕ) → counts s.closed j ≡ counts (sets_of g) j
     counts_same agrees j =

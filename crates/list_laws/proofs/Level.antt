@@ -3,14 +3,14 @@ use Rattle.std.proofs.Common.{◌≡◌, ℕ, suc, ◌≤◌, ◌<◌, Bool, tru
 use Rattle.std.specs.List.{AllZip}
 use Rattle.std.proofs.lemmas.Bool.{cases_lt}
 use Rattle.std.proofs.lemmas.List.{append-nil}
-use Rattle.grouping_laws.specs.Sets.{digit, total, often, member}
+use Rattle.grouping_laws.specs.Sets.{indicator, sum_by, count, contains}
 use Rattle.grouping_laws.specs.Problem.{Problem, IsProblem, Suits, people_of, LawfulGroup}
 use Rattle.grouping_laws.specs.Grouping.{Grouping, Lawful, counts, sets_of}
 use Rattle.grouping_laws.specs.Ranges.{IsLeast, IsMost}
 use Rattle.grouping_laws.proofs.Elements.{Has, has_all, has-map}
 use Rattle.grouping_laws.proofs.Digits.{true_digit, false_digit, often_member}
-use Rattle.grouping_laws.proofs.Sizes.{below_all, below_same, same_sizes, often-filter}
-use Rattle.grouping_laws.proofs.Alike.{often-filter_none}
+use Rattle.grouping_laws.proofs.Sizes.{below_all, below_same, same_sizes, count-filter}
+use Rattle.grouping_laws.proofs.Alike.{count-filter_none}
 use Rattle.grouping_laws.proofs.Ranges.{people_have_ranges, seats_to}
 use Rattle.certificate_data.specs.Round.{Round}
 use Rattle.certificate_laws.specs.Regions.{listed}
@@ -20,7 +20,7 @@ use Rattle.certificate_laws.specs.Certificate.{TargetFits}
 use Rattle.list_laws.specs.Completeness.{IsFilled}
 use Rattle.list_laws.specs.Level.{LevelStatesAreFilled}
 
-none_often : (c : ℕ) (xs : List ℕ) → length xs ≡ 0 → often c xs ≡ 0
+none_often : (c : ℕ) (xs : List ℕ) → length xs ≡ 0 → count c xs ≡ 0
 none_often c [] e = refl
 none_often c (x ∷ xs) e = absurd (omega arith)
 
@@ -32,23 +32,23 @@ module _ (p : Problem) (round : Round) (s : State) (t : Grouping) (is : IsProble
   small : (g : List ℕ) → Has (sets_of t) g → length g ≤ round.limit
   small g h = let m = has-map t g h in subst (λ z. length z ≤ round.limit) m.2 (has_all (λ m. length m.codes ≤ round.limit) t target.1 m.0 m.1)
 
-  as_many : total length s.closed ≡ total length (sets_of t)
+  as_many : sum_by length s.closed ≡ sum_by length (sets_of t)
   as_many =
       let same = below_same (suc round.limit) s.closed (sets_of t) (λ j a b. level j a (omega arith)) in
       let here = below_all round.limit s.closed (has_all (λ g. length g ≤ round.limit) s.closed state.small) in
       let there = below_all round.limit (sets_of t) small in
       omega (arith, same, here, there)
 
-  rest_once : (c : ℕ) → often c (listed p s.rest) ≡ digit (s.rest c)
+  rest_once : (c : ℕ) → count c (listed p s.rest) ≡ indicator (s.rest c)
   rest_once c = go (s.rest c) refl
     where
-      go : (b : Bool) → s.rest c ≡ b → often c (listed p s.rest) ≡ digit b
-      go true e = omega (arith, often-filter c s.rest p.counties e, often_member p.counties c (is.once c), state.once c, true_digit (s.rest c) e, target.0.once c, digit_at_most (member p.counties c))
+      go : (b : Bool) → s.rest c ≡ b → count c (listed p s.rest) ≡ indicator b
+      go true e = omega (arith, count-filter c s.rest p.counties e, often_member p.counties c (is.once c), state.once c, true_digit (s.rest c) e, target.0.once c, digit_at_most (contains p.counties c))
         where
-          digit_at_most : (b : Bool) → digit b ≤ 1
+          digit_at_most : (b : Bool) → indicator b ≤ 1
           digit_at_most true = omega arith
           digit_at_most false = omega arith
-      go false e = often-filter_none c s.rest p.counties e
+      go false e = count-filter_none c s.rest p.counties e
 
   none_over : length (listed p s.rest) ≡ 0
   none_over =
@@ -85,14 +85,14 @@ module _ (p : Problem) (is : IsProblem p) where
       let ks = seats_to p s.closed r.0 r.1 p.seats_left r.2 r.3 (not_above r.0 r.2) (not_below r.1 r.3) in
       record { none_left = none_left; seats_of_closed = ks.0; suit = ks.1; add_up = ks.2 }
     where
-      off : (ranges : List ℕ) → (AllZip (IsLeast p) (s.closed ++ []) ranges × (p.seats_left < total (λ k. k) ranges)) ⊎ (AllZip (IsMost p) (s.closed ++ []) ranges × (total (λ k. k) ranges < p.seats_left)) → ⊥
+      off : (ranges : List ℕ) → (AllZip (IsLeast p) (s.closed ++ []) ranges × (p.seats_left < sum_by (λ k. k) ranges)) ⊎ (AllZip (IsMost p) (s.closed ++ []) ranges × (sum_by (λ k. k) ranges < p.seats_left)) → ⊥
       off ranges h = no_off (record { parts = []; are_parts = record { each = λ k d l. absurd (omega arith); once = λ c. sym (false_digit (s.rest c) (none_left c)) }; ranges = ranges; off = h })
 
-      not_above : (lows : List ℕ) → AllZip (IsLeast p) s.closed lows → total (λ k. k) lows ≤ p.seats_left
-      not_above lows h = ⊎_elim (λ l. absurd (off lows (inl (subst (λ z. AllZip (IsLeast p) z lows) (sym (append-nil s.closed)) h, l)))) (λ l. l) (cases_lt p.seats_left (total (λ k. k) lows))
+      not_above : (lows : List ℕ) → AllZip (IsLeast p) s.closed lows → sum_by (λ k. k) lows ≤ p.seats_left
+      not_above lows h = ⊎_elim (λ l. absurd (off lows (inl (subst (λ z. AllZip (IsLeast p) z lows) (sym (append-nil s.closed)) h, l)))) (λ l. l) (cases_lt p.seats_left (sum_by (λ k. k) lows))
 
-      not_below : (highs : List ℕ) → AllZip (IsMost p) s.closed highs → p.seats_left ≤ total (λ k. k) highs
-      not_below highs h = ⊎_elim (λ l. absurd (off highs (inr (subst (λ z. AllZip (IsMost p) z highs) (sym (append-nil s.closed)) h, l)))) (λ l. l) (cases_lt (total (λ k. k) highs) p.seats_left)
+      not_below : (highs : List ℕ) → AllZip (IsMost p) s.closed highs → p.seats_left ≤ sum_by (λ k. k) highs
+      not_below highs h = ⊎_elim (λ l. absurd (off highs (inr (subst (λ z. AllZip (IsMost p) z highs) (sym (append-nil s.closed)) h, l)))) (λ l. l) (cases_lt (sum_by (λ k. k) highs) p.seats_left)
 
 pub level_states : LevelStatesAreFilled
 level_states = record {

@@ -1,7 +1,7 @@
 -- A search ends with a complete tree or a greater grouping.
 use Rattle.std.proofs.Common.{◌≡◌, ℕ, zero, suc, ◌+◌, ◌*◌, ◌≤◌, ◌<◌, Bool, true, false, nat_lt, ◌||◌, List, [], ◌∷◌, ◌++◌, length, refl, sym, ap, ◌∙◌, subst, arith, ◌⊎◌, inl, inr, ⊎_elim, Option, Some, None}
 use Rattle.std.proofs.lemmas.Bool.{lt-ltb, false≢true, cases_lt}
-use Rattle.grouping_laws.specs.Sets.{total}
+use Rattle.grouping_laws.specs.Sets.{sum_by}
 use Rattle.grouping_laws.specs.Problem.{Problem, IsProblem}
 use Rattle.grouping_laws.specs.Grouping.{Grouping, counts, sets_of, IsGreater}
 use Rattle.grouping_laws.specs.Ranges.{seated}
@@ -43,7 +43,7 @@ abbrev empties : ℕ → List Allowance
 empties zero = []
 empties (suc n) = weigh 1 [] ∷ empties n
 
-none_weigh : (xs : List ℕ) → total (weight_of []) xs ≡ 0
+none_weigh : (xs : List ℕ) → sum_by (weight_of []) xs ≡ 0
 none_weigh [] = refl
 none_weigh (x ∷ xs) = omega (arith, none_weigh xs)
 

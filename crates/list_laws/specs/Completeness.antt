@@ -1,6 +1,6 @@
 -- Complete trees: each of their bound leaves falls short of the target, or no county is left at its state.
 use Rattle.std.specs.Prelude.{ℕ, ◌≡◌, false, List, ⊤}
-use Rattle.grouping_laws.specs.Sets.{total}
+use Rattle.grouping_laws.specs.Sets.{sum_by}
 use Rattle.grouping_laws.specs.Problem.{Problem}
 use Rattle.grouping_laws.specs.Ranges.{SuitAll}
 use Rattle.certificate_data.specs.Round.{Round}
@@ -14,7 +14,7 @@ pub record IsFilled (p : Problem) (s : State) : Type 0 where
   pub none_left : (c : ℕ) → s.rest c ≡ false
   pub seats_of_closed : List ℕ
   pub suit : SuitAll p s.closed seats_of_closed
-  pub add_up : total (λ k. k) seats_of_closed ≡ p.seats_left
+  pub add_up : sum_by (λ k. k) seats_of_closed ≡ p.seats_left
 
 -- a bound leaf falls short of the target's counts, or the state is filled
 abbrev pub IsCompleteLeaf : Leaf → Problem → Round → State → Type 0

@@ -4,7 +4,7 @@ use Rattle.std.specs.List.{list_any, list_all, flat_map}
 use Rattle.std.specs.Cmp.{first_so, second_so}
 use Rattle.std.specs.Cmp.Lexicographic.{pointwise}
 use Rattle.std.proofs.lemmas.Bool.{eqb-true, eq-eqb, false≢true}
-use Rattle.grouping_laws.specs.Sets.{digit, stands, member}
+use Rattle.grouping_laws.specs.Sets.{indicator, count_in, contains}
 use Rattle.grouping_laws.specs.Problem.{Problem}
 use Rattle.grouping_laws.specs.Grouping.{Grouping, Lawful, sets_of}
 use Rattle.grouping_laws.proofs.Elements.{Has, has_from_contains, has_all}
@@ -79,14 +79,14 @@ itself (x ∷ xs) = ap (λ b. b && pointwise nat_eq xs xs) (eq-eqb x x refl) ∙
 -- ---- two sets of a list
 
 -- two sets of a list that have one code are the same, or the code stands twice
-same_or_twice : (c : ℕ) (sets : List (List ℕ)) (s t : List ℕ) → Has sets s → Has sets t → member s c ≡ true → member t c ≡ true → (s ≡ t) ⊎ (2 ≤ stands c sets)
+same_or_twice : (c : ℕ) (sets : List (List ℕ)) (s t : List ℕ) → Has sets s → Has sets t → contains s c ≡ true → contains t c ≡ true → (s ≡ t) ⊎ (2 ≤ count_in c sets)
 same_or_twice c [] s t h k m n = absurd h
 same_or_twice c (x ∷ xs) s t (inl e) (inl f) m n = inl (sym e ∙ f)
-same_or_twice c (x ∷ xs) s t (inl e) (inr k) m n = inr (omega (arith, often_some c x (ap (λ (l : List ℕ). member l c) e ∙ m), stands_some c xs t k n))
-same_or_twice c (x ∷ xs) s t (inr h) (inl f) m n = inr (omega (arith, often_some c x (ap (λ (l : List ℕ). member l c) f ∙ n), stands_some c xs s h m))
+same_or_twice c (x ∷ xs) s t (inl e) (inr k) m n = inr (omega (arith, often_some c x (ap (λ (l : List ℕ). contains l c) e ∙ m), stands_some c xs t k n))
+same_or_twice c (x ∷ xs) s t (inr h) (inl f) m n = inr (omega (arith, often_some c x (ap (λ (l : List ℕ). contains l c) f ∙ n), stands_some c xs s h m))
 same_or_twice c (x ∷ xs) s t (inr h) (inr k) m n = go (same_or_twice c xs s t h k m n)
   where
-    go : (s ≡ t) ⊎ (2 ≤ stands c xs) → (s ≡ t) ⊎ (2 ≤ stands c (x ∷ xs))
+    go : (s ≡ t) ⊎ (2 ≤ count_in c xs) → (s ≡ t) ⊎ (2 ≤ count_in c (x ∷ xs))
     go (inl e) = inl e
     go (inr l) = inr (omega (arith, l))
 
@@ -105,8 +105,8 @@ module _ (p : Problem) (groupings : List Grouping) (lawful : All (Lawful p) grou
       subst (Has g) (same_codes found.0 t found.2) found.1
 
   -- a set that is not shared has no county of a shared one
-  apart : (s : List ℕ) (c : ℕ) → Contains (unshared_sets shared listed) s → member s c ≡ true → member (unshared_counties p.counties shared) c ≡ true
-  apart s c h m = filter_in (λ c. not (list_any (λ t. member t c) shared)) p.counties c known (ap not (none (list_any (λ t. member t c) shared) refl))
+  apart : (s : List ℕ) (c : ℕ) → Contains (unshared_sets shared listed) s → contains s c ≡ true → contains (unshared_counties p.counties shared) c ≡ true
+  apart s c h m = filter_in (λ c. not (list_any (λ t. contains t c) shared)) p.counties c known (ap not (none (list_any (λ t. contains t c) shared) refl))
     where
       from : (g : List (List ℕ)) × Has listed g × Has (filter (λ s. not (has_set shared s)) g) s
       from = flat_has (λ g. filter (λ s. not (has_set shared s)) g) listed s (has_from_contains (unshared_sets shared listed) s h)
@@ -117,22 +117,22 @@ module _ (p : Problem) (groupings : List Grouping) (lawful : All (Lawful p) grou
       own : (g : Grouping) × Has groupings g × (sets_of g ≡ from.0)
       own = map_has sets_of groupings from.0 from.1
 
-      once : stands c from.0 ≡ digit (member p.counties c)
-      once = ap (stands c) (sym own.2) ∙ (has_all (Lawful p) groupings lawful own.0 own.1).once c
+      once : count_in c from.0 ≡ indicator (contains p.counties c)
+      once = ap (count_in c) (sym own.2) ∙ (has_all (Lawful p) groupings lawful own.0 own.1).once c
 
-      known : member p.counties c ≡ true
-      known = digit_true (member p.counties c) (omega (arith, once, stands_some c from.0 s own_set.0 m))
+      known : contains p.counties c ≡ true
+      known = digit_true (contains p.counties c) (omega (arith, once, stands_some c from.0 s own_set.0 m))
 
-      clash : (t : List ℕ) → Has shared t → (s ≡ t) ⊎ (2 ≤ stands c from.0) → ⊥
+      clash : (t : List ℕ) → Has shared t → (s ≡ t) ⊎ (2 ≤ count_in c from.0) → ⊥
       clash t k (inl e) =
           let has : has_set shared s ≡ true = has_any (λ x. pointwise nat_eq x s) shared t k (ap (λ (l : List ℕ). pointwise nat_eq l s) (sym e) ∙ itself s) in
           false≢true (ap not (sym has) ∙ own_set.1)
-      clash t k (inr l) = omega (arith, l, once, digit_one (member p.counties c))
+      clash t k (inr l) = omega (arith, l, once, digit_one (contains p.counties c))
 
-      none : (b : Bool) → list_any (λ t. member t c) shared ≡ b → list_any (λ t. member t c) shared ≡ false
+      none : (b : Bool) → list_any (λ t. contains t c) shared ≡ b → list_any (λ t. contains t c) shared ≡ false
       none false e = e
       none true e =
-          let r = any_has (λ t. member t c) shared e in
+          let r = any_has (λ t. contains t c) shared e in
           absurd (clash r.0 r.1 (same_or_twice c from.0 s r.0 own_set.0 (stands_in from.0 r.0 from.1 r.1) m r.2))
 
 pub regions_are_joined : RegionsAreJoined

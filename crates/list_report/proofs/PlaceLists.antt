@@ -1,6 +1,6 @@
 -- The counties with the first counties of their regions, as a list and as a function.
 use Rattle.std.proofs.Common.{◌≡◌, ℕ, ◌==◌, Bool, true, false, cond, List, [], ◌∷◌, map, filter, refl, ap, ◌∙◌}
-use Rattle.grouping_laws.specs.Sets.{member}
+use Rattle.grouping_laws.specs.Sets.{contains}
 use Rattle.list_report.specs.declared.regions.Place.{Place}
 use Rattle.list_report.specs.Places.{places_at, places_met, moved}
 use Rattle.list_report.specs.Regions.{met, join}
@@ -31,7 +31,7 @@ each_moved f ms (x ∷ xs) = ap (λ (l : List Place). record { county = x; first
 -- the places after a join
 pub places_join : (f : ℕ → ℕ) (unshared s : List ℕ) → map (λ p. record { county = p.county; first = moved (places_met (places_at f unshared) s) p.first }) (places_at f unshared) ≡ places_at (join unshared f s) unshared
 places_join f unshared s =
-    let same : places_met (places_at f unshared) s ≡ met unshared f s = places_kept f (λ p. member s p.county) (λ p. p.first) unshared in
+    let same : places_met (places_at f unshared) s ≡ met unshared f s = places_kept f (λ p. contains s p.county) (λ p. p.first) unshared in
     each_moved f (places_met (places_at f unshared) s) unshared ∙ ap (λ (ms : List ℕ). places_at (λ c. moved ms (f c)) unshared) same
 
 one_place_region : (f : ℕ → ℕ) (unshared : List ℕ) (r : ℕ) → map (λ p. p.county) (filter (λ p. p.first == r) (places_at f unshared)) ≡ filter (λ c. f c == r) unshared

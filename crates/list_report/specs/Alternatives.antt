@@ -1,13 +1,13 @@
 -- What the listed groupings choose in each region.
 use Rattle.std.specs.Prelude.{ℕ, ◌+◌, ◌*◌, List, [], ◌∷◌, ◌++◌, fold, map, filter, length, if◌then◌else◌}
 use Rattle.std.specs.List.{list_any, list_all}
-use Rattle.grouping_laws.specs.Sets.{member}
+use Rattle.grouping_laws.specs.Sets.{contains}
 use Rattle.list_report.specs.declared.alternatives.Region.{Region}
 use Rattle.list_report.specs.SharedSets.{same_sets}
 
 -- the sets of a grouping whose counties all lie in the region
 abbrev pub sets_inside : List ℕ → List (List ℕ) → List (List ℕ)
-sets_inside counties sets = filter (λ s. list_all (member counties) s) sets
+sets_inside counties sets = filter (λ s. list_all (contains counties) s) sets
 
 -- a choice is added behind the others, if it isn't among them
 abbrev pub add_choice : List (List (List ℕ)) → List (List ℕ) → List (List (List ℕ))

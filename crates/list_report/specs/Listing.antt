@@ -1,7 +1,7 @@
 -- The text of a list of groupings.
 use Rattle.std.specs.Prelude.{ℕ, ◌+◌, ◌==◌, List, [], ◌∷◌, ◌++◌, Option, Some, None, length, map, filter, flat_map}
 use Rattle.std.specs.Prelude.{codes, decimal, if◌then◌else◌}
-use Rattle.grouping_laws.specs.Sets.{member}
+use Rattle.grouping_laws.specs.Sets.{contains}
 use Rattle.grouping_laws.specs.SeatWindow.{seat_run}
 use Rattle.grouping_laws.specs.Grouping.{Grouping, sets_of}
 use Rattle.county_problem.specs.ProblemValue.{ProblemValue, problem_of, codes_of}
@@ -16,7 +16,7 @@ use Rattle.list_report.specs.Alternatives.{sets_inside, with_alternatives, numbe
 
 -- the people of the problem's counties in a set
 abbrev pub people_inside : ProblemValue → List ℕ → ℕ
-people_inside v s = people_in (filter (λ k. member s k.code) v.counties)
+people_inside v s = people_in (filter (λ k. contains s k.code) v.counties)
 
 -- the number of seats that suits, or the least and the greatest of several
 abbrev pub seats_words : Option (ℕ × ℕ) → List ℕ

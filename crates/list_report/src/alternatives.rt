@@ -2,7 +2,7 @@
 
 ghost use Rattle.std.specs.Prelude.{◌≡◌, ℕ, ◌++◌, ◌==◌, ◌≤◌, List, ◌∷◌, [], length, map, filter, IfOk, OnOk};
 ghost use Rattle.std.specs.List.{list_any, list_all};
-ghost use Rattle.grouping_laws.specs.Sets.{member};
+ghost use Rattle.grouping_laws.specs.Sets.{contains};
 ghost use Rattle.list_report.specs.SharedSets.{same_sets};
 ghost use Rattle.list_report.specs.Alternatives.{sets_inside, add_choice, alternatives as alternatives_in};
 ghost use Rattle.list_report.specs.Alternatives.{with_alternatives, number_of_alternative, product};
@@ -47,7 +47,7 @@ pub(crate) struct Region {
 
 /// Whether all codes stand in the list.
 fn has_all(counties: &[CountyCode], codes: &[CountyCode]) -> bool
-    ensures { result ≡ list_all (member counties.now) codes.now }
+    ensures { result ≡ list_all (contains counties.now) codes.now }
 {
     codes.iter().all(|code| has_code(counties, *code))
 }

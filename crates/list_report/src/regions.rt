@@ -2,7 +2,7 @@
 
 ghost use Rattle.std.specs.Prelude.{◌≡◌, ℕ, ◌==◌, min, not, List, fold, map, filter, IfOk, if◌then◌else◌};
 ghost use Rattle.std.specs.List.{list_any};
-ghost use Rattle.grouping_laws.specs.Sets.{member};
+ghost use Rattle.grouping_laws.specs.Sets.{contains};
 ghost use Rattle.county_codes.specs.Counties.{codes_of};
 ghost use Rattle.list_report.specs.Regions.{unshared_counties, join, first_county, regions};
 ghost use Rattle.list_report.specs.Places.{places_met, moved, places_at};
@@ -21,7 +21,7 @@ pub(crate) struct Place {
 
 /// Whether some set has the code.
 fn is_taken(sets: &[Codes], code: CountyCode) -> bool
-    ensures { result ≡ list_any (λ s. member s code) sets.now }
+    ensures { result ≡ list_any (λ s. contains s code) sets.now }
 {
     sets.iter().any(|set| has_code(set.as_slice(), code))
 }

@@ -1,7 +1,7 @@
 //! The lines of a list of groupings.
 
 ghost use Rattle.std.specs.Prelude.{◌≡◌, ℕ, ◌+◌, ◌++◌, ◌==◌, ◌≤◌, List, length, map, filter, codes, IfOk, OnOk};
-ghost use Rattle.grouping_laws.specs.Sets.{member};
+ghost use Rattle.grouping_laws.specs.Sets.{contains};
 ghost use Rattle.grouping_report.specs.FaultWords.{with_number};
 ghost use Rattle.list_report.specs.Alternatives.{sets_inside, number_of_alternative, product};
 ghost use Rattle.list_report.specs.Listing.{people_inside, seats_words, set_line, set_lines, alternatives_text};

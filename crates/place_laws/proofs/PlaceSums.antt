@@ -1,6 +1,6 @@
 -- Sums over a set of places, one place after another.
 use Rattle.std.proofs.Common.{◌≡◌, ℕ, zero, suc, ◌+◌, ◌≤◌, Bool, true, false, cond, List, [], ◌∷◌, ◌++◌, map, filter, refl, ap, ◌∙◌, subst, arith, add-one}
-use Rattle.place_laws.specs.Lists.{total}
+use Rattle.place_laws.specs.Lists.{sum_by}
 use Rattle.place_laws.specs.Lists.{places_below}
 use Rattle.place_laws.specs.PlaceSets.{places_of}
 use Rattle.place_laws.proofs.PlaceSets.{total_part}
@@ -25,19 +25,19 @@ filter_end t (x ∷ xs) i = go (t x) (filter_end t xs i)
 pub places_step : (t : ℕ → Bool) (i : ℕ) → places_of (i + 1) t ≡ places_of i t ++ cond (t i) (i ∷ []) []
 places_step t i = ap (λ z. places_of z t) (add-one i) ∙ (ap (λ z. filter t z) (places_more i) ∙ filter_end t (places_below i) i)
 
-total_end : (f : ℕ → ℕ) (xs : List ℕ) (b : Bool) (i : ℕ) → total f (xs ++ cond b (i ∷ []) []) ≡ total f xs + cond b (f i) 0
+total_end : (f : ℕ → ℕ) (xs : List ℕ) (b : Bool) (i : ℕ) → sum_by f (xs ++ cond b (i ∷ []) []) ≡ sum_by f xs + cond b (f i) 0
 total_end f [] true i = omega arith
 total_end f [] false i = refl
 total_end f (x ∷ xs) b i = omega (arith, total_end f xs b i)
 
 -- and its share is added
-pub total_step : (f : ℕ → ℕ) (t : ℕ → Bool) (i : ℕ) → total f (places_of (i + 1) t) ≡ total f (places_of i t) + cond (t i) (f i) 0
-total_step f t i = ap (total f) (places_step t i) ∙ total_end f (places_of i t) (t i) i
+pub total_step : (f : ℕ → ℕ) (t : ℕ → Bool) (i : ℕ) → sum_by f (places_of (i + 1) t) ≡ sum_by f (places_of i t) + cond (t i) (f i) 0
+total_step f t i = ap (sum_by f) (places_step t i) ∙ total_end f (places_of i t) (t i) i
 
 pub every : (xs : List ℕ) → filter (λ x. true) xs ≡ xs
 every [] = refl
 every (x ∷ xs) = ap (λ z. x ∷ z) (every xs)
 
 -- a set has no more than all places
-pub total_all : (f : ℕ → ℕ) (n : ℕ) (t : ℕ → Bool) → total f (places_of n t) ≤ total f (places_below n)
-total_all f n t = subst (λ z. total f (places_of n t) ≤ total f z) (every (places_below n)) (total_part f n t (λ x. true) (λ x e. refl))
+pub total_all : (f : ℕ → ℕ) (n : ℕ) (t : ℕ → Bool) → sum_by f (places_of n t) ≤ sum_by f (places_below n)
+total_all f n t = subst (λ z. sum_by f (places_of n t) ≤ sum_by f z) (every (places_below n)) (total_part f n t (λ x. true) (λ x e. refl))

@@ -2,7 +2,7 @@
 use Rattle.std.proofs.Common.{◌≡◌, ℕ, ◌+◌, ◌-◌, ◌*◌, ◌/◌, ◌≤◌, ◌<◌, min, true, List, [], ◌∷◌, ◌++◌, map, length, refl, sym, ap, ◌∙◌, subst, arith, inl, inr, All}
 use Rattle.std.proofs.lemmas.List.{map-append, length-append}
 use Rattle.std.proofs.Math.Nat.{div-eq_of_lt, zero-div}
-use Rattle.grouping_laws.specs.Sets.{total, member}
+use Rattle.grouping_laws.specs.Sets.{sum_by, contains}
 use Rattle.grouping_laws.specs.Problem.{Problem}
 use Rattle.grouping_laws.specs.Grouping.{counts}
 use Rattle.grouping_laws.proofs.Elements.{all_from_has}
@@ -26,7 +26,7 @@ pushed_empty f p s n olds news x push are is =
       empty = one_more_empty p s 1 (map f olds) (f x) are.empty (n + 1) (omega (arith, are.number)) is;
     })
 
-total_none : {X : Type 0} (xs : List X) → total (λ x. 0) xs ≡ 0
+total_none : {X : Type 0} (xs : List X) → sum_by (λ x. 0) xs ≡ 0
 total_none [] = refl
 total_none (x ∷ xs) = omega (arith, total_none xs)
 
@@ -37,9 +37,9 @@ least_none : (a : ℕ) → min a 0 ≡ 0
 least_none a = omega arith
 
 -- no weights are shared by no group
-none_shared : (a quota : ℕ) (xs : List ℕ) (ws : List Weight) → ws ≡ [] → min a (total (weight_of ws) xs / quota) ≡ 0
+none_shared : (a quota : ℕ) (xs : List ℕ) (ws : List Weight) → ws ≡ [] → min a (sum_by (weight_of ws) xs / quota) ≡ 0
 none_shared a quota xs ws e =
-    ap (λ (z : List Weight). min a (total (weight_of z) xs / quota)) e
+    ap (λ (z : List Weight). min a (sum_by (weight_of z) xs / quota)) e
     ∙ (ap (λ n. min a (n / quota)) (total_none xs) ∙ (ap (min a) (zero-div quota) ∙ least_none a))
 
 -- an empty line allows no group
@@ -52,7 +52,7 @@ pub empty_fair : (language : Language) (p : Problem) (s : State) (i : ℕ) (line
 empty_fair language p s i room l none = tt
 empty_fair language p s i (weigh quota ws) e none = (
   omega (arith, e.0),
-  subst (All (λ (w : Weight). member p.counties w.county ≡ true)) (sym e.1) (all_from_has (λ (w : Weight). member p.counties w.county ≡ true) [] (λ w h. absurd h)),
+  subst (All (λ (w : Weight). contains p.counties w.county ≡ true)) (sym e.1) (all_from_has (λ (w : Weight). contains p.counties w.county ≡ true) [] (λ w h. absurd h)),
   λ g fits size. absurd (none g fits size),
 )
 

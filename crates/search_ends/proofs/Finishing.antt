@@ -2,11 +2,11 @@
 use Rattle.std.proofs.Common.{◌≡◌, ℕ, ◌≤◌, true, ◌==◌, List, [], ◌∷◌, ◌++◌, map, length, refl, sym, ap, ◌∙◌, subst, arith, inl, inr, Contains, Option, Some, None}
 use Rattle.std.specs.List.Sorted.{IsPermutation}
 use Rattle.county_codes.specs.declared.group.Group.{Group}
-use Rattle.grouping_laws.specs.Sets.{digit, total, often, member, SameSet}
+use Rattle.grouping_laws.specs.Sets.{indicator, sum_by, count, contains, SameSet}
 use Rattle.grouping_laws.specs.Problem.{Problem, Suits, people_of, Connected, IsProblem}
 use Rattle.grouping_laws.specs.Grouping.{Grouping, Lawful, counts, sets_of}
 use Rattle.grouping_laws.specs.Ranges.{seated, SuitAll}
-use Rattle.place_laws.proofs.Sums.{total-map}
+use Rattle.place_laws.proofs.Sums.{sum_by-map}
 use Rattle.grouping_laws.proofs.Elements.{Has, has_all, all_from_has, has_from_contains, contains_from_has, has-map, has_set}
 use Rattle.grouping_laws.proofs.Ranges.{people_have_ranges}
 use Rattle.grouping_laws.proofs.Seated.{seated_sets, seated_find, seated_lawful}
@@ -35,7 +35,7 @@ seats_moved p sets others moved ks suit lawful =
     let seats = map (λ (m : Group). m.seats) r.0 in (
       seats,
       subst (λ z. SuitAll p z seats) r.2 (own_seats p r.0 (λ m h. has_all (λ k. Suits p (people_of p k.codes) k.seats) groups lawful.suits m (has_back groups r.0 r.1 m h))),
-      total-map (λ k. k) (λ (m : Group). m.seats) r.0 ∙ (total_moved (λ (m : Group). m.seats) groups r.0 r.1 ∙ lawful.seats),
+      sum_by-map (λ k. k) (λ (m : Group). m.seats) r.0 ∙ (total_moved (λ (m : Group). m.seats) groups r.0 r.1 ∙ lawful.seats),
     )
 
 beats_same : (target : Option Grouping) (f g : ℕ → ℕ) → ((i : ℕ) → g i ≡ f i) → Beats target f → Beats target g
@@ -48,12 +48,12 @@ beats_same (Some t) f g same b = record {
 }
 
 -- sets that are those of a grouping that is found, moved about, are found with any seats that suit and add up
-pub found_moved : (p : Problem) (round : Round) (s : State) (g : Grouping) (sets : List (List ℕ)) (ks : List ℕ) → IsFound p round s g → IsPermutation (sets_of g) sets → SuitAll p sets ks → total (λ k. k) ks ≡ p.seats_left
+pub found_moved : (p : Problem) (round : Round) (s : State) (g : Grouping) (sets : List (List ℕ)) (ks : List ℕ) → IsFound p round s g → IsPermutation (sets_of g) sets → SuitAll p sets ks → sum_by (λ k. k) ks ≡ p.seats_left
     → IsFound p round s (seated sets ks)
 found_moved p round s g sets ks found moved suit sum = (
-  seated_lawful p sets ks (λ c. total_moved (often c) (sets_of g) sets moved ∙ found.0.once c) connected suit sum,
+  seated_lawful p sets ks (λ c. total_moved (count c) (sets_of g) sets moved ∙ found.0.once c) connected suit sum,
   record { closed = all_from_has (λ k. (m : Group) × Contains (seated sets ks) m × SameSet m.codes k) s.closed closed; large = large },
-  beats_same round.target (counts (sets_of g)) (counts (sets_of (seated sets ks))) (λ i. ap (λ z. counts z i) (seated_sets p sets ks suit) ∙ total_moved (λ x. digit (length x == i)) (sets_of g) sets moved) found.2,
+  beats_same round.target (counts (sets_of g)) (counts (sets_of (seated sets ks))) (λ i. ap (λ z. counts z i) (seated_sets p sets ks suit) ∙ total_moved (λ x. indicator (length x == i)) (sets_of g) sets moved) found.2,
 )
   where
     connected : (x : List ℕ) → Has sets x → Connected p x
@@ -71,13 +71,13 @@ found_moved p round s g sets ks found moved suit sum = (
     closed x h =
         let a = has_all (λ k. (m : Group) × Contains g m × SameSet m.codes k) s.closed found.1.closed x h in
         let r = there a.0 a.1 in
-        (r.0, r.1, λ c. ap (λ z. member z c) r.2 ∙ a.2 c)
+        (r.0, r.1, λ c. ap (λ z. contains z c) r.2 ∙ a.2 c)
 
-    large : (c : ℕ) → s.rest c ≡ true → (m : Group) × Contains (seated sets ks) m × (member m.codes c ≡ true) × (s.least c ≤ length m.codes)
+    large : (c : ℕ) → s.rest c ≡ true → (m : Group) × Contains (seated sets ks) m × (contains m.codes c ≡ true) × (s.least c ≤ length m.codes)
     large c e =
         let a = found.1.large c e in
         let r = there a.0 a.1 in
-        (r.0, r.1, ap (λ z. member z c) r.2 ∙ a.2, omega (arith, a.3, ap length r.2))
+        (r.0, r.1, ap (λ z. contains z c) r.2 ∙ a.2, omega (arith, a.3, ap length r.2))
 
 -- a state that a search can't go on from
 pub record IsEnd (p : Problem) (round : Round) (s : State) : Type 0 where
@@ -109,10 +109,10 @@ module _ (p : Problem) (round : Round) (s : State) (sets : List (List ℕ)) (end
 
   -- each county lies in one of them
   pub cover_once : CoverOnce p sets
-  cover_once c = total_moved (often c) (sets_of (seated (s.closed ++ are.parts) beats.some.0)) sets moved ∙ first.0.once c
+  cover_once c = total_moved (count c) (sets_of (seated (s.closed ++ are.parts) beats.some.0)) sets moved ∙ first.0.once c
 
   -- and whichever seats do so make a grouping that is found
-  pub found : (ks : List ℕ) → SuitAll p sets ks → total (λ k. k) ks ≡ p.seats_left → IsFound p round s (seated sets ks)
+  pub found : (ks : List ℕ) → SuitAll p sets ks → sum_by (λ k. k) ks ≡ p.seats_left → IsFound p round s (seated sets ks)
   found ks suit sum = found_moved p round s (seated (s.closed ++ are.parts) beats.some.0) sets ks first moved suit sum
 
   -- no set is empty

@@ -7,7 +7,7 @@ use Rattle.county_codes.specs.declared.group.Group.{Group}
 use Rattle.certificate_lines.specs.Fitting.{IsWanted}
 use Rattle.certificate_lines.specs.declared.item.Item.TheVariants.{Grouped}
 use Rattle.certificate_lines.specs.declared.item.Wanted.TheVariants as want
-use Rattle.grouping_laws.specs.Sets.{total}
+use Rattle.grouping_laws.specs.Sets.{sum_by}
 use Rattle.grouping_laws.specs.Problem.{Problem}
 use Rattle.grouping_laws.specs.Grouping.{Grouping, sets_of}
 use Rattle.grouping_laws.specs.GroupsFrom.{IsOrder}
@@ -43,7 +43,7 @@ lines_of_groups p order groups whole small once some numbers = record {
   each = recursion_from_All (λ m. IsWanted (want.Groups 1) (Grouped m)) groups (all_from_has (λ m. IsWanted (want.Groups 1) (Grouped m)) groups fits);
 }
   where
-    size : total (λ g. length g) (sets_of groups) ≡ length order
+    size : sum_by (λ g. length g) (sets_of groups) ≡ length order
     size = size_covered p order (sets_of groups) whole once
 
     fits : (m : Group) → Has groups m → IsWanted (want.Groups 1) (Grouped m)

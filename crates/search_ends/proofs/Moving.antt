@@ -1,13 +1,13 @@
 -- What stays where sets are moved about.
 use Rattle.std.proofs.Common.{◌≡◌, ℕ, ◌+◌, ◌<◌, List, [], ◌∷◌, map, length, get_or, refl, sym, ap, ◌∙◌, arith}
-use Rattle.std.specs.Prelude.{sum_by}
+use Rattle.std.specs.Prelude.{sum_by as std_sum_by}
 use Rattle.std.specs.List.{swap}
 use Rattle.std.specs.List.Sorted.{IsPermutation}
 use Rattle.std.proofs.Math.ListN.{set}
 use Rattle.std.proofs.lemmas.List.{map-set, length-map, get_or-map}
 use Rattle.std.proofs.lemmas.List.Sums.{sum_by-cons}
 use Rattle.std.proofs.lemmas.List.Sorted.{IsPermutation-refl, IsPermutation-trans, IsPermutation-swap, IsPermutation-keeps, IsPermutation-sym, sum_by-IsPermutation, Contains-permutation}
-use Rattle.grouping_laws.specs.Sets.{total}
+use Rattle.grouping_laws.specs.Sets.{sum_by}
 use Rattle.grouping_laws.proofs.Elements.{Has, has_from_contains, contains_from_has}
 
 -- an element stays an element
@@ -17,12 +17,12 @@ has_moved xs ys moved x h = has_from_contains ys x (Contains-permutation xs ys x
 pub has_back : {X : Type 0} (xs ys : List X) → IsPermutation xs ys → (x : X) → Has ys x → Has xs x
 has_back xs ys moved x h = has_moved ys xs (IsPermutation-sym xs ys moved) x h
 
-total_sum : {X : Type 0} (f : X → ℕ) (xs : List X) → total f xs ≡ sum_by f xs
+total_sum : {X : Type 0} (f : X → ℕ) (xs : List X) → sum_by f xs ≡ std_sum_by f xs
 total_sum f [] = refl
 total_sum f (x ∷ xs) = ap (λ n. f x + n) (total_sum f xs) ∙ sym (sum_by-cons f x xs)
 
 -- a sum over them stays the same
-pub total_moved : {X : Type 0} (f : X → ℕ) (xs ys : List X) → IsPermutation xs ys → total f ys ≡ total f xs
+pub total_moved : {X : Type 0} (f : X → ℕ) (xs ys : List X) → IsPermutation xs ys → sum_by f ys ≡ sum_by f xs
 total_moved f xs ys moved = total_sum f ys ∙ (sum_by-IsPermutation f xs ys moved ∙ sym (total_sum f xs))
 
 map_swap : {Z X : Type 0} (f : Z → X) (zs : List Z) (i j : ℕ) → i < length zs → j < length zs → map f (swap zs i j) ≡ swap (map f zs) i j

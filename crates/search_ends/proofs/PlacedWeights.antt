@@ -3,7 +3,7 @@ use Rattle.std.proofs.Common.{◌≡◌, ℕ, ◌+◌, ◌≤◌, ◌<◌, Bool,
 use Rattle.std.specs.Prelude.{nat_lt}
 use Rattle.std.proofs.lemmas.Bool.{false≢true, eqb-true, ltb-false, lt-ltb}
 use Rattle.std.proofs.lemmas.List.{ext_get_or, get_or-map, length-map}
-use Rattle.grouping_laws.specs.Sets.{digit, often, member}
+use Rattle.grouping_laws.specs.Sets.{indicator, count, contains}
 use Rattle.grouping_laws.specs.Problem.{Problem, IsProblem}
 use Rattle.grouping_laws.specs.GroupsFrom.{IsOrder, place}
 use Rattle.grouping_laws.specs.PlaceProblem.{code_at}
@@ -21,13 +21,13 @@ use Rattle.state_judge.specs.Weights.{county_weight}
 use Rattle.search_ends.specs.PlacedWeights.{placed_weight, weight_for, weights_above}
 
 -- the weight of the county at a place
-pub placed_at : (order table : List ℕ) → ((c : ℕ) → often c order ≤ 1) → (i c : ℕ) → i < length order → code_at order i ≡ c → placed_weight order table c ≡ get_or table i 0
+pub placed_at : (order table : List ℕ) → ((c : ℕ) → count c order ≤ 1) → (i c : ℕ) → i < length order → code_at order i ≡ c → placed_weight order table c ≡ get_or table i 0
 placed_at order table once i c l e =
-    subst (λ z. cond (member order z) (get_or table (place order z) 0) 0 ≡ get_or table i 0) e
+    subst (λ z. cond (contains order z) (get_or table (place order z) 0) 0 ≡ get_or table i 0) e
     (ap (λ b. cond b (get_or table (place order (code_at order i)) 0) 0) (has_member order (code_at order i) (has_get order i 0 l)) ∙ ap (λ k. get_or table k 0) (place_at order once i l))
 
 -- a county at no place has none
-pub placed_nowhere : (order table : List ℕ) (c : ℕ) → member order c ≡ false → placed_weight order table c ≡ 0
+pub placed_nowhere : (order table : List ℕ) (c : ℕ) → contains order c ≡ false → placed_weight order table c ≡ 0
 placed_nowhere order table c e = ap (λ b. cond b (get_or table (place order c) 0) 0) e
 
 module _ (value : ℕ → ℕ) where
@@ -45,27 +45,27 @@ module _ (value : ℕ → ℕ) where
       go true e = refl
       go false e = nothing (x == c) (value x) (county_weight (weights_above value xs) c) (omega (arith, ltb-false 0 (value x) e))
 
-  weight_nowhere : (cs : List ℕ) (c : ℕ) → member cs c ≡ false → county_weight (weights_above value cs) c ≡ 0
+  weight_nowhere : (cs : List ℕ) (c : ℕ) → contains cs c ≡ false → county_weight (weights_above value cs) c ≡ 0
   weight_nowhere [] c e = refl
   weight_nowhere (x ∷ xs) c e = one_more x xs c ∙ go (x == c) e (weight_nowhere xs c)
     where
-      go : (b : Bool) → (b || member xs c) ≡ false → (member xs c ≡ false → county_weight (weights_above value xs) c ≡ 0) → cond b (value x) 0 + county_weight (weights_above value xs) c ≡ 0
+      go : (b : Bool) → (b || contains xs c) ≡ false → (contains xs c ≡ false → county_weight (weights_above value xs) c ≡ 0) → cond b (value x) 0 + county_weight (weights_above value xs) c ≡ 0
       go true k next = absurd (false≢true (sym k))
       go false k next = omega (arith, next k)
 
   -- the weights above 0 give a county what it has, where it stands once among the counties
-  weight_there : (cs : List ℕ) (c : ℕ) → often c cs ≤ 1 → member cs c ≡ true → county_weight (weights_above value cs) c ≡ value c
+  weight_there : (cs : List ℕ) (c : ℕ) → count c cs ≤ 1 → contains cs c ≡ true → county_weight (weights_above value cs) c ≡ value c
   weight_there [] c once e = absurd (false≢true e)
   weight_there (x ∷ xs) c once e = one_more x xs c ∙ go (x == c) refl once e (weight_there xs c)
     where
-      alone : digit true + often c xs ≤ 1 → member xs c ≡ false
-      alone l = off (member xs c) refl
+      alone : indicator true + count c xs ≤ 1 → contains xs c ≡ false
+      alone l = off (contains xs c) refl
         where
-          off : (b : Bool) → member xs c ≡ b → b ≡ false
+          off : (b : Bool) → contains xs c ≡ b → b ≡ false
           off false k = refl
           off true k = absurd (omega (arith, l, often_some c xs k))
 
-      go : (b : Bool) → (x == c) ≡ b → digit b + often c xs ≤ 1 → (b || member xs c) ≡ true → (often c xs ≤ 1 → member xs c ≡ true → county_weight (weights_above value xs) c ≡ value c) → cond b (value x) 0 + county_weight (weights_above value xs) c ≡ value c
+      go : (b : Bool) → (x == c) ≡ b → indicator b + count c xs ≤ 1 → (b || contains xs c) ≡ true → (count c xs ≤ 1 → contains xs c ≡ true → county_weight (weights_above value xs) c ≡ value c) → cond b (value x) 0 + county_weight (weights_above value xs) c ≡ value c
       go true k l m next = omega (arith, weight_nowhere xs c (alone l), ap value (eqb-true x c k))
       go false k l m next = omega (arith, next (omega (arith, l)) m)
 
@@ -79,10 +79,10 @@ module _ (value : ℕ → ℕ) where
   above_ascend cs up = ascend_for (filter (λ c. nat_lt 0 (value c)) cs) (filter_pairs (λ x y. x < y) (λ c. nat_lt 0 (value c)) cs up)
 
   -- each is the weight of one of the counties
-  pub above_known : (cs : List ℕ) (w : Weight) → Has (weights_above value cs) w → member cs w.county ≡ true
+  pub above_known : (cs : List ℕ) (w : Weight) → Has (weights_above value cs) w → contains cs w.county ≡ true
   above_known cs w h =
       let r = has_mapped (weight_for value) (filter (λ c. nat_lt 0 (value c)) cs) w h in
-      subst (λ (z : Weight). member cs z.county ≡ true) r.2 (has_member cs r.0 (has-filter (λ c. nat_lt 0 (value c)) cs r.0 r.1).0)
+      subst (λ (z : Weight). contains cs z.county ≡ true) r.2 (has_member cs r.0 (has-filter (λ c. nat_lt 0 (value c)) cs r.0 r.1).0)
 
   length_kept : (q : ℕ → Bool) (cs : List ℕ) → length (filter q cs) ≤ length cs
   length_kept q [] = omega arith
@@ -97,23 +97,23 @@ module _ (value : ℕ → ℕ) where
   above_few cs = omega (arith, length-map (filter (λ c. nat_lt 0 (value c)) cs) (weight_for value), length_kept (λ c. nat_lt 0 (value c)) cs)
 
 module _ (p : Problem) (law : IsProblem p) (order : List ℕ) (whole : IsOrder p order) where
-  in_problem : (c : ℕ) → member order c ≡ true → member p.counties c ≡ true
-  in_problem c e = go (member p.counties c) refl
+  in_problem : (c : ℕ) → contains order c ≡ true → contains p.counties c ≡ true
+  in_problem c e = go (contains p.counties c) refl
     where
-      go : (b : Bool) → member p.counties c ≡ b → b ≡ true
+      go : (b : Bool) → contains p.counties c ≡ b → b ≡ true
       go true k = refl
-      go false k = absurd (omega (arith, whole c, often_some c order e, ap digit k))
+      go false k = absurd (omega (arith, whole c, often_some c order e, ap indicator k))
 
   -- there are as many counties as places
   pub counties_few : length p.counties ≡ length order
   counties_few = sym (length_alike order p.counties same)
     where
       same : Alike order p.counties
-      same c = go (member p.counties c) refl
+      same c = go (contains p.counties c) refl
         where
-          go : (b : Bool) → member p.counties c ≡ b → often c order ≡ often c p.counties
-          go true k = omega (arith, whole c, ap digit k, law.once c, often_some c p.counties k)
-          go false k = omega (arith, whole c, ap digit k, often_none c p.counties k)
+          go : (b : Bool) → contains p.counties c ≡ b → count c order ≡ count c p.counties
+          go true k = omega (arith, whole c, ap indicator k, law.once c, often_some c p.counties k)
+          go false k = omega (arith, whole c, ap indicator k, often_none c p.counties k)
 
   -- the table has what the weights give to the counties of the order
   pub table_weights : (table : List ℕ) → length table ≡ length order → table ≡ map (county_weight (weights_above (placed_weight order table) p.counties)) order
@@ -122,7 +122,7 @@ module _ (p : Problem) (law : IsProblem p) (order : List ℕ) (whole : IsOrder p
       w : ℕ → ℕ
       w = county_weight (weights_above (placed_weight order table) p.counties)
 
-      once : (c : ℕ) → often c order ≤ 1
+      once : (c : ℕ) → count c order ≤ 1
       once = order_once p order whole
 
       each : (i : ℕ) → i < length table → get_or table i 0 ≡ get_or (map w order) i 0

@@ -1,13 +1,13 @@
 -- Seats of sets, and seats for numbers of people.
 use Rattle.std.proofs.Common.{◌≡◌, ℕ, ◌+◌, ◌≤◌, ◌<◌, Bool, List, [], ◌∷◌, ◌++◌, map, take, length, get_or, refl, sym, ap, ◌∙◌, arith}
 use Rattle.std.proofs.lemmas.List.{map-append, take_more, take_all}
-use Rattle.grouping_laws.specs.Sets.{total}
+use Rattle.grouping_laws.specs.Sets.{sum_by}
 use Rattle.grouping_laws.specs.Problem.{Problem, people_of}
 use Rattle.grouping_laws.specs.Ranges.{SuitAll}
 use Rattle.grouping_laws.specs.GroupsFrom.{IsOrder}
 use Rattle.grouping_laws.specs.Places.{places_below}
 use Rattle.grouping_laws.specs.PlaceProblem.{at_places}
-use Rattle.place_laws.proofs.Sums.{total-map}
+use Rattle.place_laws.proofs.Sums.{sum_by-map}
 use Rattle.county_problem.specs.Allotting.{SuitEach}
 use Rattle.state_groups.specs.PlacedValues.{codes_of_set, codes_of_sets}
 use Rattle.search_ends.specs.FinishedStates.{CoverOnce}
@@ -42,10 +42,10 @@ module _ {C : Type 0} (test : C → ℕ → Bool) (p : Problem) (order : List �
   suit_people (s ∷ sets) (k ∷ ks) h = (h.0, suit_people sets ks h.1)
 
   -- the people of sets that have each county once
-  pub all_people : (sets : List C) → IsOrder p order → CoverOnce p (codes_of_sets order test sets) → total (λ n. n) (map people sets) ≡ people_of (at_places p order) (places_below (length order))
+  pub all_people : (sets : List C) → IsOrder p order → CoverOnce p (codes_of_sets order test sets) → sum_by (λ n. n) (map people sets) ≡ people_of (at_places p order) (places_below (length order))
   all_people sets whole once =
-      total-map (λ n. n) people sets
-      ∙ (sym (total-map (λ g. people_of p g) (codes_of_set order test) sets) ∙ people_covered p order (codes_of_sets order test sets) whole once)
+      sum_by-map (λ n. n) people sets
+      ∙ (sym (sum_by-map (λ g. people_of p g) (codes_of_set order test) sets) ∙ people_covered p order (codes_of_sets order test sets) whole once)
 
 -- seats for each set are as many as sets
 pub as_many : (p : Problem) (sets : List (List ℕ)) (ks : List ℕ) → SuitAll p sets ks → length ks ≡ length sets

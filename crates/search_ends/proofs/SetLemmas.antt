@@ -7,7 +7,7 @@ use Rattle.std.proofs.lemmas.List.{length-map, get_or-map, map-append}
 use Rattle.std.proofs.lemmas.List.Elements.{All-append}
 use Rattle.std.proofs.lemmas.List.Sorted.{IsPermutation-refl, IsPermutation-map, IsPermutation-trans}
 use Rattle.place_laws.specs.PlaceSets.{places_of}
-use Rattle.grouping_laws.specs.Sets.{often, member}
+use Rattle.grouping_laws.specs.Sets.{count, contains}
 use Rattle.grouping_laws.specs.Problem.{Problem}
 use Rattle.grouping_laws.specs.Parts.{AreParts}
 use Rattle.grouping_laws.specs.GroupsFrom.{IsOrder, IsBefore}
@@ -88,17 +88,17 @@ module _ {C : Type 0} (test : C → ℕ → Bool) (order : List ℕ) where
   }
 
   -- each list of places stands in the order of places
-  lists_ordered : (sets : List C) (g : List ℕ) → Contains (lists_of (length order) test sets) g → filter (member g) (places_below (length order)) ≡ g
+  lists_ordered : (sets : List C) (g : List ℕ) → Contains (lists_of (length order) test sets) g → filter (contains g) (places_below (length order)) ≡ g
   lists_ordered sets g h =
       let r : (s : C) × Has sets s × (places_of (length order) (test s) ≡ g) = has_mapped (λ (s : C). places_of (length order) (test s)) sets g (has_from_contains (lists_of (length order) test sets) g h) in
-      subst (λ z. filter (member z) (places_below (length order)) ≡ z) r.2 (places_ordered (length order) (test r.0))
+      subst (λ z. filter (contains z) (places_below (length order)) ≡ z) r.2 (places_ordered (length order) (test r.0))
 
   -- and each list of codes in the order of codes
-  pub codes_ordered : (once : (c : ℕ) → often c order ≤ 1) (p : Problem) (s : C) → filter (member (codes_of_set order test s)) order ≡ codes_of_set order test s
+  pub codes_ordered : (once : (c : ℕ) → count c order ≤ 1) (p : Problem) (s : C) → filter (contains (codes_of_set order test s)) order ≡ codes_of_set order test s
   codes_ordered once p s = ordered_codes p order once (places_of (length order) (test s)) (places_ordered (length order) (test s))
 
   -- sets that are sorted by their keys stand by size and then by places, if they differ
-  pub sorted_codes : ((c : ℕ) → often c order ≤ 1) → (sets : List C) → IsSortedBy (λ g h. is_lt (slice_cmp nat_cmp (sort_key g) (sort_key h))) (lists_of (length order) test sets)
+  pub sorted_codes : ((c : ℕ) → count c order ≤ 1) → (sets : List C) → IsSortedBy (λ g h. is_lt (slice_cmp nat_cmp (sort_key g) (sort_key h))) (lists_of (length order) test sets)
       → AllPairs (λ g h. g ≢ h) (codes_of_sets order test sets) → AllPairs (IsBefore order) (codes_of_sets order test sets)
   sorted_codes once sets up differ =
       subst (AllPairs (IsBefore order)) (codes_of_lists sets)

@@ -2,7 +2,7 @@
 use Rattle.std.proofs.Common.{◌≡◌, ℕ, ◌<◌, Bool, true, false, List, length, sym, subst}
 use mathlib.Core.Path.{fun_ext}
 use Rattle.std.proofs.lemmas.Bool.{and_parts}
-use Rattle.grouping_laws.specs.Sets.{member}
+use Rattle.grouping_laws.specs.Sets.{contains}
 use Rattle.grouping_laws.specs.Problem.{Problem, IsProblem}
 use Rattle.grouping_laws.specs.Parts.{IsPart}
 use Rattle.grouping_laws.specs.GroupsFrom.{IsOrder, place}
@@ -22,6 +22,6 @@ none_cut p s region none same empty uncut i v = uncut (record { part = v.part; i
 pub none_stuck : (p : Problem) (order : List ℕ) → IsOrder p order → (t : State) → ((x : ℕ) → t.rest x ≡ true → x < length order) → IsProblem (at_places p order) → ((i : ℕ) → IsStuck (at_places p order) t i → ⊥)
     → (c : ℕ) → IsStuck p (in_codes order t) c → ⊥
 none_stuck p order whole t below law none c v =
-    let here = and_parts (member order c) (t.rest (place order c)) (v.is_part.inside c v.around) in
+    let here = and_parts (contains order c) (t.rest (place order c)) (v.is_part.inside c v.around) in
     let at = places_are_codes.there order c here.0 in
     none (place order c) ((stuck_both p order whole t below (place order c) c law at.0 here.1 at.1).1 v)

@@ -1,7 +1,7 @@
 -- Lines of weights by a table of places: they are fair, and allow what the open places share.
 use Rattle.std.proofs.Common.{◌≡◌, ℕ, ◌/◌, min, ◌≤◌, ◌<◌, Bool, true, List, map, filter, length, get_or, sym, ap, subst, arith, All}
 use Rattle.std.proofs.lemmas.List.Elements.{filter_agree}
-use Rattle.grouping_laws.specs.Sets.{total, member}
+use Rattle.grouping_laws.specs.Sets.{sum_by, contains}
 use Rattle.grouping_laws.specs.Problem.{Problem, IsProblem}
 use Rattle.grouping_laws.specs.GroupsFrom.{IsOrder}
 use Rattle.grouping_laws.proofs.Alike.{Alike, length_alike, in_order_alike, member_same}
@@ -30,23 +30,23 @@ use Rattle.search_ends.proofs.PlacedWeights.{above_known, table_weights}
 use Rattle.certificate_text.proofs.ShortLines.{weights_fit}
 
 -- where each group that is known weighs so much, each one that fits does
-known_heavy : (p : Problem) (round : Round) (s : State) (i quota : ℕ) (w : ℕ → ℕ) (groups : List (List ℕ)) → IsOrder p round.order → IsKnown p round s i groups → All (λ g. quota ≤ total w g) groups
-    → (g : List ℕ) → Fits round.language p s g → length g ≡ i → quota ≤ total w g
+known_heavy : (p : Problem) (round : Round) (s : State) (i quota : ℕ) (w : ℕ → ℕ) (groups : List (List ℕ)) → IsOrder p round.order → IsKnown p round s i groups → All (λ g. quota ≤ sum_by w g) groups
+    → (g : List ℕ) → Fits round.language p s g → length g ≡ i → quota ≤ sum_by w g
 known_heavy p round s i quota w groups whole known heavy g fits e =
-    let k = filter (member g) round.order in
+    let k = filter (contains g) round.order in
     let same : Alike g k = in_order_alike round.order p.counties g whole fits.lawful.once fits.lawful.listed in
     let there : Has groups k = has_from_contains groups k (known.all k (record {
       fits = fits_alike round.language p s g k same fits;
-      in_order = filter_agree (member k) (member g) (λ x. sym (member_same g k same x)) round.order;
+      in_order = filter_agree (contains k) (contains g) (λ x. sym (member_same g k same x)) round.order;
       size = omega (arith, e, length_alike g k same);
     })) in
-    omega (arith, total_alike w g k same, has_all (λ h. quota ≤ total w h) groups heavy k there)
+    omega (arith, total_alike w g k same, has_all (λ h. quota ≤ sum_by w h) groups heavy k there)
 
 -- the weights of counties of the problem
-known_counties : (p : Problem) (value : ℕ → ℕ) (ws : List WeightHeld) → ws ≡ weights_above value p.counties → All (λ (w : Weight). member p.counties w.county ≡ true) (weights_of ws)
-known_counties p value ws e = all_from_has (λ (w : Weight). member p.counties w.county ≡ true) (weights_of ws) (λ w h.
+known_counties : (p : Problem) (value : ℕ → ℕ) (ws : List WeightHeld) → ws ≡ weights_above value p.counties → All (λ (w : Weight). contains p.counties w.county ≡ true) (weights_of ws)
+known_counties p value ws e = all_from_has (λ (w : Weight). contains p.counties w.county ≡ true) (weights_of ws) (λ w h.
     let r = has_mapped held.weight_of ws w h in
-    subst (λ (z : Weight). member p.counties z.county ≡ true) r.2 (above_known value p.counties r.0 (subst (λ (z : List WeightHeld). Has z r.0) e r.1)))
+    subst (λ (z : Weight). contains p.counties z.county ≡ true) r.2 (above_known value p.counties r.0 (subst (λ (z : List WeightHeld). Has z r.0) e r.1)))
 
 less_shared : (a b c n k : ℕ) → b ≡ c → b / n < k → min a (c / n) < k
 less_shared a b c n k e l = least (ap (λ z. z / n) e)
@@ -57,11 +57,11 @@ less_shared a b c n k e l = least (ap (λ z. z / n) e)
 module _ (C : Type 0) (test : C → ℕ → Bool) (p : Problem) (law : IsProblem p) (order : List ℕ) (whole : IsOrder p order) where
   -- a line of the table's weights, with a quota that no group weighs less than, where the open places share them between fewer groups than so many
   pub weighed_fewer : (round : Round) (s t : State) (i k quota : ℕ) (table : List ℕ) (ws : List WeightHeld) (sets : List C) (region : ℕ → Bool) → order ≡ round.order → IsStateAt order s t → length table ≡ length order → AreTableWeights order p.counties table ws
-      → IsKnown p round s i (codes_of_sets order test sets) → All (λ g. quota ≤ total (λ x. get_or table x 0) (places_of (length table) (test g))) sets → 1 ≤ quota → quota ≤ 256000000
-      → ((x : ℕ) → region x ≡ open_to t i x) → total (λ x. get_or table x 0) (places_of (length table) region) / quota < k → AllowsFewer round.language p s i k (Weigh quota ws)
+      → IsKnown p round s i (codes_of_sets order test sets) → All (λ g. quota ≤ sum_by (λ x. get_or table x 0) (places_of (length table) (test g))) sets → 1 ≤ quota → quota ≤ 256000000
+      → ((x : ℕ) → region x ≡ open_to t i x) → sum_by (λ x. get_or table x 0) (places_of (length table) region) / quota < k → AllowsFewer round.language p s i k (Weigh quota ws)
   weighed_fewer round s t i k quota table ws sets region same at number are known heavy from to covers less = record {
     fair = (from, known_counties p (placed_weight order table) ws are.are, known_heavy p round s i quota w (codes_of_sets order test sets) (subst (IsOrder p) same whole) known (all_heavy C test order table w table_is quota sets heavy));
-    fewer = less_shared (room_at p s i 0 / i) (total (λ x. get_or table x 0) (places_of (length table) region)) (total w (listed p (open_to s i))) quota k (open_sum w p order table s t i region law whole at table_is covers) less;
+    fewer = less_shared (room_at p s i 0 / i) (sum_by (λ x. get_or table x 0) (places_of (length table) region)) (sum_by w (listed p (open_to s i))) quota k (open_sum w p order table s t i region law whole at table_is covers) less;
     spelled = weights_fit quota ws from to are.few are.each are.ascending;
   }
     where

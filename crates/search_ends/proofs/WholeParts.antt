@@ -1,7 +1,7 @@
 -- The grouping of the sets of a finished state with their seats.
 use Rattle.std.proofs.Common.{◌≡◌, ℕ, ◌≤◌, Bool, List, filter, length, sym, ap, ◌∙◌, subst, All, AllPairs}
 use Rattle.county_codes.specs.Limits.{most_counties}
-use Rattle.grouping_laws.specs.Sets.{total, member}
+use Rattle.grouping_laws.specs.Sets.{sum_by, contains}
 use Rattle.grouping_laws.specs.Problem.{Problem}
 use Rattle.grouping_laws.specs.Grouping.{Grouping, sets_of}
 use Rattle.grouping_laws.specs.GroupsFrom.{IsOrder, IsBefore}
@@ -34,19 +34,19 @@ module _ {C : Type 0} (test : C → ℕ → Bool) (p : Problem) (round : Round) 
     same_sets : sets_of groups ≡ codes
     same_sets = ap sets_of e ∙ seated_sets p codes ks suit
 
-    pub groups_found : total (λ k. k) ks ≡ p.seats_left → IsFound p round s groups
+    pub groups_found : sum_by (λ k. k) ks ≡ p.seats_left → IsFound p round s groups
     groups_found sum = subst (IsFound p round s) (sym e) (found p round s codes end are ks suit sum)
 
     pub groups_in_turn : AllPairs (IsBefore order) codes → AllPairs (IsBefore order) (sets_of groups)
     groups_in_turn turn = subst (AllPairs (IsBefore order)) (sym same_sets) turn
 
-    pub groups_in_order : All (λ m. filter (member m.codes) order ≡ m.codes) groups
-    groups_in_order = all_from_has (λ (m : Group). filter (member m.codes) order ≡ m.codes) groups one
+    pub groups_in_order : All (λ m. filter (contains m.codes) order ≡ m.codes) groups
+    groups_in_order = all_from_has (λ (m : Group). filter (contains m.codes) order ≡ m.codes) groups one
       where
-        one : (m : Group) → Has groups m → filter (member m.codes) order ≡ m.codes
+        one : (m : Group) → Has groups m → filter (contains m.codes) order ≡ m.codes
         one m h =
             let r : (x : C) × Has sets x × (codes_of_set order test x ≡ m.codes) = has_mapped (codes_of_set order test) sets m.codes (subst (λ z. Has z m.codes) same_sets (has_set groups m h)) in
-            subst (λ z. filter (member z) order ≡ z) r.2 (codes_ordered test order (order_once p order whole) p r.0)
+            subst (λ z. filter (contains z) order ≡ z) r.2 (codes_ordered test order (order_once p order whole) p r.0)
 
     pub groups_lines : length order ≤ most_counties → All HasNumbers groups → HasTargetLines groups
     groups_lines small numbers =

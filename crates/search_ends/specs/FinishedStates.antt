@@ -2,7 +2,7 @@
 use Rattle.std.specs.Prelude.{ℕ, ◌≡◌, ◌≤◌, List, ◌++◌, All}
 use Rattle.std.specs.List.Sorted.{IsPermutation}
 use Rattle.county_codes.specs.declared.group.Group.{Group}
-use Rattle.grouping_laws.specs.Sets.{digit, total, stands, member}
+use Rattle.grouping_laws.specs.Sets.{indicator, sum_by, count_in, contains}
 use Rattle.grouping_laws.specs.Problem.{Problem}
 use Rattle.grouping_laws.specs.Parts.{AreParts}
 use Rattle.grouping_laws.specs.Ranges.{SuitAll}
@@ -16,11 +16,11 @@ pub record AreFinished (p : Problem) (s : State) (sets : List (List ℕ)) : Type
 
 -- each county of the problem lies in one of the sets, and no other code does
 abbrev pub CoverOnce : Problem → List (List ℕ) → Type 0
-CoverOnce p sets = (c : ℕ) → stands c sets ≡ digit (member p.counties c)
+CoverOnce p sets = (c : ℕ) → count_in c sets ≡ indicator (contains p.counties c)
 
 -- some seats suit the sets and add up to the seats left
 abbrev pub CanSeat : Problem → List (List ℕ) → Type 0
-CanSeat p sets = (ks : List ℕ) × SuitAll p sets ks × (total (λ k. k) ks ≡ p.seats_left)
+CanSeat p sets = (ks : List ℕ) × SuitAll p sets ks × (sum_by (λ k. k) ks ≡ p.seats_left)
 
 -- the seats of a group and its codes are in their ranges
 pub record HasNumbers (m : Group) : Type 0 where

@@ -2,7 +2,7 @@
 use Rattle.std.specs.Prelude.{ℕ, ◌≡◌, ◌≤◌, cond, nat_lt, true, List, map, filter, length, get_or}
 use Rattle.std.specs.List.{AllByRecursion}
 use Rattle.county_codes.specs.Limits.{most_counties}
-use Rattle.grouping_laws.specs.Sets.{member}
+use Rattle.grouping_laws.specs.Sets.{contains}
 use Rattle.grouping_laws.specs.GroupsFrom.{place}
 use Rattle.certificate_data.specs.declared.weights.Weight.{Weight}
 use Rattle.certificate_lines.specs.Lines.{ascend}
@@ -10,7 +10,7 @@ use Rattle.certificate_lines.specs.Fitting.{FitsWeight}
 
 -- what a table with a weight for each place gives to a county
 abbrev pub placed_weight : List ℕ → List ℕ → ℕ → ℕ
-placed_weight order table c = cond (member order c) (get_or table (place order c) 0) 0
+placed_weight order table c = cond (contains order c) (get_or table (place order c) 0) 0
 
 -- the weight of a county
 abbrev pub weight_for : (ℕ → ℕ) → ℕ → Weight

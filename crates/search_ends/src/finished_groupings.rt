@@ -1,7 +1,7 @@
 //! The lawful grouping of a state that a search can't go on from.
 
 ghost use Rattle.std.specs.Prelude.{◌≡◌, ℕ, filter, All, AllPairs, IfOk};
-ghost use Rattle.grouping_laws.specs.Sets.{member};
+ghost use Rattle.grouping_laws.specs.Sets.{contains};
 ghost use Rattle.grouping_laws.specs.Grouping.{sets_of};
 ghost use Rattle.grouping_laws.specs.GroupsFrom.{IsBefore};
 ghost use Rattle.connected_sets.specs.Graphs.{graph_problem, graph_order, graph_places, IsGraph};
@@ -50,7 +50,7 @@ pub fn finished_grouping<C: CountySet>(
         result
         (λ g. IsFound (graph_problem graph.now) (round_of _round.now) (state_at (graph_order graph.now) C.test state.now) g.groups.items) }
     ensures in_turn { IfOk result (λ g. AllPairs (IsBefore (graph_order graph.now)) (sets_of g.groups.items)) }
-    ensures in_order { IfOk result (λ g. All (λ m. filter (member m.codes) (graph_order graph.now)
+    ensures in_order { IfOk result (λ g. All (λ m. filter (contains m.codes) (graph_order graph.now)
         ≡ m.codes) g.groups.items) }
     ensures lines { IfOk result (λ g. HasTargetLines g.groups.items) }
 {

@@ -1,7 +1,7 @@
 //! Seats for sets that have each county once.
 
 ghost use Rattle.std.specs.Prelude.{◌≡◌, ℕ, length, map, IfOk};
-ghost use Rattle.grouping_laws.specs.Sets.{total};
+ghost use Rattle.grouping_laws.specs.Sets.{sum_by};
 ghost use Rattle.grouping_laws.specs.Problem.{people_of};
 ghost use Rattle.grouping_laws.specs.Ranges.{SuitAll};
 ghost use Rattle.county_problem.specs.ProblemValue.{problem_of};
@@ -44,7 +44,7 @@ pub(crate) fn seats_for<C: CountySet>(
     requires once { CoverOnce (problem_of ordered.now.problem) (codes_of_sets ordered.now.order C.test sets.now) }
     requires some { CanSeat (problem_of ordered.now.problem) (codes_of_sets ordered.now.order C.test sets.now) }
     ensures suit { IfOk result (λ v. SuitAll (problem_of ordered.now.problem) (codes_of_sets ordered.now.order C.test sets.now) v.items) }
-    ensures sum { IfOk result (λ v. total (λ k. k) v.items ≡ ordered.now.problem.seats_left) }
+    ensures sum { IfOk result (λ v. sum_by (λ k. k) v.items ≡ ordered.now.problem.seats_left) }
 {
     let _places = ordered.places();
     let problem = ordered.problem();

@@ -2,7 +2,7 @@
 
 ghost use Rattle.std.specs.Prelude.{◌≡◌, ℕ, true, cond, ◌<◌, ◌≤◌, List, length, get_or, All, ⊤, IfOk, MatchOption};
 ghost use Rattle.county_codes.specs.Limits.{most_counties};
-ghost use Rattle.grouping_laws.specs.Sets.{total};
+ghost use Rattle.grouping_laws.specs.Sets.{sum_by};
 ghost use Rattle.place_laws.specs.PlaceSets.{places_of};
 ghost use Rattle.county_problem.specs.ProblemValue.{problem_of};
 ghost use Rattle.connected_laws.specs.Listing.{AreBelow};
@@ -60,7 +60,7 @@ fn least_weight<C: CountySet>(groups: &[C], table: &[u32]) -> u32
     requires few { length table.now ≤ most_counties }
     requires below { AreBelow (length table.now) C.test groups.now }
     ensures each { All (λ g. result
-        ≤ total (λ i. get_or table.now i 0) (places_of (length table.now) (C.test g))) groups.now }
+        ≤ sum_by (λ i. get_or table.now i 0) (places_of (length table.now) (C.test g))) groups.now }
     ensures small { result ≤ 256000000 }
 {
     let mut least = MOST_QUOTA;

@@ -1,6 +1,6 @@
 -- A candidate may be closed.
 use Rattle.std.proofs.Common.{◌≡◌, ℕ, ◌<◌, Bool, true, List, length, sym, ◌∙◌, refl}
-use Rattle.grouping_laws.specs.Sets.{member}
+use Rattle.grouping_laws.specs.Sets.{contains}
 use Rattle.grouping_laws.specs.Problem.{Problem}
 use Rattle.grouping_laws.specs.GroupsFrom.{IsOrder, place}
 use Rattle.grouping_laws.specs.PlaceProblem.{code_at}
@@ -22,6 +22,6 @@ candidate_closable C test order p whole round state placed i set below is = reco
   some = let m = some_member (codes_of_set order test set) is.lawful.connected.some_county in (place order m.0, (place_in C test order (order_once p order whole) set m.0 m.1).1);
   inside = λ x e.
       let l = below x e in
-      let shown : member (codes_of_set order test set) (code_at order x) ≡ true = code_in C test order (order_once p order whole) set x l ∙ e in
+      let shown : contains (codes_of_set order test set) (code_at order x) ≡ true = code_in C test order (order_once p order whole) set x l ∙ e in
       sym (rest_at p order whole (state_of test state) placed.rest x (code_at order x) l refl) ∙ open_rest (state_at order test state) i (code_at order x) (is.inside (code_at order x) shown);
 }

@@ -1,7 +1,7 @@
 -- What the loops that keep some of the groups come to, set by set.
 use Rattle.std.proofs.Common.{◌≡◌, ℕ, ◌+◌, ◌≤◌, ◌<◌, Bool, true, false, not, ◌&&◌, ◌||◌, ◌==◌, ◌↔◌, List, [], ◌∷◌, ◌++◌, take, length, get_or, refl, sym, ap, ◌∙◌, subst, inl, inr, ⊎_elim}
 use Rattle.std.proofs.lemmas.Bool.{false≢true, lt-ltb, eqb-true, eq-eqb}
-use Rattle.grouping_laws.specs.Sets.{often, member}
+use Rattle.grouping_laws.specs.Sets.{count, contains}
 use Rattle.grouping_laws.specs.GroupsFrom.{place}
 use Rattle.grouping_laws.specs.Places.{codes_at}
 use Rattle.grouping_laws.specs.PlaceProblem.{code_at}
@@ -9,7 +9,7 @@ use Rattle.grouping_laws.proofs.Elements.{Has, has_all, has_get, has_append, all
 use Rattle.grouping_laws.proofs.Places.{has_member}
 use Rattle.grouping_laws.proofs.PlaceCodes.{Below, member_code, code_place}
 use Rattle.place_laws.specs.PlaceSets.{places_of, Meets}
-use Rattle.place_laws.proofs.PlaceSets.{places_same, member-places_of}
+use Rattle.place_laws.proofs.PlaceSets.{places_same, contains-places_of}
 use Rattle.connected_laws.specs.Listing.{AreBelow}
 use Rattle.connected_laws.proofs.PlaceLists.{placed_test, placed_below}
 use Rattle.state_groups.specs.PlacedValues.{codes_of_set, codes_of_sets}
@@ -19,7 +19,7 @@ use Rattle.search_groups.proofs.Those.{step_in, step_out}
 -- whether no code of the second list stands in the first
 abbrev pub has_none : List ℕ → List ℕ → Bool
 has_none k [] = true
-has_none k (c ∷ g) = not (member k c) && has_none k g
+has_none k (c ∷ g) = not (contains k c) && has_none k g
 
 both : (a b : Bool) → (a && b) ≡ true → (a ≡ true) × (b ≡ true)
 both true b e = (refl, e)
@@ -34,21 +34,21 @@ true_not b e = ap not e
 
 pub apart_none : (k g : List ℕ) → has_none k g ≡ true → IsApart k g
 apart_none k [] e c m = absurd (false≢true m)
-apart_none k (x ∷ g) e c m = go (x == c) refl m (apart_none k g (both (not (member k x)) (has_none k g) e).1 c)
+apart_none k (x ∷ g) e c m = go (x == c) refl m (apart_none k g (both (not (contains k x)) (has_none k g) e).1 c)
   where
-    go : (b : Bool) → (x == c) ≡ b → (b || member g c) ≡ true → (member g c ≡ true → member k c ≡ false) → member k c ≡ false
-    go true i h next = ap (member k) (sym (eqb-true x c i)) ∙ not_true (member k x) (both (not (member k x)) (has_none k g) e).0
+    go : (b : Bool) → (x == c) ≡ b → (b || contains g c) ≡ true → (contains g c ≡ true → contains k c ≡ false) → contains k c ≡ false
+    go true i h next = ap (contains k) (sym (eqb-true x c i)) ∙ not_true (contains k x) (both (not (contains k x)) (has_none k g) e).0
     go false i h next = next h
 
 pub none_apart : (k g : List ℕ) → IsApart k g → has_none k g ≡ true
 none_apart k [] apart = refl
 none_apart k (x ∷ g) apart =
-    ap (λ b. not b && has_none k g) (apart x (ap (λ b. b || member g x) (eq-eqb x x refl))) ∙ none_apart k g (λ c m. apart c (onward c m))
+    ap (λ b. not b && has_none k g) (apart x (ap (λ b. b || contains g x) (eq-eqb x x refl))) ∙ none_apart k g (λ c m. apart c (onward c m))
   where
-    onward : (c : ℕ) → member g c ≡ true → member (x ∷ g) c ≡ true
+    onward : (c : ℕ) → contains g c ≡ true → contains (x ∷ g) c ≡ true
     onward c m = go (x == c)
       where
-        go : (b : Bool) → (b || member g c) ≡ true
+        go : (b : Bool) → (b || contains g c) ≡ true
         go true = refl
         go false = m
 
@@ -104,19 +104,19 @@ module _ (C : Type 0) (test : C → ℕ → Bool) (order : List ℕ) where
       subst (AreBelow (length order) test) (sym same) low,
     )
 
-  module _ (once : (c : ℕ) → often c order ≤ 1) where
+  module _ (once : (c : ℕ) → count c order ≤ 1) where
     -- the codes of a set have that of a place where the set has the place
-    pub code_in : (set : C) (i : ℕ) → i < length order → member (codes_of_set order test set) (code_at order i) ≡ test set i
-    code_in set i l = member_code order once (places_of (length order) (test set)) (set_below set) i l ∙ (member-places_of (length order) i (test set) ∙ ap (λ b. b && test set i) (lt-ltb i (length order) l))
+    pub code_in : (set : C) (i : ℕ) → i < length order → contains (codes_of_set order test set) (code_at order i) ≡ test set i
+    code_in set i l = member_code order once (places_of (length order) (test set)) (set_below set) i l ∙ (contains-places_of (length order) i (test set) ∙ ap (λ b. b && test set i) (lt-ltb i (length order) l))
 
-    pub place_in : (set : C) (c : ℕ) → member (codes_of_set order test set) c ≡ true → (place order c < length order) × (test set (place order c) ≡ true)
+    pub place_in : (set : C) (c : ℕ) → contains (codes_of_set order test set) c ≡ true → (place order c < length order) × (test set (place order c) ≡ true)
     place_in set c e = let r = code_place order once (places_of (length order) (test set)) (set_below set) c e in (r.0, placed_test (length order) (place order c) (test set) r.1)
 
     -- sets that don't meet have no code in common
     pub apart_codes : (set other : C) → Meets (test set) (test other) false → IsApart (codes_of_set order test other) (codes_of_set order test set)
-    apart_codes set other off c m = go (member (codes_of_set order test other) c) refl
+    apart_codes set other off c m = go (contains (codes_of_set order test other) c) refl
       where
-        go : (b : Bool) → member (codes_of_set order test other) c ≡ b → b ≡ false
+        go : (b : Bool) → contains (codes_of_set order test other) c ≡ b → b ≡ false
         go true e = sym (place_in other c e).1 ∙ off (place order c) (place_in set c m).1
         go false e = refl
 
@@ -133,9 +133,9 @@ module _ (C : Type 0) (test : C → ℕ → Bool) (order : List ℕ) where
         go false e = refl
         go true e = absurd (meeting_codes set other low meets (apart_none (codes_of_set order test other) (codes_of_set order test set) e))
 
-    pub having_told : (set : C) (i : ℕ) → i < length order → (answer : Bool) → answer ≡ test set i → answer ≡ member (codes_of_set order test set) (code_at order i)
+    pub having_told : (set : C) (i : ℕ) → i < length order → (answer : Bool) → answer ≡ test set i → answer ≡ contains (codes_of_set order test set) (code_at order i)
     having_told set i l answer e = e ∙ sym (code_in set i l)
 
-    pub lacking_told : (set : C) (i : ℕ) → i < length order → (answer : Bool) → not answer ≡ test set i → answer ≡ not (member (codes_of_set order test set) (code_at order i))
+    pub lacking_told : (set : C) (i : ℕ) → i < length order → (answer : Bool) → not answer ≡ test set i → answer ≡ not (contains (codes_of_set order test set) (code_at order i))
     lacking_told set i l true e = ap not (e ∙ sym (code_in set i l))
     lacking_told set i l false e = ap not (e ∙ sym (code_in set i l))

@@ -1,7 +1,7 @@
 -- How what is known of groups serves a search.
 use Rattle.std.proofs.Common.{◌≡◌, ℕ, ◌+◌, ◌≤◌, ◌<◌, Bool, true, false, cond, not, ◌&&◌, nat_le, ◌==◌, List, [], ◌∷◌, length, filter, refl, sym, ap, ◌∙◌, subst, arith, ⊎_elim, AllPairs, Contains}
 use Rattle.std.proofs.lemmas.Bool.{false≢true, and_parts, cases_lt, eqb-true, eq-eqb}
-use Rattle.grouping_laws.specs.Sets.{member, Inside}
+use Rattle.grouping_laws.specs.Sets.{contains, Inside}
 use Rattle.grouping_laws.specs.Problem.{Problem, IsProblem}
 use Rattle.grouping_laws.specs.GroupsFrom.{IsOrder, IsBefore}
 use Rattle.grouping_laws.proofs.Alike.{Alike, length_alike, in_order_alike, member_same}
@@ -32,13 +32,13 @@ first p round s = record {
 }
 
 -- a group that fits, in the order of places
-in_places : (p : Problem) (round : Round) (s : State) (i : ℕ) → IsOrder p round.order → (g : List ℕ) → Fits round.language p s g → length g ≡ i → IsGroupOf p round s i (filter (member g) round.order)
+in_places : (p : Problem) (round : Round) (s : State) (i : ℕ) → IsOrder p round.order → (g : List ℕ) → Fits round.language p s g → length g ≡ i → IsGroupOf p round s i (filter (contains g) round.order)
 in_places p round s i order g fits e =
-    let k = filter (member g) round.order in
+    let k = filter (contains g) round.order in
     let same : Alike g k = in_order_alike round.order p.counties g order fits.lawful.once fits.lawful.listed in
     record {
       fits = fits_alike round.language p s g k same fits;
-      in_order = filter_same (member k) (member g) (λ x. sym (member_same g k same x)) round.order;
+      in_order = filter_same (contains k) (contains g) (λ x. sym (member_same g k same x)) round.order;
       size = omega (arith, e, length_alike g k same);
     }
   where
@@ -59,7 +59,7 @@ exact p round s i groups none are = record {
 pub none_left : (p : Problem) (round : Round) (s : State) (i : ℕ) → IsOrder p round.order → IsKnown p round s i [] → (g : List ℕ) → Fits round.language p s g → length g ≤ i → ⊥
 none_left p round s i order known g fits l = ⊎_elim
     (λ less. known.none_below g fits less)
-    (λ most. let k = filter (member g) round.order in nothing k (known.all k (in_places p round s i order g fits (omega (arith, l, most)))))
+    (λ most. let k = filter (contains g) round.order in nothing k (known.all k (in_places p round s i order g fits (omega (arith, l, most)))))
     (cases_lt (length g) i)
 
 next : (p : Problem) (round : Round) (s : State) (i : ℕ) (groups : List (List ℕ)) → IsOrder p round.order → IsKnown p round s i [] → AreGroupsOf p round s (i + 1) groups → IsKnown p round s (i + 1) groups
@@ -84,15 +84,15 @@ not_true true e = absurd (false≢true e)
 
 module _ (s : State) (i : ℕ) where
   -- what is open where a group is closed: the counties that were, but those of the group
-  closed_open : (k : List ℕ) (c : ℕ) → member k c ≡ false → open_to (close k s) i c ≡ open_to s i c
+  closed_open : (k : List ℕ) (c : ℕ) → contains k c ≡ false → open_to (close k s) i c ≡ open_to s i c
   closed_open k c e = ap (λ b. (s.rest c && not b) && nat_le (cond b 0 (s.least c)) i) e ∙ ap (λ b. b && nat_le (s.least c) i) (all (s.rest c))
     where
       all : (b : Bool) → (b && true) ≡ b
       all true = refl
       all false = refl
 
-  closed_shut : (k : List ℕ) (c : ℕ) → open_to (close k s) i c ≡ true → member k c ≡ false
-  closed_shut k c e = not_true (member k c) (and_parts (s.rest c) (not (member k c)) (open_rest (close k s) i c e)).1
+  closed_shut : (k : List ℕ) (c : ℕ) → open_to (close k s) i c ≡ true → contains k c ≡ false
+  closed_shut k c e = not_true (contains k c) (and_parts (s.rest c) (not (contains k c)) (open_rest (close k s) i c e)).1
 
   -- and where a county is raised past the size
   raised_open : (j c : ℕ) → (c == j) ≡ false → open_to (raise j i s) i c ≡ open_to s i c
@@ -116,13 +116,13 @@ raised p round s i c groups those low =
     stays g inside e x m = go (x == c) refl
       where
         go : (b : Bool) → (x == c) ≡ b → open_to (raise c i s) i x ≡ true
-        go true k = absurd (false≢true (sym e ∙ subst (λ z. member g z ≡ true) (eqb-true x c k) m))
+        go true k = absurd (false≢true (sym e ∙ subst (λ z. contains g z ≡ true) (eqb-true x c k) m))
         go false k = raised_open s i c x k ∙ inside x m
 
     keeps : (g : List ℕ) → Inside (open_to (raise c i s) i) g → Lacks c g
-    keeps g inside = go (member g c) refl
+    keeps g inside = go (contains g c) refl
       where
-        go : (b : Bool) → member g c ≡ b → b ≡ false
+        go : (b : Bool) → contains g c ≡ b → b ≡ false
         go true m = absurd (raised_shut s i c (inside c m))
         go false m = refl
 
@@ -157,7 +157,7 @@ takes p round s i c groups those found widely known having lives = record {
   sorted = lives.in_turn (having.in_turn known.sorted);
 }
 
-can : (p : Problem) (round : Round) (s : State) (i c : ℕ) (g : List ℕ) → round.language ≡ Wide → i ≤ round.limit → IsCandidateGroup p round s i g → member g c ≡ true → CanBranch round s c i
+can : (p : Problem) (round : Round) (s : State) (i c : ℕ) (g : List ℕ) → round.language ≡ Wide → i ≤ round.limit → IsCandidateGroup p round s i g → contains g c ≡ true → CanBranch round s c i
 can p round s i c g widely small is m = record { small = small; is_open = is.inside c m; in_turn = subst (λ l. GoesInOrder l round s c i) (sym widely) tt }
 
 -- candidates of any size serve in the same way, whatever smaller groups fit

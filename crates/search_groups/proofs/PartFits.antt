@@ -3,8 +3,8 @@ use Rattle.std.proofs.Common.{◌≡◌, ℕ, ◌+◌, ◌*◌, ◌≤◌, ◌<�
 use Rattle.std.proofs.lemmas.Bool.{and_from, false≢true, cases_lt}
 use Rattle.std.proofs.lemmas.List.{length-append}
 use Rattle.county_codes.specs.declared.group.Group.{Group}
-use Rattle.place_laws.proofs.Sums.{total-append, total_within, total_ones, often_none}
-use Rattle.grouping_laws.specs.Sets.{digit, often, stands, member, Inside}
+use Rattle.place_laws.proofs.Sums.{sum_by-append, total_within, total_ones, often_none}
+use Rattle.grouping_laws.specs.Sets.{indicator, count, count_in, contains, Inside}
 use Rattle.grouping_laws.specs.Problem.{Problem, Suits, people_of, Connected, IsProblem}
 use Rattle.grouping_laws.specs.Grouping.{Grouping, sets_of, seats_of}
 use Rattle.grouping_laws.specs.Parts.{IsPart, AreParts}
@@ -32,10 +32,10 @@ suits_some : (p : Problem) → IsProblem p → (s : State) (xs : List ℕ) → (
 suits_some p is s xs h = ⊎_elim (λ none. absurd (h (inl none))) (λ r. (r.0, r.2)) (people_have_ranges p is.some_people is.tolerated (people_of p xs))
 
 -- and has as many counties as each of its counties asks for
-asks_no_more : (p : Problem) (s : State) (xs : List ℕ) → (CannotFill p s xs → ⊥) → (c : ℕ) → member xs c ≡ true → s.least c ≤ length xs
+asks_no_more : (p : Problem) (s : State) (xs : List ℕ) → (CannotFill p s xs → ⊥) → (c : ℕ) → contains xs c ≡ true → s.least c ≤ length xs
 asks_no_more p s xs h c m = ⊎_elim (λ l. absurd (h (inr (c, m, l)))) (λ l. l) (cases_lt (length xs) (s.least c))
 
-module _ (p : Problem) (is : IsProblem p) (s : State) (known : (x : ℕ) → s.rest x ≡ true → member p.counties x ≡ true) (free : (c : ℕ) → IsStuck p s c → ⊥) (size : ℕ)
+module _ (p : Problem) (is : IsProblem p) (s : State) (known : (x : ℕ) → s.rest x ≡ true → contains p.counties x ≡ true) (free : (c : ℕ) → IsStuck p s c → ⊥) (size : ℕ)
     (low : (c : ℕ) → s.rest c ≡ true → s.least c ≤ size) where
   -- a part of the rest can be filled
   pub part_free : (xs : List ℕ) → IsPart p s.rest xs → CannotFill p s xs → ⊥
@@ -50,58 +50,58 @@ module _ (p : Problem) (is : IsProblem p) (s : State) (known : (x : ℕ) → s.r
       pub left_can : CannotFill p s ys → ⊥
       left_can cannot = fits.kept (record { part = ys; is_part = part; stuck = cannot })
 
-      off : (x : ℕ) → member ys x ≡ true → member g x ≡ false
+      off : (x : ℕ) → contains ys x ≡ true → contains g x ≡ false
       off x e = without_not g s.rest x (part.inside x e)
 
       -- the group is outside of it
       outside : Inside (without ys s.rest) g
-      outside x e = and_from (s.rest x) (not (member ys x)) (in_rest x e) (ap not (go (member ys x) refl))
+      outside x e = and_from (s.rest x) (not (contains ys x)) (in_rest x e) (ap not (go (contains ys x) refl))
         where
-          go : (b : Bool) → member ys x ≡ b → member ys x ≡ false
+          go : (b : Bool) → contains ys x ≡ b → contains ys x ≡ false
           go false k = k
           go true k = absurd (false≢true (sym (off x k) ∙ e))
 
       -- a part of what that part leaves
       module _ (zs : List ℕ) (other : IsPart p (without ys s.rest) zs) where
-        other_rest : (x : ℕ) → member zs x ≡ true → s.rest x ≡ true
+        other_rest : (x : ℕ) → contains zs x ≡ true → s.rest x ≡ true
         other_rest x m = without_in ys s.rest x (other.inside x m)
 
         -- only the group of it is adjacent to the first part
-        not_beside : (x y : ℕ) → member zs x ≡ true → member g x ≡ false → member ys y ≡ true → p.adjacent x y ≡ true → ⊥
-        not_beside x y m o n t = false≢true (sym (without_not ys s.rest x (other.inside x m)) ∙ part.whole y x n (and_from (s.rest x) (not (member g x)) (other_rest x m) (ap not o)) (is.symmetric x y t))
+        not_beside : (x y : ℕ) → contains zs x ≡ true → contains g x ≡ false → contains ys y ≡ true → p.adjacent x y ≡ true → ⊥
+        not_beside x y m o n t = false≢true (sym (without_not ys s.rest x (other.inside x m)) ∙ part.whole y x n (and_from (s.rest x) (not (contains g x)) (other_rest x m) (ap not o)) (is.symmetric x y t))
 
         -- apart from the group it is a part of the rest
-        apart_part : ((x : ℕ) → member zs x ≡ true → member g x ≡ false) → IsPart p s.rest zs
-        apart_part o = record { once = other.once; connected = other.connected; inside = other_rest; whole = λ x y m r t. go x y m r t (member ys y) refl }
+        apart_part : ((x : ℕ) → contains zs x ≡ true → contains g x ≡ false) → IsPart p s.rest zs
+        apart_part o = record { once = other.once; connected = other.connected; inside = other_rest; whole = λ x y m r t. go x y m r t (contains ys y) refl }
           where
-            go : (x y : ℕ) → member zs x ≡ true → s.rest y ≡ true → p.adjacent x y ≡ true → (b : Bool) → member ys y ≡ b → member zs y ≡ true
+            go : (x y : ℕ) → contains zs x ≡ true → s.rest y ≡ true → p.adjacent x y ≡ true → (b : Bool) → contains ys y ≡ b → contains zs y ≡ true
             go x y m r t true e = absurd (not_beside x y m (o x m) e t)
-            go x y m r t false e = other.whole x y m (and_from (s.rest y) (not (member ys y)) r (ap not e)) t
+            go x y m r t false e = other.whole x y m (and_from (s.rest y) (not (contains ys y)) r (ap not e)) t
 
         -- else it has the group
-        module _ (within : (x : ℕ) → member g x ≡ true → member zs x ≡ true) where
+        module _ (within : (x : ℕ) → contains g x ≡ true → contains zs x ≡ true) where
           abbrev left : ℕ → Bool
-          left = without g (member zs)
+          left = without g (contains zs)
 
-          left_in : (x : ℕ) → left x ≡ true → member zs x ≡ true
-          left_in x e = without_in g (member zs) x e
+          left_in : (x : ℕ) → left x ≡ true → contains zs x ≡ true
+          left_in x e = without_in g (contains zs) x e
 
-          left_off : (x : ℕ) → left x ≡ true → member g x ≡ false
-          left_off x e = without_not g (member zs) x e
+          left_off : (x : ℕ) → left x ≡ true → contains g x ≡ false
+          left_off x e = without_not g (contains zs) x e
 
           -- a part of what the group leaves of it is one of what the group leaves of the rest
           left_part : (ws : List ℕ) → IsPart p left ws → IsPart p (without g s.rest) ws
           left_part ws a = record {
             once = a.once;
             connected = a.connected;
-            inside = λ x e. and_from (s.rest x) (not (member g x)) (other_rest x (left_in x (a.inside x e))) (ap not (left_off x (a.inside x e)));
-            whole = λ x y m r t. go x y m r t (member ys y) refl;
+            inside = λ x e. and_from (s.rest x) (not (contains g x)) (other_rest x (left_in x (a.inside x e))) (ap not (left_off x (a.inside x e)));
+            whole = λ x y m r t. go x y m r t (contains ys y) refl;
           }
             where
-              go : (x y : ℕ) → member ws x ≡ true → without g s.rest y ≡ true → p.adjacent x y ≡ true → (b : Bool) → member ys y ≡ b → member ws y ≡ true
+              go : (x y : ℕ) → contains ws x ≡ true → without g s.rest y ≡ true → p.adjacent x y ≡ true → (b : Bool) → contains ys y ≡ b → contains ws y ≡ true
               go x y m r t true e = absurd (not_beside x y (left_in x (a.inside x m)) (left_off x (a.inside x m)) e t)
               go x y m r t false e =
-                  a.whole x y m (and_from (member zs y) (not (member g y)) (other.whole x y (left_in x (a.inside x m)) (and_from (s.rest y) (not (member ys y)) (without_in g s.rest y r) (ap not e)) t) (ap not (without_not g s.rest y r))) t
+                  a.whole x y m (and_from (contains zs y) (not (contains g y)) (other.whole x y (left_in x (a.inside x m)) (and_from (s.rest y) (not (contains ys y)) (without_in g s.rest y r) (ap not e)) t) (ap not (without_not g s.rest y r))) t
 
           module _ (parts : List (List ℕ)) (are : AreParts p left parts) (ks : List ℕ) (suit : SuitAll p parts ks) where
             -- the group and the parts that it leaves, with seats
@@ -118,8 +118,8 @@ module _ (p : Problem) (is : IsProblem p) (s : State) (known : (x : ℕ) → s.r
               suits = λ m. elim [ inl e ↦ subst (λ (z : Group). Suits p (people_of p z.codes) z.seats) e fits.lawful.suits | inr i ↦ (seated_has p parts ks suit m i).1 ];
             }
 
-            covered : (c : ℕ) → member zs c ≡ true → stands c (sets_of opens) ≡ 1
-            covered c m = omega (arith, split_one (member zs) g fits.lawful.once within c, are.once c, ap (stands c) (seated_sets p parts ks suit), true_digit (member zs c) m)
+            covered : (c : ℕ) → contains zs c ≡ true → count_in c (sets_of opens) ≡ 1
+            covered c m = omega (arith, split_one (contains zs) g fits.lawful.once within c, are.once c, ap (count_in c) (seated_sets p parts ks suit), true_digit (contains zs c) m)
 
             other_suits : Suits p (people_of p zs) (seats_of (inner p (without ys s.rest) zs other opens fill))
             other_suits = part_suits p (without ys s.rest) zs other opens fill covered
@@ -136,13 +136,13 @@ module _ (p : Problem) (is : IsProblem p) (s : State) (known : (x : ℕ) → s.r
         other_can : CannotFill p s zs → ⊥
         other_can = go (hits zs g) refl
           where
-            apart : hits zs g ≡ false → (x : ℕ) → member zs x ≡ true → (b : Bool) → member g x ≡ b → b ≡ false
+            apart : hits zs g ≡ false → (x : ℕ) → contains zs x ≡ true → (b : Bool) → contains g x ≡ b → b ≡ false
             apart e x m true k = absurd (false≢true (sym e ∙ has_hit zs g x k m))
             apart e x m false k = refl
 
             go : (b : Bool) → hits zs g ≡ b → CannotFill p s zs → ⊥
             go true e = around_can (within_part p (without ys s.rest) zs g other outside fits.lawful.connected e)
-            go false e = part_free zs (apart_part (λ x m. apart e x m (member g x) refl))
+            go false e = part_free zs (apart_part (λ x m. apart e x m (contains g x) refl))
 
       -- it would fit as a group, if it weren't of the size
       left_fits : Fits Wide p s ys
@@ -158,7 +158,7 @@ module _ (p : Problem) (is : IsProblem p) (s : State) (known : (x : ℕ) → s.r
       left_large = ⊎_elim (λ l. absurd (none ys left_fits l)) (λ l. l) (cases_lt (length ys) size)
 
 -- where the region has no county but the group's, or a part is left
-module _ (p : Problem) (is : IsProblem p) (region : ℕ → Bool) (known : (x : ℕ) → region x ≡ true → member p.counties x ≡ true) where
+module _ (p : Problem) (is : IsProblem p) (region : ℕ → Bool) (known : (x : ℕ) → region x ≡ true → contains p.counties x ≡ true) where
   some_part : ((x : ℕ) → region x ≡ false) ⊎ ((ys : List ℕ) × IsPart p region ys)
   some_part = let parts = parts_exist p is region known in go parts.0 parts.1
     where
@@ -175,96 +175,96 @@ at_most true size = omega arith
 at_most false size = omega arith
 
 -- two sets apart from each other within a third
-both_fit : (xs ys zs : List ℕ) → ((c : ℕ) → often c xs ≤ 1) → ((c : ℕ) → often c ys ≤ 1) → ((c : ℕ) → member ys c ≡ true → member xs c ≡ false)
-    → ((c : ℕ) → member xs c ≡ true → member zs c ≡ true) → ((c : ℕ) → member ys c ≡ true → member zs c ≡ true) → length xs + length ys ≤ length zs
+both_fit : (xs ys zs : List ℕ) → ((c : ℕ) → count c xs ≤ 1) → ((c : ℕ) → count c ys ≤ 1) → ((c : ℕ) → contains ys c ≡ true → contains xs c ≡ false)
+    → ((c : ℕ) → contains xs c ≡ true → contains zs c ≡ true) → ((c : ℕ) → contains ys c ≡ true → contains zs c ≡ true) → length xs + length ys ≤ length zs
 both_fit xs ys zs one two apart first second =
     omega (arith, total_within (λ x. 1) (xs ++ ys) zs within, total_ones (xs ++ ys), total_ones zs, length-append xs ys)
   where
-    within : (c : ℕ) → often c (xs ++ ys) ≤ often c zs
-    within c = go (member ys c) refl
+    within : (c : ℕ) → count c (xs ++ ys) ≤ count c zs
+    within c = go (contains ys c) refl
       where
-        go : (b : Bool) → member ys c ≡ b → often c (xs ++ ys) ≤ often c zs
-        go true e = omega (arith, total-append (λ x. digit (x == c)) xs ys, often_none c xs (apart c e), no_more_often ys zs two second c)
-        go false e = omega (arith, total-append (λ x. digit (x == c)) xs ys, often_none c ys e, no_more_often xs zs one first c)
+        go : (b : Bool) → contains ys c ≡ b → count c (xs ++ ys) ≤ count c zs
+        go true e = omega (arith, sum_by-append (λ x. indicator (x == c)) xs ys, often_none c xs (apart c e), no_more_often ys zs two second c)
+        go false e = omega (arith, sum_by-append (λ x. indicator (x == c)) xs ys, often_none c ys e, no_more_often xs zs one first c)
 
 module _ (p : Problem) (is : IsProblem p) (s : State) (size : ℕ) (at : IsSizeToList p s size) (g : List ℕ) (long : length g ≡ size) (zs : List ℕ) (part : IsPart p s.rest zs) where
   -- a part of what the group leaves of the part is one of what it leaves of the rest
-  in_part : (ys : List ℕ) → IsPart p (without g (member zs)) ys → IsPart p (without g s.rest) ys
+  in_part : (ys : List ℕ) → IsPart p (without g (contains zs)) ys → IsPart p (without g s.rest) ys
   in_part ys a = record {
     once = a.once;
     connected = a.connected;
-    inside = λ x e. and_from (s.rest x) (not (member g x)) (part.inside x (without_in g (member zs) x (a.inside x e))) (ap not (without_not g (member zs) x (a.inside x e)));
-    whole = λ x y m r t. a.whole x y m (and_from (member zs y) (not (member g y)) (part.whole x y (without_in g (member zs) x (a.inside x m)) (without_in g s.rest y r) t) (ap not (without_not g s.rest y r))) t;
+    inside = λ x e. and_from (s.rest x) (not (contains g x)) (part.inside x (without_in g (contains zs) x (a.inside x e))) (ap not (without_not g (contains zs) x (a.inside x e)));
+    whole = λ x y m r t. a.whole x y m (and_from (contains zs y) (not (contains g y)) (part.whole x y (without_in g (contains zs) x (a.inside x m)) (without_in g s.rest y r) t) (ap not (without_not g s.rest y r))) t;
   }
 
-  module _ (fits : Fits Wide p s g) (within : (x : ℕ) → member g x ≡ true → member zs x ≡ true) where
-    alone_fits : Fits Wide p (alone (member zs) size) g
+  module _ (fits : Fits Wide p s g) (within : (x : ℕ) → contains g x ≡ true → contains zs x ≡ true) where
+    alone_fits : Fits Wide p (alone (contains zs) size) g
     alone_fits = record {
       lawful = fits.lawful;
-      inside = λ x e. is_open (alone (member zs) size) (length g) x (within x e) (omega (arith, at_most (member zs x) size, long));
+      inside = λ x e. is_open (alone (contains zs) size) (length g) x (within x e) (omega (arith, at_most (contains zs x) size, long));
       kept = λ d. go d.part (in_part d.part d.is_part) d.stuck;
     }
       where
-        go : (ys : List ℕ) → IsPart p (without g s.rest) ys → CannotFill p (alone (member zs) size) ys → ⊥
+        go : (ys : List ℕ) → IsPart p (without g s.rest) ys → CannotFill p (alone (contains zs) size) ys → ⊥
         go ys a (inl never) = left_can p is s at.listed at.no_stuck size at.low at.none g fits long ys a (inl never)
-        go ys a (inr few) = absurd (omega (arith, few.2, at_most (member zs few.0) size, left_large p is s at.listed at.no_stuck size at.low at.none g fits long ys a))
+        go ys a (inr few) = absurd (omega (arith, few.2, at_most (contains zs few.0) size, left_large p is s at.listed at.no_stuck size at.low at.none g fits long ys a))
 
     has_room : (length zs ≡ size) ⊎ (2 * size ≤ length zs)
     has_room = ⊎_elim
-        (λ none. inl (omega (arith, long, not_longer g zs fits.lawful.once within, not_longer zs g part.once (λ x e. all none x e (member g x) refl))))
+        (λ none. inl (omega (arith, long, not_longer g zs fits.lawful.once within, not_longer zs g part.once (λ x e. all none x e (contains g x) refl))))
         (λ r. let ys = r.0 in
         let large = left_large p is s at.listed at.no_stuck size at.low at.none g fits long ys (in_part ys r.1) in
-        let both = both_fit g ys zs fits.lawful.once (r.1).once (λ c e. without_not g (member zs) c ((r.1).inside c e)) within (λ c e. without_in g (member zs) c ((r.1).inside c e)) in
+        let both = both_fit g ys zs fits.lawful.once (r.1).once (λ c e. without_not g (contains zs) c ((r.1).inside c e)) within (λ c e. without_in g (contains zs) c ((r.1).inside c e)) in
         inr (omega (arith, large, both, long)))
-        (some_part p is (without g (member zs)) (λ x e. at.listed x (part.inside x (without_in g (member zs) x e))))
+        (some_part p is (without g (contains zs)) (λ x e. at.listed x (part.inside x (without_in g (contains zs) x e))))
       where
-        all : ((x : ℕ) → without g (member zs) x ≡ false) → (x : ℕ) → member zs x ≡ true → (b : Bool) → member g x ≡ b → member g x ≡ true
+        all : ((x : ℕ) → without g (contains zs) x ≡ false) → (x : ℕ) → contains zs x ≡ true → (b : Bool) → contains g x ≡ b → contains g x ≡ true
         all none x e true k = k
-        all none x e false k = absurd (false≢true (sym (none x) ∙ and_from (member zs x) (not (member g x)) e (ap not k)))
+        all none x e false k = absurd (false≢true (sym (none x) ∙ and_from (contains zs x) (not (contains g x)) e (ap not k)))
 
-  module _ (fits : Fits Wide p (alone (member zs) size) g) where
-    in_zs : (x : ℕ) → member g x ≡ true → member zs x ≡ true
-    in_zs x e = open_rest (alone (member zs) size) (length g) x (fits.inside x e)
+  module _ (fits : Fits Wide p (alone (contains zs) size) g) where
+    in_zs : (x : ℕ) → contains g x ≡ true → contains zs x ≡ true
+    in_zs x e = open_rest (alone (contains zs) size) (length g) x (fits.inside x e)
 
     -- a part of what the group leaves of the rest lies in the part, or is one of the rest
     module _ (ys : List ℕ) (a : IsPart p (without g s.rest) ys) where
-      meets_can : ((x : ℕ) → member ys x ≡ true → member zs x ≡ true) → CannotFill p s ys → ⊥
+      meets_can : ((x : ℕ) → contains ys x ≡ true → contains zs x ≡ true) → CannotFill p s ys → ⊥
       meets_can within = go
         where
-          own : IsPart p (without g (member zs)) ys
+          own : IsPart p (without g (contains zs)) ys
           own = record {
             once = a.once;
             connected = a.connected;
-            inside = λ x e. and_from (member zs x) (not (member g x)) (within x e) (ap not (without_not g s.rest x (a.inside x e)));
-            whole = λ x y m r t. a.whole x y m (and_from (s.rest y) (not (member g y)) (part.inside y (without_in g (member zs) y r)) (ap not (without_not g (member zs) y r))) t;
+            inside = λ x e. and_from (contains zs x) (not (contains g x)) (within x e) (ap not (without_not g s.rest x (a.inside x e)));
+            whole = λ x y m r t. a.whole x y m (and_from (s.rest y) (not (contains g y)) (part.inside y (without_in g (contains zs) y r)) (ap not (without_not g (contains zs) y r))) t;
           }
 
-          own_can : CannotFill p (alone (member zs) size) ys → ⊥
+          own_can : CannotFill p (alone (contains zs) size) ys → ⊥
           own_can cannot = fits.kept (record { part = ys; is_part = own; stuck = cannot })
 
           go : CannotFill p s ys → ⊥
           go (inl never) = own_can (inl never)
           go (inr few) =
-              let asks = asks_no_more p (alone (member zs) size) ys own_can few.0 few.1 in
+              let asks = asks_no_more p (alone (contains zs) size) ys own_can few.0 few.1 in
               absurd (omega (arith, few.2, at.low few.0 (part.inside few.0 (within few.0 few.1)), asks, ap (λ b. cond b size 0) (within few.0 few.1)))
 
-      apart_can : ((x : ℕ) → member ys x ≡ true → member zs x ≡ false) → CannotFill p s ys → ⊥
-      apart_can apart = part_free p is s at.listed at.no_stuck size at.low ys (record { once = a.once; connected = a.connected; inside = λ x e. without_in g s.rest x (a.inside x e); whole = λ x y m r t. go x y m r t (member g y) refl })
+      apart_can : ((x : ℕ) → contains ys x ≡ true → contains zs x ≡ false) → CannotFill p s ys → ⊥
+      apart_can apart = part_free p is s at.listed at.no_stuck size at.low ys (record { once = a.once; connected = a.connected; inside = λ x e. without_in g s.rest x (a.inside x e); whole = λ x y m r t. go x y m r t (contains g y) refl })
         where
-          go : (x y : ℕ) → member ys x ≡ true → s.rest y ≡ true → p.adjacent x y ≡ true → (b : Bool) → member g y ≡ b → member ys y ≡ true
+          go : (x y : ℕ) → contains ys x ≡ true → s.rest y ≡ true → p.adjacent x y ≡ true → (b : Bool) → contains g y ≡ b → contains ys y ≡ true
           go x y m r t true e = absurd (false≢true (sym (apart x m) ∙ part.whole y x (in_zs y e) (without_in g s.rest x (a.inside x m)) (is.symmetric x y t)))
-          go x y m r t false e = a.whole x y m (and_from (s.rest y) (not (member g y)) r (ap not e)) t
+          go x y m r t false e = a.whole x y m (and_from (s.rest y) (not (contains g y)) r (ap not e)) t
 
       each_can : CannotFill p s ys → ⊥
       each_can = go (hits zs ys) refl
         where
-          off : hits zs ys ≡ false → (x : ℕ) → member ys x ≡ true → (b : Bool) → member zs x ≡ b → b ≡ false
+          off : hits zs ys ≡ false → (x : ℕ) → contains ys x ≡ true → (b : Bool) → contains zs x ≡ b → b ≡ false
           off e x m true k = absurd (false≢true (sym e ∙ has_hit zs ys x m k))
           off e x m false k = refl
 
           go : (b : Bool) → hits zs ys ≡ b → CannotFill p s ys → ⊥
           go true e = meets_can (within_part p s.rest zs ys part (λ x m. without_in g s.rest x (a.inside x m)) a.connected e)
-          go false e = apart_can (λ x m. off e x m (member zs x) refl)
+          go false e = apart_can (λ x m. off e x m (contains zs x) refl)
 
     state_fits : Fits Wide p s g
     state_fits = record {

@@ -7,8 +7,8 @@ use Rattle.std.specs.List.Sorted.{IsSortedBy, IsPermutation}
 use Rattle.std.proofs.lemmas.List.{map-append, take_more, take_all, take-append-drop}
 use Rattle.std.proofs.lemmas.List.Sorted.{Contains-permutation, IsPermutation-map, IsPermutation-sym}
 use Rattle.place_laws.specs.PlaceSets.{places_of}
-use Rattle.place_laws.proofs.Sums.{total-append, often_some}
-use Rattle.grouping_laws.specs.Sets.{often, stands, member}
+use Rattle.place_laws.proofs.Sums.{sum_by-append, often_some}
+use Rattle.grouping_laws.specs.Sets.{count, count_in, contains}
 use Rattle.grouping_laws.specs.Problem.{Problem, IsProblem}
 use Rattle.grouping_laws.specs.Parts.{AreParts}
 use Rattle.grouping_laws.specs.GroupsFrom.{IsLesser, IsBefore, place}
@@ -44,9 +44,9 @@ sorted_once : (order : List ℕ) (groups : List (List ℕ)) → AllPairs (IsBefo
 sorted_once order groups sorted = λ i j d l m e. not_before order (get_or groups j d) (subst (λ z. IsBefore order z (get_or groups j d)) e (sorted i j d l m))
 
 -- a code of one of the sets stands in them
-stands_some : (c : ℕ) (sets : List (List ℕ)) (g : List ℕ) → Has sets g → member g c ≡ true → 1 ≤ stands c sets
+stands_some : (c : ℕ) (sets : List (List ℕ)) (g : List ℕ) → Has sets g → contains g c ≡ true → 1 ≤ count_in c sets
 stands_some c [] g h e = absurd h
-stands_some c (x ∷ xs) g (inl k) e = omega (arith, often_some c x (subst (λ z. member z c ≡ true) (sym k) e))
+stands_some c (x ∷ xs) g (inl k) e = omega (arith, often_some c x (subst (λ z. contains z c ≡ true) (sym k) e))
 stands_some c (x ∷ xs) g (inr h) e = omega (arith, stands_some c xs g h e)
 
 -- a round by places in the wide language
@@ -76,7 +76,7 @@ module _ (C : Type 0) (test : C → ℕ → Bool) (p : Problem) (n size : ℕ) (
   pub part_low : (x : ℕ) → test part x ≡ true → x < n
   part_low = subst (λ z. (x : ℕ) → test z x ≡ true → x < n) (sym at) (has_all (λ z. (x : ℕ) → test z x ≡ true → x < n) parts low (get_or parts i part) (has_get parts i part there))
 
-  own_test : member own ≡ test part
+  own_test : contains own ≡ test part
   own_test = fun_ext (own_places n (test part) part_low)
 
   -- what was found at the parts before is found at one part more
@@ -94,7 +94,7 @@ module _ (C : Type 0) (test : C → ℕ → Bool) (p : Problem) (n size : ℕ) (
       go : Has before f.fits.part ⊎ Has (own ∷ []) f.fits.part → IsPartGroup p n size before g ⊎ (Fits Wide p (alone (test part) size) g × HasRoom own)
       go (inl h) = inl (record { fits = record { part = f.fits.part; there = contains_from_has before f.fits.part h; fits = f.fits.fits; room = f.fits.room }; in_order = f.in_order; size_is = f.size_is })
       go (inr (inl e)) = inr (
-        subst (λ z. Fits Wide p (alone z size) g) own_test (subst (λ z. Fits Wide p (alone (member z) size) g) (sym e) f.fits.fits),
+        subst (λ z. Fits Wide p (alone z size) g) own_test (subst (λ z. Fits Wide p (alone (contains z) size) g) (sym e) f.fits.fits),
         subst HasRoom (sym e) f.fits.room,
       )
       go (inr (inr h)) = absurd h
@@ -109,12 +109,12 @@ module _ (C : Type 0) (test : C → ℕ → Bool) (p : Problem) (n size : ℕ) (
     below = are.below;
   }
 
-  module _ (apart : (c : ℕ) → stands c (lists_of n test parts) ≤ 1) (room : HasRoom own) (old new : List C) (put : ArePut test p n part size old new) (are : ArePartGroups test p n size (take i parts) old) where
-    own_apart : (c : ℕ) → stands c before + often c own ≤ 1
+  module _ (apart : (c : ℕ) → count_in c (lists_of n test parts) ≤ 1) (room : HasRoom own) (old new : List C) (put : ArePut test p n part size old new) (are : ArePartGroups test p n size (take i parts) old) where
+    own_apart : (c : ℕ) → count_in c before + count c own ≤ 1
     own_apart c =
-        let whole = ap (λ z. stands c (lists_of n test z)) (take-append-drop (i + 1) parts) in
-        let split = ap (stands c) (map-append (λ s. places_of n (test s)) (take (i + 1) parts) (drop (i + 1) parts)) in
-        omega (arith, apart c, whole, split, total-append (often c) (lists_of n test (take (i + 1) parts)) (lists_of n test (drop (i + 1) parts)), ap (stands c) onward, total-append (often c) before (own ∷ []))
+        let whole = ap (λ z. count_in c (lists_of n test z)) (take-append-drop (i + 1) parts) in
+        let split = ap (count_in c) (map-append (λ s. places_of n (test s)) (take (i + 1) parts) (drop (i + 1) parts)) in
+        omega (arith, apart c, whole, split, sum_by-append (count c) (lists_of n test (take (i + 1) parts)) (lists_of n test (drop (i + 1) parts)), ap (count_in c) onward, sum_by-append (count c) before (own ∷ []))
 
     of_part : AreGroupsOf p (wide_round n) (alone (test part) size) size put.found
     of_part = put.groups (wide_round n) refl refl
@@ -158,7 +158,7 @@ module _ (C : Type 0) (test : C → ℕ → Bool) (p : Problem) (n size : ℕ) (
         let f = (are.each g).0 (contains_from_has (lists_of n test old) g h) in
         let r = (of_part.each g).0 (contains_from_has put.found g k) in
         let c = first_code g r.fits.lawful.connected.some_county in
-        let one = open_rest (alone (member f.fits.part) size) (length g) c.0 (f.fits.fits.inside c.0 c.1) in
+        let one = open_rest (alone (contains f.fits.part) size) (length g) c.0 (f.fits.fits.inside c.0 c.1) in
         let two = open_rest (alone (test part) size) (length g) c.0 (r.fits.inside c.0 c.1) in
         absurd (omega (arith, own_apart c.0, stands_some c.0 before f.fits.part (has_from_contains before f.fits.part f.fits.there) one, often_some c.0 own (ap (λ z. z c.0) own_test ∙ two)))
 
@@ -192,14 +192,14 @@ found_groups C test p n size s parts found groups is next are_parts are moved so
         let f = among g h in
         record {
           fits = subst (λ l. Fits l p s g) (sym language) ((parts_serve p s size (lists_of n test parts) is next are_parts g f.size_is).1 f.fits);
-          in_order = subst (λ z. filter (member g) z ≡ g) (sym order) f.in_order;
+          in_order = subst (λ z. filter (contains g) z ≡ g) (sym order) f.in_order;
           size = f.size_is;
         }
 
     again : (g : List ℕ) → IsGroupOf p round s size g → Contains (lists_of n test groups) g
     again g f = Contains-permutation (lists_of n test found) (lists_of n test groups) g permuted ((are.each g).1 (record {
       fits = (parts_serve p s size (lists_of n test parts) is next are_parts g f.size).0 (subst (λ l. Fits l p s g) language f.fits);
-      in_order = subst (λ z. filter (member g) z ≡ g) order f.in_order;
+      in_order = subst (λ z. filter (contains g) z ≡ g) order f.in_order;
       size_is = f.size;
     }))
 

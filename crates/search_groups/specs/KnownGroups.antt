@@ -2,7 +2,7 @@
 -- on.
 use Rattle.std.specs.Prelude.{ℕ, ◌+◌, ◌≡◌, ◌≤◌, ◌<◌, Bool, true, false, List, [], length, filter}
 use Rattle.std.specs.Prelude.{Contains, AllPairs, ◌↔◌}
-use Rattle.grouping_laws.specs.Sets.{member, Inside}
+use Rattle.grouping_laws.specs.Sets.{contains, Inside}
 use Rattle.grouping_laws.specs.Problem.{Problem, IsProblem, LawfulGroup}
 use Rattle.grouping_laws.specs.GroupsFrom.{IsOrder, IsBefore}
 use Rattle.certificate_data.specs.declared.language.Language.TheVariants.{Wide}
@@ -18,7 +18,7 @@ use Rattle.state_groups.specs.PlacedValues.{codes_of_set}
 pub record IsCandidateGroup (p : Problem) (round : Round) (s : State) (i : ℕ) (g : List ℕ) : Type 0 where
   pub lawful : LawfulGroup p g
   pub inside : Inside (open_to s i) g
-  pub in_order : filter (member g) round.order ≡ g
+  pub in_order : filter (contains g) round.order ≡ g
   pub size : length g ≡ i
 
 -- these are candidates of i counties, among them all that fit, sorted by lists of places
@@ -42,14 +42,14 @@ pub record AreThose (order : List ℕ) (Is : List ℕ → Type 0) (groups those 
 
 -- the group has no county of the other
 abbrev pub IsApart : List ℕ → List ℕ → Type 0
-IsApart k g = (c : ℕ) → member g c ≡ true → member k c ≡ false
+IsApart k g = (c : ℕ) → contains g c ≡ true → contains k c ≡ false
 
 -- the group lacks the county, or has it
 abbrev pub Lacks : ℕ → List ℕ → Type 0
-Lacks c g = member g c ≡ false
+Lacks c g = contains g c ≡ false
 
 abbrev pub Has : ℕ → List ℕ → Type 0
-Has c g = member g c ≡ true
+Has c g = contains g c ≡ true
 
 -- for each set with places of the order alone a test with these answers says what this says of its codes
 abbrev pub Tells : {C : Type 0} → List ℕ → (C → ℕ → Bool) → (C → Bool → Type 0) → (List ℕ → Bool) → Type 0
@@ -80,4 +80,4 @@ pub record KnownServes : Type 0 where
       → AreThose round.order (IsLive p s) those found → AreGroupsAt p round s c i found
   -- in a wide round one may branch at each county of a candidate
   pub can : (p : Problem) (round : Round) (s : State) (i c : ℕ) (g : List ℕ) → round.language ≡ Wide → i ≤ round.limit
-      → IsCandidateGroup p round s i g → member g c ≡ true → CanBranch round s c i
+      → IsCandidateGroup p round s i g → contains g c ≡ true → CanBranch round s c i

@@ -1,6 +1,6 @@
 -- The groups of one size at a state, part by part of its rest.
 use Rattle.std.specs.Prelude.{ℕ, ◌*◌, ◌≡◌, ◌≤◌, ◌<◌, Bool, true, cond, List, [], length, Contains, ◌⊎◌, ◌↔◌}
-use Rattle.grouping_laws.specs.Sets.{member}
+use Rattle.grouping_laws.specs.Sets.{contains}
 use Rattle.grouping_laws.specs.Problem.{Problem, IsProblem}
 use Rattle.grouping_laws.specs.Parts.{AreParts}
 use Rattle.certificate_data.specs.declared.language.Language.TheVariants.{Wide}
@@ -16,7 +16,7 @@ alone region size = record { closed = []; rest = region; least = λ c. cond (reg
 -- No group of fewer counties fits, no part of the rest is stuck, and each county of the rest may lie in a group of so
 -- many.
 pub record IsSizeToList (p : Problem) (s : State) (size : ℕ) : Type 0 where
-  pub listed : (c : ℕ) → s.rest c ≡ true → member p.counties c ≡ true
+  pub listed : (c : ℕ) → s.rest c ≡ true → contains p.counties c ≡ true
   pub none : (g : List ℕ) → Fits Wide p s g → length g < size → ⊥
   pub no_stuck : (c : ℕ) → ¬ IsStuck p s c
   pub low : (c : ℕ) → s.rest c ≡ true → s.least c ≤ size
@@ -25,7 +25,7 @@ pub record IsSizeToList (p : Problem) (s : State) (size : ℕ) : Type 0 where
 pub record FitsPart (p : Problem) (parts : List (List ℕ)) (size : ℕ) (g : List ℕ) : Type 0 where
   pub part : List ℕ
   pub there : Contains parts part
-  pub fits : Fits Wide p (alone (member part) size) g
+  pub fits : Fits Wide p (alone (contains part) size) g
   pub room : (length part ≡ size) ⊎ (2 * size ≤ length part)
 
 -- At such a size the groups that fit the state are those that fit one of the parts of its rest by itself. What the

@@ -1,6 +1,6 @@
 -- Lists of the groups of a part by itself, kept for each state whose rest has the part.
 use Rattle.std.specs.Prelude.{ℕ, ◌≡◌, ◌≢◌, Bool, List, ◌++◌, length, filter, All, AllPairs, Contains, ◌↔◌}
-use Rattle.grouping_laws.specs.Sets.{member}
+use Rattle.grouping_laws.specs.Sets.{contains}
 use Rattle.grouping_laws.specs.Problem.{Problem}
 use Rattle.grouping_laws.specs.Places.{places_below}
 use Rattle.connected_laws.specs.Listing.{AreBelow, lists_of}
@@ -40,7 +40,7 @@ pub record ArePut {C : Type 0} (test : C → ℕ → Bool) (p : Problem) (n : �
 -- a group of the size that fits one of the parts by itself, its places in order
 pub record IsPartGroup (p : Problem) (n size : ℕ) (parts : List (List ℕ)) (g : List ℕ) : Type 0 where
   pub fits : FitsPart p parts size g
-  pub in_order : filter (member g) (places_below n) ≡ g
+  pub in_order : filter (contains g) (places_below n) ≡ g
   pub size_is : length g ≡ size
 
 -- the sets are all such groups, each once

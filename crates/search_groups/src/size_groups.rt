@@ -1,7 +1,7 @@
 //! The groups of one size that fit a state, made part by part from the lists that are kept.
 
 ghost use Rattle.std.specs.Prelude.{◌≡◌, ℕ, ◌*◌, ◌≤◌, ◌<◌, true, List, length, IfOk, IsErrOf, IsTrue, ◌⊎◌, ◌↔◌};
-ghost use Rattle.grouping_laws.specs.Sets.{stands};
+ghost use Rattle.grouping_laws.specs.Sets.{count_in};
 ghost use Rattle.connected_sets.specs.Graphs.{graph_problem, graph_order, graph_places, place_problem, IsGraph};
 ghost use Rattle.connected_laws.specs.Listing.{AreBelow, lists_of};
 ghost use Rattle.certificate_data.specs.declared.language.Language.TheVariants.{Wide};
@@ -53,7 +53,7 @@ fn part_groups<C: CountySet>(
 ) -> Result<Vec<C>, Stop>
     requires graph { IsGraph C.test C.PLACES graph.now }
     requires below { AreBelow (graph_places graph.now) C.test parts.now }
-    requires apart { (c : ℕ) → stands c (lists_of (graph_places graph.now) C.test parts.now) ≤ 1 }
+    requires apart { (c : ℕ) → count_in c (lists_of (graph_places graph.now) C.test parts.now) ≤ 1 }
     requires size { 1 ≤ size }
     requires lists { AreListsOf C.test (place_problem graph.now) (graph_places graph.now) lists.old }
     ensures groups { IfOk result (λ v. ArePartGroups C.test (place_problem graph.now) (graph_places graph.now) size parts.now v.items) }

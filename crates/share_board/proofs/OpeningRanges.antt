@@ -1,7 +1,7 @@
 -- The numbers of an opening are in the ranges of their lines.
 use Rattle.std.proofs.Common.{◌≡◌, ℕ, ◌-◌, ◌≤◌, true, not, nat_le, List, refl, ap, arith, inl, inr, Option, Some, None}
 use Rattle.std.proofs.lemmas.Bool.{and_parts}
-use Rattle.grouping_laws.specs.Sets.{member}
+use Rattle.grouping_laws.specs.Sets.{contains}
 use Rattle.grouping_laws.specs.Problem.{Problem}
 use Rattle.grouping_laws.proofs.Elements.{Has, contains_from_has}
 use Rattle.certificate_data.specs.declared.language.Language.{Language}
@@ -22,7 +22,7 @@ use Rattle.share_board.proofs.Spelling.{five_digits, group_is_set}
 
 -- the rest of a state are counties of the problem
 abbrev RestListed : Problem → State → Type 0
-RestListed p s = (c : ℕ) → s.rest c ≡ true → member p.counties c ≡ true
+RestListed p s = (c : ℕ) → s.rest c ≡ true → contains p.counties c ≡ true
 
 plain_branch : (language : Language) (county : ℕ) (limit : Option ℕ) → language ≡ Plain → limit ≡ None → county ≤ 99999 → FitsInTree language (OpensItem (Branch county limit))
 plain_branch Plain county None e n h = (h, omega arith)
@@ -49,7 +49,7 @@ module _ (p : Problem) (round : Round) (five : HasFiveDigits p) (few : round.lim
     each_ranges depth no_part s county limit first next small plain rest groups are among o = tt
     each_ranges depth (part codes skeleton others) s county limit first next small plain rest groups are among o = (
       group_is_set p round s county limit codes five small ((are.each codes).0 (contains_from_has groups codes (among codes (inl refl)))),
-      opens_ranges depth skeleton (close codes s) first o.0 plain (λ c h. rest c (and_parts (s.rest c) (not (member codes c)) h).0) o.1,
+      opens_ranges depth skeleton (close codes s) first o.0 plain (λ c h. rest c (and_parts (s.rest c) (not (contains codes c)) h).0) o.1,
       each_ranges depth others s county limit o.0 next small plain rest groups are (λ g h. among g (inr h)) o.2,
     )
 

@@ -1,7 +1,7 @@
 -- What the branches of an opening cost: each has its share, and its sets are among the connected ones within the limit.
 use Rattle.std.proofs.Common.{◌≡◌, ℕ, ◌+◌, ◌*◌, ◌≤◌, ◌<◌, Bool, true, false, ◌&&◌, List, [], ◌∷◌, length, filter, cond, refl, sym, ap, ◌∙◌, arith, inl, inr, Contains}
 use Rattle.std.proofs.lemmas.Bool.{and_parts}
-use Rattle.grouping_laws.specs.Sets.{member}
+use Rattle.grouping_laws.specs.Sets.{contains}
 use Rattle.grouping_laws.specs.Problem.{Problem}
 use Rattle.grouping_laws.specs.GroupsFrom.{IsBefore}
 use Rattle.grouping_laws.proofs.Elements.{Has, has_from_contains, contains_from_has}
@@ -44,7 +44,7 @@ filtered_few q (x ∷ xs) = go (q x) (filtered_few q xs)
 
 -- the sets of a branch, by a test
 abbrev of_branch : State → ℕ → ℕ → List ℕ → Bool
-of_branch s limit county g = member g county && all_pass (open_to s limit) g
+of_branch s limit county g = contains g county && all_pass (open_to s limit) g
 
 -- there are no more sets for a branch than connected ones within the limit
 pub sets_of_branch : (p : Problem) (round : Round) (s : State) (county m : ℕ) → AreSoMany round.order (IsSmallSet p round) m → (k : ℕ) × AreSoMany round.order (IsSetAt p round.order s county round.limit) k × (k ≤ m)
@@ -57,14 +57,14 @@ sets_of_branch p round s county m many =
     there g h =
         let r = has-filter (of_branch s round.limit county) many.sets g (has_from_contains (filter (of_branch s round.limit county) many.sets) g h) in
         let small = (many.each g).0 (contains_from_has many.sets g r.0) in
-        let both = and_parts (member g county) (all_pass (open_to s round.limit) g) r.1 in
+        let both = and_parts (contains g county) (all_pass (open_to s round.limit) g) r.1 in
         record { connected = small.connected; in_order = small.in_order; has = both.0; small = small.small; inside = λ c i. passes (open_to s round.limit) g c both.1 (member_has g c i) }
 
     back : (g : List ℕ) → IsSetAt p round.order s county round.limit g → Contains (filter (of_branch s round.limit county) many.sets) g
     back g i =
         let among = has_from_contains many.sets g ((many.each g).1 (record { connected = i.connected; in_order = i.in_order; small = i.small })) in
         let pass = all_pass_so (open_to s round.limit) g (λ c h. i.inside c (has_member g c h)) in
-        contains_from_has (filter (of_branch s round.limit county) many.sets) g (filter_has (of_branch s round.limit county) many.sets g among (and_true (member g county) (all_pass (open_to s round.limit) g) i.has pass))
+        contains_from_has (filter (of_branch s round.limit county) many.sets) g (filter_has (of_branch s round.limit county) many.sets g among (and_true (contains g county) (all_pass (open_to s round.limit) g) i.has pass))
 
 -- a share that the branch would go above is below the cost of a line
 pub share_below : (p : Problem) (round : Round) (s : State) (county share : ℕ) → ((m : ℕ) → AreSoMany round.order (IsSetAt p round.order s county round.limit) m → share ≤ 2 * m)

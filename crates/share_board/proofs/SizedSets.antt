@@ -1,7 +1,7 @@
 -- The subsets of an order, by size and then by lists of places.
 use Rattle.std.proofs.Common.{◌≡◌, ℕ, zero, suc, ◌<◌, ◌≤◌, Bool, true, false, cond, List, [], ◌∷◌, ◌++◌, length, map, filter, get_or, refl, sym, ap, ◌∙◌, subst, arith, ◌⊎◌, inl, inr, ⊎_elim, AllPairs}
 use Rattle.std.proofs.lemmas.List.{get_or_default}
-use Rattle.grouping_laws.specs.Sets.{often}
+use Rattle.grouping_laws.specs.Sets.{count}
 use Rattle.grouping_laws.specs.GroupsFrom.{IsLesser, IsBefore, place}
 use Rattle.grouping_laws.proofs.Elements.{Has, has_append, has_left, has_right}
 use Rattle.grouping_laws.proofs.Places.{place_at}
@@ -66,14 +66,14 @@ module _ (f : ℕ → ℕ) where
       let q = begins_in k xs h n in
       subst (λ z. Lesser z h) r.2 (subst (Lesser (x ∷ r.0)) (sym q.2) (inl (head_before (λ y z. f y < f z) x xs a q.0 q.3))))
 
-ascends : (order : List ℕ) → ((c : ℕ) → often c order ≤ 1) → Ascend (place order) order
+ascends : (order : List ℕ) → ((c : ℕ) → count c order ≤ 1) → Ascend (place order) order
 ascends order once = λ i j d l m. omega (arith, l, at i d (omega (arith, l, m)), at j d m)
   where
     at : (i d : ℕ) → i < length order → place order (get_or order i d) ≡ i
     at i d l = ap (place order) (get_or_default order i d 0 l) ∙ place_at order once i l
 
 -- sorted by size and then by places
-pub up_to_sorted : (order : List ℕ) → ((c : ℕ) → often c order ≤ 1) → (k : ℕ) → AllPairs (IsBefore order) (up_to k order)
+pub up_to_sorted : (order : List ℕ) → ((c : ℕ) → count c order ≤ 1) → (k : ℕ) → AllPairs (IsBefore order) (up_to k order)
 up_to_sorted order once zero = cons_pairs (IsBefore order) [] [] (λ y h. absurd h) (λ i j d l m. absurd (omega arith))
 up_to_sorted order once (suc k) =
     pairs_append (IsBefore order) (up_to k order) (of_size (suc k) order) (up_to_sorted order once k)

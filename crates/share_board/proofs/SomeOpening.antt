@@ -1,7 +1,7 @@
 -- A plain round opens at each of its states.
 use Rattle.std.proofs.Common.{◌≡◌, ℕ, zero, suc, ◌+◌, ◌-◌, Bool, true, false, List, [], ◌∷◌, length, filter, refl, sym, ap, subst, arith, inl, inr, None}
 use Rattle.std.proofs.lemmas.Bool.{and_parts, false≢true}
-use Rattle.grouping_laws.specs.Sets.{member}
+use Rattle.grouping_laws.specs.Sets.{contains}
 use Rattle.grouping_laws.specs.Problem.{Problem, IsProblem}
 use Rattle.grouping_laws.specs.GroupsFrom.{IsOrder, BeginsWith, IsBefore}
 use Rattle.place_laws.proofs.Sums.{member_from_often}
@@ -25,7 +25,7 @@ use Rattle.share_board.proofs.Deciding.{Either, group_or}
 
 -- the rest are counties of the problem
 abbrev pub RestListed : Problem → State → Type 0
-RestListed p s = (c : ℕ) → s.rest c ≡ true → member p.counties c ≡ true
+RestListed p s = (c : ℕ) → s.rest c ≡ true → contains p.counties c ≡ true
 
 -- the test that goes by a decision
 abbrev is_left : {X : Type 0} → Either X → Bool
@@ -68,7 +68,7 @@ module _ (p : Problem) (round : Round) (is : IsProblem p) (order : IsOrder p rou
     where
       among : (g : List ℕ) → IsGroupAt p round s c limit g → Has (up_to limit round.order) g
       among g f = subst (λ z. Has (up_to limit round.order) z) f.in_order
-          (has_up_to limit (member g) round.order (omega (arith, ap length f.in_order, f.small)))
+          (has_up_to limit (contains g) round.order (omega (arith, ap length f.in_order, f.small)))
 
   -- a skeleton with which the round opens, and parts
   pub record Opened (depth : ℕ) (s : State) (first : ℕ) : Type 0 where
@@ -106,7 +106,7 @@ module _ (p : Problem) (round : Round) (is : IsProblem p) (order : IsOrder p rou
       open_has c e =
           let county = known c (and_parts (s.rest c) _ e).0 in
           filter_has (open_to s round.limit) round.order c (member_has round.order c
-          (member_from_often c round.order (omega (arith, order c, true_digit (member p.counties c) county)))) e
+          (member_from_often c round.order (omega (arith, order c, true_digit (contains p.counties c) county)))) e
 
       go : ((t : State) (n : ℕ) → RestListed p t → Opened depth t n) → (counties : List ℕ) → filter (open_to s round.limit) round.order ≡ counties
           → Opened (suc depth) s first

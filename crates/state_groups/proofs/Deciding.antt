@@ -2,7 +2,7 @@
 use Rattle.std.proofs.Common.{◌≡◌, ℕ, ◌≤◌, ◌<◌, ◌==◌, ◌||◌, Bool, true, false, Option, Some, None, List, [], ◌∷◌, filter, length, refl, sym, ap, ◌∙◌, subst, arith, ◌⊎◌, inl, inr, ⊎_elim}
 use Rattle.std.proofs.lemmas.Bool.{false≢true, eqb-true, eq-eqb, cases_lt, cases_eq, cases_Bool}
 use Rattle.place_laws.specs.Lists.{places_below}
-use Rattle.grouping_laws.specs.Sets.{member, often, Inside}
+use Rattle.grouping_laws.specs.Sets.{contains, count, Inside}
 use Rattle.grouping_laws.specs.Problem.{Problem, Suits, people_of, Connected, IsProblem}
 use Rattle.grouping_laws.specs.SeatWindow.{IsRun, seat_run}
 use Rattle.grouping_laws.proofs.WindowLemmas.{window_law}
@@ -45,31 +45,31 @@ some_seats p is people = go (seat_run p people) (window_law p is.tolerated is.so
 
 all_inside : (q : ℕ → Bool) (g : List ℕ) → Inside q g ⊎ (Inside q g → ⊥)
 all_inside q [] = inl (λ c m. absurd (false≢true m))
-all_inside q (x ∷ xs) = ⊎_elim (λ is_in. ⊎_elim (λ rest. inl (λ c m. each c is_in rest (x == c) refl m)) (λ off. inr (λ h. off (λ c m. h c (later c m)))) (all_inside q xs)) (λ off. inr (λ h. false≢true (sym off ∙ h x (ap (λ b. b || member xs x) (eq-eqb x x refl))))) (cases_Bool (q x))
+all_inside q (x ∷ xs) = ⊎_elim (λ is_in. ⊎_elim (λ rest. inl (λ c m. each c is_in rest (x == c) refl m)) (λ off. inr (λ h. off (λ c m. h c (later c m)))) (all_inside q xs)) (λ off. inr (λ h. false≢true (sym off ∙ h x (ap (λ b. b || contains xs x) (eq-eqb x x refl))))) (cases_Bool (q x))
   where
-    each : (c : ℕ) → q x ≡ true → Inside q xs → (b : Bool) → (x == c) ≡ b → (b || member xs c) ≡ true → q c ≡ true
+    each : (c : ℕ) → q x ≡ true → Inside q xs → (b : Bool) → (x == c) ≡ b → (b || contains xs c) ≡ true → q c ≡ true
     each c is_in rest true e m = subst (λ z. q z ≡ true) (eqb-true x c e) is_in
     each c is_in rest false e m = rest c m
 
-    later : (c : ℕ) → member xs c ≡ true → ((x == c) || member xs c) ≡ true
+    later : (c : ℕ) → contains xs c ≡ true → ((x == c) || contains xs c) ≡ true
     later c m = go (x == c)
       where
-        go : (b : Bool) → (b || member xs c) ≡ true
+        go : (b : Bool) → (b || contains xs c) ≡ true
         go true = refl
         go false = m
 
-asks_more : (s : State) (i : ℕ) (xs : List ℕ) → ((c : ℕ) × (member xs c ≡ true) × (i < s.least c)) ⊎ (((c : ℕ) × (member xs c ≡ true) × (i < s.least c)) → ⊥)
+asks_more : (s : State) (i : ℕ) (xs : List ℕ) → ((c : ℕ) × (contains xs c ≡ true) × (i < s.least c)) ⊎ (((c : ℕ) × (contains xs c ≡ true) × (i < s.least c)) → ⊥)
 asks_more s i xs = go xs
   where
-    go : (ys : List ℕ) → ((c : ℕ) × (member ys c ≡ true) × (i < s.least c)) ⊎ (((c : ℕ) × (member ys c ≡ true) × (i < s.least c)) → ⊥)
+    go : (ys : List ℕ) → ((c : ℕ) × (contains ys c ≡ true) × (i < s.least c)) ⊎ (((c : ℕ) × (contains ys c ≡ true) × (i < s.least c)) → ⊥)
     go [] = inr (λ h. false≢true h.1)
-    go (y ∷ ys) = ⊎_elim (λ l. inl (y, ap (λ b. b || member ys y) (eq-eqb y y refl), l)) (λ l. ⊎_elim (λ h. inl (h.0, later h.0 (y == h.0) h.1, h.2)) (λ off. inr (λ h. each h.0 l off (y == h.0) refl h.1 h.2)) (go ys)) (cases_lt i (s.least y))
+    go (y ∷ ys) = ⊎_elim (λ l. inl (y, ap (λ b. b || contains ys y) (eq-eqb y y refl), l)) (λ l. ⊎_elim (λ h. inl (h.0, later h.0 (y == h.0) h.1, h.2)) (λ off. inr (λ h. each h.0 l off (y == h.0) refl h.1 h.2)) (go ys)) (cases_lt i (s.least y))
       where
-        later : (c : ℕ) (b : Bool) → member ys c ≡ true → (b || member ys c) ≡ true
+        later : (c : ℕ) (b : Bool) → contains ys c ≡ true → (b || contains ys c) ≡ true
         later c true m = refl
         later c false m = m
 
-        each : (c : ℕ) → s.least y ≤ i → (((c : ℕ) × (member ys c ≡ true) × (i < s.least c)) → ⊥) → (b : Bool) → (y == c) ≡ b → (b || member ys c) ≡ true → i < s.least c → ⊥
+        each : (c : ℕ) → s.least y ≤ i → (((c : ℕ) × (contains ys c ≡ true) × (i < s.least c)) → ⊥) → (b : Bool) → (y == c) ≡ b → (b || contains ys c) ≡ true → i < s.least c → ⊥
         each c l off true e m k = omega (arith, l, subst (λ z. i < s.least z) (sym (eqb-true y c e)) k)
         each c l off false e m k = off (c, m, k)
 
@@ -84,7 +84,7 @@ some_cannot p is s (x ∷ xs) = ⊎_elim (λ c. inl (x, inl refl, c)) (λ off. �
     each part off none (inl e) c = off (subst (CannotFill p s) (sym e) c)
     each part off none (inr h) c = none (part, h, c)
 
-module _ (p : Problem) (is : IsProblem p) (s : State) (known : (c : ℕ) → s.rest c ≡ true → member p.counties c ≡ true) where
+module _ (p : Problem) (is : IsProblem p) (s : State) (known : (c : ℕ) → s.rest c ≡ true → contains p.counties c ≡ true) where
   live : (g : List ℕ) → IsLive p s g ⊎ (IsLive p s g → ⊥)
   live g =
       let parts = leaves_are_decided.parts p is (without g s.rest) (λ c e. known c (without_in g s.rest c e)) in
@@ -109,19 +109,19 @@ Whole language p limit exact s g = (((k : ℕ) × Suits p (people_of p g) k) × 
 pub decided : (language : Language) (p : Problem) (n limit : ℕ) (exact : Bool) (s : State) → IsProblem p → p.counties ≡ places_below n → ((c : ℕ) → s.rest c ≡ true → c < n) → (keep : List ℕ → Bool) × Decides language p n limit exact s keep
 decided language p n limit exact s is all below = (λ g. bit (whole g), λ g connected order. (there g connected order, back g))
   where
-    known : (c : ℕ) → s.rest c ≡ true → member p.counties c ≡ true
-    known c e = subst (λ z. member z c ≡ true) (sym all) (below_listed n c (below c e))
+    known : (c : ℕ) → s.rest c ≡ true → contains p.counties c ≡ true
+    known c e = subst (λ z. contains z c ≡ true) (sym all) (below_listed n c (below c e))
 
     whole : (g : List ℕ) → Whole language p limit exact s g ⊎ (Whole language p limit exact s g → ⊥)
     whole g = both (both (some_seats p is (people_of p g)) (all_inside (open_to s (length g)) g)) (both (left p is s known language g) (asked exact limit g))
 
-    there : (g : List ℕ) → Connected p g → filter (member g) (places_below n) ≡ g → bit (whole g) ≡ true → Fits language p s g × IsAsked exact limit g
+    there : (g : List ℕ) → Connected p g → filter (contains g) (places_below n) ≡ g → bit (whole g) ≡ true → Fits language p s g × IsAsked exact limit g
     there g connected order e =
         let h = bit_yes (whole g) e in (
           record {
             lawful = record {
-              once = λ c. subst (λ z. often c z ≤ 1) order (often_placed n c (member g));
-              listed = λ c m. subst (λ z. member z c ≡ true) (sym all) (below_listed n c (placed_below n c (member g) (subst (λ z. member z c ≡ true) (sym order) m)));
+              once = λ c. subst (λ z. count c z ≤ 1) order (often_placed n c (contains g));
+              listed = λ c m. subst (λ z. contains z c ≡ true) (sym all) (below_listed n c (placed_below n c (contains g) (subst (λ z. contains z c ≡ true) (sym order) m)));
               connected = connected;
               seats = h.0.0.0;
               suits = h.0.0.1;

@@ -5,7 +5,7 @@ use Rattle.std.proofs.lemmas.Bool.{false≢true, and_parts, and_from, leb-true, 
 use Rattle.place_laws.specs.PlaceSets.{places_of}
 use Rattle.place_laws.specs.Lists.{places_below}
 use Rattle.place_laws.proofs.PlaceSums.{every}
-use Rattle.grouping_laws.specs.Sets.{member, Inside}
+use Rattle.grouping_laws.specs.Sets.{contains, Inside}
 use Rattle.grouping_laws.specs.Problem.{Problem, Suits, people_of, Connected}
 use Rattle.connected_laws.proofs.PlaceLists.{placed, placed_test, placed_below, often_placed}
 use Rattle.certificate_data.specs.declared.language.Language.{Language}
@@ -13,8 +13,8 @@ use Rattle.certificate_laws.specs.State.{State, open_to}
 use Rattle.certificate_laws.specs.Fitting.{IsKept, Fits}
 
 -- all places below the bound are listed
-pub below_listed : (n x : ℕ) → x < n → member (places_below n) x ≡ true
-below_listed n x l = subst (λ z. member z x ≡ true) (every (places_below n)) (placed n x (λ y. true) l refl)
+pub below_listed : (n x : ℕ) → x < n → contains (places_below n) x ≡ true
+below_listed n x l = subst (λ z. contains z x ≡ true) (every (places_below n)) (placed n x (λ y. true) l refl)
 
 -- a group of the rest is open where none of its counties asks for a larger one
 pub open_by : (s : State) (n size : ℕ) (t : ℕ → Bool) (more : Bool) → ((x : ℕ) → t x ≡ true → x < n) → size ≡ length (places_of n t) → ((x : ℕ) → t x ≡ true → s.rest x ≡ true)
@@ -46,7 +46,7 @@ pub fits_by : (language : Language) (p : Problem) (s : State) (n : ℕ) (t : ℕ
 fits_by language p s n t all connected suits inside kept = record {
   lawful = record {
     once = λ c. often_placed n c t;
-    listed = λ c m. subst (λ z. member z c ≡ true) (sym all) (below_listed n c (placed_below n c t m));
+    listed = λ c m. subst (λ z. contains z c ≡ true) (sym all) (below_listed n c (placed_below n c t m));
     connected = connected;
     seats = suits.0;
     suits = suits.1;

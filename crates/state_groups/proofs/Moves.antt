@@ -5,8 +5,8 @@ use Rattle.std.specs.Prelude.{◌⊎◌, Option, Some, None, not}
 use Rattle.std.specs.Option.{is_some}
 use Rattle.std.proofs.lemmas.Bool.{false≢true, cases_lt, or_left, or_right, or_cases, eq-eqb, eqb-true}
 use Rattle.place_laws.specs.PlaceSets.{places_of, IsNext}
-use Rattle.place_laws.proofs.Sums.{take_out, total_le, total_ones, total-take_out, digit_one}
-use Rattle.grouping_laws.specs.Sets.{digit, total, member}
+use Rattle.place_laws.proofs.Sums.{take_out, total_le, total_ones, sum_by-take_out, digit_one}
+use Rattle.grouping_laws.specs.Sets.{indicator, sum_by, contains}
 use Rattle.grouping_laws.specs.Problem.{Problem, Connected}
 use Rattle.connected_laws.specs.Growing.{IsExtension, IsGrowth, IsFront}
 use Rattle.connected_laws.proofs.PlaceLists.{placed_test, some_member}
@@ -28,38 +28,38 @@ none_next set (Some c) none e k h y = absurd (false≢true (sym (ap not k) ∙ s
 
 -- how many places of a list pass a test
 abbrev passing : (ℕ → Bool) → List ℕ → ℕ
-passing t g = total (λ x. digit (t x)) g
+passing t g = sum_by (λ x. indicator (t x)) g
 
 -- each place of a list passes a test
 abbrev pub AllPass : (ℕ → Bool) → List ℕ → Type 0
-AllPass t g = (c : ℕ) → member g c ≡ true → t c ≡ true
+AllPass t g = (c : ℕ) → contains g c ≡ true → t c ≡ true
 
 -- a place of the list does not pass a test
 abbrev pub OneFails : (ℕ → Bool) → List ℕ → Type 0
-OneFails t g = (c : ℕ) × (member g c ≡ true) × (t c ≡ false)
+OneFails t g = (c : ℕ) × (contains g c ≡ true) × (t c ≡ false)
 
-member_first : (x : ℕ) (xs : List ℕ) → member (x ∷ xs) x ≡ true
-member_first x xs = ap (λ b. b || member xs x) (eq-eqb x x refl)
+member_first : (x : ℕ) (xs : List ℕ) → contains (x ∷ xs) x ≡ true
+member_first x xs = ap (λ b. b || contains xs x) (eq-eqb x x refl)
 
 pub all_or_one : (t : ℕ → Bool) (g : List ℕ) → AllPass t g ⊎ OneFails t g
 all_or_one t [] = inl (λ c m. absurd (false≢true m))
 all_or_one t (x ∷ xs) = go (t x) refl (all_or_one t xs)
   where
-    each : t x ≡ true → AllPass t xs → (c : ℕ) (b : Bool) → (x == c) ≡ b → (b || member xs c) ≡ true → t c ≡ true
+    each : t x ≡ true → AllPass t xs → (c : ℕ) (b : Bool) → (x == c) ≡ b → (b || contains xs c) ≡ true → t c ≡ true
     each e all c true same m = subst (λ z. t z ≡ true) (eqb-true x c same) e
     each e all c false other m = all c m
 
     go : (b : Bool) → t x ≡ b → AllPass t xs ⊎ OneFails t xs → AllPass t (x ∷ xs) ⊎ OneFails t (x ∷ xs)
     go false e r = inr (x, member_first x xs, e)
-    go true e (inr r) = inr (r.0, or_right (x == r.0) (member xs r.0) r.1, r.2)
+    go true e (inr r) = inr (r.0, or_right (x == r.0) (contains xs r.0) r.1, r.2)
     go true e (inl all) = inl (λ c m. each e all c (x == c) refl m)
 
 passing_most : (t : ℕ → Bool) (g : List ℕ) → passing t g ≤ length g
-passing_most t g = omega (arith, total_le (λ x. digit (t x)) (λ x. 1) g (λ x. digit_one (t x)), total_ones g)
+passing_most t g = omega (arith, total_le (λ x. indicator (t x)) (λ x. 1) g (λ x. digit_one (t x)), total_ones g)
 
 passing_all : (t : ℕ → Bool) (g : List ℕ) → AllPass t g → length g ≤ passing t g
 passing_all t [] h = omega arith
-passing_all t (x ∷ xs) h = omega (arith, ap digit (h x (member_first x xs)), passing_all t xs (λ c m. h c (or_right (x == c) (member xs c) m)))
+passing_all t (x ∷ xs) h = omega (arith, ap indicator (h x (member_first x xs)), passing_all t xs (λ c m. h c (or_right (x == c) (contains xs c) m)))
 
 all_pass : (t : ℕ → Bool) (g : List ℕ) → length g ≤ passing t g → AllPass t g
 all_pass t g l = go (all_or_one t g)
@@ -68,22 +68,22 @@ all_pass t g l = go (all_or_one t g)
     go (inl all) = all
     go (inr r) =
         let most = passing_most t (take_out r.0 g) in
-        let out = total-take_out (λ x. digit (t x)) r.0 g r.1 in
-        let one = total-take_out (λ x. 1) r.0 g r.1 in
-        absurd (omega (arith, l, out, one, ap digit r.2, most, total_ones g, total_ones (take_out r.0 g)))
+        let out = sum_by-take_out (λ x. indicator (t x)) r.0 g r.1 in
+        let one = sum_by-take_out (λ x. 1) r.0 g r.1 in
+        absurd (omega (arith, l, out, one, ap indicator r.2, most, total_ones g, total_ones (take_out r.0 g)))
 
-digit_le : (a b : Bool) → (a ≡ true → b ≡ true) → digit a ≤ digit b
-digit_le true b h = omega (arith, ap digit (h refl))
+digit_le : (a b : Bool) → (a ≡ true → b ≡ true) → indicator a ≤ indicator b
+digit_le true b h = omega (arith, ap indicator (h refl))
 digit_le false b h = omega arith
 
-passing_more : (t more : ℕ → Bool) (g : List ℕ) → ((c : ℕ) → t c ≡ true → more c ≡ true) → (c : ℕ) → member g c ≡ true → t c ≡ false → more c ≡ true → passing t g + 1 ≤ passing more g
+passing_more : (t more : ℕ → Bool) (g : List ℕ) → ((c : ℕ) → t c ≡ true → more c ≡ true) → (c : ℕ) → contains g c ≡ true → t c ≡ false → more c ≡ true → passing t g + 1 ≤ passing more g
 passing_more t more g h c m off on =
-    let rest = total_le (λ x. digit (t x)) (λ x. digit (more x)) (take_out c g) (λ x. digit_le (t x) (more x) (h x)) in
-    omega (arith, total-take_out (λ x. digit (t x)) c g m, total-take_out (λ x. digit (more x)) c g m, ap digit off, ap digit on, rest)
+    let rest = total_le (λ x. indicator (t x)) (λ x. indicator (more x)) (take_out c g) (λ x. digit_le (t x) (more x) (h x)) in
+    omega (arith, sum_by-take_out (λ x. indicator (t x)) c g m, sum_by-take_out (λ x. indicator (more x)) c g m, ap indicator off, ap indicator on, rest)
 
 -- where a place that passes is adjacent to one that does not, the further test passes it: then all pass, or one more passes the further test
-further : (p : Problem) (g : List ℕ) → Connected p g → (t more : ℕ → Bool) → ((c : ℕ) → t c ≡ true → more c ≡ true) → (a : ℕ) → member g a ≡ true → t a ≡ true
-    → ((x y : ℕ) → t x ≡ true → member g y ≡ true → t y ≡ false → p.adjacent x y ≡ true → more y ≡ true) → AllPass t g ⊎ (passing t g + 1 ≤ passing more g)
+further : (p : Problem) (g : List ℕ) → Connected p g → (t more : ℕ → Bool) → ((c : ℕ) → t c ≡ true → more c ≡ true) → (a : ℕ) → contains g a ≡ true → t a ≡ true
+    → ((x y : ℕ) → t x ≡ true → contains g y ≡ true → t y ≡ false → p.adjacent x y ≡ true → more y ≡ true) → AllPass t g ⊎ (passing t g + 1 ≤ passing more g)
 further p g connected t more wider a there in_t move = go (all_or_one t g)
   where
     go : AllPass t g ⊎ OneFails t g → AllPass t g ⊎ (passing t g + 1 ≤ passing more g)
@@ -106,9 +106,9 @@ module _ (p : Problem) (n limit : ℕ) (set free : ℕ → Bool) (growth : IsGro
   some_place = let r = some_member (places_of n set) growth.connected.some_county in (r.0, placed_test n r.0 set r.1)
 
   set_passes : (g : List ℕ) → IsExtension p n limit set free g → length (places_of n set) ≤ passing set g
-  set_passes g x = omega (arith, joins_split p n limit set free g x (λ c. digit (set c)), passing_all set (places_of n set) (λ c m. placed_test n c set m))
+  set_passes g x = omega (arith, joins_split p n limit set free g x (λ c. indicator (set c)), passing_all set (places_of n set) (λ c m. placed_test n c set m))
 
-  is_free : (g : List ℕ) → IsExtension p n limit set free g → (reach : ℕ → Bool) (y : ℕ) → member g y ≡ true → (set y || reach y) ≡ false → free y ≡ true
+  is_free : (g : List ℕ) → IsExtension p n limit set free g → (reach : ℕ → Bool) (y : ℕ) → contains g y ≡ true → (set y || reach y) ≡ false → free y ≡ true
   is_free g x reach y m off = go (or_cases (set y) (free y) (x.within y m))
     where
       go : (set y ≡ true) ⊎ (free y ≡ true) → free y ≡ true
@@ -195,7 +195,7 @@ module _ (p : Problem) (n limit : ℕ) (set free : ℕ → Bool) (growth : IsGro
             pick (inr k) = or_right (set c) (next c) (same c ∙ or_left (reach c) (beyond c) k)
 
         at_least : (g : List ℕ) → passing (λ c. set c || (reach c || beyond c)) g ≤ passing (λ c. set c || next c) g
-        at_least g = total_le (λ c. digit (set c || (reach c || beyond c))) (λ c. digit (set c || next c)) g (λ c. digit_le (set c || (reach c || beyond c)) (set c || next c) (now c))
+        at_least g = total_le (λ c. indicator (set c || (reach c || beyond c))) (λ c. indicator (set c || next c)) g (λ c. digit_le (set c || (reach c || beyond c)) (set c || next c) (now c))
 
         go : (g : List ℕ) → IsExtension p n limit set free g → AllPass (λ c. set c || reach c) g ⊎ (length (places_of n set) + moves ≤ passing (λ c. set c || reach c) g)
             → AllPass (λ c. set c || reach c) g ⊎ (passing (λ c. set c || reach c) g + 1 ≤ passing (λ c. set c || (reach c || beyond c)) g)
@@ -228,7 +228,7 @@ module _ (p : Problem) (n limit : ℕ) (set free : ℕ → Bool) (growth : IsGro
         go : AllPass (λ c. set c || reach c) g ⊎ (passing (λ c. set c || reach c) g + 1 ≤ passing (λ c. set c || (reach c || beyond c)) g) → AllPass (λ c. set c || reach c) g
         go (inl k) = k
         go (inr more) =
-            let no_more = total_le (λ c. digit (set c || (reach c || beyond c))) (λ c. digit (set c || reach c)) g (λ c. digit_le (set c || (reach c || beyond c)) (set c || reach c) (same c)) in
+            let no_more = total_le (λ c. indicator (set c || (reach c || beyond c))) (λ c. indicator (set c || reach c)) g (λ c. digit_le (set c || (reach c || beyond c)) (set c || reach c) (same c)) in
             absurd (omega (arith, more, no_more))
 
   -- by as many moves as places may join, all of a set that grows is reached

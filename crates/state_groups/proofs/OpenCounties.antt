@@ -2,7 +2,7 @@
 use Rattle.std.proofs.Common.{◌≡◌, ℕ, ◌-◌, ◌≤◌, ◌&&◌, nat_le, refl, List, map, length, sym, ap, ◌∙◌, subst, arith}
 use Rattle.std.proofs.lemmas.List.{length-map}
 use Rattle.county_codes.specs.Limits.{most_counties}
-use Rattle.grouping_laws.specs.Sets.{often}
+use Rattle.grouping_laws.specs.Sets.{count}
 use Rattle.grouping_laws.specs.Problem.{Problem, IsProblem}
 use Rattle.grouping_laws.specs.GroupsFrom.{IsOrder, place}
 use Rattle.grouping_laws.specs.Places.{places_below, codes_at}
@@ -54,7 +54,7 @@ set_within p order whole s t at i g x = record {
       (omega (arith, open_least t i (place order c) o, at.least (place order c) r.0, ap s.least r.2));
 }
   where
-    once : (c : ℕ) → often c order ≤ 1
+    once : (c : ℕ) → count c order ≤ 1
     once = order_once p order whole
 
     below : Below (length order) g

@@ -1,15 +1,15 @@
 -- The places of a set with their people, one after another, and then sorted by people.
 use Rattle.std.proofs.Common.{◌≡◌, ℕ, zero, suc, ◌+◌, ◌≤◌, ◌<◌, ◌==◌, Bool, true, false, cond, List, [], ◌∷◌, ◌++◌, map, length, refl, sym, ap, ◌∙◌, subst, arith, add-one, inl, inr}
-use Rattle.std.specs.List.{sum_by}
+use Rattle.std.specs.List.{sum_by as std_sum_by}
 use Rattle.std.specs.List.Sorted.{IsPermutation, IsNonDecreasingBy}
 use Rattle.std.proofs.lemmas.List.{map-append, length-map}
 use Rattle.std.proofs.lemmas.List.Sums.{sum_by-cons}
 use Rattle.std.proofs.lemmas.List.Sorted.{All-permutation, sum_by-IsPermutation, length_permutation}
 use Rattle.place_laws.specs.PlaceSets.{places_of}
-use Rattle.place_laws.proofs.Sums.{total-map, total_ones}
+use Rattle.place_laws.proofs.Sums.{sum_by-map, total_ones}
 use Rattle.place_laws.proofs.PlaceSets.{often_in}
 use Rattle.place_laws.proofs.PlaceSums.{places_step, total_step}
-use Rattle.grouping_laws.specs.Sets.{digit, total}
+use Rattle.grouping_laws.specs.Sets.{indicator, sum_by}
 use Rattle.grouping_laws.specs.Problem.{Problem}
 use Rattle.grouping_laws.proofs.Elements.{Has, all_from_has}
 use Rattle.grouping_laws.proofs.Places.{has_member}
@@ -47,7 +47,7 @@ few_places t (suc n) = omega (arith, few_places t n, total_step (λ x. 1) t n, t
     one true = omega arith
     one false = omega arith
 
-total_sum : {X : Type 0} (f : X → ℕ) (xs : List X) → total f xs ≡ sum_by f xs
+total_sum : {X : Type 0} (f : X → ℕ) (xs : List X) → sum_by f xs ≡ std_sum_by f xs
 total_sum f [] = refl
 total_sum f (x ∷ xs) = omega (arith, total_sum f xs, sum_by-cons f x xs)
 
@@ -69,13 +69,13 @@ sorted_rows p n from t rows sorted h end below few moved rises = record {
     are : rows ≡ map (row p) (places_of n t)
     are = h ∙ ap (λ z. map (row p) (places_of z t)) end
 
-    once : (c : ℕ) → t c ≡ true → total (λ (r : ℕ × ℕ). digit (r.1 == c)) sorted ≡ 1
+    once : (c : ℕ) → t c ≡ true → sum_by (λ (r : ℕ × ℕ). indicator (r.1 == c)) sorted ≡ 1
     once c e = omega (
       arith,
-      total_sum (λ (r : ℕ × ℕ). digit (r.1 == c)) sorted,
-      sum_by-IsPermutation (λ (r : ℕ × ℕ). digit (r.1 == c)) rows sorted moved,
-      total_sum (λ (r : ℕ × ℕ). digit (r.1 == c)) rows,
-      ap (total (λ (r : ℕ × ℕ). digit (r.1 == c))) are,
-      total-map (λ (r : ℕ × ℕ). digit (r.1 == c)) (row p) (places_of n t),
+      total_sum (λ (r : ℕ × ℕ). indicator (r.1 == c)) sorted,
+      sum_by-IsPermutation (λ (r : ℕ × ℕ). indicator (r.1 == c)) rows sorted moved,
+      total_sum (λ (r : ℕ × ℕ). indicator (r.1 == c)) rows,
+      ap (sum_by (λ (r : ℕ × ℕ). indicator (r.1 == c))) are,
+      sum_by-map (λ (r : ℕ × ℕ). indicator (r.1 == c)) (row p) (places_of n t),
       often_in n c t (below c e) e,
     )

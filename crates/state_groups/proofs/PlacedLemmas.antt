@@ -6,7 +6,7 @@ use Rattle.std.proofs.lemmas.List.Elements.{All-nil}
 use Rattle.grouping_laws.specs.Problem.{Problem}
 use Rattle.grouping_laws.proofs.Elements.{Has, has_all, all_from_has}
 use Rattle.place_laws.specs.PlaceSets.{places_of}
-use Rattle.place_laws.specs.Lists.{places_below, member}
+use Rattle.place_laws.specs.Lists.{places_below, contains}
 use Rattle.county_problem.specs.OrderedValue.{at_places}
 use Rattle.connected_sets.proofs.Filling.{few}
 use Rattle.connected_laws.specs.Listing.{lists_of, AreBelow}
@@ -53,7 +53,7 @@ copied_below C test n xs ys same below = all_from_has IsBelow ys (go xs ys same 
     IsBelow s = (x : ℕ) → test s x ≡ true → x < n
 
     one : (x y : C) → ((m : ℕ) → places_of m (test y) ≡ places_of m (test x)) → IsBelow x → IsBelow y
-    one x y e b i h = b i (placed_test (i + 1) i (test x) (ap (λ z. member z i) (sym (e (i + 1))) ∙ placed (i + 1) i (test y) (omega arith) h))
+    one x y e b i h = b i (placed_test (i + 1) i (test x) (ap (λ z. contains z i) (sym (e (i + 1))) ∙ placed (i + 1) i (test y) (omega arith) h))
 
     head : {X : Type 0} {x y : X} {xs ys : List X} → y ∷ ys ≡ x ∷ xs → y ≡ x
     head e = cc

@@ -5,13 +5,13 @@ use Rattle.std.proofs.lemmas.Bool.{and_parts}
 use Rattle.place_laws.specs.PlaceSets.{places_of}
 use Rattle.place_laws.proofs.Sums.{total_alike, total_ones}
 use Rattle.place_laws.proofs.PlaceSets.{total_union, often_in, often_out}
-use Rattle.grouping_laws.specs.Sets.{digit, total, often, member, Inside}
+use Rattle.grouping_laws.specs.Sets.{indicator, sum_by, count, contains, Inside}
 use Rattle.grouping_laws.specs.Places.{places_below}
 use Rattle.grouping_laws.specs.Problem.{Problem, Suits, people_of, IsProblem}
 use Rattle.grouping_laws.specs.Parts.{IsPart, AreParts}
 use Rattle.grouping_laws.specs.Ranges.{SuitAll}
 use Rattle.grouping_laws.proofs.Elements.{Has, has_all}
-use Rattle.grouping_laws.proofs.Sizes.{flat, every, total-flat}
+use Rattle.grouping_laws.proofs.Sizes.{flat, every, sum_by-flat}
 use Rattle.certificate_laws.specs.Regions.{without}
 use Rattle.certificate_laws.specs.State.{State}
 use Rattle.certificate_laws.specs.Fitting.{IsLive, IsKept, Fits}
@@ -23,13 +23,13 @@ use Rattle.state_groups.proofs.FitLemmas.{below_listed}
 use Rattle.state_groups.specs.People.{HasSeatWindow, AreWindows, IsDivided}
 
 -- a sum over the parts of a region is that over the region
-parts_total : (f : ℕ → ℕ) (p : Problem) (n : ℕ) (region : ℕ → Bool) (parts : List (List ℕ)) → ((x : ℕ) → region x ≡ true → x < n) → AreParts p region parts → total (λ g. total f g) parts ≡ total f (places_of n region)
-parts_total f p n region parts below are = sym (total-flat f every parts) ∙ total_alike f (flat every parts) (places_of n region) each
+parts_total : (f : ℕ → ℕ) (p : Problem) (n : ℕ) (region : ℕ → Bool) (parts : List (List ℕ)) → ((x : ℕ) → region x ≡ true → x < n) → AreParts p region parts → sum_by (λ g. sum_by f g) parts ≡ sum_by f (places_of n region)
+parts_total f p n region parts below are = sym (sum_by-flat f every parts) ∙ total_alike f (flat every parts) (places_of n region) each
   where
-    each : (c : ℕ) → often c (flat every parts) ≡ often c (places_of n region)
-    each c = total-flat (λ x. digit (x == c)) every parts ∙ (are.once c ∙ go (region c) refl)
+    each : (c : ℕ) → count c (flat every parts) ≡ count c (places_of n region)
+    each c = sum_by-flat (λ x. indicator (x == c)) every parts ∙ (are.once c ∙ go (region c) refl)
       where
-        go : (b : Bool) → region c ≡ b → digit b ≡ often c (places_of n region)
+        go : (b : Bool) → region c ≡ b → indicator b ≡ count c (places_of n region)
         go true e = sym (often_in n c region (below c e) e)
         go false e = sym (often_out n c region e)
 
@@ -42,13 +42,13 @@ suits_both p a b j k s t = record {
 }
 
 -- parts that each suit some number of seats suit some number together
-parts_suit : (p : Problem) (parts : List (List ℕ)) (ks : List ℕ) → SuitAll p parts ks → 1 ≤ length parts → (k : ℕ) × Suits p (total (λ g. people_of p g) parts) k
+parts_suit : (p : Problem) (parts : List (List ℕ)) (ks : List ℕ) → SuitAll p parts ks → 1 ≤ length parts → (k : ℕ) × Suits p (sum_by (λ g. people_of p g) parts) k
 parts_suit p [] ks h l = absurd (omega (arith, l))
 parts_suit p (g ∷ parts) [] h l = absurd h
 parts_suit p (g ∷ []) (k ∷ ks) h l = let e : people_of p g + 0 ≡ people_of p g = omega arith in (k, subst (λ z. Suits p z k) (sym e) h.0)
-parts_suit p (g ∷ x ∷ parts) (k ∷ ks) h l = let r = parts_suit p (x ∷ parts) ks h.1 (omega arith) in (k + r.0, suits_both p (people_of p g) (total (λ z. people_of p z) (x ∷ parts)) k r.0 h.0 r.1)
+parts_suit p (g ∷ x ∷ parts) (k ∷ ks) h l = let r = parts_suit p (x ∷ parts) ks h.1 (omega arith) in (k + r.0, suits_both p (people_of p g) (sum_by (λ z. people_of p z) (x ∷ parts)) k r.0 h.0 r.1)
 
-module _ (p : Problem) (is : IsProblem p) (n : ℕ) (all : p.counties ≡ places_below n) (s : State) (below : (x : ℕ) → s.rest x ≡ true → x < n) (g : List ℕ) (in_order : filter (member g) (places_below n) ≡ g) (inside : Inside s.rest g) where
+module _ (p : Problem) (is : IsProblem p) (n : ℕ) (all : p.counties ≡ places_below n) (s : State) (below : (x : ℕ) → s.rest x ≡ true → x < n) (g : List ℕ) (in_order : filter (contains g) (places_below n) ≡ g) (inside : Inside s.rest g) where
   -- what the group leaves of the rest
   abbrev left : ℕ → Bool
   left = without g s.rest
@@ -56,18 +56,18 @@ module _ (p : Problem) (is : IsProblem p) (n : ℕ) (all : p.counties ≡ places
   left_below : (x : ℕ) → left x ≡ true → x < n
   left_below x e = below x (without_in g s.rest x e)
 
-  both : (x : ℕ) → s.rest x ≡ (member g x || left x)
-  both x = go (member g x) refl
+  both : (x : ℕ) → s.rest x ≡ (contains g x || left x)
+  both x = go (contains g x) refl
     where
       one : (b : Bool) → b ≡ (b && true)
       one true = refl
       one false = refl
 
-      go : (b : Bool) → member g x ≡ b → s.rest x ≡ (b || (s.rest x && not b))
+      go : (b : Bool) → contains g x ≡ b → s.rest x ≡ (b || (s.rest x && not b))
       go true e = inside x e
       go false e = one (s.rest x)
 
-  apart : (x : ℕ) → member g x ≡ true → left x ≡ false
+  apart : (x : ℕ) → contains g x ≡ true → left x ≡ false
   apart x e = ap (λ z. s.rest x && not z) e ∙ none (s.rest x)
     where
       none : (b : Bool) → (b && false) ≡ false
@@ -75,22 +75,22 @@ module _ (p : Problem) (is : IsProblem p) (n : ℕ) (all : p.counties ≡ places
       none false = refl
 
   -- a sum over the rest is that over the group and over what it leaves
-  pub rest_split : (f : ℕ → ℕ) → total f (places_of n s.rest) ≡ total f g + total f (places_of n left)
-  rest_split f = omega (arith, total_union f n (member g) left s.rest apart both, ap (total f) in_order)
+  pub rest_split : (f : ℕ → ℕ) → sum_by f (places_of n s.rest) ≡ sum_by f g + sum_by f (places_of n left)
+  rest_split f = omega (arith, total_union f n (contains g) left s.rest apart both, ap (sum_by f) in_order)
 
   pub left_suits : IsLive p s g → length g < length (places_of n s.rest) → (k : ℕ) × Suits p (people_of p (places_of n s.rest) - people_of p g) k
   left_suits live few = ⊎_elim suit dead (all_suit p is parts.0)
     where
       parts : (parts : List (List ℕ)) × AreParts p left parts
-      parts = parts_exist p is left (λ x e. subst (λ z. member z x ≡ true) (sym all) (below_listed n x (left_below x e)))
+      parts = parts_exist p is left (λ x e. subst (λ z. contains z x ≡ true) (sym all) (below_listed n x (left_below x e)))
 
-      people : total (λ z. people_of p z) parts.0 ≡ people_of p (places_of n s.rest) - people_of p g
+      people : sum_by (λ z. people_of p z) parts.0 ≡ people_of p (places_of n s.rest) - people_of p g
       people = omega (arith, parts_total p.people p n left parts.0 left_below parts.1, rest_split p.people)
 
       some : 1 ≤ length parts.0
       some = go parts.0 (parts_total (λ x. 1) p n left parts.0 left_below parts.1)
         where
-          go : (xs : List (List ℕ)) → total (λ z. total (λ x. 1) z) xs ≡ total (λ x. 1) (places_of n left) → 1 ≤ length xs
+          go : (xs : List (List ℕ)) → sum_by (λ z. sum_by (λ x. 1) z) xs ≡ sum_by (λ x. 1) (places_of n left) → 1 ≤ length xs
           go [] e = absurd (omega (arith, e, few, rest_split (λ x. 1), total_ones g, total_ones (places_of n s.rest)))
           go (x ∷ xs) e = omega arith
 

@@ -4,8 +4,8 @@ use Rattle.std.specs.Prelude.{IsTrue, ◌↔◌, ◌⊎◌}
 use Rattle.std.specs.List.{AllZip}
 use Rattle.std.proofs.lemmas.Bool.{false≢true, ltb-true, lt-ltb}
 use Rattle.std.proofs.lemmas.List.{take_more, map-append, length-append, length-map, length-take, get_or-map}
-use Rattle.place_laws.proofs.Sums.{total-append}
-use Rattle.grouping_laws.specs.Sets.{total}
+use Rattle.place_laws.proofs.Sums.{sum_by-append}
+use Rattle.grouping_laws.specs.Sets.{sum_by}
 use Rattle.grouping_laws.specs.Problem.{Problem, Suits, people_of}
 use Rattle.grouping_laws.specs.Parts.{AreParts}
 use Rattle.grouping_laws.specs.Ranges.{IsLeast, IsMost}
@@ -27,8 +27,8 @@ sums_more p sets set least greatest low high h a b run = record {
   highs = h.highs ++ high ∷ [];
   are_lows = AllZip_more (IsLeast p) sets h.lows set low h.are_lows (record { suits = (run.1 low).1 (omega arith, run.0); least = λ j s. ((run.1 j).0 s).0 });
   are_highs = AllZip_more (IsMost p) sets h.highs set high h.are_highs (record { suits = (run.1 high).1 (run.0, omega arith); most = λ j s. ((run.1 j).0 s).1 });
-  least_is = omega (arith, h.least_is, total-append (λ (k : ℕ). k) h.lows (low ∷ []));
-  greatest_is = omega (arith, h.greatest_is, total-append (λ (k : ℕ). k) h.highs (high ∷ []));
+  least_is = omega (arith, h.least_is, sum_by-append (λ (k : ℕ). k) h.lows (low ∷ []));
+  greatest_is = omega (arith, h.greatest_is, sum_by-append (λ (k : ℕ). k) h.highs (high ∷ []));
   small = (omega (arith, h.small, a, length-append sets (set ∷ [])), omega (arith, h.small, b, length-append sets (set ∷ [])));
 }
 
@@ -55,7 +55,7 @@ closed_none p s h v = go v.off
     here : (parts : List (List ℕ)) → Has (s.closed ++ parts) h.0
     here parts = has_left s.closed parts h.0 (has_from_contains s.closed h.0 h.1)
 
-    go : (AllZip (IsLeast p) (s.closed ++ v.parts) v.ranges × (p.seats_left < total (λ k. k) v.ranges)) ⊎ (AllZip (IsMost p) (s.closed ++ v.parts) v.ranges × (total (λ k. k) v.ranges < p.seats_left)) → ⊥
+    go : (AllZip (IsLeast p) (s.closed ++ v.parts) v.ranges × (p.seats_left < sum_by (λ k. k) v.ranges)) ⊎ (AllZip (IsMost p) (s.closed ++ v.parts) v.ranges × (sum_by (λ k. k) v.ranges < p.seats_left)) → ⊥
     go (inl a) = let r = zip_has (IsLeast p) (s.closed ++ v.parts) v.ranges h.0 a.0 (here v.parts) in h.2 r.0 r.1.suits
     go (inr a) = let r = zip_has (IsMost p) (s.closed ++ v.parts) v.ranges h.0 a.0 (here v.parts) in h.2 r.0 r.1.suits
 
@@ -82,18 +82,18 @@ off_by p s parts a b c d off are h k e = (λ t. there (nat_lt p.seats_left (a + 
     are_highs : AllZip (IsMost p) (s.closed ++ parts) highs
     are_highs = zips_append (IsMost p) s.closed h.highs parts k.highs h.are_highs k.are_highs
 
-    low : total (λ k. k) lows ≡ a + c
-    low = omega (arith, total-append (λ (k : ℕ). k) h.lows k.lows, h.least_is, k.least_is)
+    low : sum_by (λ k. k) lows ≡ a + c
+    low = omega (arith, sum_by-append (λ (k : ℕ). k) h.lows k.lows, h.least_is, k.least_is)
 
-    high : total (λ k. k) highs ≡ b + d
-    high = omega (arith, total-append (λ (k : ℕ). k) h.highs k.highs, h.greatest_is, k.greatest_is)
+    high : sum_by (λ k. k) highs ≡ b + d
+    high = omega (arith, sum_by-append (λ (k : ℕ). k) h.highs k.highs, h.greatest_is, k.greatest_is)
 
     there : (x : Bool) → nat_lt p.seats_left (a + c) ≡ x → (y : Bool) → nat_lt (b + d) p.seats_left ≡ y → (x || y) ≡ true → IsOffSeats p s
     there true i y j t = record { parts = parts; are_parts = are; ranges = lows; off = inl (are_lows, omega (arith, low, ltb-true p.seats_left (a + c) i)) }
     there false i true j t = record { parts = parts; are_parts = are; ranges = highs; off = inr (are_highs, omega (arith, high, ltb-true (b + d) p.seats_left j)) }
     there false i false j t = absurd (false≢true t)
 
-    back : (x : Bool) → nat_lt p.seats_left (a + c) ≡ x → (y : Bool) → nat_lt (b + d) p.seats_left ≡ y → (p.seats_left < total (λ k. k) lows) ⊎ (total (λ k. k) highs < p.seats_left) → (nat_lt p.seats_left (a + c) || nat_lt (b + d) p.seats_left) ≡ true
+    back : (x : Bool) → nat_lt p.seats_left (a + c) ≡ x → (y : Bool) → nat_lt (b + d) p.seats_left ≡ y → (p.seats_left < sum_by (λ k. k) lows) ⊎ (sum_by (λ k. k) highs < p.seats_left) → (nat_lt p.seats_left (a + c) || nat_lt (b + d) p.seats_left) ≡ true
     back x i y j (inl m) = ap (λ z. z || nat_lt (b + d) p.seats_left) (lt-ltb p.seats_left (a + c) (omega (arith, m, low)))
     back x i y j (inr m) = ap (λ z. nat_lt p.seats_left (a + c) || z) (lt-ltb (b + d) p.seats_left (omega (arith, m, high))) ∙ or_true (nat_lt p.seats_left (a + c))
       where

@@ -8,7 +8,7 @@ use Rattle.std.proofs.lemmas.Bool.{false≢true, and_parts, and_from, eqb-true, 
 use Rattle.std.proofs.lemmas.List.{map-append, length-append}
 use Rattle.std.proofs.lemmas.List.Elements.{All-append}
 use Rattle.std.proofs.lemmas.List.Sorted.{Contains-permutation, IsPermutation-map, IsPermutation-sym}
-use Rattle.grouping_laws.specs.Sets.{member}
+use Rattle.grouping_laws.specs.Sets.{contains}
 use Rattle.grouping_laws.specs.Problem.{Problem}
 use Rattle.grouping_laws.specs.Places.{places_below}
 use Rattle.grouping_laws.specs.GroupsFrom.{IsBefore}
@@ -30,7 +30,7 @@ use Rattle.state_groups.proofs.Moves.{AllPass, OneFails, all_or_one}
 
 -- a set that is looked through for the size, of which a place is no longer in the region
 abbrev pub Begun : Problem → ℕ → State → ℕ → (ℕ → Bool) → List ℕ → Type 0
-Begun p n s i region g = IsSetWithin p (places_below n) s i g × ((c : ℕ) × (member g c ≡ true) × (region c ≡ false))
+Begun p n s i region g = IsSetWithin p (places_below n) s i g × ((c : ℕ) × (contains g c ≡ true) × (region c ≡ false))
 
 -- a region that has open places alone
 abbrev pub IsOpen : State → ℕ → (ℕ → Bool) → Type 0
@@ -61,26 +61,26 @@ module _ (region : ℕ → Bool) (at : ℕ) (less : ℕ → Bool) (w : (x : ℕ)
 
 -- the sets that grow from the place inside the region are those that are looked through, have the place and lie in the region
 module _ (p : Problem) (n : ℕ) (s : State) (i at : ℕ) (region free : ℕ → Bool) (opened : IsOpen s i region) (there : region at ≡ true) (f : (x : ℕ) → free x ≡ (region x && not (x == at))) where
-  looked : (g : List ℕ) → IsExtension p n i (only at) free g → IsSetWithin p (places_below n) s i g × (member g at ≡ true) × ((c : ℕ) → member g c ≡ true → region c ≡ true)
+  looked : (g : List ℕ) → IsExtension p n i (only at) free g → IsSetWithin p (places_below n) s i g × (contains g at ≡ true) × ((c : ℕ) → contains g c ≡ true → region c ≡ true)
   looked g x = (record { connected = x.connected; in_order = x.in_order; small = x.small; inside = λ c m. opened c (inside c m) }, x.has at (eq-eqb at at refl), inside)
     where
-      inside : (c : ℕ) → member g c ≡ true → region c ≡ true
+      inside : (c : ℕ) → contains g c ≡ true → region c ≡ true
       inside c m = go (c == at) refl (x.within c m)
         where
           go : (b : Bool) → (c == at) ≡ b → (b || free c) ≡ true → region c ≡ true
           go true e h = subst (λ z. region z ≡ true) (sym (eqb-true c at e)) there
           go false e h = less_in region at free f c h
 
-  grown : (g : List ℕ) → IsSetWithin p (places_below n) s i g → member g at ≡ true → ((c : ℕ) → member g c ≡ true → region c ≡ true) → IsExtension p n i (only at) free g
+  grown : (g : List ℕ) → IsSetWithin p (places_below n) s i g → contains g at ≡ true → ((c : ℕ) → contains g c ≡ true → region c ≡ true) → IsExtension p n i (only at) free g
   grown g w has inside = record {
     in_order = w.in_order;
     connected = w.connected;
     small = w.small;
-    has = λ c e. subst (λ z. member g z ≡ true) (sym (eqb-true c at e)) has;
+    has = λ c e. subst (λ z. contains g z ≡ true) (sym (eqb-true c at e)) has;
     within = λ c m. go c m (c == at) refl;
   }
     where
-      go : (c : ℕ) → member g c ≡ true → (b : Bool) → (c == at) ≡ b → (b || free c) ≡ true
+      go : (c : ℕ) → contains g c ≡ true → (b : Bool) → (c == at) ≡ b → (b || free c) ≡ true
       go c m true e = refl
       go c m false e = f c ∙ and_from (region c) (not (c == at)) (inside c m) (ap not e)
 
@@ -107,7 +107,7 @@ found_more C test p n s i at keep region free less old new opened there f w h l 
     joined : lists_of n test (old ++ l.added) ≡ lists_of n test old ++ lists_of n test l.added
     joined = map-append (λ z. places_of n (test z)) old l.added
 
-    late : (g : List ℕ) → Has (lists_of n test l.added) g → (IsSetWithin p (places_below n) s i g × (member g at ≡ true) × ((c : ℕ) → member g c ≡ true → region c ≡ true)) × (keep g ≡ true)
+    late : (g : List ℕ) → Has (lists_of n test l.added) g → (IsSetWithin p (places_below n) s i g × (contains g at ≡ true) × ((c : ℕ) → contains g c ≡ true → region c ≡ true)) × (keep g ≡ true)
     late g k = let r = (l.kept.each g).0 (contains_from_has (lists_of n test l.added) g k) in (looked p n s i at region free opened there f g r.0, r.1)
 
     each : (g : List ℕ) → Has (lists_of n test (old ++ l.added)) g → Begun p n s i less g × (keep g ≡ true)
@@ -123,7 +123,7 @@ found_more C test p n s i at keep region free less old new opened there f w h l 
         place (inr r) = has_left (lists_of n test old) (lists_of n test l.added) g (h.every g (b.0, r) k)
         place (inl all) =
             let is_at = left_out region at less w b.1.0 (all b.1.0 b.1.1) b.1.2 in
-            let has = subst (λ z. member g z ≡ true) is_at b.1.1 in
+            let has = subst (λ z. contains g z ≡ true) is_at b.1.1 in
             has_right (lists_of n test old) (lists_of n test l.added) g (has_from_contains (lists_of n test l.added) g ((l.kept.each g).1 (grown p n s i at region free opened there f g b.0 has all, k)))
 
     once : Distinct (lists_of n test (old ++ l.added))
@@ -167,7 +167,7 @@ steps_more p n s i at region free less before mid after opened there f w h k = r
     was : (g : List ℕ) → Has h.sets g → Begun p n s i region g
     was = has_all (Begun p n s i region) h.sets h.each
 
-    now : (g : List ℕ) → Has k.sets g → IsSetWithin p (places_below n) s i g × (member g at ≡ true) × ((c : ℕ) → member g c ≡ true → region c ≡ true)
+    now : (g : List ℕ) → Has k.sets g → IsSetWithin p (places_below n) s i g × (contains g at ≡ true) × ((c : ℕ) → contains g c ≡ true → region c ≡ true)
     now g j = looked p n s i at region free opened there f g (has_all (IsExtension p n i (only at) free) k.sets k.each g j)
 
 -- the rest of a region that has open places alone has open places alone

@@ -1,6 +1,6 @@
 -- Which of the connected sets that are met are kept.
 use Rattle.std.specs.Prelude.{ℕ, ◌≡◌, Bool, true, false, not, ◌&&◌, ◌==◌, List, filter, length, ◌↔◌, ⊤}
-use Rattle.grouping_laws.specs.Sets.{member}
+use Rattle.grouping_laws.specs.Sets.{contains}
 use Rattle.grouping_laws.specs.Problem.{Problem, Connected}
 use Rattle.grouping_laws.specs.Places.{places_below}
 use Rattle.certificate_data.specs.declared.language.Language.{Language}
@@ -16,7 +16,7 @@ IsAsked false limit g = ⊤
 -- for
 abbrev pub Decides : Language → Problem → ℕ → ℕ → Bool → State → (List ℕ → Bool) → Type 0
 Decides language p n limit exact s keep =
-    (g : List ℕ) → Connected p g → filter (member g) (places_below n) ≡ g → (keep g ≡ true)
+    (g : List ℕ) → Connected p g → filter (contains g) (places_below n) ≡ g → (keep g ≡ true)
     ↔ (Fits language p s g × IsAsked exact limit g)
 
 -- the other places of a region

@@ -1,7 +1,7 @@
 -- What a search knows of people: the places of a region by their people, and the people that suit numbers of seats.
 use Rattle.std.specs.Prelude.{ℕ, ◌≡◌, ◌<◌, ◌≤◌, ◌==◌, Bool, true, List, Option, Some, None, All, Contains, length, ⊤}
 use Rattle.std.specs.List.Sorted.{IsNonDecreasingBy}
-use Rattle.grouping_laws.specs.Sets.{digit, total}
+use Rattle.grouping_laws.specs.Sets.{indicator, sum_by}
 use Rattle.grouping_laws.specs.Problem.{Problem, Suits, people_of}
 use Rattle.place_laws.specs.PlaceSets.{places_of}
 use Rattle.certificate_data.specs.declared.language.Language.{Language}
@@ -11,7 +11,7 @@ use Rattle.state_groups.specs.declared.tables.Tables.{Tables}
 -- places below n with their people, the fewest people first, each place of the region once
 pub record AreByPeople (p : Problem) (n : ℕ) (region : ℕ → Bool) (places : List (ℕ × ℕ)) : Type 0 where
   pub each : All (λ r. (r.0 ≡ p.people r.1) × (r.1 < n)) places
-  pub once : (c : ℕ) → region c ≡ true → total (λ (r : ℕ × ℕ). digit (r.1 == c)) places ≡ 1
+  pub once : (c : ℕ) → region c ≡ true → sum_by (λ (r : ℕ × ℕ). indicator (r.1 == c)) places ≡ 1
   pub rising : IsNonDecreasingBy (λ (r : ℕ × ℕ). r.0) places
   pub few : length places ≤ 65536
 

@@ -1,6 +1,6 @@
 -- Sets that strand a part.
 use Rattle.std.specs.Prelude.{ℕ, ◌≡◌, ◌≤◌, ◌<◌, Bool, true, false, List, length, ◌⊎◌}
-use Rattle.grouping_laws.specs.Sets.{member}
+use Rattle.grouping_laws.specs.Sets.{contains}
 use Rattle.grouping_laws.specs.Problem.{Problem, Suits, people_of}
 use Rattle.grouping_laws.specs.Parts.{IsPart}
 use Rattle.connected_laws.specs.Growing.{IsExtension}
@@ -17,14 +17,14 @@ NoneFits language p n limit s set free = (g : List ℕ) → IsExtension p n limi
 -- so few people, or the place asks for more places than the set has
 pub record IsTooSmall (p : Problem) (s : State) (free : ℕ → Bool) (codes : List ℕ) : Type 0 where
   pub place : ℕ
-  pub there : member codes place ≡ true
+  pub there : contains codes place ≡ true
   pub not_free : free place ≡ false
   pub small : ((people k : ℕ) → people ≤ people_of p codes → ¬ Suits p people k) ⊎ (length codes < s.least place)
 
 -- a set that has no free place and can't be filled, or that is too small
 abbrev pub IsStranded : Problem → State → (ℕ → Bool) → List ℕ → Type 0
 IsStranded p s free codes =
-    (((c : ℕ) → member codes c ≡ true → free c ≡ false) × CannotFill p s codes) ⊎ IsTooSmall p s free codes
+    (((c : ℕ) → contains codes c ≡ true → free c ≡ false) × CannotFill p s codes) ⊎ IsTooSmall p s free codes
 
 -- a connected part of the region that is stranded
 pub record StrandedPart (p : Problem) (s : State) (region free : ℕ → Bool) : Type 0 where

@@ -1,7 +1,7 @@
 -- Seats of sets, added up.
 use Rattle.std.specs.Prelude.{ℕ, ◌≡◌, ◌≤◌, ◌*◌, List, Option, Some, None, length, Contains}
 use Rattle.std.specs.List.{AllZip}
-use Rattle.grouping_laws.specs.Sets.{total}
+use Rattle.grouping_laws.specs.Sets.{sum_by}
 use Rattle.grouping_laws.specs.Problem.{Problem, Suits, people_of}
 use Rattle.grouping_laws.specs.Ranges.{IsLeast, IsMost}
 
@@ -11,8 +11,8 @@ pub record AreSums (p : Problem) (sets : List (List ℕ)) (least greatest : ℕ)
   pub highs : List ℕ
   pub are_lows : AllZip (IsLeast p) sets lows
   pub are_highs : AllZip (IsMost p) sets highs
-  pub least_is : least ≡ total (λ k. k) lows
-  pub greatest_is : greatest ≡ total (λ k. k) highs
+  pub least_is : least ≡ sum_by (λ k. k) lows
+  pub greatest_is : greatest ≡ sum_by (λ k. k) highs
   pub small : (least ≤ length sets * 65535) × (greatest ≤ length sets * 65535)
 
 -- None where the people of some set suit no number

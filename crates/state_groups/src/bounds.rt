@@ -1,7 +1,7 @@
 //! What bounds how many groups of a size may still be closed: the room for them, and their weights.
 
 ghost use Rattle.std.specs.Prelude.{◌≡◌, ℕ, true, ◌<◌, ◌≤◌, length, get_or, All, IfOk, IsTrue, ◌↔◌};
-ghost use Rattle.grouping_laws.specs.Sets.{total};
+ghost use Rattle.grouping_laws.specs.Sets.{sum_by};
 ghost use Rattle.place_laws.specs.PlaceSets.{places_of};
 ghost use Rattle.county_problem.specs.OrderedValue.{problem_at};
 ghost use Rattle.state_groups.specs.StateValue.{state_of};
@@ -38,7 +38,7 @@ pub fn weigh_enough<C: CountySet>(weights: &[u32], quota: u64, groups: &[C]) -> 
     requires few { length weights.now ≤ 65536 }
     requires below { All (λ g. (x : ℕ) → C.test g x ≡ true → x < length weights.now) groups.now }
     ensures { IsTrue result ↔ All (λ g. quota
-        ≤ total (λ i. get_or weights.now i 0) (places_of (length weights.now) (C.test g))) groups.now }
+        ≤ sum_by (λ i. get_or weights.now i 0) (places_of (length weights.now) (C.test g))) groups.now }
 {
     for group in groups {
         if weight_in(weights, group) < quota {

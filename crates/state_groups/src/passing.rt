@@ -2,7 +2,7 @@
 
 ghost use Rattle.std.specs.Prelude.{◌≡◌, ℕ, ◌+◌, ◌^◌, Bool, List, [], true, filter, ◌<◌, ◌≤◌, MatchOption, IfOk};
 ghost use Rattle.std.specs.Prelude.{IsTrue, length};
-ghost use Rattle.grouping_laws.specs.Sets.{member};
+ghost use Rattle.grouping_laws.specs.Sets.{contains};
 ghost use Rattle.grouping_laws.specs.Problem.{people_of};
 ghost use Rattle.place_laws.specs.PlaceSets.{places_of};
 ghost use Rattle.grouping_laws.specs.Places.{places_below};
@@ -74,7 +74,7 @@ fn may_fit<C: CountySet>(
     requires windows { AreWindows (problem_in input.now) (people_of (problem_in input.now) (places_of (places_in input.now) (C.test test.now.state.now.rest))) test.now.tables.now.windows.items }
     requires divided { IsDivided test.now.language (problem_in input.now) (places_in input.now) input.now.limit (C.test test.now.state.now.rest) test.now.tables.now.rest_people }
     ensures { (g : List ℕ)
-        → filter (member g) (places_below (places_in input.now)) ≡ g
+        → filter (contains g) (places_below (places_in input.now)) ≡ g
         → length g ≤ input.now.limit
         → Fits test.now.language (problem_in input.now) (state_of C.test test.now.state.now) g
         → least ≤ people_of (problem_in input.now) g

@@ -1,7 +1,7 @@
 //! The places of a set by their people, and the people of the first ones.
 
 ghost use Rattle.std.specs.Prelude.{◌≡◌, ℕ, true, ◌<◌, ◌≤◌, ◌^◌, IfOk, All, List, length, filter, take};
-ghost use Rattle.grouping_laws.specs.Sets.{total};
+ghost use Rattle.grouping_laws.specs.Sets.{sum_by};
 ghost use Rattle.county_problem.specs.OrderedValue.{problem_at};
 ghost use Rattle.state_groups.specs.People.{AreByPeople};
 
@@ -33,7 +33,7 @@ pub(crate) fn places_by_people<C: CountySet>(
 pub(crate) fn first_people<C: CountySet>(places: &[(u32, u16)], set: &C, count: u32) -> u64
     requires few { length places.now ≤ 65536 }
     requires below { All (λ r. r.1 < C.PLACES) places.now }
-    ensures sum { result ≡ total (λ r. r.0) (take count (filter (λ r. C.test set.now r.1) places.now)) }
+    ensures sum { result ≡ sum_by (λ r. r.0) (take count (filter (λ r. C.test set.now r.1) places.now)) }
     ensures bound { result ≤ 2 ^ 48 }
 {
     let mut people = 0;

@@ -1,7 +1,7 @@
 //! The parts of the rest that no groups can fill, and the sets that leave such a part behind.
 
 ghost use Rattle.std.specs.Prelude.{◌≡◌, ℕ, true, false, ◌<◌, List, length, get_or, IfOk, IsTrue, ◌↔◌};
-ghost use Rattle.grouping_laws.specs.Sets.{member};
+ghost use Rattle.grouping_laws.specs.Sets.{contains};
 ghost use Rattle.grouping_laws.specs.Parts.{IsPart};
 ghost use Rattle.place_laws.specs.PlaceSets.{places_of};
 ghost use Rattle.county_problem.specs.OrderedValue.{problem_at};

@@ -1,7 +1,7 @@
 //! The people of a set, and its weight.
 
 ghost use Rattle.std.specs.Prelude.{◌≡◌, ℕ, true, ◌<◌, ◌≤◌, length, get_or};
-ghost use Rattle.grouping_laws.specs.Sets.{total};
+ghost use Rattle.grouping_laws.specs.Sets.{sum_by};
 ghost use Rattle.grouping_laws.specs.Problem.{people_of};
 ghost use Rattle.place_laws.specs.PlaceSets.{places_of};
 ghost use Rattle.county_problem.specs.OrderedValue.{problem_at};
@@ -31,7 +31,7 @@ pub fn people_in<C: CountySet>(ordered: &Ordered, set: &C) -> u64
 pub fn weight_in<C: CountySet>(weights: &[u32], set: &C) -> u64
     requires few { length weights.now ≤ 65536 }
     requires below { (x : ℕ) → C.test set.now x ≡ true → x < length weights.now }
-    ensures { result ≡ total (λ i. get_or weights.now i 0) (places_of (length weights.now) (C.test set.now)) }
+    ensures { result ≡ sum_by (λ i. get_or weights.now i 0) (places_of (length weights.now) (C.test set.now)) }
 {
     let mut weight = 0;
     let mut from = 0;

@@ -1,7 +1,7 @@
 -- Steps that are taken for sets of places, each for one of its own, are no more than the sets of codes of a kind.
 use Rattle.std.proofs.Common.{◌≡◌, ◌≢◌, ℕ, ◌+◌, ◌≤◌, ◌<◌, true, List, map, length, subst, arith, AllPairs}
 use Rattle.std.proofs.lemmas.List.{length-map}
-use Rattle.grouping_laws.specs.Sets.{often}
+use Rattle.grouping_laws.specs.Sets.{count}
 use Rattle.grouping_laws.specs.Problem.{Problem}
 use Rattle.grouping_laws.specs.GroupsFrom.{IsOrder}
 use Rattle.grouping_laws.specs.PlaceProblem.{at_places}
@@ -19,7 +19,7 @@ use Rattle.certificate_laws.proofs.PlaceStates.{states_have_codes}
 use Rattle.checker_laws.specs.Cost.{AreSoMany}
 use Rattle.state_groups.proofs.OpenCounties.{set_within, within_below}
 
-pub steps_counted : (order : List ℕ) → ((c : ℕ) → often c order ≤ 1) → (One Kind : List ℕ → Type 0) (m before after : ℕ) → ((g : List ℕ) → One g → Below (length order) g) → ((g : List ℕ) → One g → Kind (codes_at order g))
+pub steps_counted : (order : List ℕ) → ((c : ℕ) → count c order ≤ 1) → (One Kind : List ℕ → Type 0) (m before after : ℕ) → ((g : List ℕ) → One g → Below (length order) g) → ((g : List ℕ) → One g → Kind (codes_at order g))
     → OneStepEach One before after → AreSoMany order Kind m → after ≤ before + m
 steps_counted order once One Kind m before after below kind taken many =
     let fewer : length (map (codes_at order) taken.sets) ≤ length many.sets = no_more_than (map (codes_at order) taken.sets) many.sets (distinct_from_pairs (map (codes_at order) taken.sets) different) inside in

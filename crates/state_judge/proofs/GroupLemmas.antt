@@ -2,7 +2,7 @@
 use Rattle.std.proofs.Common.{◌≡◌, ℕ, ◌+◌, ◌≤◌, ◌<◌, Bool, true, nat_le, ◌&&◌, List, [], ◌∷◌, map, length, refl, sym, ap, ◌∙◌, subst, arith, inl, inr, All, Result, Err}
 use Rattle.std.proofs.lemmas.Bool.{and_parts}
 use Rattle.std.proofs.lemmas.List.{length-map}
-use Rattle.grouping_laws.specs.Sets.{often, Inside}
+use Rattle.grouping_laws.specs.Sets.{count, Inside}
 use Rattle.grouping_laws.specs.Problem.{Problem}
 use Rattle.grouping_laws.specs.GroupsFrom.{IsOrder, place}
 use Rattle.grouping_laws.specs.Places.{places_below, codes_at}
@@ -61,7 +61,7 @@ module _ (p : Problem) (order : List ℕ) (whole : IsOrder p order) (t : State) 
     inside = inside;
   }
     where
-      once : (c : ℕ) → often c order ≤ 1
+      once : (c : ℕ) → count c order ≤ 1
       once = order_once p order whole
 
       low : Below (length order) g

@@ -3,7 +3,7 @@ use Rattle.std.proofs.Common.{◌≡◌, ℕ, ◌<◌, true, false, ◌&&◌, Li
 use Rattle.std.specs.List.{AllZip}
 use Rattle.std.proofs.lemmas.Bool.{lt-ltb}
 use Rattle.std.proofs.lemmas.List.{map-append}
-use Rattle.grouping_laws.specs.Sets.{total, member}
+use Rattle.grouping_laws.specs.Sets.{sum_by, contains}
 use Rattle.grouping_laws.specs.Problem.{Problem, Suits, people_of, IsProblem}
 use Rattle.grouping_laws.specs.Parts.{IsPart, AreParts}
 use Rattle.grouping_laws.specs.Ranges.{IsLeast, IsMost, SuitAll}
@@ -26,7 +26,7 @@ use Rattle.certificate_laws.proofs.Places.{places_serve}
 use Rattle.certificate_laws.proofs.PlaceStates.{states_have_codes}
 
 -- the rest by codes, at a place and off the order
-pub rest_none : (order : List ℕ) (t : State) (c : ℕ) → member order c ≡ false → (in_codes order t).rest c ≡ false
+pub rest_none : (order : List ℕ) (t : State) (c : ℕ) → contains order c ≡ false → (in_codes order t).rest c ≡ false
 rest_none order t c e = ap (λ b. b && t.rest (place order c)) e
 
 zip_has : {A B : Type 0} (R : A → B → Type 0) (xs : List A) (ys : List B) (x : A) → AllZip R xs ys → Has xs x → (y : B) × R x y
@@ -85,10 +85,10 @@ module _ (p : Problem) (order : List ℕ) (whole : IsOrder p order) (t : State) 
   pub rest_at : (i c : ℕ) → i < length order → code_at order i ≡ c → s.rest c ≡ t.rest i
   rest_at i c l e = ap s.rest (sym e) ∙ sym (at.rest.same i l)
 
-  part_below : (xs : List ℕ) → IsPart q t.rest xs → (i : ℕ) → member xs i ≡ true → i < length order
+  part_below : (xs : List ℕ) → IsPart q t.rest xs → (i : ℕ) → contains xs i ≡ true → i < length order
   part_below xs is i m = below i (is.inside i m)
 
-  around_codes : (xs : List ℕ) (i : ℕ) → IsPart q t.rest xs → i < length order → member xs i ≡ true → member (codes_at order xs) (code_at order i) ≡ true
+  around_codes : (xs : List ℕ) (i : ℕ) → IsPart q t.rest xs → i < length order → contains xs i ≡ true → contains (codes_at order xs) (code_at order i) ≡ true
   around_codes xs i is l m = member_code order (order_once p order whole) xs (λ k h. part_below xs is k (has_member xs k h)) i l ∙ m
 
   stuck_codes : (i : ℕ) → i < length order → IsStuck q t i → IsStuck p s (code_at order i)
@@ -131,7 +131,7 @@ module _ (p : Problem) (order : List ℕ) (whole : IsOrder p order) (t : State) 
       parts = parts_here is
 
       decided : ((ks : List ℕ) × SuitAll p (map (codes_at order) parts.0) ks)
-          × ((lows highs : List ℕ) → AllZip (IsLeast p) (s.closed ++ map (codes_at order) parts.0) lows → AllZip (IsMost p) (s.closed ++ map (codes_at order) parts.0) highs → (p.seats_left < total (λ k. k) lows) ⊎ (total (λ k. k) highs < p.seats_left))
+          × ((lows highs : List ℕ) → AllZip (IsLeast p) (s.closed ++ map (codes_at order) parts.0) lows → AllZip (IsMost p) (s.closed ++ map (codes_at order) parts.0) highs → (p.seats_left < sum_by (λ k. k) lows) ⊎ (sum_by (λ k. k) highs < p.seats_left))
       decided = leaves_are_decided.seats p s (map (codes_at order) parts.0) (places_serve.parts p order s.rest t.rest parts.0 whole at.rest parts.1) v
 
       suits : (xs : List ℕ) → Has (t.closed ++ parts.0) xs → (k : ℕ) × Suits q (people_of q xs) k
@@ -143,7 +143,7 @@ module _ (p : Problem) (order : List ℕ) (whole : IsOrder p order) (t : State) 
       r : (lows : List ℕ) × (highs : List ℕ) × AllZip (IsLeast q) (t.closed ++ parts.0) lows × AllZip (IsMost q) (t.closed ++ parts.0) highs
       r = ranges_for q is (t.closed ++ parts.0) suits
 
-      off : (p.seats_left < total (λ k. k) r.0) ⊎ (total (λ k. k) r.1 < p.seats_left)
+      off : (p.seats_left < sum_by (λ k. k) r.0) ⊎ (sum_by (λ k. k) r.1 < p.seats_left)
       off = decided.1 r.0 r.1 (all_least p order t.closed parts.0 r.0 r.2) (all_most p order t.closed parts.0 r.1 r.3)
 
   pub seats_both : IsProblem q → IsOffSeats q t ↔ IsOffSeats p s

@@ -1,7 +1,7 @@
 -- Where a branch can stand, by the open places.
 use Rattle.std.proofs.Common.{◌≡◌, ◌≢◌, ℕ, ◌≤◌, ◌<◌, Bool, true, false, nat_le, ◌&&◌, None, List, ◌∷◌, filter, length, refl, sym, ap, ◌∙◌, subst, arith, inr}
 use Rattle.std.proofs.lemmas.Bool.{and_parts, false≢true}
-use Rattle.grouping_laws.specs.Sets.{member}
+use Rattle.grouping_laws.specs.Sets.{contains}
 use Rattle.grouping_laws.specs.Problem.{Problem}
 use Rattle.grouping_laws.specs.GroupsFrom.{IsOrder, BeginsWith, place}
 use Rattle.grouping_laws.specs.Places.{codes_at}
@@ -33,7 +33,7 @@ module _ (p : Problem) (order : List ℕ) (whole : IsOrder p order) (t : State) 
       ap (open_to s j) (sym e)
       ∙ (ap (λ b. b && nat_le (s.least (code_at order i)) j) (sym (at.rest.same i l)) ∙ (ap (λ k. t.rest i && nat_le k j) (sym (at.least i l)) ∙ sym (opened i)))
 
-  open_known : (c : ℕ) → open_to s j c ≡ true → member order c ≡ true
+  open_known : (c : ℕ) → open_to s j c ≡ true → contains order c ≡ true
   open_known c e = at.rest.known c (and_parts (s.rest c) (nat_le (s.least c) j) e).0
 
   pub open_below : (i : ℕ) → test i ≡ true → i < length order
@@ -65,7 +65,7 @@ module _ (p : Problem) (order : List ℕ) (whole : IsOrder p order) (t : State) 
     fault_above : round.limit < j → ¬ CanBranch round s c j
     fault_above l b = absurd (omega (arith, l, b.small))
 
-    fault_unknown : member order c ≡ false → ¬ CanBranch round s c j
+    fault_unknown : contains order c ≡ false → ¬ CanBranch round s c j
     fault_unknown e b = false≢true (sym e ∙ open_known c b.is_open)
 
     fault_shut : (i : ℕ) → i < length order → code_at order i ≡ c → test i ≡ false → ¬ CanBranch round s c j
@@ -88,7 +88,7 @@ module _ (p : Problem) (order : List ℕ) (whole : IsOrder p order) (t : State) 
     pub above_limit : (i : ℕ) → test i ≡ true → round.limit < j → IsBranchFault round s c j WrongCounty
     above_limit i e l = wrong_county i e (fault_above l)
 
-    pub no_county : (i : ℕ) → test i ≡ true → member order c ≡ false → IsBranchFault round s c j WrongCounty
+    pub no_county : (i : ℕ) → test i ≡ true → contains order c ≡ false → IsBranchFault round s c j WrongCounty
     no_county i e m = wrong_county i e (fault_unknown m)
 
     pub shut_county : (first i : ℕ) → test first ≡ true → i < length order → code_at order i ≡ c → test i ≡ false → IsBranchFault round s c j WrongCounty

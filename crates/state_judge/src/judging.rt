@@ -1,7 +1,7 @@
 //! The verdict on the weights of a line: each group of the size that fits must weigh the quota.
 
 ghost use Rattle.std.specs.Prelude.{◌≡◌, ℕ, ◌+◌, ◌<◌, ◌≤◌, true, map, length, IfOk, IsErrOf, MatchResult};
-ghost use Rattle.grouping_laws.specs.Sets.{total};
+ghost use Rattle.grouping_laws.specs.Sets.{sum_by};
 ghost use Rattle.county_problem.specs.ProblemValue.{problem_of};
 ghost use Rattle.connected_sets.specs.Graphs.{graph_problem, graph_order, graph_places, IsGraph};
 ghost use Rattle.certificate_laws.specs.Regions.{listed};
@@ -42,7 +42,7 @@ fn open_weight<C: CountySet>(
     ensures { IfOk
         result
         (λ weight. weight
-        ≡ total (county_weight weights.now) (listed (problem_of ordered.now.problem) (open_to (state_at ordered.now.order C.test state.now) size))) }
+        ≡ sum_by (county_weight weights.now) (listed (problem_of ordered.now.problem) (open_to (state_at ordered.now.order C.test state.now) size))) }
 {
     let _places = ordered.places();
     let _problem = ordered.problem();
@@ -69,7 +69,7 @@ pub(crate) fn judge_weights<C: CountySet>(
         result
         (λ weight. IsFair round.now.language (graph_problem graph.now) (state_at (graph_order graph.now) C.test state.now) size (weigh quota (weights_of weights.now))
         × (weight
-        ≡ total (county_weight weights.now) (listed (graph_problem graph.now) (open_to (state_at (graph_order graph.now) C.test state.now) size))))
+        ≡ sum_by (county_weight weights.now) (listed (graph_problem graph.now) (open_to (state_at (graph_order graph.now) C.test state.now) size))))
         (λ stop. StopsAt
         stop
         (IsUnfair round.now.language (graph_problem graph.now) (state_at (graph_order graph.now) C.test state.now) size (weigh quota (weights_of weights.now)))

@@ -2,7 +2,7 @@
 
 ghost use Rattle.std.specs.Prelude.{◌≡◌, ◌≤◌, true, map, IfOk, IsTrue, ◌↔◌};
 ghost use Rattle.std.specs.List.{list_all};
-ghost use Rattle.grouping_laws.specs.Sets.{member};
+ghost use Rattle.grouping_laws.specs.Sets.{contains};
 ghost use Rattle.certificate_lines.specs.Lines.{ascend};
 ghost use Rattle.state_judge.specs.Weights.{county_weight};
 
@@ -20,7 +20,7 @@ pub(crate) fn is_spelled(quota: u32, weights: &[Weight]) -> bool
 
 /// Whether each weight is that of one of the codes.
 pub(crate) fn are_known(codes: &[CountyCode], weights: &[Weight]) -> bool
-    ensures { result ≡ list_all (λ w. member codes.now w.county) weights.now }
+    ensures { result ≡ list_all (λ w. contains codes.now w.county) weights.now }
 {
     weights.iter().all(|weight| has_code(codes, weight.county))
 }

@@ -2,7 +2,7 @@ use Rattle.std.proofs.Common.{◌≡◌, ◌≤◌, ℕ, List, map, length, All,
 use Rattle.std.specs.List.Sorted.{IsPermutation, IsStrictlyIncreasing}
 use Rattle.county_codes.specs.declared.county.County.{County}
 use Rattle.county_codes.specs.Counties.{codes_of}
-use Rattle.grouping_laws.specs.Sets.{total, often}
+use Rattle.grouping_laws.specs.Sets.{sum_by, count}
 use Rattle.grouping_laws.specs.Problem.{people_of}
 use Rattle.grouping_laws.specs.Grouping.{Lawful, sets_of}
 use Rattle.grouping_laws.specs.Ranges.{seated, SuitAll}
@@ -22,7 +22,7 @@ people_of_sets-requires c =
     let one = c.counties-counties.ensures.problem.once in
     let sets = c.in_ok-sets.sets.items in
     let moved : IsPermutation (map (ascending p one) c.args.closed.now) sets = subst (λ (z : List (List ℕ)). IsPermutation z sets) c.in_ok-ascending_sets.ensures c.in_ok-sets.ensures.same in
-    record { once = subst (λ (z : List (List ℕ)). All (λ g. (x : ℕ) → often x g ≤ 1) z) (sym c.deref.ensures.value) (sets_once p one c.args.closed.now sets c.requires.once c.requires.lawful moved) }
+    record { once = subst (λ (z : List (List ℕ)). All (λ g. (x : ℕ) → count x g ≤ 1) z) (sym c.deref.ensures.value) (sets_once p one c.args.closed.now sets c.requires.once c.requires.lawful moved) }
 
 pub allot-requires : goal.allot-requires
 allot-requires c =
@@ -30,7 +30,7 @@ allot-requires c =
     let one = c.counties-counties.ensures.problem.once in
     let sets = c.in_ok-sets.sets.items in
     let moved : IsPermutation (map (ascending p one) c.args.closed.now) sets = subst (λ (z : List (List ℕ)). IsPermutation z sets) c.in_ok-ascending_sets.ensures c.in_ok-sets.ensures.same in
-    let held : total (λ n. n) c.deref-2.result.now ≡ total (λ n. n) (map (people_of p) sets) = ap (total (λ n. n)) (c.deref-2.ensures.value ∙ (c.in_ok-people.ensures ∙ ap (map (people_of p)) c.deref.ensures.value)) in
+    let held : sum_by (λ n. n) c.deref-2.result.now ≡ sum_by (λ n. n) (map (people_of p) sets) = ap (sum_by (λ n. n)) (c.deref-2.ensures.value ∙ (c.in_ok-people.ensures ∙ ap (map (people_of p)) c.deref.ensures.value)) in
     let all = all_people p one c.args.closed.now sets c.requires.once c.requires.lawful moved in
     let few : people_in c.args.problem.now.counties ≤ c.args.problem.now.total_people = subst (λ (z : List County). people_in z ≤ c.args.problem.now.total_people) c.counties-counties.ensures.value c.counties-counties.ensures.people in
     omega (arith, held, all, few, people_within c.args.problem.now.counties (codes_of c.args.problem.now.counties) one)
@@ -40,7 +40,7 @@ seated_groups-requires c =
     let p = problem_of c.args.problem.now in
     let sets = c.in_ok-sets.sets.items in
     let seats = c.in-Some.seats.items in
-    let got : SuitEach p c.deref-2.result.now seats × (total (λ k. k) seats ≡ p.seats_left) = rw c.in-Some.is at c.in_ok-seats.ensures in
+    let got : SuitEach p c.deref-2.result.now seats × (sum_by (λ k. k) seats ≡ p.seats_left) = rw c.in-Some.is at c.in_ok-seats.ensures in
     let suit : SuitAll p sets seats = suit_sets p sets seats (subst (λ (z : List ℕ). SuitEach p z seats) (c.deref-2.ensures.value ∙ (c.in_ok-people.ensures ∙ ap (map (people_of p)) c.deref.ensures.value)) got.0) in
     record { each = ap (λ (z : List ℕ). length z) c.deref-in-Some-2.ensures.value ∙ (as_many p sets seats suit ∙ sym (ap (λ (z : List (List ℕ)). length z) c.deref-in-Some.ensures.value)) }
 
@@ -51,7 +51,7 @@ returns-in-Some-clause-lawful c =
     let sets = c.in_ok-sets.sets.items in
     let seats = c.in-Some.seats.items in
     let moved : IsPermutation (map (ascending p one) c.args.closed.now) sets = subst (λ (z : List (List ℕ)). IsPermutation z sets) c.in_ok-ascending_sets.ensures c.in_ok-sets.ensures.same in
-    let got : SuitEach p c.deref-2.result.now seats × (total (λ k. k) seats ≡ p.seats_left) = rw c.in-Some.is at c.in_ok-seats.ensures in
+    let got : SuitEach p c.deref-2.result.now seats × (sum_by (λ k. k) seats ≡ p.seats_left) = rw c.in-Some.is at c.in_ok-seats.ensures in
     let suit : SuitAll p sets seats = suit_sets p sets seats (subst (λ (z : List ℕ). SuitEach p z seats) (c.deref-2.ensures.value ∙ (c.in_ok-people.ensures ∙ ap (map (people_of p)) c.deref.ensures.value)) got.0) in
     let e : c.in_ok-seated_groups-in-Some.field-0.items ≡ seated sets seats =
     c.in_ok-seated_groups-in-Some.ensures ∙ (ap (λ (z : List (List ℕ)). seated z c.deref-in-Some-2.result.now) c.deref-in-Some.ensures.value ∙ ap (seated sets) c.deref-in-Some-2.ensures.value) in
@@ -64,7 +64,7 @@ returns-in-Some-clause-filled c =
     let sets = c.in_ok-sets.sets.items in
     let seats = c.in-Some.seats.items in
     let moved : IsPermutation (map (ascending p one) c.args.closed.now) sets = subst (λ (z : List (List ℕ)). IsPermutation z sets) c.in_ok-ascending_sets.ensures c.in_ok-sets.ensures.same in
-    let got : SuitEach p c.deref-2.result.now seats × (total (λ k. k) seats ≡ p.seats_left) = rw c.in-Some.is at c.in_ok-seats.ensures in
+    let got : SuitEach p c.deref-2.result.now seats × (sum_by (λ k. k) seats ≡ p.seats_left) = rw c.in-Some.is at c.in_ok-seats.ensures in
     let suit : SuitAll p sets seats = suit_sets p sets seats (subst (λ (z : List ℕ). SuitEach p z seats) (c.deref-2.ensures.value ∙ (c.in_ok-people.ensures ∙ ap (map (people_of p)) c.deref.ensures.value)) got.0) in
     can_seat p one c.args.closed.now sets c.requires.once c.requires.lawful moved seats suit got.1
 
@@ -75,7 +75,7 @@ returns-in-Some-clause-sets c =
     let sets = c.in_ok-sets.sets.items in
     let seats = c.in-Some.seats.items in
     let moved : IsPermutation (map (ascending p one) c.args.closed.now) sets = subst (λ (z : List (List ℕ)). IsPermutation z sets) c.in_ok-ascending_sets.ensures c.in_ok-sets.ensures.same in
-    let got : SuitEach p c.deref-2.result.now seats × (total (λ k. k) seats ≡ p.seats_left) = rw c.in-Some.is at c.in_ok-seats.ensures in
+    let got : SuitEach p c.deref-2.result.now seats × (sum_by (λ k. k) seats ≡ p.seats_left) = rw c.in-Some.is at c.in_ok-seats.ensures in
     let suit : SuitAll p sets seats = suit_sets p sets seats (subst (λ (z : List ℕ). SuitEach p z seats) (c.deref-2.ensures.value ∙ (c.in_ok-people.ensures ∙ ap (map (people_of p)) c.deref.ensures.value)) got.0) in
     let e : sets_of c.in_ok-seated_groups-in-Some.field-0.items ≡ sets =
     ap sets_of (c.in_ok-seated_groups-in-Some.ensures ∙ (ap (λ (z : List (List ℕ)). seated z c.deref-in-Some-2.result.now) c.deref-in-Some.ensures.value ∙ ap (seated sets) c.deref-in-Some-2.ensures.value)) ∙ seated_sets p sets seats suit in
@@ -88,7 +88,7 @@ returns-in-Some-clause-in_order c =
     let sets = c.in_ok-sets.sets.items in
     let seats = c.in-Some.seats.items in
     let moved : IsPermutation (map (ascending p one) c.args.closed.now) sets = subst (λ (z : List (List ℕ)). IsPermutation z sets) c.in_ok-ascending_sets.ensures c.in_ok-sets.ensures.same in
-    let got : SuitEach p c.deref-2.result.now seats × (total (λ k. k) seats ≡ p.seats_left) = rw c.in-Some.is at c.in_ok-seats.ensures in
+    let got : SuitEach p c.deref-2.result.now seats × (sum_by (λ k. k) seats ≡ p.seats_left) = rw c.in-Some.is at c.in_ok-seats.ensures in
     let suit : SuitAll p sets seats = suit_sets p sets seats (subst (λ (z : List ℕ). SuitEach p z seats) (c.deref-2.ensures.value ∙ (c.in_ok-people.ensures ∙ ap (map (people_of p)) c.deref.ensures.value)) got.0) in
     let e : sets_of c.in_ok-seated_groups-in-Some.field-0.items ≡ sets =
     ap sets_of (c.in_ok-seated_groups-in-Some.ensures ∙ (ap (λ (z : List (List ℕ)). seated z c.deref-in-Some-2.result.now) c.deref-in-Some.ensures.value ∙ ap (seated sets) c.deref-in-Some-2.ensures.value)) ∙ seated_sets p sets seats suit in
@@ -101,6 +101,6 @@ returns-clause-lawful c =
     let one = c.counties-counties.ensures.problem.once in
     let sets = c.in_ok-sets.sets.items in
     let moved : IsPermutation (map (ascending p one) c.args.closed.now) sets = subst (λ (z : List (List ℕ)). IsPermutation z sets) c.in_ok-ascending_sets.ensures c.in_ok-sets.ensures.same in
-    let none : (ks : List ℕ) → SuitEach p c.deref-2.result.now ks → total (λ k. k) ks ≡ p.seats_left → ⊥ = rw c.in-None.is at c.in_ok-seats.ensures in
+    let none : (ks : List ℕ) → SuitEach p c.deref-2.result.now ks → sum_by (λ k. k) ks ≡ p.seats_left → ⊥ = rw c.in-None.is at c.in_ok-seats.ensures in
     none_suit p one c.args.closed.now sets c.requires.once c.requires.lawful moved
-    (λ ks. subst (λ (z : List ℕ). SuitEach p z ks → total (λ k. k) ks ≡ p.seats_left → ⊥) (c.deref-2.ensures.value ∙ (c.in_ok-people.ensures ∙ ap (map (people_of p)) c.deref.ensures.value)) (none ks))
+    (λ ks. subst (λ (z : List ℕ). SuitEach p z ks → sum_by (λ k. k) ks ≡ p.seats_left → ⊥) (c.deref-2.ensures.value ∙ (c.in_ok-people.ensures ∙ ap (map (people_of p)) c.deref.ensures.value)) (none ks))

@@ -4,7 +4,7 @@ use Rattle.std.proofs.lemmas.List.{length-map}
 use Rattle.county_codes.specs.Limits.{most_counties}
 use Rattle.county_codes.specs.declared.county.County.{County}
 use Rattle.county_codes.specs.Counties.{codes_of}
-use Rattle.grouping_laws.specs.Sets.{total, stands}
+use Rattle.grouping_laws.specs.Sets.{sum_by, count_in}
 use Rattle.county_problem.specs.CountList.{count_at}
 use Rattle.county_problem.specs.ProblemValue.{problem_of}
 use Rattle.certificate_data.specs.TreeValue.{allowance_of}
@@ -57,7 +57,7 @@ seated_grouping-requires-clause-once c = λ x.
     let r = round_of c.args.input.now.round.now in
     let h = c.requires.at in
     let none : length c.args.position.now.rest.items ≡ 0 = grind (arith, nat_tests) in
-    ap (λ (z : List (List ℕ)). stands x z) (c.deref.ensures.value ∙ h.1.0.closed) ∙ covered p r h.0 h.1.1.state (none_left p r h.0 c.args.position.now h.1.1.state h.1.0 none) x
+    ap (λ (z : List (List ℕ)). count_in x z) (c.deref.ensures.value ∙ h.1.0.closed) ∙ covered p r h.0 h.1.1.state (none_left p r h.0 c.args.position.now h.1.1.state h.1.0 none) x
 
 pub returns-in_default-seated : goal.returns-in_default-seated
 returns-in_default-seated c = record {
@@ -69,8 +69,8 @@ returns-in_default-seated c = record {
       let short : falls_short p s (wanted r.target) 1 0 lines ≡ false =
       sym (short_of p r s f lines c.requires.input.wanted_is) ∙ (sym (c.falls_short.ensures.value r.language p s h.0 (bounds_of p r s f lines c.requires.input.wanted_is h.1.proves)) ∙ c.if-falls_short.false) in
       let none : length c.args.position.now.rest.items ≡ 0 = grind (arith, nat_tests) in
-      let off : (ks : List ℕ) → SuitAll p c.deref.result.now ks → total (λ k. k) ks ≡ p.seats_left → ⊥ = none_given _ c.in-Ok.seated c.in_default-seated.not-Some c.in-Ok.ensures.lawful in
-      ((bound_end p r s lines short, (none_left p r s c.args.position.now h.1.state h.0 none, subst (λ (z : List (List ℕ)). (ks : List ℕ) → SuitAll p z ks → total (λ k. k) ks ≡ p.seats_left → ⊥) (c.deref.ensures.value ∙ h.0.closed) off)), refl);
+      let off : (ks : List ℕ) → SuitAll p c.deref.result.now ks → sum_by (λ k. k) ks ≡ p.seats_left → ⊥ = none_given _ c.in-Ok.seated c.in_default-seated.not-Some c.in-Ok.ensures.lawful in
+      ((bound_end p r s lines short, (none_left p r s c.args.position.now h.1.state h.0 none, subst (λ (z : List (List ℕ)). (ks : List ℕ) → SuitAll p z ks → sum_by (λ k. k) ks ≡ p.seats_left → ⊥) (c.deref.ensures.value ∙ h.0.closed) off)), refl);
 }
 
 pub returns : goal.returns

@@ -1,6 +1,6 @@
 use Rattle.std.proofs.Common.{◌≡◌, ◌∙◌, ◌+◌, ◌++◌, ◌∷◌, [], ℕ, true, false, not, List, drop, filter, rules}
 use Rattle.std.specs.List.{list_any}
-use Rattle.grouping_laws.specs.Sets.{member}
+use Rattle.grouping_laws.specs.Sets.{contains}
 use Rattle.county_codes.specs.Counties.{codes_of}
 use Rattle.county_codes.specs.declared.county.County.{County}
 use Rattle.list_report.proofs.Loops.{read, more, passed, keeps, drops}
@@ -9,7 +9,7 @@ use Rattle.list_report.proofs.regions.unshared_codes.Goals.{then-not-is_taken+in
 
 pub loop-county-preserved : goal.loop-county-preserved
 loop-county-preserved c =
-    let q = λ (x : ℕ). not (list_any (λ (s : List ℕ). member s x) c.args.shared.now) in
+    let q = λ (x : ℕ). not (list_any (λ (s : List ℕ). contains s x) c.args.shared.now) in
     let F = λ (l : List County). filter q (codes_of l) in
     let k = c.county-item.result in
     let now = c.loop-county.unshared.items in

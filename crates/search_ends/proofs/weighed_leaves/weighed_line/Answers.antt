@@ -1,5 +1,5 @@
 use Rattle.std.proofs.Common.{◌≤◌, ◌∙◌, List, ℕ, length, get_or, ap, subst, arith, All}
-use Rattle.grouping_laws.specs.Sets.{total}
+use Rattle.grouping_laws.specs.Sets.{sum_by}
 use Rattle.grouping_laws.proofs.PlaceProblem.{order_once}
 use Rattle.county_problem.specs.ProblemValue.{problem_of}
 use Rattle.place_laws.specs.PlaceSets.{places_of}
@@ -26,8 +26,8 @@ returns g c =
     let region = test c.in_ok-region.region in
     let quota = c.least_weight-quota.result in
     let are = subst (λ (z : List ℕ). AreTableWeights order p.counties z ws) c.deref-3.ensures.value c.in_ok-weights.ensures in
-    let heavy = subst (λ (z : List ℕ). All (λ (s : g.row.C.Denot). quota ≤ total (λ i. get_or z i 0) (places_of (length z) (test s))) sets) c.deref.ensures.value c.least_weight-quota.ensures.each in
-    let weight = λ (z : List ℕ). total (λ i. get_or z i 0) (places_of (length z) region) in
+    let heavy = subst (λ (z : List ℕ). All (λ (s : g.row.C.Denot). quota ≤ sum_by (λ i. get_or z i 0) (places_of (length z) (test s))) sets) c.deref.ensures.value c.least_weight-quota.ensures.each in
+    let weight = λ (z : List ℕ). sum_by (λ i. get_or z i 0) (places_of (length z) region) in
     let less = less_than c.weight_in.result (weight table) c.from.result quota c.from-2.result c.args.wanted (c.weight_in.ensures ∙ ap weight c.deref-2.ensures.value) c.from.ensures c.from-2.ensures c.if-weight_in-from.false in
     weighed_fewer g.row.C.Denot test p c.problem-problem.ensures.law order whole (round_of c.args.round.now) (in_codes order t) t c.args.size c.args.wanted quota table ws sets region c.requires.order at (c.in_ok-table.ensures.count ∙ c.requires.count) are c.requires.known heavy
     (omega (arith, c.if-quota-eq0.false)) c.least_weight-quota.ensures.small c.in_ok-region.ensures less

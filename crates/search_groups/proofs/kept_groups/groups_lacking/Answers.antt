@@ -1,7 +1,7 @@
 use Rattle.std.proofs.Common.{◌≡◌, true, not, subst}
 use Rattle.std.proofs.lemmas.Result.{IfOk-weaker}
 use Rattle.grouping_laws.proofs.PlaceProblem.{order_once}
-use Rattle.grouping_laws.specs.Sets.{member}
+use Rattle.grouping_laws.specs.Sets.{contains}
 use Rattle.county_problem.specs.ProblemValue.{problem_of}
 use Rattle.county_problem.specs.OrderedValue.{code_at}
 use Rattle.state_groups.specs.PlacedValues.{codes_of_sets}
@@ -19,7 +19,7 @@ returns-clause-those g c =
     let code = code_at order place in
     let groups = codes_of_sets order test c.args.groups.now in
     IfOk-weaker c.groups_passing.result
-    (λ v. AreThose order (λ z. not (member z code) ≡ true) groups (codes_of_sets order test v.items))
+    (λ v. AreThose order (λ z. not (contains z code) ≡ true) groups (codes_of_sets order test v.items))
     (λ v. AreThose order (Lacks code) groups (codes_of_sets order test v.items))
-    (λ v are. those_as order (λ z. not (member z code) ≡ true) (Lacks code) groups (codes_of_sets order test v.items) (λ z. (not_true (member z code), true_not (member z code))) are)
-    (c.groups_passing.ensures.those (λ z. not (member z code)) (λ set answer low says. lacking_told C test order once set place c.requires.place answer (subst (λ z. not answer ≡ test z place) says.shows says.says.met)))
+    (λ v are. those_as order (λ z. not (contains z code) ≡ true) (Lacks code) groups (codes_of_sets order test v.items) (λ z. (not_true (contains z code), true_not (contains z code))) are)
+    (c.groups_passing.ensures.those (λ z. not (contains z code)) (λ set answer low says. lacking_told C test order once set place c.requires.place answer (subst (λ z. not answer ≡ test z place) says.shows says.says.met)))

@@ -2,7 +2,7 @@ use Rattle.std.proofs.Common.{sym, ap, ◌∙◌, ◌≡◌, ◌<◌, ℕ, true,
 use Rattle.std.proofs.lemmas.Bool.{false≢true}
 use Rattle.std.proofs.lemmas.Result.{IfOk-from_err}
 use Rattle.county_problem.specs.ProblemValue.{problem_of}
-use Rattle.grouping_laws.specs.Sets.{member}
+use Rattle.grouping_laws.specs.Sets.{contains}
 use Rattle.place_laws.specs.PlaceSets.{places_of}
 use Rattle.connected_laws.proofs.PlaceLists.{placed_below}
 use Rattle.certificate_laws.specs.Fitting.{IsLive}
@@ -29,7 +29,7 @@ loop-group-preserved g c =
     let news = c.if-branch.live.items in
     let inv = c.loop-group.invariant in
     let laws = c.requires.graph in
-    let low : (x : ℕ) → member set x ≡ true → x < length order = λ x m. placed_below (length order) x (test item) m in
+    let low : (x : ℕ) → contains set x ≡ true → x < length order = λ x m. placed_below (length order) x (test item) m in
     elim c.if-branch.branch [
       | then-branch+in_ok-copy+in_default w ↦
           let is = live_codes p order laws.order t c.requires.placed.rest laws.rows.problem set low (c.in_ok-is_live.ensures.0 w.if-branch.true) in

@@ -1,6 +1,6 @@
 use Rattle.std.proofs.Common.{◌≡◌, ℕ, ◌<◌, true, length, sym, ap, subst, arith}
 use Rattle.place_laws.proofs.Sums.{digit_one}
-use Rattle.grouping_laws.specs.Sets.{stands}
+use Rattle.grouping_laws.specs.Sets.{count_in}
 use Rattle.grouping_laws.specs.Parts.{AreParts}
 use Rattle.county_problem.specs.OrderedValue.{problem_at}
 use Rattle.connected_laws.specs.Listing.{AreBelow, lists_of}
@@ -17,7 +17,7 @@ part_groups-requires-clause-below g c =
     subst (AreBelow n test) (sym c.deref.ensures.value) (parts_below C test n (test c.args.rest.now) c.in_ok-parts.parts.items c.requires.below c.in_ok-parts.ensures.inside)
 
 pub part_groups-requires-clause-apart : goal.part_groups-requires-clause-apart
-part_groups-requires-clause-apart g c = λ x. omega (arith, c.in_ok-parts.ensures.parts.once x, digit_one (g.C.CountySet.test c.args.rest.now x), ap (λ z. stands x (lists_of (length c.args.graph.now.ordered.now.order) g.C.CountySet.test z)) c.deref.ensures.value)
+part_groups-requires-clause-apart g c = λ x. omega (arith, c.in_ok-parts.ensures.parts.once x, digit_one (g.C.CountySet.test c.args.rest.now x), ap (λ z. count_in x (lists_of (length c.args.graph.now.ordered.now.order) g.C.CountySet.test z)) c.deref.ensures.value)
 
 pub returns-clause-groups : goal.returns-clause-groups
 returns-clause-groups g c = λ s rest next round order language.

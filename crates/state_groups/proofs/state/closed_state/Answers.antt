@@ -1,6 +1,6 @@
 use Rattle.std.proofs.Common.{◌≡◌, ◌++◌, ℕ, true, ◌&&◌, not, [], ◌∷◌, ◌<◌, List, length, sym, ap, ◌∙◌, subst, cond, get_or, arith}
 use Rattle.std.proofs.lemmas.Bool.{and_parts}
-use Rattle.place_laws.specs.Lists.{member}
+use Rattle.place_laws.specs.Lists.{contains}
 use Rattle.std.proofs.lemmas.List.{map-id}
 use Rattle.std.proofs.lemmas.List.Elements.{All-append}
 use Rattle.std.proofs.lemmas.Slice.Zip.{AllZip-map}
@@ -35,7 +35,7 @@ returns-clause-value g c =
     ap (in_codes order)
     (same_state _ (close (places_of n group) t) closed
     (λ x. c.minus-rest.ensures.places x ∙ (ap (λ b. b && not (group x)) (c.in_ok-copy-2.ensures.places x) ∙ ap (λ b. test old.rest x && not b) (sym (own_places n group below x))))
-    (λ x. cleared c.in_ok-least.least.items c.clear_sizes.new.least.items group n (ap length same ∙ c.requires.placed.places) count below (λ y l. c.clear_sizes.ensures.sizes y (omega (arith, l, ap length same, c.requires.placed.places))) x ∙ ap (λ z. cond (member (places_of n group) x) 0 (get_or z x 0)) same))
+    (λ x. cleared c.in_ok-least.least.items c.clear_sizes.new.least.items group n (ap length same ∙ c.requires.placed.places) count below (λ y l. c.clear_sizes.ensures.sizes y (omega (arith, l, ap length same, c.requires.placed.places))) x ∙ ap (λ z. cond (contains (places_of n group) x) 0 (get_or z x 0)) same))
     ∙ states_have_codes.closed order t (places_of n group) (order_once (problem_of c.args.ordered.now.problem) order c.places-places.ensures.order) (λ i e. placed_below n i group e)
 
 pub returns-clause-placed : goal.returns-clause-placed

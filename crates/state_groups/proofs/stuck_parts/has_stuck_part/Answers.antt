@@ -1,6 +1,6 @@
 use Rattle.std.proofs.Common.{◌≡◌, ℕ, ◌<◌, true, false, refl, sym, ◌∙◌, length, arith}
 use Rattle.std.proofs.lemmas.Bool.{false≢true}
-use Rattle.grouping_laws.specs.Sets.{member}
+use Rattle.grouping_laws.specs.Sets.{contains}
 use Rattle.certificate_laws.specs.StuckParts.{CannotFill}
 use Rattle.place_laws.specs.PlaceSets.{places_of}
 use Rattle.connected_laws.proofs.PlaceLists.{placed, placed_test}
@@ -54,7 +54,7 @@ loop-place-preserved g c =
     let free = test c.args.free.now in
     let inv = c.loop-place.invariant in
     let below : (x : ℕ) → part x ≡ true → x < n = λ x e. c.requires.below x (parted_inside p (test c.args.region) (test c.loop-place.rest) inv.found inv.parted x (c.in_ok-part.ensures.inside x e)) in
-    let filled : ((x : ℕ) → member (places_of n part) x ≡ true → free x ≡ false) → ¬ CannotFill p s (places_of n part) =
+    let filled : ((x : ℕ) → contains (places_of n part) x ≡ true → free x ≡ false) → ¬ CannotFill p s (places_of n part) =
     λ off cannot. false≢true (sym c.if-is_cut_off.false ∙ c.is_cut_off.ensures.1 (λ x e. off x (placed n x part (below x e) e), cannot)) in
     passed_more p s n (test c.args.region) free (test c.loop-place.rest) part (test c.in_ok-part.left) c.requires.graph.rows.problem.symmetric c.requires.below inv c.in_ok-part.ensures.part c.in_ok-part.ensures.rest filled
 

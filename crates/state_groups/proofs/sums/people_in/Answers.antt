@@ -1,5 +1,5 @@
 use Rattle.std.proofs.Common.{◌+◌, ap, ◌∙◌, sym, length, arith}
-use Rattle.place_laws.specs.Lists.{total}
+use Rattle.place_laws.specs.Lists.{sum_by}
 use Rattle.place_laws.specs.PlaceSets.{places_of}
 use Rattle.place_laws.proofs.PlaceSums.{total_all}
 use Rattle.county_problem.specs.ProblemValue.{ProblemValue}
@@ -24,7 +24,7 @@ loop-place-preserved g c =
     let least = c.in-Some.ensures.least in
     let next = sum_next people t c.loop-place.from c.in-Some.place least.0 least.1 least.2 in
     record {
-      sum = omega (arith, next, ap (λ z. total people (places_of (z + 1) t)) c.from-from.ensures, c.loop-place.invariant.sum, c.people.ensures, c.from-people.ensures);
+      sum = omega (arith, next, ap (λ z. sum_by people (places_of (z + 1) t)) c.from-from.ensures, c.loop-place.invariant.sum, c.people.ensures, c.from-people.ensures);
       within = omega (arith, c.requires.below c.in-Some.place least.1, c.from-from.ensures);
     }
 

@@ -1,7 +1,7 @@
 use Rattle.std.proofs.Common.{◌≡◌, ℕ, true, false, List, map, length, get_or, subst, sym, ap, ◌∙◌, refl, inl, inr}
 use Rattle.std.specs.List.{list_all}
 use Rattle.std.proofs.lemmas.Bool.{false≢true}
-use Rattle.grouping_laws.specs.Sets.{total, member}
+use Rattle.grouping_laws.specs.Sets.{sum_by, contains}
 use Rattle.grouping_laws.specs.GroupsFrom.{IsOrder}
 use Rattle.place_laws.specs.PlaceSets.{places_of}
 use Rattle.county_problem.specs.ProblemValue.{problem_of}
@@ -20,7 +20,7 @@ returns-then-not-are_known-clause-weights g c =
     let ws = c.args.weights.now in
     let round = c.args.round.now in
     let whole : IsOrder p round.order = subst (IsOrder p) c.requires.order c.requires.graph.order in
-    let unknown : list_all (λ w. member round.order w.county) ws ≡ false = sym (ap (λ (z : List ℕ). list_all (λ w. member z w.county) ws) c.as_slice-codes.ensures) ∙ (sym c.are_known.ensures ∙ c.if-not-are_known.true) in
+    let unknown : list_all (λ w. contains round.order w.county) ws ≡ false = sym (ap (λ (z : List ℕ). list_all (λ w. contains z w.county) ws) c.as_slice-codes.ensures) ∙ (sym c.are_known.ensures ∙ c.if-not-are_known.true) in
     (WrongCounty, refl, inl (refl, foreign p round.order c.args.quota ws whole unknown))
 
 pub returns-then-not-weigh_enough-clause-weights : goal.returns-then-not-weigh_enough-clause-weights
@@ -36,9 +36,9 @@ returns-then-not-weigh_enough-clause-weights g c =
     let sets = c.in_ok-groups.groups.items in
     let quota = c.args.quota in
     let whole : IsOrder p round.order = subst (IsOrder p) c.requires.order c.requires.graph.order in
-    let known : list_all (λ w. member round.order w.county) ws ≡ true = sym (ap (λ (z : List ℕ). list_all (λ w. member z w.county) ws) c.as_slice-codes.ensures) ∙ (sym c.are_known.ensures ∙ c.if-not-are_known.false) in
+    let known : list_all (λ w. contains round.order w.county) ws ≡ true = sym (ap (λ (z : List ℕ). list_all (λ w. contains z w.county) ws) c.as_slice-codes.ensures) ∙ (sym c.are_known.ensures ∙ c.if-not-are_known.false) in
     let e : table ≡ map w order = c.deref.ensures.value ∙ (c.in_ok-table.ensures ∙ ap (map w) (c.as_slice-codes.ensures ∙ sym c.requires.order)) in
-    let enough = same_test (λ (z : g.row.C.Denot). total (λ i. get_or table i 0) (places_of (length table) (test z))) c.weigh_enough.result c.from.result quota c.deref-2.result.now sets c.from.ensures c.deref-2.ensures.value c.weigh_enough.ensures in
+    let enough = same_test (λ (z : g.row.C.Denot). sum_by (λ i. get_or table i 0) (places_of (length table) (test z))) c.weigh_enough.result c.from.result quota c.deref-2.result.now sets c.from.ensures c.deref-2.ensures.value c.weigh_enough.ensures in
     let found = one_light g.row.C.Denot test order table w e quota sets (λ all. false≢true (sym c.if-not-weigh_enough.true ∙ enough.1 all)) in
     (LightGroup, refl, inr (refl, light p (round_of round) s c.args.size quota ws (codes_of_sets order test sets) whole c.in_ok-groups.ensures.groups known found))
 
@@ -55,9 +55,9 @@ returns-clause-weights g c =
     let sets = c.in_ok-groups.groups.items in
     let quota = c.args.quota in
     let whole : IsOrder p round.order = subst (IsOrder p) c.requires.order c.requires.graph.order in
-    let known : list_all (λ w. member round.order w.county) ws ≡ true = sym (ap (λ (z : List ℕ). list_all (λ w. member z w.county) ws) c.as_slice-codes.ensures) ∙ (sym c.are_known.ensures ∙ c.if-not-are_known.false) in
+    let known : list_all (λ w. contains round.order w.county) ws ≡ true = sym (ap (λ (z : List ℕ). list_all (λ w. contains z w.county) ws) c.as_slice-codes.ensures) ∙ (sym c.are_known.ensures ∙ c.if-not-are_known.false) in
     let e : table ≡ map w order = c.deref.ensures.value ∙ (c.in_ok-table.ensures ∙ ap (map w) (c.as_slice-codes.ensures ∙ sym c.requires.order)) in
-    let enough = same_test (λ (z : g.row.C.Denot). total (λ i. get_or table i 0) (places_of (length table) (test z))) c.weigh_enough.result c.from.result quota c.deref-2.result.now sets c.from.ensures c.deref-2.ensures.value c.weigh_enough.ensures in
+    let enough = same_test (λ (z : g.row.C.Denot). sum_by (λ i. get_or table i 0) (places_of (length table) (test z))) c.weigh_enough.result c.from.result quota c.deref-2.result.now sets c.from.ensures c.deref-2.ensures.value c.weigh_enough.ensures in
     let heavy = all_heavy g.row.C.Denot test order table w e quota sets (enough.0 c.if-not-weigh_enough.false) in
     (fair p (round_of round) s c.args.size quota ws (codes_of_sets order test sets) whole c.in_ok-groups.ensures.groups (c.is_spelled.ensures.0 c.if-not-is_spelled.false).0 known heavy, c.in_ok-open_weight.ensures)
 
