@@ -58,7 +58,7 @@ target = (lawful, all_from_has (λ s. length s.codes ≤ 3) together (λ x. elim
 -- the pair of the ends is not connected
 ends_apart : Connected stranding (37001 ∷ 37005 ∷ []) → ⊥
 ends_apart c =
-    let r : HasBorder stranding (37001 ∷ 37005 ∷ []) (λ x. x == 37001) = c.joined (λ x. x == 37001) 37001 37005 refl refl refl refl in
+    let r : HasBorder stranding (37001 ∷ 37005 ∷ []) (λ x. x == 37001) = c.joined (λ x. x == 37001) (37001, 37005, refl, refl, refl, refl) in
     ⊎_elim (λ e. false≢true (sym r.5 ∙ ap (λ x. x == 37001) (sym e))) (λ h. ⊎_elim (λ e. false≢true (from_a r.0 r.1 (eqb-true r.0 37001 r.4) e r.6)) (λ k. false≢true k) (member_cases 37005 [] r.1 h)) (member_cases 37001 (37005 ∷ []) r.1 r.3)
   where
     from_a : (x y : ℕ) → x ≡ 37001 → 37005 ≡ y → stranding.adjacent x y ≡ true → false ≡ true

@@ -48,7 +48,7 @@ no_more p n limit set free h whole g x y m = go (set y) refl
     closed e w =
         let s : (c : ℕ) × (contains (places_of n set) c ≡ true) = some_member (places_of n set) h.connected.some_county in
         let t : set s.0 ≡ true = placed_test n s.0 set s.1 in
-        let r : HasBorder p g set = x.connected.joined set s.0 y (x.has s.0 t) t m e in
+        let r : HasBorder p g set = x.connected.joined set (s.0, y, x.has s.0 t, m, t, e) in
         ⊎_elim (λ k. false≢true (sym r.5 ∙ k)) (λ k. false≢true (sym (w r.0 r.1 r.4 k) ∙ r.6)) (or_cases (set r.1) (free r.1) (x.within r.1 r.3))
 
     full : set y ≡ false → length (places_of n set) ≡ limit → ⊥

@@ -33,8 +33,8 @@ member_same xs ys h x = go (contains xs x) refl
 pub connected_alike : (p : Problem) (xs ys : List ℕ) → Alike xs ys → Connected p xs → Connected p ys
 connected_alike p xs ys h c = record {
   some_county = rw (← (length_alike xs ys h)) c.some_county;
-  joined = λ part a b ma pa mb pb.
-      let r : HasBorder p xs part = c.joined part a b (back a ma) pa (back b mb) pb in
+  joined = λ part q.
+      let r : HasBorder p xs part = c.joined part (q.0, q.1, back q.0 q.2, back q.1 q.3, q.4, q.5) in
       (r.0, r.1, there r.0 r.2, there r.1 r.3, r.4, r.5, r.6);
 }
   where

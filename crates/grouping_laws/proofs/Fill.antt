@@ -28,7 +28,7 @@ member_one c x e = go (c == x) refl e
 pub one : (p : Problem) (c : ℕ) → Connected p (c ∷ [])
 one p c = record {
   some_county = omega arith;
-  joined = λ part a b ma pa mb pb. absurd (false≢true (sym pb ∙ (ap part (sym (member_one c b mb) ∙ member_one c a ma) ∙ pa)));
+  joined = λ part q. absurd (false≢true (sym q.5 ∙ (ap part (sym (member_one c q.1 q.3) ∙ member_one c q.0 q.2) ∙ q.4)));
 }
 
 pub member_cases : (c : ℕ) (codes : List ℕ) (x : ℕ) → contains (c ∷ codes) x ≡ true → (c ≡ x) ⊎ (contains codes x ≡ true)
@@ -42,15 +42,15 @@ wider : (p : Problem) (c : ℕ) (codes : List ℕ) (part : ℕ → Bool) → Has
 wider p c codes part r = (r.0, r.1, member_tail c codes r.0 r.2, member_tail c codes r.1 r.3, r.4, r.5, r.6)
 
 pub grown : (p : Problem) → ((x y : ℕ) → p.adjacent x y ≡ true → p.adjacent y x ≡ true) → (codes : List ℕ) (x c : ℕ) → Connected p codes → contains codes x ≡ true → p.adjacent x c ≡ true → Connected p (c ∷ codes)
-grown p symmetric codes x c connected m touch = record { some_county = omega arith; joined = λ part a b ma pa mb pb. go part a b ma pa mb pb (part x) refl (part c) refl }
+grown p symmetric codes x c connected m touch = record { some_county = omega arith; joined = λ part q. go part q.0 q.1 q.2 q.4 q.3 q.5 (part x) refl (part c) refl }
   where
     go : (part : ℕ → Bool) (a b : ℕ) → contains (c ∷ codes) a ≡ true → part a ≡ true → contains (c ∷ codes) b ≡ true → part b ≡ false → (d : Bool) → part x ≡ d → (e : Bool) → part c ≡ e → HasBorder p (c ∷ codes) part
     go part a b ma pa mb pb true px false pc = (x, c, member_tail c codes x m, member_head c codes, px, pc, touch)
     go part a b ma pa mb pb false px true pc = (c, x, member_head c codes, member_tail c codes x m, pc, px, symmetric x c touch)
     go part a b ma pa mb pb true px true pc =
-        ⊎_elim (λ e. absurd (false≢true (sym pb ∙ (ap part (sym e) ∙ pc)))) (λ h. wider p c codes part (connected.joined part x b m px h pb)) (member_cases c codes b mb)
+        ⊎_elim (λ e. absurd (false≢true (sym pb ∙ (ap part (sym e) ∙ pc)))) (λ h. wider p c codes part (connected.joined part (x, b, m, h, px, pb))) (member_cases c codes b mb)
     go part a b ma pa mb pb false px false pc =
-        ⊎_elim (λ e. absurd (false≢true (sym pc ∙ (ap part e ∙ pa)))) (λ h. wider p c codes part (connected.joined part a x h pa m px)) (member_cases c codes a ma)
+        ⊎_elim (λ e. absurd (false≢true (sym pc ∙ (ap part e ∙ pa)))) (λ h. wider p c codes part (connected.joined part (a, x, h, m, pa, px))) (member_cases c codes a ma)
 
 pub whole : (p : Problem) (part codes : List ℕ) (x : ℕ) → Connected p codes → IsPart p (contains codes) part → contains part x ≡ true → SameSet part codes
 whole p part codes x connected is m =

@@ -91,7 +91,7 @@ within_part p region xs codes part inside connected h y e = go (contains xs y) r
     go true k = refl
     go false k =
         let one = hit xs codes h in
-        let border : HasBorder p codes (contains xs) = connected.joined (contains xs) one.0 y one.1 one.2 e k in
+        let border : HasBorder p codes (contains xs) = connected.joined (contains xs) (one.0, y, one.1, e, one.2, k) in
         absurd (false≢true (sym border.5 ∙ part.whole border.0 border.1 border.4 (inside border.1 border.3) border.6))
 
 module _ (p : Problem) (region : ℕ → Bool) (xs : List ℕ) (part : IsPart p region xs) (opens : Grouping) (fill : FillRegion p region opens) where

@@ -89,20 +89,20 @@ module _ (p : Problem) (order : List ℕ) (once : (c : ℕ) → count c order �
   pub connected_codes : (g : List ℕ) → Below (length order) g → Connected (at_places p order) g → Connected p (codes_at order g)
   connected_codes g below h = record {
     some_county = subst (λ z. 1 ≤ z) (sym (length-map g (code_at order))) h.some_county;
-    joined = λ part a b ma pa mb pb.
-        let x = code_place order once g below a ma in
-        let y = code_place order once g below b mb in
-        let r : HasBorder (at_places p order) g (λ i. part (code_at order i)) = h.joined (λ i. part (code_at order i)) (place order a) (place order b) x.1 (ap part x.2 ∙ pa) y.1 (ap part y.2 ∙ pb) in
+    joined = λ part q.
+        let x = code_place order once g below q.0 q.2 in
+        let y = code_place order once g below q.1 q.3 in
+        let r : HasBorder (at_places p order) g (λ i. part (code_at order i)) = h.joined (λ i. part (code_at order i)) (place order q.0, place order q.1, x.1, y.1, ap part x.2 ∙ q.4, ap part y.2 ∙ q.5) in
         (code_at order r.0, code_at order r.1, codes_member order g r.0 r.2, codes_member order g r.1 r.3, r.4, r.5, r.6);
   }
 
   pub connected_places : (g : List ℕ) → Below (length order) g → Connected p (codes_at order g) → Connected (at_places p order) g
   connected_places g below h = record {
     some_county = subst (λ z. 1 ≤ z) (length-map g (code_at order)) h.some_county;
-    joined = λ part i j mi pi mj pj.
+    joined = λ part q.
         let here = λ (k : ℕ) (m : contains g k ≡ true). place_at order once k (below k (member_has g k m)) in
         let r : HasBorder p (codes_at order g) (λ c. part (place order c)) =
-        h.joined (λ c. part (place order c)) (code_at order i) (code_at order j) (codes_member order g i mi) (ap part (here i mi) ∙ pi) (codes_member order g j mj) (ap part (here j mj) ∙ pj) in
+        h.joined (λ c. part (place order c)) (code_at order q.0, code_at order q.1, codes_member order g q.0 q.2, codes_member order g q.1 q.3, ap part (here q.0 q.2) ∙ q.4, ap part (here q.1 q.3) ∙ q.5) in
         let x = code_place order once g below r.0 r.2 in
         let y = code_place order once g below r.1 r.3 in
         (place order r.0, place order r.1, x.1, y.1, r.4, r.5, ap (λ z. p.adjacent z (code_at order (place order r.1))) x.2 ∙ (ap (p.adjacent r.0) y.2 ∙ r.6));

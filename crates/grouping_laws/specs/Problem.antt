@@ -24,17 +24,21 @@ pub record Suits (p : Problem) (people seats : ℕ) : Type 0 where
 abbrev pub people_of : Problem → List ℕ → ℕ
 people_of p codes = sum_by p.people codes
 
+-- some county of the set is in the part, and some county of the set is not
+abbrev pub IsProperPart : List ℕ → (ℕ → Bool) → Type 0
+IsProperPart codes part =
+    (x : ℕ) × (y : ℕ) × (contains codes x ≡ true) × (contains codes y ≡ true) × (part x ≡ true) × (part y ≡ false)
+
 -- some county of the set in the part is adjacent to one of the set outside the part
 abbrev pub HasBorder : Problem → List ℕ → (ℕ → Bool) → Type 0
 HasBorder p codes part =
     (x : ℕ) × (y : ℕ) × (contains codes x ≡ true) × (contains codes y ≡ true) × (part x ≡ true) × (part y ≡ false)
     × (p.adjacent x y ≡ true)
 
--- not empty, and each part that has some county of the set but not every one is adjacent to the rest of the set
+-- not empty, and each proper part has a border with the rest of the set
 pub record Connected (p : Problem) (codes : List ℕ) : Type 0 where
   pub some_county : 1 ≤ length codes
-  pub joined : (part : ℕ → Bool) (within without : ℕ) → contains codes within ≡ true → part within ≡ true
-      → contains codes without ≡ true → part without ≡ false → HasBorder p codes part
+  pub joined : (part : ℕ → Bool) → IsProperPart codes part → HasBorder p codes part
 
 -- a connected set of counties of the problem whose people suit some number of seats
 pub record LawfulGroup (p : Problem) (codes : List ℕ) : Type 0 where
