@@ -146,6 +146,7 @@ pub fn live_groups<C: CountySet>(
         (codes_of_sets (graph_order graph.now) C.test v.items)) }
     ensures below { IfOk result (λ v. AreBelow (graph_places graph.now) C.test v.items) }
     ensures steps { steps.new.used ≤ steps.old.used + length groups.now }
+    ensures counted { IfOk result (λ v. steps.new.used ≡ steps.old.used + length groups.now) }
     ensures more { steps.old.used ≤ steps.new.used }
     ensures limit { steps.new.limit ≡ steps.old.limit }
     ensures stopped { IsErrOf result Stop.StepLimit → steps.new.used ≡ steps.new.limit }

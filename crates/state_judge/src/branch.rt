@@ -143,6 +143,7 @@ pub fn judge_branch<C: CountySet>(
         × (code_at (graph_order graph.now) b.place ≡ county)) }
     ensures size { IfOk result (λ b. b.limit ≡ limit_of (round_of round.now) limit) }
     ensures groups { IfOk result (λ b. All (IsClosable C.test state.now) b.groups.items) }
+    ensures counted { IfOk result (λ b. steps.old.used + length b.groups.items ≤ steps.new.used) }
     ensures steps { IfOk
         result
         (λ b. (m : ℕ)

@@ -50,6 +50,9 @@ returns-in_err-is_live-clause-below g c = IfOk-from_err c.from_residual.result _
 pub returns-in_err-is_live-clause-steps : goal.returns-in_err-is_live-clause-steps
 returns-in_err-is_live-clause-steps g c = omega (arith, c.if-not-tick.ensures.used, c.loop-group.invariant.steps, c.loop-group-test.true)
 
+pub returns-in_err-is_live-clause-counted : goal.returns-in_err-is_live-clause-counted
+returns-in_err-is_live-clause-counted g c = IfOk-from_err c.from_residual.result _ c.from_residual.ensures.0
+
 pub returns-in_err-is_live-clause-more : goal.returns-in_err-is_live-clause-more
 returns-in_err-is_live-clause-more g c = omega (arith, c.if-not-tick.ensures.used, c.loop-group.invariant.more)
 
@@ -64,6 +67,9 @@ returns-in_err-copy-clause-below g c = IfOk-from_err c.from_residual-in_err-copy
 
 pub returns-in_err-copy-clause-steps : goal.returns-in_err-copy-clause-steps
 returns-in_err-copy-clause-steps g c = omega (arith, c.if-not-tick.ensures.used, c.loop-group.invariant.steps, c.loop-group-test.true)
+
+pub returns-in_err-copy-clause-counted : goal.returns-in_err-copy-clause-counted
+returns-in_err-copy-clause-counted g c = IfOk-from_err c.from_residual-in_err-copy.result _ c.from_residual-in_err-copy.ensures.0
 
 pub returns-in_err-copy-clause-more : goal.returns-in_err-copy-clause-more
 returns-in_err-copy-clause-more g c = omega (arith, c.if-not-tick.ensures.used, c.loop-group.invariant.more)
@@ -85,6 +91,9 @@ returns-clause-below g c = c.loop-group.invariant.below
 
 pub returns-clause-steps : goal.returns-clause-steps
 returns-clause-steps g c = omega (arith, c.loop-group.invariant.steps, c.loop-group.auto.group-index-end)
+
+pub returns-clause-counted : goal.returns-clause-counted
+returns-clause-counted g c = omega (arith, c.loop-group.invariant.steps, c.loop-group.auto.group-index-end)
 
 pub returns-clause-more : goal.returns-clause-more
 returns-clause-more g c = c.loop-group.invariant.more
