@@ -1,6 +1,6 @@
 //! The search of a piece of a round, from its state.
 
-ghost use Rattle.std.specs.Prelude.{◌≡◌, ℕ, ◌≤◌, ◌↔◌, IsTrue, length, IfOk, IsErrOf};
+ghost use Rattle.std.specs.Prelude.{◌≡◌, ℕ, ◌≤◌, ◌<◌, ◌↔◌, IsTrue, length, IfOk, IsErrOf};
 ghost use Rattle.county_codes.specs.Limits.{most_counties};
 ghost use Rattle.connected_sets.specs.Graphs.{graph_order, graph_places, place_problem};
 ghost use Rattle.certificate_laws.specs.Certificate.{HasGroupsWithin};
@@ -101,6 +101,7 @@ fn branched_piece<C: CountySet>(
     requires lists { AreListsOf C.test (place_problem input.now.graph.now) (graph_places input.now.graph.now) lists.old }
     ensures piece { IfOk result (IsPiece (search_problem input.now) (search_round input.now) (search_state input.now C.test at.state)) }
     ensures limit { steps.new.limit ≡ steps.old.limit }
+    ensures counted { IfOk result (λ piece. ¬ IsOpen piece → steps.old.used < steps.new.used) }
     ensures more { steps.old.used ≤ steps.new.used }
     ensures open { IfOk result (λ piece. IsOpen piece → steps.new.used ≡ steps.new.limit) }
 {
@@ -126,6 +127,7 @@ fn wide_piece<C: CountySet>(
     requires state { IsState (search_problem input.now) (search_round input.now) (search_state input.now C.test state.now) }
     ensures piece { IfOk result (IsPiece (search_problem input.now) (search_round input.now) (search_state input.now C.test state.now)) }
     ensures limit { steps.new.limit ≡ steps.old.limit }
+    ensures counted { IfOk result (λ piece. ¬ IsOpen piece → steps.old.used < steps.new.used) }
     ensures more { steps.old.used ≤ steps.new.used }
     ensures open { IfOk result (λ piece. IsOpen piece → steps.new.used ≡ steps.new.limit) }
 {
@@ -153,6 +155,7 @@ fn plain_piece<C: CountySet>(
     requires at { IsStateOf C.test input.now state.now }
     ensures piece { IfOk result (IsPiece (search_problem input.now) (search_round input.now) (search_state input.now C.test state.now)) }
     ensures limit { steps.new.limit ≡ steps.old.limit }
+    ensures counted { IfOk result (λ piece. ¬ IsOpen piece → steps.old.used < steps.new.used) }
     ensures more { steps.old.used ≤ steps.new.used }
     ensures open { IfOk result (λ piece. IsOpen piece → steps.new.used ≡ steps.new.limit) }
 {
@@ -179,6 +182,7 @@ fn ordered_piece<C: CountySet>(
     requires state { IsState (problem_of ordered.now.problem) (round_of round.now) (state_at ordered.now.order C.test state.now) }
     ensures piece { IfOk result (IsPiece (problem_of ordered.now.problem) (round_of round.now) (state_at ordered.now.order C.test state.now)) }
     ensures limit { steps.new.limit ≡ steps.old.limit }
+    ensures counted { IfOk result (λ piece. ¬ IsOpen piece → steps.old.used < steps.new.used) }
     ensures more { steps.old.used ≤ steps.new.used }
     ensures open { IfOk result (λ piece. IsOpen piece → steps.new.used ≡ steps.new.limit) }
 {
@@ -218,6 +222,7 @@ pub fn prove_piece<C: CountySet>(
     requires state { IsState (problem_of problem.now) (round_of round.now) (state_at round.now.order C.test state.now) }
     ensures piece { IfOk result (IsPiece (problem_of problem.now) (round_of round.now) (state_at round.now.order C.test state.now)) }
     ensures limit { steps.new.limit ≡ steps.old.limit }
+    ensures counted { IfOk result (λ piece. ¬ IsOpen piece → steps.old.used < steps.new.used) }
     ensures more { steps.old.used ≤ steps.new.used }
     ensures open { IfOk result (λ piece. IsOpen piece → steps.new.used ≡ steps.new.limit) }
 {

@@ -170,6 +170,7 @@ pub(crate) fn prove_plain<C: CountySet>(
     requires input { IsPlainGround C.PLACES C.test input.now }
     requires at { IsStateOf C.test input.now state }
     ensures outcome { IfOk result (IsOutcome (search_problem input.now) (search_round input.now) (search_state input.now C.test state)) }
+    ensures counted { OnOk result (steps.old.used < steps.new.used) }
     ensures more { steps.old.used ≤ steps.new.used }
     ensures limit { steps.new.limit ≡ steps.old.limit }
     ensures stopped { IsErrOf result Stop.StepLimit → steps.new.used ≡ steps.new.limit }

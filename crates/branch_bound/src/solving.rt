@@ -40,7 +40,9 @@ const FIRST_LIMIT: u16 = 2;
 
 /// The limit of the round after one of that limit: rounds of small groups come first, since they are quick and their
 /// better groupings spare the later ones most of the work.
-fn limit_after(limit: u16) -> u16 {
+fn limit_after(limit: u16) -> u16
+    ensures above { limit ≤ most_counties → limit < result }
+{
     match limit {
         2 => 3,
         _ => u16::MAX,

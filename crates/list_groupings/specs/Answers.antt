@@ -1,5 +1,5 @@
 -- What is answered of a text that should list all best groupings.
-use Rattle.std.specs.Prelude.{ℕ, ◌≡◌, List, map, Some, ⊤}
+use Rattle.std.specs.Prelude.{ℕ, ◌+◌, ◌≡◌, ◌≤◌, List, map, Some, ⊤}
 use Rattle.grouping_laws.specs.Problem.{Problem}
 use Rattle.county_codes.specs.declared.group.Grouping.{Grouping as GroupingHeld}
 use Rattle.county_problem.specs.CountList.{count_at}
@@ -44,6 +44,15 @@ IsListing p text budget (Open gap line) =
 IsListing p text budget Impossible = IsCheckAnswer p text budget verdict.Impossible
 IsListing p text budget (No fault line) = IsCheckAnswer p text budget (verdict.No fault line)
 IsListing p text budget Budget = IsCheckAnswer p text budget verdict.Budget
+
+-- An answer other than Budget comes only where so many lines, with one more for the end or for the line at fault, are
+-- no more than the budget.
+abbrev pub IsListedWithin : ℕ → ℕ → Listing → Type 0
+IsListedWithin lines budget (All list) = lines + 1 ≤ budget
+IsListedWithin lines budget (Open gap line) = lines + 1 ≤ budget
+IsListedWithin lines budget Impossible = lines + 1 ≤ budget
+IsListedWithin lines budget (No fault line) = lines + 1 ≤ budget
+IsListedWithin lines budget Budget = ⊤
 
 -- the groupings are all best groupings, in order
 abbrev pub ListsAllBest : Problem → Listing → Type 0

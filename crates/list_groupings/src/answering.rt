@@ -5,7 +5,8 @@ ghost use Rattle.county_problem.specs.ProblemValue.{problem_of};
 ghost use Rattle.checker_laws.specs.Lines.{window_line};
 ghost use Rattle.checker_laws.specs.Verdict as said;
 ghost use Rattle.checker_laws.specs.TextVerdict.{IsTextVerdict};
-ghost use Rattle.list_groupings.specs.Answers.{IsReady, IsListing, ListsAllBest};
+ghost use Rattle.certificate_checker.specs.Answers.{lines_in_front};
+ghost use Rattle.list_groupings.specs.Answers.{IsReady, IsListing, IsListedWithin, ListsAllBest};
 
 use crate::listing::Listing;
 use crate::position::Position;
@@ -103,6 +104,7 @@ pub fn all_best(
     budget: u64,
 ) -> Result<Listing, AllocError>
     ensures listing { IfOk result (IsListing (problem_of problem.now) text.now budget) }
+    ensures within { IfOk result (IsListedWithin (lines_in_front text.now) budget) }
     ensures all { IfOk result (ListsAllBest (problem_of problem.now)) }
 {
     match check(alloc, problem, text, budget)? {
