@@ -215,8 +215,8 @@ pub fn run_case_with_end<R: Source, W: Sink>(alloc: Global, input: &mut R, out: 
 
 /// Reads a case and runs its words over its files, which are held in memory. Returns the exit status. The files that
 /// were stored follow the answer on `out`. If the first line or the name of a file isn't UTF-8, nothing is written and
-/// the status is 2. A case of more than 16,777,216 bytes is refused. If the reading failed, the answer is `device case
-/// Device`.
+/// the status is 2. A case of more than 16,777,216 bytes is refused. If the reading failed, the answer is
+/// `device case Device`.
 pub fn run_case<R: Source, W: Sink>(alloc: Global, input: &mut R, out: &mut W) -> u8
     requires { R.is_failed input.old ≡ false }
     ensures { (read : Result (List ℕ) WholeFault)

@@ -175,17 +175,17 @@ pub fn run_with_end<H: Shelf, W: Sink, V: Watcher>(
 ///
 /// The status is 0 for an answer, for help and for the version.
 ///
-/// It is 1 where `judge` finds a fault of the grouping, or `audit` finds anything. It is also 1 where `solve`, `check`
-/// or `list` finds that no grouping is lawful, or `check` or `list` that the text is no certificate. The last case is
-/// that the grouping of `--which` isn't one of the best that `list` finds.
+/// It is 1 where `judge` finds a fault of the grouping, or `audit` finds anything. It is 1, too, where `solve`, `check`
+/// or `list` tells that no grouping is lawful, or `check` or `list` that the text is no certificate. So it is where
+/// `list` tells that the grouping of `--which` isn't one of the best.
 ///
 /// It is 2 for usage. It is 3 where the steps of `solve` or `piece` or the budget of `check`, `list` or `share` ran
-/// out, or pieces are left to `share`. It is also 3 where the certificate of `list` doesn't show which other groupings
+/// out, or pieces are left to `share`. It is 3, too, where the certificate of `list` doesn't show which other groupings
 /// are best.
 ///
 /// It is 4 where the input was refused, no grouping has the number that `list` should store, or no piece has that of
 /// `piece`. It is 5 where a file could not be had or stored, memory was refused, or the writing failed. If memory was
-/// refused, the line is `memory`. If the writing failed, nothing says how much went out.
+/// refused, the line is `memory`. If the writing failed, the status doesn't say how much went out.
 ///
 /// `solve` stores the certificate, the grouping and the table. `judge` and `check` store the table. `list` stores a
 /// grouping and the table of all groupings, `audit` the table of the districts, and `share` a certificate. Each is

@@ -103,9 +103,9 @@ fn judge_files<H: Shelf>(
     verdict(alloc, tabled, grouping, certificate, words.budget, end)
 }
 
-/// Returns whether a grouping is lawful, and whether it is best if a certificate is given. The problem is built first.
-/// Then the grouping is loaded and read, and then the certificate is loaded. If the grouping is lawful, its table is
-/// then stored. The first fault met is the answer.
+/// Judges whether a grouping is lawful, and with a certificate whether it is best. The problem is built first. Then the
+/// grouping is loaded and read, and then the certificate is loaded. If the grouping is lawful, its table is then
+/// stored. The first fault met is the answer.
 pub(crate) fn judge<H: Shelf>(
     alloc: Global,
     words: JudgeWords<'_>,

@@ -19,7 +19,7 @@ use county_problem::Problem;
 use share_board::Event;
 use std::alloc::Global;
 
-/// Returns the ending of a run whose piece ended like this.
+/// Returns the ending of a run of `piece` that came to `end`.
 fn piece_end(end: PieceEnd) -> Ending {
     match end {
         PieceEnd::Answered => Ending::Done,

@@ -156,7 +156,8 @@ fn answer_with_record<H: Shelf, V: Watcher>(
     }
 }
 
-/// Runs a command and returns its answer. The record of the run is stored if the words name a file for it.
+/// Runs a command and returns its answer. The record of the run is stored if the words name a file for it and the
+/// answer's status asks for it.
 pub(crate) fn answer_as_asked<H: Shelf, V: Watcher>(
     alloc: Global,
     words: &[&str],

@@ -24,7 +24,7 @@ use county_problem::Problem;
 use share_board::Event;
 use std::alloc::Global;
 
-/// Returns what comes of a board that takes `events`.
+/// Returns the outcome of a board that takes `events`.
 fn taken(
     alloc: Global,
     problem: &Problem,
@@ -52,7 +52,7 @@ fn taken(
     }
 }
 
-/// Returns what comes of `share` over the files, before anything is stored.
+/// Returns the outcome of `share` over the files, before anything is stored.
 fn share_files<H: Shelf>(
     alloc: Global,
     words: ShareWords<'_>,
@@ -95,7 +95,7 @@ fn shared_end(left: usize) -> Ending {
     }
 }
 
-/// Opens a board that takes the events which solvers have sent, and stores the certificate that it joins. All files are
+/// Opens a board that takes the events that solvers have sent, and stores the certificate that it joins. All files are
 /// read before the board is opened. The first fault met is the answer.
 pub(crate) fn share<H: Shelf>(
     alloc: Global,

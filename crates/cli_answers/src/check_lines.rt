@@ -23,8 +23,8 @@ fn no_text(alloc: Global, fault: CheckFault, line: u64) -> Result<Vec<u8>, Alloc
     Ok(out)
 }
 
-/// Returns the answer to a text that is no certificate: `no KIND line L` with exit status 1. If the fault is one of the
-/// text or of the target, the kind is followed by that of the text or of the target. The line counts from 1.
+/// Returns the answer to a text that is no certificate: `no KIND line L` with exit status 1. If the kind tells of a
+/// fault of the text or of the target, that fault's own kind follows it. The line counts from 1.
 ///
 /// # Errors
 ///

@@ -162,7 +162,8 @@ pub(crate) fn refuse_input(alloc: Global, file: InputFile, kind: &[u8], line: u6
 }
 
 /// Returns the refusal of a PL 94-171 file: `refused FILE KIND line L` with exit status 4. The line counts from 1. It
-/// is 0 if the file has too many lines. Returns `Memory` if that is the fault, or if memory for the line was refused.
+/// is 0 if the file has too many lines, or if none of its lines is a county or a block of the state. Returns `Memory`
+/// if that is the fault, or if memory for the line was refused.
 pub fn refuse_file(alloc: Global, fault: Pl94Fault) -> Refusal
     ensures answer { RefusalShows (pl94_answer fault) result }
     ensures shown { IsShown result → fault.kind ≢ kinds.Memory }
@@ -226,7 +227,7 @@ pub fn refuse_assignments(alloc: Global, fault: AssignmentFault) -> Refusal
     refuse_input(alloc, InputFile::Assignments, word, u64::from(line))
 }
 
-/// Returns the line `fault KIND`, with the group, the county or the seats of the fault behind the kind.
+/// Returns the line `fault KIND`, with the group, the county or the seats of the fault after the kind.
 #[tactic(auto, unfolding(crate::specs::Refusals::fault_line))]
 fn fault_text(alloc: Global, fault: GroupingFault) -> Result<Vec<u8>, AllocError>
     ensures { IfOk result (λ v. v.items ≡ fault_line fault) }
@@ -238,8 +239,7 @@ fn fault_text(alloc: Global, fault: GroupingFault) -> Result<Vec<u8>, AllocError
 }
 
 /// Returns the answer to a grouping that isn't lawful: `fault KIND` with exit status 1. The group, the county or the
-/// seats of the fault stand behind the kind. Returns `Memory` if that is the fault, or if memory for the line was
-/// refused.
+/// seats of the fault follow the kind. Returns `Memory` if that is the fault, or if memory for the line was refused.
 pub fn refuse_verdict(alloc: Global, fault: GroupingFault) -> Refusal
     ensures { RefusalShows (verdict_answer fault) result }
 {
@@ -303,7 +303,7 @@ fn push_problem(out: &mut Vec<u8>, fault: ProblemFault) -> Result<(), AllocError
     }
 }
 
-/// Returns the line `refused problem KIND`, with the codes or the set of the fault behind the kind.
+/// Returns the line `refused problem KIND`, with the codes or the set of the fault after the kind.
 #[tactic(auto, unfolding(crate::specs::Refusals::refused_problem))]
 fn problem_text(alloc: Global, fault: ProblemFault) -> Result<Vec<u8>, AllocError>
     ensures { IfOk result (λ v. v.items ≡ refused_problem fault) }
@@ -314,8 +314,8 @@ fn problem_text(alloc: Global, fault: ProblemFault) -> Result<Vec<u8>, AllocErro
     Ok(out)
 }
 
-/// Returns the refusal of a problem: `refused problem KIND` with exit status 4. The codes or the set of the fault stand
-/// behind the kind. Returns `Memory` if that is the fault, or if memory for the line was refused.
+/// Returns the refusal of a problem: `refused problem KIND` with exit status 4. The codes or the set of the fault
+/// follow the kind. Returns `Memory` if that is the fault, or if memory for the line was refused.
 pub fn refuse_problem(alloc: Global, fault: ProblemFault) -> Refusal
     ensures answer { RefusalShows (problem_answer fault) result }
     ensures shown { IsShown result → fault ≢ problem.Memory }

@@ -10,8 +10,8 @@ use cli_shelves::{EventSum, Shelf};
 use cli_words::CommandWords;
 use std::alloc::{AllocError, Global};
 
-/// Returns `sums` if there is one for each event of a shelf behind the first `first`, where `last` is the count of all
-/// events. Returns `None` if there isn't, or if the count is at its last value, 2^64 - 1.
+/// Returns `sums` if they are those of all events of a shelf after its first `first` ones. The shelf has had `last`
+/// events. Returns `None` if they aren't, or if `last` is 2^64 - 1, where the count stays.
 fn if_complete(sums: &[EventSum], first: u64, last: u64) -> Option<&[EventSum]>
     ensures all { IfSome result (λ s. first + length sums.now ≡ last) }
     ensures low { IfSome result (λ s. last < 2 ^ 64 - 1) }
@@ -23,8 +23,8 @@ fn if_complete(sums: &[EventSum], first: u64, last: u64) -> Option<&[EventSum]>
     }
 }
 
-/// Returns the sums of the events that the shelf has had since its first `first`. Returns `None` if the shelf doesn't
-/// have them all.
+/// Returns the sums of the events that the shelf has had after its first `first` ones. Returns `None` if it doesn't
+/// have the sum of each.
 fn sums_since<H: Shelf>(shelf: &H, first: u64) -> Option<&[EventSum]>
     ensures { IfSome result (λ sums. (before : History) → first ≡ min (length before.events) (2 ^ 64 - 1)
         → map sum_value sums.now ≡ sums_between before (H.history shelf.now)) }

@@ -68,8 +68,8 @@ impl<'a> Progress<'a> {
         }
     }
 
-    /// Returns whether a line is due, and notes the time if it is. A line is due if `PAUSE` seconds have passed since
-    /// the last one, or since the first state.
+    /// Returns whether a line is due: at least `PAUSE` seconds have passed since the last one, or since the first
+    /// state.
     fn is_due(&mut self) -> bool {
         let Ok(now) = Instant::now(self.rt) else {
             return false;

@@ -29,7 +29,7 @@ pub fn lists_are_one()
 {}
 
 /// States when a valid bound leaf falls short. One with fewer lines than the limit does. Any other falls short exactly
-/// if its last line does.
+/// if its last line gives too few groups.
 pub fn leaves_are_told()
     ensures { LeavesAreTold }
 {}
@@ -40,8 +40,8 @@ pub fn level_states_are_filled()
     ensures { LevelStatesAreFilled }
 {}
 
-/// States that a search has a complete proof tree or a greater grouping at every state. The search has to find stuck
-/// and seats leaves, choose branches and list groups.
+/// States that a search which finds stuck and seats leaves, chooses branches and lists groups comes at every state to a
+/// complete proof tree or a greater grouping.
 pub fn complete_searches_end()
     ensures { CompleteSearchEnds }
 {}
